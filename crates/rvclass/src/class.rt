@@ -1,0 +1,26 @@
+/// How control goes on from a word, by the word alone. Targets are absolute addresses, modulo 2^64.
+#[derive(Clone, Copy, Debug, PartialEq, Eq)]
+pub enum Class {
+    /// On to the next word.
+    Plain,
+    /// Always to this address.
+    Jump(u64),
+    /// To this address where the branch is taken, else on to the next word.
+    Branch(u64),
+    /// To an address that a register holds.
+    Uninferable,
+    /// Back from a trap, to an address and a privilege that the trap left.
+    TrapReturn(Return),
+    /// Nowhere: the word raises an exception each time.
+    NotRetirable,
+}
+
+/// The instructions that return from a trap (the Privileged Architecture, "Trap-Return
+/// Instructions").
+#[derive(Clone, Copy, Debug, PartialEq, Eq)]
+pub enum Return {
+    /// From a trap into M-mode.
+    Mret,
+    /// From a trap into S-mode.
+    Sret,
+}

@@ -1,0 +1,18 @@
+//! The class of each word of a program: whether it goes on to the next word, jumps, branches, leaves
+//! for an address that it does not tell, returns from a trap or does not retire. Words are those of
+//! RV64IMAC, by the RISC-V Unprivileged ISA and the Privileged Architecture.
+#![tactic(auto)]
+
+mod bits;
+mod class;
+mod fault;
+mod offset;
+mod program;
+#[cfg(test)]
+mod tests;
+mod word16;
+mod word32;
+
+pub use class::{Class, Return};
+pub use fault::ProgramFault;
+pub use program::Program;

@@ -1,0 +1,114 @@
+ghost use Rattle.std.specs.Prelude.{◌≡◌, ◌↔◌, ◌+◌, ◌-◌, ◌*◌, ◌%◌, ◌^◌, ◌<◌, ◌≤◌, length, vec_len, IsOk, IfOk, Err};
+ghost use Rattle.rvclass.specs.Fetch.{half_at, word_at, words_of};
+ghost use Rattle.rvclass.specs.Image.{Image, IsImage, image_at};
+ghost use Rattle.rvclass.specs.Program.{program_of};
+ghost use Rattle.rvclass.specs.Words.{IsProgram, LiesIn};
+
+use crate::bits::bits_of;
+use crate::class::Class;
+use crate::fault::ProgramFault;
+use crate::word16::class_of_word16;
+use crate::word32::class_of_word32;
+use std::marker::Model;
+
+/// The largest image, in bytes.
+const MAX_BYTES: usize = 1 << 24;
+
+/// A program: the bytes of its image, from a base address on. It never changes.
+#[derive(Debug, Drop)]
+pub struct Program {
+    base: u64,
+    bytes: Vec<u8>,
+}
+
+impl Model for Program {
+    ghost Value = { Image };
+
+    ghost view = { λ p. image_at p.base p.bytes.items };
+
+    ghost invariant = { λ p. IsImage (image_at p.base p.bytes.items) };
+}
+
+impl Program {
+    /// The program of these bytes from the address `base` on. Their number may be odd, and 0.
+    pub fn new(base: u64, bytes: Vec<u8>) -> Result<Program, ProgramFault>
+        ensures exact { result ≡ program_of base bytes.items }
+        ensures image { IfOk result (λ p. p ≡ image_at base bytes.items) }
+        ensures ok { IsOk result ↔ IsImage (image_at base bytes.items) }
+        ensures odd_base { (result ≡ Err ProgramFault.OddBase) ↔ (base % 2 ≡ 1) }
+        ensures too_large { (result ≡ Err ProgramFault.TooLarge) ↔ ((base % 2 ≡ 0) × (2 ^ 24 < vec_len bytes)) }
+        ensures past_end { (result ≡ Err ProgramFault.PastEnd)
+            ↔ ((base % 2 ≡ 0) × (vec_len bytes ≤ 2 ^ 24) × (2 ^ 64 ≤ base + vec_len bytes)) }
+    {
+        if !base.is_multiple_of(2) {
+            return Err(ProgramFault::OddBase);
+        }
+        if bytes.len() > MAX_BYTES {
+            return Err(ProgramFault::TooLarge);
+        }
+        if u64::MAX - base < bytes.len() as u64 {
+            return Err(ProgramFault::PastEnd);
+        }
+        Ok(Program { base, bytes })
+    }
+
+    /// The number of bytes of the image.
+    #[inline]
+    pub fn byte_count(&self) -> usize
+        ensures count { result ≡ length self.now.bytes }
+        ensures kept { IsImage self.now }
+    {
+        self.bytes.len()
+    }
+
+    /// The class of the word at an address, and its length in bytes, 2 or 4. There is none where the
+    /// address is odd or outside the image, or where the image ends before the word does. A word of
+    /// more than 32 bits is told by its first 16 bits, as one of length 2 that does not retire.
+    #[inline]
+    pub fn at(&self, addr: u64) -> Option<(Class, u8)>
+        ensures word { result ≡ words_of self.now addr }
+        ensures kept { IsProgram (words_of self.now) }
+        ensures within { LiesIn (words_of self.now) self.now.base (length self.now.bytes) }
+    {
+        word_of(self.base, &self.bytes, addr)
+    }
+}
+
+/// The word at an address of the image that these bytes are from `base` on.
+#[inline]
+#[tactic(auto, unfolding(crate::specs::Fetch::words_of))]
+fn word_of(base: u64, bytes: &[u8], addr: u64) -> Option<(Class, u8)>
+    requires { IsImage (image_at base bytes.now) }
+    ensures { result ≡ words_of (image_at base bytes.now) addr }
+{
+    if !addr.is_multiple_of(2) || addr < base {
+        return None;
+    }
+    let place = addr - base;
+    if (bytes.len() as u64) < 2 || place > bytes.len() as u64 - 2 {
+        return None;
+    }
+    let place = place as usize;
+    let low = half_of(bytes, place);
+    if bits_of(low, 1, 0) != 0b11 {
+        return Some((class_of_word16(addr, low), 2));
+    }
+    if bits_of(low, 4, 0) == 0b1_1111 {
+        return Some((Class::NotRetirable, 2));
+    }
+    if bytes.len() < place + 4 {
+        return None;
+    }
+    let word = low + (half_of(bytes, place + 2) << 16);
+    Some((class_of_word32(addr, word), 4))
+}
+
+/// The 16 bits at a place, little endian.
+#[inline]
+fn half_of(bytes: &[u8], place: usize) -> u32
+    requires { place + 1 < length bytes.now }
+    ensures value { result ≡ half_at (image_at 0 bytes.now) place }
+    ensures below { result < 2 ^ 16 }
+{
+    u32::from(bytes[place]) + (u32::from(bytes[place + 1]) << 8)
+}
