@@ -1,0 +1,7 @@
+use Rattle.std.proofs.Common.{ap, ◌∙◌}
+use Rattle.payload.specs.Faults.{part}
+use Rattle.payload.proofs.WideNumbers.{low_part}
+use Rattle.payload.proofs.bits.Bits.part.Goals as goal
+
+pub returns : goal.returns
+returns c = low_part c.self.inside.low c.self.inside.high c.args.from c.args.width c.requires.some c.requires.inside c.requires.narrow ∙ ap (λ n. part n c.args.from c.args.width) c.self.view_is

@@ -1,0 +1,12 @@
+pub mod Bytes
+pub mod Extension
+pub mod Fields
+pub mod Outcomes
+pub mod OutcomesInverse
+pub mod PacketFields
+pub mod Profile
+pub mod Spelling
+pub mod Faults
+pub mod Reading
+pub mod ReadingByKind
+pub mod Closing

@@ -1,0 +1,23 @@
+-- A map and its count come back from the outcomes.
+use Rattle.std.specs.Prelude.{ℕ, ◌≡◌, ◌/◌, ◌%◌, ◌^◌, ◌<◌, length}
+use Prim.Native.Nat.{zero, suc}
+use Rattle.std.proofs.Common.{◌*◌, cond, eqb, refl, ap, arith}
+use Rattle.std.proofs.Math.Nat.{pow-suc}
+use Rattle.payload.specs.Outcomes.{outcomes, map_of}
+
+pub length_outcomes : (count map : ℕ) → length (outcomes count map) ≡ count
+length_outcomes zero map = refl
+length_outcomes (suc count) map = ap suc (length_outcomes count (map / 2))
+
+low_bit : (x : ℕ) → x < 2 → cond (eqb x 0) 0 1 ≡ x
+low_bit zero h = refl
+low_bit (suc zero) h = refl
+low_bit (suc (suc x)) h = absurd (omega arith)
+
+pub map_outcomes : (count map : ℕ) → map < 2 ^ count → map_of (outcomes count map) ≡ map
+map_outcomes zero map h = omega arith
+map_outcomes (suc count) map h =
+    let twice : 2 ^ suc count ≡ 2 ^ count * 2 = pow-suc 2 count in
+    let next = map_outcomes count (map / 2) (omega arith) in
+    let here = low_bit (map % 2) (omega arith) in
+    omega arith

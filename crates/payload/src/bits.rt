@@ -1,0 +1,113 @@
+//! The bits that bytes spell, which go on with copies of the last byte's top bit.
+ghost use Rattle.std.specs.Prelude.{◌≡◌, ◌+◌, ◌-◌, ◌*◌, ◌/◌, ◌%◌, ◌^◌, ◌<◌, ◌≤◌, ◌++◌, nat_lt, length, replicate, ℕ};
+ghost use Rattle.payload.specs.Bytes.{number};
+ghost use Rattle.payload.specs.Extension.{magnitude};
+ghost use Rattle.payload.specs.Faults.{bits_of, part};
+
+use std::marker::Model;
+
+/// 144 bits, the most that a payload holds, seen as one number.
+#[derive(Drop)]
+pub(crate) struct Bits {
+    low: u128,
+    high: u16,
+}
+
+impl Model for Bits {
+    ghost Value = { ℕ };
+
+    ghost view = { λ b. b.low + 2 ^ 128 * b.high };
+
+    ghost invariant = { λ b. (b.low < 2 ^ 128) × (b.high < 2 ^ 16) };
+}
+
+impl Bits {
+    /// The bits of 1 to 18 bytes.
+    pub(crate) fn read(bytes: &[u8]) -> Bits
+        requires some { 1 ≤ length bytes.now }
+        requires few { length bytes.now ≤ 18 }
+        ensures { result ≡ bits_of bytes.now }
+    {
+        let fill = if bytes[bytes.len() - 1] < 0x80 {
+            0x00
+        } else {
+            0xff
+        };
+        if bytes.len() <= 16 {
+            Bits {
+                low: number_of_16(bytes, fill),
+                high: number_of_2(&[], fill),
+            }
+        } else {
+            Bits {
+                low: number_of_16(&bytes[..16], fill),
+                high: number_of_2(&bytes[16..], fill),
+            }
+        }
+    }
+
+    /// The field of `width` bits that begins at the bit `from`.
+    #[inline(always)]
+    pub(crate) fn part(&self, from: u32, width: u32) -> u64
+        requires inside { from + width ≤ 128 }
+        requires some { 1 ≤ width }
+        requires narrow { width ≤ 64 }
+        ensures { result ≡ part self.now from width }
+    {
+        ((self.low >> from) & ((1 << width) - 1)) as u64
+    }
+
+    /// The 64 bits from the bit 78 on.
+    pub(crate) fn last_part(&self) -> u64
+        ensures { result ≡ part self.now 78 64 }
+    {
+        ((self.low >> 78) as u64) + (u64::from(self.high % (1 << 14)) << 50)
+    }
+
+    /// Whether all bits from the bit `width - 1` on are the same.
+    #[inline(always)]
+    pub(crate) fn has_width(&self, width: u32) -> bool
+        requires some { 1 ≤ width }
+        requires inside { width ≤ 120 }
+        ensures { result ≡ nat_lt (magnitude 144 self.now) (2 ^ (width - 1)) }
+    {
+        let half = 1 << (width - 1);
+        if self.high == 0 {
+            self.low < half
+        } else if self.high == u16::MAX {
+            self.low > u128::MAX - half
+        } else {
+            false
+        }
+    }
+
+    /// Whether all bits from the bit 141 on are the same.
+    pub(crate) fn has_width_142(&self) -> bool
+        ensures { result ≡ nat_lt (magnitude 144 self.now) (2 ^ 141) }
+    {
+        let top = self.high >> 13;
+        top == 0b000 || top == 0b111
+    }
+}
+
+/// The number that 16 bytes spell, the last of them copies of `fill`.
+#[inline(always)]
+fn number_of_16(bytes: &[u8], fill: u8) -> u128
+    requires { length bytes.now ≤ 16 }
+    ensures { result ≡ number (bytes.now ++ replicate (16 - length bytes.now) fill) }
+{
+    let mut all = [fill; 16];
+    all[..bytes.len()].copy_from_slice(bytes);
+    u128::from_le_bytes(all)
+}
+
+/// The number that 2 bytes spell, the last of them copies of `fill`.
+#[inline(always)]
+fn number_of_2(bytes: &[u8], fill: u8) -> u16
+    requires { length bytes.now ≤ 2 }
+    ensures { result ≡ number (bytes.now ++ replicate (2 - length bytes.now) fill) }
+{
+    let mut all = [fill; 2];
+    all[..bytes.len()].copy_from_slice(bytes);
+    u16::from_le_bytes(all)
+}

@@ -1,0 +1,24 @@
+//! The packets of an instruction trace, and the payloads that carry them.
+//!
+//! [`pack`] gives the shortest payload of a packet, and [`unpack`] the packet that bytes stand for. The fields of each
+//! packet are those of the E-Trace specification's packet formats, with the widths of this project's profile. No call
+//! takes memory.
+#![tactic(auto)]
+
+mod bits;
+mod fault;
+mod outcomes;
+mod packet;
+mod packing;
+mod payload;
+mod spelling;
+#[cfg(test)]
+mod tests;
+mod unpacking;
+
+pub use fault::PackFault;
+pub use outcomes::Outcomes;
+pub use packet::{Packet, Report, Support};
+pub use packing::pack;
+pub use payload::Payload;
+pub use unpacking::unpack;

@@ -1,0 +1,112 @@
+//! The outcomes of branches.
+ghost use Rattle.std.specs.Prelude.{◌≡◌, ◌^◌, ◌<◌, ◌≤◌, Bool, List, [], ◌∷◌, ◌++◌, ◌==◌, length, slice_get};
+ghost use Rattle.payload.specs.Outcomes.{outcomes, map_width, map_of};
+ghost use Rattle.payload.specs.OutcomesInverse.{length_outcomes, map_outcomes};
+
+use std::marker::Model;
+
+/// Up to 31 outcomes of branches, the oldest first: true is taken.
+#[derive(Clone, Copy, Debug, PartialEq, Eq)]
+#[tactic(auto, using(crate::specs::OutcomesInverse::map_outcomes, crate::specs::OutcomesInverse::length_outcomes))]
+pub struct Outcomes {
+    map: u32,
+    count: u8,
+}
+
+impl Model for Outcomes {
+    ghost Value = { List Bool };
+
+    ghost view = { λ o. outcomes o.count o.map };
+
+    ghost inverse = { λ l. record { map = map_of l; count = length l } };
+
+    ghost inverse_ok = { λ o h i. record { map = map_outcomes o.count o.map h.1 i; count = length_outcomes o.count o.map i } };
+
+    ghost invariant = { λ o. (o.count ≤ 31) × (o.map < 2 ^ o.count) };
+}
+
+impl Outcomes {
+    /// No outcomes.
+    pub fn new() -> Self
+        ensures { result ≡ [] }
+    {
+        Outcomes { map: 0, count: 0 }
+    }
+
+    /// Adds the outcome of a younger branch.
+    pub fn push(&mut self, taken: bool)
+        requires { length self.old < 31 }
+        ensures { self.new ≡ self.old ++ taken ∷ [] }
+    {
+        self.map += u32::from(!taken) << self.count;
+        self.count += 1;
+    }
+
+    /// How many outcomes there are, 0 to 31.
+    pub fn len(&self) -> usize
+        ensures value { result ≡ length self.now }
+        ensures few { result ≤ 31 }
+    {
+        usize::from(self.count)
+    }
+
+    /// Whether there are none.
+    pub fn is_empty(&self) -> bool
+        ensures { result ≡ (length self.now == 0) }
+    {
+        self.count == 0
+    }
+
+    /// The outcome of the branch at a place, of which 0 is the oldest.
+    pub fn get(&self, i: usize) -> Option<bool>
+        ensures { result ≡ slice_get self.now i }
+    {
+        if i < usize::from(self.count) {
+            Some((self.map >> i) & 1 == 0)
+        } else {
+            None
+        }
+    }
+
+    /// The outcomes of the lowest `count` bits of a branch map.
+    pub(crate) fn of_map(count: u8, map: u32) -> Self
+        requires few { count ≤ 31 }
+        requires below { map < 2 ^ count }
+        ensures { result ≡ outcomes count map }
+    {
+        Outcomes { map, count }
+    }
+
+    /// The branch map: the oldest outcome in the lowest bit, 0 for a taken branch.
+    pub(crate) fn map(&self) -> u32
+        ensures value { result ≡ map_of self.now }
+        ensures below { result < 2 ^ length self.now }
+    {
+        self.map
+    }
+}
+
+impl Default for Outcomes {
+    fn default() -> Self
+        ensures { result ≡ [] }
+    {
+        Outcomes::new()
+    }
+}
+
+/// How many bits the branch map of so many outcomes has.
+pub(crate) fn map_width(count: usize) -> u32
+    requires { count ≤ 31 }
+    ensures value { result ≡ map_width count }
+    ensures some { 1 ≤ result }
+    ensures few { result ≤ 31 }
+    ensures room { count ≤ result }
+{
+    match count {
+        0..2 => 1,
+        2..4 => 3,
+        4..8 => 7,
+        8..16 => 15,
+        _ => 31,
+    }
+}

@@ -1,0 +1,110 @@
+//! The packets of an instruction trace.
+ghost use Rattle.std.specs.Prelude.{◌↔◌, IsTrue};
+
+use crate::Outcomes;
+
+/// A packet of an instruction trace: of the formats of the E-Trace specification's chapter "Instruction Trace Encoder
+/// Output Packets", those of this project's profile.
+#[derive(Clone, Copy, Debug, PartialEq, Eq)]
+pub enum Packet {
+    /// Where the trace is: format 3, subformat 0.
+    Sync {
+        /// The address holds a branch that was taken.
+        taken: bool,
+        /// The privilege level: 0, 1 or 3.
+        privilege: u8,
+        /// The address of the instruction, even.
+        address: u64,
+    },
+    /// An exception or an interrupt: format 3, subformat 1.
+    Trap {
+        /// The address holds a branch that was taken.
+        taken: bool,
+        /// The privilege level: 0, 1 or 3.
+        privilege: u8,
+        /// The cause, `ecause`, below 64.
+        cause: u8,
+        /// The trap is an interrupt.
+        interrupt: bool,
+        /// Address and privilege are those of the trap handler's first instruction (`thaddr`), not of the trap.
+        handler: bool,
+        /// The address of the handler or else of the instruction that trapped, even.
+        address: u64,
+        /// The trap value, `tval`; 0 with an interrupt.
+        tval: u64,
+    },
+    /// The trace begins or ends: format 3, subformat 3.
+    Support(Support),
+    /// How far the trace has come: format 1, or format 2 without outcomes.
+    Address {
+        /// The outcomes of the branches since the last packet that told of them, the oldest first.
+        outcomes: Outcomes,
+        /// The difference from the last reported address, modulo 2^64, even.
+        delta: u64,
+        /// Why the address is reported.
+        report: Report,
+    },
+    /// The outcomes of 31 branches, without an address: format 1 without branches.
+    Map(Outcomes),
+}
+
+/// What a support packet tells.
+#[derive(Clone, Copy, Debug, PartialEq, Eq)]
+pub enum Support {
+    /// Tracing begins.
+    Open,
+    /// Tracing ended, and the last packet's address was reported because of it (`ended_rep`).
+    EndedRep,
+    /// Tracing ended, and the last packet's address would have been reported anyway (`ended_ntr`).
+    EndedNtr,
+}
+
+/// Why an address is reported.
+#[derive(Clone, Copy, Debug, PartialEq, Eq)]
+pub enum Report {
+    /// Neither of the other two: notify, updiscon and irreport repeat the address field's top bit.
+    Plain,
+    /// The instruction follows an uninferable discontinuity, and a sync or trap packet reports what comes after it.
+    Updiscon,
+    /// The instruction is a backward jump, for which this project's profile uses notify.
+    Notify,
+}
+
+impl Packet {
+    ghost use Rattle.payload.specs.Profile.{InProfile};
+
+    /// Whether the packet is one of this project's profile: addresses and differences even, privilege 0, 1 or 3,
+    /// a cause below 64, no trap value with an interrupt, a map of exactly 31 outcomes.
+    pub fn in_profile(&self) -> bool
+        ensures { IsTrue result ↔ InProfile self.now }
+    {
+        match *self {
+            Packet::Sync {
+                privilege,
+                address,
+                ..
+            } => privilege < 4 && privilege != 2 && address % 2 == 0,
+            Packet::Trap {
+                privilege,
+                cause,
+                interrupt,
+                address,
+                tval,
+                ..
+            } => {
+                privilege < 4
+                    && privilege != 2
+                    && cause < 64
+                    && address % 2 == 0
+                    && (!interrupt || tval == 0)
+            }
+            Packet::Support(_) => true,
+            Packet::Address {
+                outcomes,
+                delta,
+                ..
+            } => outcomes.len() <= 31 && delta % 2 == 0,
+            Packet::Map(outcomes) => outcomes.len() == 31,
+        }
+    }
+}

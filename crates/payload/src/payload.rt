@@ -1,0 +1,110 @@
+//! The bytes of one packet.
+ghost use Rattle.std.specs.Prelude.{◌≡◌, ◌+◌, ◌*◌, ◌^◌, ◌<◌, ◌≤◌, ◌↔◌, ℕ, List, length, IsOk, IfOk};
+ghost use Rattle.payload.specs.Bytes.{low_bytes};
+
+use crate::{PackFault, Packet, Support, unpack};
+use arrayvec::ArrayVec;
+use std::marker::Model;
+
+/// The most bytes of a payload.
+const MOST: usize = 18;
+
+/// One to 18 bytes, held in place.
+#[derive(Debug, PartialEq, Eq, Drop)]
+pub struct Payload {
+    bytes: ArrayVec<u8, MOST>,
+}
+
+impl Model for Payload {
+    ghost Value = { List ℕ };
+
+    ghost view = { λ p. p.bytes.items };
+
+    ghost inverse = { λ bytes. record { bytes = record { items = bytes } } };
+
+    ghost invariant = { λ p. (1 ≤ length p.bytes.items) × (length p.bytes.items ≤ 18) };
+}
+
+impl Payload {
+    ghost use Rattle.payload.specs.Closing.{is_closing};
+
+    /// A payload of these bytes, whether or not they stand for a packet.
+    pub fn new(bytes: &[u8]) -> Result<Payload, PackFault>
+        ensures same { IfOk result (λ payload. payload ≡ bytes.now) }
+        ensures fits { IsOk result ↔ ((1 ≤ length bytes.now) × (length bytes.now ≤ 18)) }
+        ensures empty { length bytes.now ≡ 0 → result ≡ Err PackFault.Empty }
+        ensures too_long { 18 < length bytes.now → result ≡ Err PackFault.TooLong }
+    {
+        if bytes.is_empty() {
+            return Err(PackFault::Empty);
+        }
+        let mut held = ArrayVec::new();
+        match held.try_extend_from_slice(bytes) {
+            Ok(()) => Ok(Payload { bytes: held }),
+            Err(_) => Err(PackFault::TooLong),
+        }
+    }
+
+    /// The bytes.
+    pub fn bytes(&self) -> &[u8]
+        ensures same { result.now ≡ self.now }
+        ensures some { 1 ≤ length result.now }
+        ensures few { length result.now ≤ 18 }
+    {
+        self.bytes.as_slice()
+    }
+
+    /// Whether the bytes unpack to a packet that ends a trace, EndedRep or EndedNtr.
+    pub fn is_closing(&self) -> bool
+        ensures { result ≡ is_closing self.now }
+    {
+        matches!(
+            unpack(self.bytes()),
+            Ok(Packet::Support(Support::EndedRep | Support::EndedNtr))
+        )
+    }
+
+    /// The lowest `count` bytes of a number.
+    pub(crate) fn of_low_bytes(n: u128, count: usize) -> Payload
+        requires some { 1 ≤ count }
+        requires few { count ≤ 16 }
+        ensures { result ≡ low_bytes count n }
+    {
+        let mut bytes = ArrayVec::new();
+        match bytes.try_extend_from_slice(&bytes_of(n)[..count]) {
+            Ok(()) => Payload { bytes },
+            Err(_) => unreachable!(),
+        }
+    }
+
+    /// The lowest `count` bytes of `low + 2^128 * high`.
+    pub(crate) fn of_low_bytes_long(low: u128, high: u16, count: usize) -> Payload
+        requires some { 1 ≤ count }
+        requires few { count ≤ 18 }
+        ensures { result ≡ low_bytes count (low + 2 ^ 128 * high) }
+    {
+        if count <= 16 {
+            return Payload::of_low_bytes(low, count);
+        }
+        let mut bytes = ArrayVec::new();
+        match bytes.try_extend_from_slice(&bytes_of(low)) {
+            Ok(()) => {}
+            Err(_) => unreachable!(),
+        }
+        match bytes.try_extend_from_slice(&high.to_le_bytes()[..count - 16]) {
+            Ok(()) => Payload { bytes },
+            Err(_) => unreachable!(),
+        }
+    }
+}
+
+/// The 16 bytes of a number, the lowest first: two halves, each of which a machine stores at once.
+#[inline(always)]
+fn bytes_of(n: u128) -> [u8; 16]
+    ensures { result ≡ low_bytes 16 n }
+{
+    let mut bytes = [0; 16];
+    bytes[..8].copy_from_slice(&((n % (1 << 64)) as u64).to_le_bytes());
+    bytes[8..].copy_from_slice(&((n >> 64) as u64).to_le_bytes());
+    bytes
+}

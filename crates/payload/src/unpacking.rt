@@ -1,0 +1,182 @@
+//! From bytes to packets.
+ghost use Rattle.std.specs.Prelude.{◌≡◌, ◌<◌, ◌≤◌, IfOk, Ok};
+ghost use Rattle.std.specs.Result.{result_err};
+ghost use Rattle.payload.specs.Faults.{first_fault};
+ghost use Rattle.payload.specs.Profile.{InProfile};
+ghost use Rattle.payload.specs.Reading.{outcomes_from, reading};
+ghost use Rattle.payload.specs.ReadingByKind.{sync_reading, trap_reading, support_reading, report_in, address_reading, map_reading, branches_reading, reading_by_kind};
+ghost use Rattle.payload.specs.Spelling.{Spelt};
+ghost use Rattle.payload.specs.declared.packet.Packet.{Packet as AnyPacket};
+
+use crate::bits::Bits;
+use crate::outcomes::map_width;
+use crate::{Outcomes, PackFault, Packet, Report, Support};
+
+/// The packet that bytes stand for, be they the shortest or longer, or else the first fault.
+pub fn unpack(bytes: &[u8]) -> Result<Packet, PackFault>
+    ensures found { IfOk result (λ packet. InProfile packet × Spelt bytes.now packet) }
+    ensures only { (packet : AnyPacket) → InProfile packet → Spelt bytes.now packet → result ≡ Ok packet }
+    ensures fault { result_err result ≡ first_fault bytes.now }
+    // What is answered is a function of the bytes.
+    ensures value { result ≡ reading bytes.now }
+{
+    unpacked(bytes)
+}
+
+#[tactic(auto, unfolding(crate::specs::ReadingByKind::reading_by_kind))]
+fn unpacked(bytes: &[u8]) -> Result<Packet, PackFault>
+    ensures { result ≡ reading_by_kind bytes.now }
+{
+    if bytes.is_empty() {
+        return Err(PackFault::Empty);
+    }
+    if bytes.len() > 18 {
+        return Err(PackFault::TooLong);
+    }
+    let bits = Bits::read(bytes);
+    match bits.part(0, 2) {
+        0b11 => match bits.part(2, 2) {
+            0b00 => sync_of(&bits),
+            0b01 => trap_of(&bits),
+            0b11 => support_of(&bits),
+            _ => Err(PackFault::Unsupported),
+        },
+        0b10 => address_of(&bits, Outcomes::new(), 2),
+        0b01 => branches_of(&bits),
+        _ => Err(PackFault::Unsupported),
+    }
+}
+
+/// The packet of bits of format 3, subformat 0.
+#[tactic(auto, unfolding(crate::specs::ReadingByKind::sync_reading))]
+fn sync_of(bits: &Bits) -> Result<Packet, PackFault>
+    ensures { result ≡ sync_reading bits.now }
+{
+    let privilege = bits.part(5, 2) as u8;
+    if privilege == 2 {
+        return Err(PackFault::BadPrivilege);
+    }
+    if !bits.has_width(70) {
+        return Err(PackFault::BadPad);
+    }
+    Ok(Packet::Sync {
+        taken: bits.part(4, 1) == 0,
+        privilege,
+        address: bits.part(7, 63) << 1,
+    })
+}
+
+/// The packet of bits of format 3, subformat 1.
+#[tactic(auto, unfolding(crate::specs::ReadingByKind::trap_reading))]
+fn trap_of(bits: &Bits) -> Result<Packet, PackFault>
+    ensures { result ≡ trap_reading bits.now }
+{
+    let privilege = bits.part(5, 2) as u8;
+    if privilege == 2 {
+        return Err(PackFault::BadPrivilege);
+    }
+    let interrupt = bits.part(13, 1) == 1;
+    let is_padded = if interrupt {
+        bits.has_width(78)
+    } else {
+        bits.has_width_142()
+    };
+    if !is_padded {
+        return Err(PackFault::BadPad);
+    }
+    Ok(Packet::Trap {
+        taken: bits.part(4, 1) == 0,
+        privilege,
+        cause: bits.part(7, 6) as u8,
+        interrupt,
+        handler: bits.part(14, 1) == 1,
+        address: bits.part(15, 63) << 1,
+        tval: if interrupt { 0 } else { bits.last_part() },
+    })
+}
+
+/// The packet of bits of format 3, subformat 3.
+#[tactic(auto, unfolding(crate::specs::ReadingByKind::support_reading))]
+fn support_of(bits: &Bits) -> Result<Packet, PackFault>
+    ensures { result ≡ support_reading bits.now }
+{
+    let support = match (bits.part(4, 2), bits.part(6, 2), bits.part(8, 5)) {
+        (1, 0, 0) => Support::Open,
+        (0, 1, 0) => Support::EndedRep,
+        (0, 3, 0) => Support::EndedNtr,
+        _ => return Err(PackFault::Unsupported),
+    };
+    if !bits.has_width(13) {
+        return Err(PackFault::BadPad);
+    }
+    Ok(Packet::Support(support))
+}
+
+/// The packet of bits of format 1.
+fn branches_of(bits: &Bits) -> Result<Packet, PackFault>
+    ensures { result ≡ branches_reading bits.now }
+{
+    let count = bits.part(2, 5) as u8;
+    if count == 0 {
+        return map_of(bits);
+    }
+    address_of(
+        bits,
+        first_outcomes(bits, count),
+        7 + map_width(usize::from(count)),
+    )
+}
+
+/// The packet of bits of format 1 without branches.
+#[tactic(auto, unfolding(crate::specs::ReadingByKind::map_reading))]
+fn map_of(bits: &Bits) -> Result<Packet, PackFault>
+    ensures { result ≡ map_reading bits.now }
+{
+    if !bits.has_width(38) {
+        return Err(PackFault::BadPad);
+    }
+    Ok(Packet::Map(first_outcomes(bits, 31)))
+}
+
+/// So many outcomes of the branch map.
+fn first_outcomes(bits: &Bits, count: u8) -> Outcomes
+    requires some { 1 ≤ count }
+    requires few { count ≤ 31 }
+    ensures { result ≡ outcomes_from bits.now count }
+{
+    Outcomes::of_map(count, bits.part(7, u32::from(count)) as u32)
+}
+
+/// The packet of bits of format 1 or 2 with these outcomes, whose address field begins at the bit `from`.
+#[tactic(auto, unfolding(crate::specs::ReadingByKind::address_reading))]
+fn address_of(bits: &Bits, outcomes: Outcomes, from: u32) -> Result<Packet, PackFault>
+    requires { from ≤ 38 }
+    ensures { result ≡ address_reading bits.now outcomes from }
+{
+    let Some(report) = report_of(bits.part(from + 62, 1), bits.part(from + 63, 3)) else {
+        return Err(PackFault::BadReport);
+    };
+    if !bits.has_width(from + 66) {
+        return Err(PackFault::BadPad);
+    }
+    Ok(Packet::Address {
+        outcomes,
+        delta: bits.part(from, 63) << 1,
+        report,
+    })
+}
+
+/// The report of notify, updiscon and irreport behind an address field with this top bit.
+#[tactic(auto, unfolding(crate::specs::ReadingByKind::report_in))]
+fn report_of(top: u64, tail: u64) -> Option<Report>
+    requires bit { top < 2 }
+    requires bits { tail < 8 }
+    ensures { result ≡ report_in top tail }
+{
+    match (top, tail) {
+        (0, 0b000) | (1, 0b111) => Some(Report::Plain),
+        (0, 0b110) | (1, 0b001) => Some(Report::Updiscon),
+        (0, 0b111) | (1, 0b000) => Some(Report::Notify),
+        _ => None,
+    }
+}
