@@ -1,0 +1,9 @@
+pub mod NumberLemmas
+pub mod RowLemmas
+pub mod RecordsLemmas
+pub mod EventsLemmas
+pub mod HexLemmas
+pub mod LineLemmas
+pub mod WriteLemmas
+pub mod RoundTrip
+pub mod RangeLemmas

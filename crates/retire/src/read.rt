@@ -1,0 +1,133 @@
+// Reading a log.
+
+ghost use Rattle.std.specs.Prelude.{◌≡◌, ◌⊎◌, ◌≤◌, ℕ, List, IfOk, OnOk, IfErr, IfSome, Some, vec_len};
+ghost use Rattle.csv.specs.Reading.{ReadRecord, Ready, default_config, reader_config, reader_state, reader_trim, source_of};
+ghost use Rattle.csv.specs.Records.{fields_of};
+ghost use Rattle.csv.specs.declared.reader.Trim.TheVariants as trim;
+ghost use Rattle.retire.specs.Log.{IsDenied, events_from, limit, log_of, records_of};
+ghost use Rattle.retire.specs.RowsLeft.{Answers, IsStart, fault_of_error, records_left};
+
+use crate::event::Event;
+use crate::fault::LogFault;
+use crate::row::{event_of, is_header};
+use csv::{ByteRecord, Reader, ReaderBuilder};
+use std::alloc::{Allocator, Global};
+use std::io::Read;
+
+// The most rows of a log.
+const ROWS: u32 = 16_777_216;
+
+// What an error of the reader tells.
+fn fault_of(error: csv::Error) -> LogFault
+    ensures { result ≡ fault_of_error error }
+{
+    if error.is_io_error() {
+        LogFault::Read
+    } else {
+        LogFault::Memory
+    }
+}
+
+// Reads the next record, if there is one.
+fn next_record<R: Read + Drop>(
+    reader: &mut Reader<R>,
+    line: &mut ByteRecord,
+) -> Result<bool, LogFault>
+    requires plain { reader_trim reader.old ≡ trim.None }
+    requires ready { Ready reader.old }
+    ensures reads { IfOk result (λ found. ReadRecord R.remaining reader.old reader.new found (fields_of line.new)) }
+    ensures still { OnOk result (Ready reader.new) }
+    ensures trim_same { OnOk result (reader_trim reader.new ≡ reader_trim reader.old) }
+    ensures config_same { OnOk result (reader_config reader.new ≡ reader_config reader.old) }
+    ensures denied { IfErr result IsDenied }
+{
+    match reader.read_byte_record(line) {
+        Ok(found) => Ok(found),
+        Err(error) => Err(fault_of(error)),
+    }
+}
+
+// The events of the rows that the reader has left.
+fn read_rows<A: Allocator, R: Read + Drop>(
+    alloc: A,
+    reader: &mut Reader<R>,
+    line: &mut ByteRecord,
+) -> Result<Vec<Event, A>, LogFault>
+    requires plain { reader_trim reader.old ≡ trim.None }
+    requires ready { Ready reader.old }
+    requires config { reader_config reader.old ≡ default_config }
+    ensures told { (text : List ℕ) → source_of R.remaining reader.old ≡ Some text → IsStart (reader_state reader.old)
+        → Answers result (events_from 1 (records_left (reader_state reader.old) text)) }
+    ensures short { IfOk result (λ events. vec_len events ≤ limit) }
+{
+    let mut events = Vec::new(alloc);
+    for row in 1..ROWS + 1 {
+        if !next_record(reader, line)? {
+            return Ok(events);
+        }
+        let event = match event_of(row, line) {
+            Ok(event) => event,
+            Err(fault) => return Err(fault),
+        };
+        if events.push(event).is_err() {
+            return Err(LogFault::Memory);
+        }
+    }
+    if next_record(reader, line)? {
+        return Err(LogFault::TooLong);
+    }
+    Ok(events)
+}
+
+// The events of the log that the reader stands before.
+fn read_records<A: Allocator, R: Read + Drop>(
+    alloc: A,
+    global: Global,
+    reader: &mut Reader<R>,
+) -> Result<Vec<Event, A>, LogFault>
+    requires plain { reader_trim reader.old ≡ trim.None }
+    requires ready { Ready reader.old }
+    requires config { reader_config reader.old ≡ default_config }
+    ensures told { (text : List ℕ) → source_of R.remaining reader.old ≡ Some text → IsStart (reader_state reader.old)
+        → Answers result (log_of (records_left (reader_state reader.old) text)) }
+    ensures short { IfOk result (λ events. vec_len events ≤ limit) }
+{
+    let mut line = ByteRecord::new(global);
+    if !next_record(reader, &mut line)? || !is_header(&line) {
+        return Err(LogFault::Header);
+    }
+    read_rows(alloc, reader, &mut line)
+}
+
+/// Reads the events of a log: CSV whose first record is the header
+/// `addr,itype,priv,cause,tval`, and then a row for each event, at most 16777216.
+///
+/// A number is an optional `0x` or `0X` and 1 to 16 hexadecimal digits of either case. Type 1 is
+/// an exception and type 2 an interrupt, both with the exception program counter in `addr`; types
+/// 0 and 3 to 6 are retirements, whose `cause` and `tval` are empty. An interrupt's `tval` is
+/// empty or zero.
+///
+/// The records are those that `csv` reads: a byte order mark at the start is dropped, a line ends
+/// at a line feed, a carriage return or both, empty lines are no rows and are not counted, the
+/// last row needs no line end, and a field may stand in quotes. Spaces are not trimmed.
+///
+/// Of a log with faults the first faulty row is named, with the lowest fault that applies to it;
+/// [`LogFault::TooLong`] comes at row 16777217 even where that row is faulty itself.
+/// [`LogFault::Read`] comes only where the reader failed, and [`LogFault::Memory`] only where
+/// memory was refused; neither claims anything of the log. The list takes its memory from
+/// `alloc`, and `csv` its own from `global`.
+pub fn read_log<A: Allocator, R: Read + Drop>(
+    alloc: A,
+    global: Global,
+    source: R,
+) -> Result<Vec<Event, A>, LogFault>
+    ensures events { IfSome (R.remaining source) (λ text. IfOk result (λ events. log_of (records_of text) ≡ Ok events.items)) }
+    ensures faults { IfSome (R.remaining source) (λ text. IfErr result (λ fault. IsDenied fault ⊎ (log_of (records_of text) ≡ Err fault))) }
+    ensures short { IfOk result (λ events. vec_len events ≤ limit) }
+{
+    let mut reader = ReaderBuilder::new()
+        .has_headers(false)
+        .flexible(true)
+        .from_reader(global, source);
+    read_records(alloc, global, &mut reader)
+}
