@@ -1,0 +1,8 @@
+pub mod Telling
+pub mod JudgingLemmas
+pub mod RunsLemmas
+pub mod ReasonLemmas
+pub mod CheckLemmas
+pub mod FaultLemmas
+pub mod StepLemmas
+pub mod EventLemmas

@@ -1,0 +1,19 @@
+-- The fault of a log.
+use Rattle.std.specs.Prelude.{◌≡◌, ◌+◌, List, ◌∷◌, ◌++◌, None, length}
+use Rattle.std.specs.List.{last_or}
+use Rattle.retire.specs.declared.event.Event.{Event}
+use Rattle.rvclass.specs.Words.{Words}
+use Rattle.legalpath.specs.Legal.{Legal}
+use Rattle.legalpath.specs.Reason.{IsReason}
+use Rattle.legalpath.specs.declared.fault.PathFault.{PathFault}
+
+-- The first illegal row of a log, counted from 1, and the reason that is told of it: the rows
+-- before it are legal.
+pub record IsFirstFault (words : Words) (log : List Event) (fault : PathFault) : Type 0 where
+  pub front : List Event
+  pub event : Event
+  pub rest : List Event
+  pub whole : log ≡ front ++ event ∷ rest
+  pub legal : Legal words front
+  pub counted : fault.row ≡ length front + 1
+  pub reason : IsReason words (last_or None front) event fault.why

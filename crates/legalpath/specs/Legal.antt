@@ -1,0 +1,17 @@
+-- Which logs are legal.
+use Rattle.std.specs.Prelude.{List, [], ◌∷◌, Option, Some, None}
+use Rattle.retire.specs.declared.event.Event.{Event}
+use Rattle.rvclass.specs.Words.{Words}
+use Rattle.legalpath.specs.Right.{Right}
+use Rattle.legalpath.specs.Step.{StepFrom}
+
+-- Each of these events is right by itself and may follow the one before it, the first of them this
+-- one, where there is one.
+abbrev pub Runs : Words → Option Event → List Event → Type 0
+Runs words before [] = Unit {0}
+Runs words before (event ∷ events) =
+    Right words event × StepFrom words before event × Runs words (Some event) events
+
+-- A log is legal: each event is right by itself, and each may follow the one before.
+abbrev pub Legal : Words → List Event → Type 0
+Legal words log = Runs words None log

@@ -1,0 +1,11 @@
+-- The word under an event.
+use Rattle.std.specs.Prelude.{Option, None}
+use Rattle.retire.specs.declared.event.Event.{Event}
+use Rattle.retire.specs.declared.event.Event.TheVariants.{Retire, Trap}
+use Rattle.rvclass.specs.Words.{Word, Words}
+
+-- The word that a retirement stands on, or none where no whole word stands there; a trap stands on
+-- none.
+abbrev pub word_of : Words → Event → Option Word
+word_of words (Retire addr itype priv) = words addr
+word_of words (Trap epc priv interrupt cause tval) = None

@@ -1,0 +1,193 @@
+ghost use Rattle.std.specs.Prelude.{◌≡◌, ◌+◌, ◌^◌, ◌<◌, IsTrue};
+ghost use Rattle.rvclass.specs.Fetch.{words_of};
+ghost use Rattle.legalpath.specs.Judging as judging;
+
+use crate::fault::Why;
+use crate::next::{Next, leads};
+use retire::Event;
+use rvclass::{Class, Program, Return};
+
+/// What an event leaves to the one that follows it.
+#[derive(Clone, Copy)]
+pub struct Left {
+    /// Where that may stand.
+    pub next: Next,
+    /// The least privilege that it may have.
+    pub least: u8,
+    /// The greatest privilege that it may have.
+    pub greatest: u8,
+}
+
+/// What is left to the first event of a log.
+#[inline]
+pub fn left_at_start() -> Left
+    ensures { result ≡ judging.left_at_start }
+{
+    Left {
+        next: Next::Any,
+        least: 0,
+        greatest: 3,
+    }
+}
+
+/// What an event leaves, after what was left to it, or the first reason that refuses it.
+#[inline]
+pub fn judge(program: &Program, left: Left, event: &Event) -> Result<Left, Why>
+    ensures { result ≡ judging.judge (words_of program.now) left event.now }
+{
+    match *event {
+        Event::Retire {
+            addr,
+            itype,
+            privilege,
+        } => judge_retirement(program, left, addr, itype, privilege),
+        Event::Trap {
+            epc,
+            privilege,
+            interrupt,
+            cause,
+            tval,
+        } => judge_trap(left, epc, privilege, interrupt, cause, tval),
+    }
+}
+
+/// Judges a retirement.
+#[inline]
+fn judge_retirement(
+    program: &Program,
+    left: Left,
+    addr: u64,
+    itype: u8,
+    privilege: u8,
+) -> Result<Left, Why>
+    ensures { result
+        ≡ judging.judge_retirement left addr itype privilege (words_of program.now addr) }
+{
+    let Some((class, length)) = program.at(addr) else {
+        return Err(Why::OffProgram);
+    };
+    // Before the tests, so that one look at the class serves them too.
+    let leaves = Left {
+        next: leads(addr, itype, class, length),
+        least: least_after(class, privilege),
+        greatest: greatest_after(class, privilege),
+    };
+    if matches!(class, Class::NotRetirable) {
+        return Err(Why::NotRetirable);
+    }
+    if !is_type_of(class, itype) {
+        return Err(Why::WrongType);
+    }
+    if !may_stand_at(left.next, addr) {
+        return Err(Why::WrongNext);
+    }
+    if !may_retire_at(class, privilege) || !was_left(left, privilege) {
+        return Err(Why::WrongPrivilege);
+    }
+    Ok(leaves)
+}
+
+/// Judges a trap.
+#[inline]
+fn judge_trap(
+    left: Left,
+    epc: u64,
+    privilege: u8,
+    interrupt: bool,
+    cause: u8,
+    tval: u64,
+) -> Result<Left, Why>
+    ensures { result ≡ judging.judge_trap left epc privilege interrupt cause tval }
+{
+    if cause > 63 || interrupt && tval != 0 {
+        return Err(Why::WrongType);
+    }
+    if !is_privilege(privilege) || !was_left(left, privilege) {
+        return Err(Why::WrongPrivilege);
+    }
+    if !epc.is_multiple_of(2) || !may_stand_at(left.next, epc) {
+        return Err(Why::WrongEpc);
+    }
+    Ok(Left {
+        next: Next::Any,
+        least: privilege.max(1),
+        greatest: 3,
+    })
+}
+
+/// Whether a retirement of this class has this type.
+#[inline]
+fn is_type_of(class: Class, itype: u8) -> bool
+    ensures { result ≡ judging.is_type_of class itype }
+{
+    match class {
+        Class::Plain | Class::Jump(_) => itype == 0,
+        Class::Branch(_) => itype == 4 || itype == 5,
+        Class::Uninferable => itype == 6,
+        Class::TrapReturn(_) => itype == 3,
+        Class::NotRetirable => false,
+    }
+}
+
+/// Whether an event may stand at this place.
+#[inline]
+fn may_stand_at(next: Next, at: u64) -> bool
+    ensures { result ≡ judging.may_stand_at next at }
+{
+    match next {
+        Next::One(to) => at == to,
+        Next::Any => true,
+        Next::NoneInside => false,
+    }
+}
+
+/// Whether this is a privilege: 0, 1 or 3.
+#[inline]
+fn is_privilege(privilege: u8) -> bool
+    ensures { result ≡ judging.is_privilege privilege }
+{
+    privilege == 0 || privilege == 1 || privilege == 3
+}
+
+/// Whether a word of this class may retire at this privilege.
+#[inline]
+fn may_retire_at(class: Class, privilege: u8) -> bool
+    ensures { result ≡ judging.may_retire_at class privilege }
+{
+    match class {
+        Class::TrapReturn(Return::Mret) => privilege == 3,
+        Class::TrapReturn(Return::Sret) => privilege == 1 || privilege == 3,
+        _ => is_privilege(privilege),
+    }
+}
+
+/// Whether the privilege is one that was left.
+#[inline]
+fn was_left(left: Left, privilege: u8) -> bool
+    ensures { result ≡ judging.was_left left privilege }
+{
+    left.least <= privilege && privilege <= left.greatest
+}
+
+/// The least privilege after a retirement of this class at this one.
+#[inline]
+fn least_after(class: Class, privilege: u8) -> u8
+    ensures { result ≡ judging.least_after class privilege }
+{
+    match class {
+        Class::TrapReturn(_) => 0,
+        _ => privilege,
+    }
+}
+
+/// The greatest privilege after a retirement of this class at this one.
+#[inline]
+fn greatest_after(class: Class, privilege: u8) -> u8
+    ensures { result ≡ judging.greatest_after class privilege }
+{
+    match class {
+        Class::TrapReturn(Return::Mret) => 3,
+        Class::TrapReturn(Return::Sret) => 1,
+        _ => privilege,
+    }
+}

@@ -1,0 +1,26 @@
+// What the definitions of legal logs promise of one another.
+
+ghost use Rattle.legalpath.specs.ReasonLaws.{RefusesTheIllegal, NamesOneFault};
+ghost use Rattle.legalpath.specs.RunsLaws.{SplitsAndJoins};
+ghost use Rattle.legalpath.specs.StepLaws.{LeadsToOne, FollowersStandTogether, FollowersStandAbove};
+ghost use Rattle.legalpath.specs.StepLaws.{FollowersKeepPrivilege};
+
+/// A row of a log has a reason exactly where it is illegal, and a log has one first fault at most.
+pub fn reasons_tell_the_illegal()
+    ensures refuses { RefusesTheIllegal }
+    ensures one { NamesOneFault }
+{}
+
+/// A retirement that is no uninferable discontinuity leads to one address and keeps its privilege;
+/// that address is above its own, unless it is a branch or a backward jump.
+pub fn retirements_lead_to_one_place()
+    ensures leads { LeadsToOne }
+    ensures together { FollowersStandTogether }
+    ensures above { FollowersStandAbove }
+    ensures keeps { FollowersKeepPrivilege }
+{}
+
+/// A legal log splits and joins at any place.
+pub fn logs_split_and_join()
+    ensures { SplitsAndJoins }
+{}

@@ -1,0 +1,67 @@
+ghost use Rattle.std.specs.Prelude.{◌≡◌, ◌↔◌, ◌^◌, ◌≤◌, length, vec_len, IsOk, IfOk, IfErr};
+ghost use Rattle.rvclass.specs.Fetch.{words_of};
+ghost use Rattle.legalpath.specs.FirstFault.{IsFirstFault};
+ghost use Rattle.legalpath.specs.Legal.{Legal};
+ghost use Rattle.legalpath.specs.ProgramLog.{ProgramLog, IsLegalLog, log_of};
+
+use crate::checking::check;
+use crate::fault::PathFault;
+use retire::Event;
+use rvclass::Program;
+use std::alloc::{Allocator, Global};
+use std::marker::Model;
+
+/// A log that is legal for the program that it ran, of at most 2^24 events. It never changes.
+#[derive(Debug, Drop)]
+pub struct LegalLog<'p, A: Allocator = Global> {
+    program: &'p Program,
+    events: Vec<Event, A>,
+}
+
+impl<'p, A: Allocator> Model for LegalLog<'p, A> {
+    ghost Value = { ProgramLog };
+
+    ghost view = { λ log. log_of log.program.now log.events.items };
+
+    ghost invariant = { λ log. IsLegalLog (log_of log.program.now log.events.items) };
+}
+
+impl<'p, A: Allocator> LegalLog<'p, A> {
+    /// The log of these events, where [`check`] finds it legal; else the first illegal row, and the
+    /// very list.
+    pub fn new(
+        program: &'p Program,
+        events: Vec<Event, A>,
+    ) -> Result<LegalLog<'p, A>, (PathFault, Vec<Event, A>)>
+        requires { vec_len events ≤ 2 ^ 24 }
+        ensures legal { IsOk result ↔ Legal (words_of program.now) events.items }
+        ensures program { IfOk result (λ log. log.program ≡ program.now) }
+        ensures events { IfOk result (λ log. log.events ≡ events.items) }
+        ensures first { IfErr result
+            (λ refused. IsFirstFault (words_of program.now) events.items refused.0) }
+        ensures back { IfErr result (λ refused. refused.1 ≡ events) }
+    {
+        match check(program, &events) {
+            Ok(()) => Ok(LegalLog { program, events }),
+            Err(fault) => Err((fault, events)),
+        }
+    }
+
+    /// The program.
+    #[inline]
+    pub fn program(&self) -> &'p Program
+        ensures { result.now ≡ self.now.program }
+    {
+        self.program
+    }
+
+    /// The events.
+    #[inline]
+    pub fn events(&self) -> &[Event]
+        ensures events { result.now ≡ self.now.events }
+        ensures legal { Legal (words_of self.now.program) self.now.events }
+        ensures short { length self.now.events ≤ 2 ^ 24 }
+    {
+        &self.events
+    }
+}

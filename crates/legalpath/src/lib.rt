@@ -1,0 +1,19 @@
+//! Which logs are legal: the events of a log against the program that ran, row by row. What may
+//! retire, and where control goes on, is as the RISC-V Unprivileged ISA and the Privileged
+//! Architecture say; the types of retirements are the E-Trace specification's. No call takes memory.
+#![tactic(auto)]
+
+mod checking;
+mod fault;
+mod judging;
+mod laws;
+mod legal_log;
+mod next;
+#[cfg(test)]
+mod tests;
+
+pub use checking::check;
+pub use fault::{PathFault, Why};
+pub use laws::{logs_split_and_join, reasons_tell_the_illegal, retirements_lead_to_one_place};
+pub use legal_log::LegalLog;
+pub use next::{Next, successor};
