@@ -1,0 +1,5 @@
+pub mod HexLines
+pub mod Run
+pub mod Span
+pub mod Straight
+pub mod StraightPackets
