@@ -1,0 +1,2 @@
+mod GrammarLemmas
+mod SubcommandLemmas

@@ -1,0 +1,35 @@
+-- What words ask for, by what clap finds in them.
+use Rattle.std.specs.Prelude.{◌≡◌, ◌≢◌, codes, Bool, true, false, List, [], Option}
+use Rattle.std.specs.Prelude.{Some, None, unwrap_or}
+use Rattle.clap.specs.Words.{Row, Text, fault_of, first_of, one_of, subcommand_of}
+use Rattle.cli.specs.Grammar.{program_app}
+use Rattle.cli.specs.declared.words.Asked.{Asked}
+use Rattle.cli.specs.declared.words.Asked.TheVariants.{Encode}
+
+-- the first value of an argument, or no text where it has none
+abbrev pub text_of : Text → List Row → Text
+text_of id rows = unwrap_or (first_of id rows) []
+
+-- a flag is set by the value `true`, and not set by `false` or where it has no value
+abbrev pub IsFlag : Option Text → Bool → Type 0
+IsFlag value is_set = (value ≡ Some (codes "true") → is_set ≡ true)
+    × (value ≡ Some (codes "false") → is_set ≡ false) × (value ≡ None → is_set ≡ false)
+
+-- a subcommand of this name with these rows is what is asked
+abbrev pub Asks : Text → List Row → Asked → Type 0
+Asks name rows (Encode base image log hex) = (name ≡ codes "encode")
+    × (base.now ≡ text_of (codes "base") rows) × (image.now ≡ text_of (codes "IMAGE") rows)
+    × (log.now ≡ text_of (codes "LOG") rows) × IsFlag (one_of (codes "hex") rows) hex
+
+-- what was found of a subcommand is what is asked
+abbrev pub AsksFound : Option (Text × List Row) → Asked → Type 0
+AsksFound None asked = ⊥
+AsksFound (Some found) asked = Asks found.0 found.1 asked
+
+-- the words ask for this
+abbrev pub WordsAsk : List Text → Asked → Type 0
+WordsAsk words = AsksFound (subcommand_of program_app words)
+
+-- `clap` finds a fault in the words; a call for help is one
+abbrev pub AreRefused : List Text → Type 0
+AreRefused words = fault_of program_app words ≢ []

@@ -1,0 +1,57 @@
+-- The words that the program takes, in clap's own terms.
+use Rattle.std.specs.Prelude.{◌≡◌, codes, Some, true, false}
+use Rattle.clap.specs.Words.{App, Rule, Text, app_of, new_app, new_rule, rule_of}
+use Rattle.clap.specs.Words.{with_rule, with_subcommand}
+use Rattle.clap.specs.Simple.{on_top}
+use Rattle.clap.specs.declared.builder.arg.Arg.{Arg}
+use Rattle.clap.specs.declared.builder.command.Command.{Command}
+use Rattle.clap.specs.declared.builder.command.Command.TheViews.{out-Command as fields_of}
+use Rattle.clap.specs.declared.builder.action.ArgAction.TheVariants.{Set, SetTrue}
+
+-- `--base B`, which has to be there
+abbrev pub base_rule : Rule
+base_rule = record (new_rule (codes "base")) {
+  long = Some (codes "base");
+  action = Some Set;
+  value_names = 1;
+  required = true;
+}
+
+-- `--hex`
+abbrev pub hex_rule : Rule
+hex_rule =
+    record (new_rule (codes "hex")) { long = Some (codes "hex"); action = Some SetTrue }
+
+-- IMAGE, a word of its own that has to be there
+abbrev pub image_rule : Rule
+image_rule = record (new_rule (codes "IMAGE")) { action = Some Set; required = true }
+
+-- LOG, a word of its own that has to be there
+abbrev pub log_rule : Rule
+log_rule = record (new_rule (codes "LOG")) { action = Some Set; required = true }
+
+-- `encode --base B [--hex] IMAGE LOG`
+abbrev pub encode_app : App
+encode_app = with_rule (with_rule (with_rule (with_rule (new_app (codes "encode")) base_rule) hex_rule)
+    image_rule) log_rule
+
+-- the program by itself, which wants a subcommand
+abbrev pub bare_program : App
+bare_program =
+    on_top (λ s. record s { subcommand_required = true }) (new_app (codes "tracebench"))
+
+-- the program with its subcommands
+abbrev pub program_app : App
+program_app = with_subcommand bare_program encode_app.top
+
+-- the names of the program's subcommands
+abbrev pub IsSubcommand : Text → Type 0
+IsSubcommand name = name ≡ codes "encode"
+
+-- the argument is read by this rule, and at its own subcommand alone
+abbrev pub IsReadBy : Rule → Arg → Type 0
+IsReadBy rule a = (rule_of a ≡ rule) × (a.global ≡ false)
+
+-- the command takes these words, with no argument that its subcommands share
+abbrev pub HasGrammar : App → Command → Type 0
+HasGrammar app c = (app_of c ≡ app) × ((fields_of c).has_globals ≡ false)

@@ -1,0 +1,3 @@
+pub mod Grammar
+pub mod Asking
+pub mod Errors

@@ -1,0 +1,44 @@
+// The arguments that subcommands take, one function each.
+
+ghost use Rattle.cli.specs.Grammar.{IsReadBy, base_rule, hex_rule, image_rule, log_rule};
+
+use clap::{Arg, ArgAction};
+use std::alloc::Global;
+
+pub(crate) fn base<'a>(alloc: Global) -> Arg<'a>
+    ensures { IsReadBy base_rule result }
+{
+    Arg::new(alloc, "base")
+        .long("base")
+        .value_name("B")
+        .required(true)
+        .action(ArgAction::Set)
+        .help("Address of the image's first byte, in hexadecimal")
+}
+
+pub(crate) fn hex<'a>(alloc: Global) -> Arg<'a>
+    ensures { IsReadBy hex_rule result }
+{
+    Arg::new(alloc, "hex")
+        .long("hex")
+        .action(ArgAction::SetTrue)
+        .help("Write a line of hexadecimal for each message")
+}
+
+pub(crate) fn image<'a>(alloc: Global) -> Arg<'a>
+    ensures { IsReadBy image_rule result }
+{
+    Arg::new(alloc, "IMAGE")
+        .required(true)
+        .action(ArgAction::Set)
+        .help("File of the program's bytes")
+}
+
+pub(crate) fn log<'a>(alloc: Global) -> Arg<'a>
+    ensures { IsReadBy log_rule result }
+{
+    Arg::new(alloc, "LOG")
+        .required(true)
+        .action(ArgAction::Set)
+        .help("Log of one hart, as CSV")
+}

@@ -1,0 +1,56 @@
+// What the words of a command line ask for.
+
+ghost use Rattle.std.specs.Prelude.{◌≡◌, IfOk, [], codes, map, string_bytes, unwrap_or};
+ghost use Rattle.clap.specs.Words.{FailsBy, fault_of, first_value, found_of, rows_of};
+ghost use Rattle.cli.specs.Asking.{Asks, WordsAsk};
+ghost use Rattle.cli.specs.Grammar.{IsSubcommand, program_app};
+
+use crate::subcommands::program;
+use crate::words::Asked;
+use clap::{ArgMatches, Error};
+use std::alloc::Global;
+
+// The value of an argument, which a parse that succeeds has where the argument is required.
+fn text<'a>(given: &ArgMatches<'a>, id: &str) -> &'a str
+    ensures { result.now ≡ unwrap_or (first_value (found_of given.now) id.now) [] }
+{
+    given.get_str(id).unwrap_or("")
+}
+
+fn encode_asked<'a>(given: &ArgMatches<'a>) -> Asked<'a>
+    ensures { Asks (codes "encode") (rows_of (found_of given.now)) result }
+{
+    Asked::Encode {
+        base: text(given, "base"),
+        image: text(given, "IMAGE"),
+        log: text(given, "LOG"),
+        hex: given.get_flag("hex"),
+    }
+}
+
+fn asked_of<'a>(name: &str, given: &ArgMatches<'a>) -> Asked<'a>
+    requires { IsSubcommand name.now }
+    ensures { Asks name.now (rows_of (found_of given.now)) result }
+{
+    match name {
+        "encode" => encode_asked(given),
+        _ => unreachable!("clap knows no other subcommand"),
+    }
+}
+
+/// What the words ask for, the program's name first among them.
+///
+/// `Ok` comes where `clap` finds no fault in the words by the program's grammar, and holds the texts of
+/// the subcommand's arguments as the words give them: a base is not yet a number, and no file was
+/// looked at. An error is `clap`'s own, calls for help among them: its `Display` is the text for the
+/// user, and its kind is `ErrorKind::OutOfMemory` where memory ran out.
+pub fn asked<'a>(alloc: Global, words: &'a [String]) -> Result<Asked<'a>, Error>
+    ensures found { IfOk result (WordsAsk (map string_bytes words.now)) }
+    ensures refused { FailsBy (fault_of program_app (map string_bytes words.now)) result }
+{
+    let matches = program(alloc)?.try_get_matches_from(words)?;
+    match matches.subcommand() {
+        Some((name, given)) => Ok(asked_of(name, given)),
+        None => unreachable!("clap requires a subcommand"),
+    }
+}

@@ -1,0 +1,31 @@
+// The program's subcommands, one function each.
+
+ghost use Rattle.std.specs.Prelude.{IfOk};
+ghost use Rattle.cli.specs.Grammar.{HasGrammar, encode_app, program_app};
+
+use crate::arguments::{base, hex, image, log};
+use clap::Command;
+use std::alloc::{AllocError, Global};
+
+fn encode<'a>(alloc: Global) -> Result<Command<'a>, AllocError>
+    ensures { IfOk result (HasGrammar encode_app) }
+{
+    let command = Command::new(alloc, "encode")
+        .about("Write the trace messages of a log")
+        .arg(base(alloc))?
+        .arg(hex(alloc))?
+        .arg(image(alloc))?
+        .arg(log(alloc))?;
+    Ok(command)
+}
+
+/// The program with all its subcommands.
+pub(crate) fn program<'a>(alloc: Global) -> Result<Command<'a>, AllocError>
+    ensures { IfOk result (HasGrammar program_app) }
+{
+    let command = Command::new(alloc, "tracebench")
+        .about("A bench for RISC-V instruction trace (E-Trace)")
+        .subcommand_required(true)
+        .subcommand(encode(alloc)?)?;
+    Ok(command)
+}

@@ -1,0 +1,71 @@
+// What words ask for, and what `clap` says of words that ask for nothing.
+
+use crate::asked;
+use std::alloc::{AllocError, Global};
+use std::test::Fail;
+
+fn words_of(alloc: Global, line: &str) -> Result<Vec<String>, AllocError> {
+    let mut words = Vec::new(alloc);
+    for word in line.split_whitespace() {
+        words.push(word.to_string(alloc)?)?;
+    }
+    Ok(words)
+}
+
+fn answer(alloc: Global, line: &str) -> Result<String, AllocError> {
+    let words = words_of(alloc, line)?;
+    match asked(alloc, words.as_slice()) {
+        Ok(what) => format!(in alloc; "{what:?}"),
+        Err(error) => format!(in alloc; "{error}"),
+    }
+}
+
+#[test]
+fn reads_words(rt: HostRuntime) -> Result<(), Fail> {
+    let cases = [
+        (
+            "tracebench encode --base 80000000 --hex image.bin log.csv",
+            "Encode { base: \"80000000\", image: \"image.bin\", log: \"log.csv\", hex: true }",
+        ),
+        (
+            "tracebench encode image.bin --base=-1 log.csv",
+            "Encode { base: \"-1\", image: \"image.bin\", log: \"log.csv\", hex: false }",
+        ),
+        (
+            "tracebench",
+            "error: 'tracebench' requires a subcommand but one was not provided\n  \
+             [subcommands: encode, help]\n\n\
+             Usage: tracebench <COMMAND>\n\n\
+             For more information, try '--help'.\n",
+        ),
+        (
+            "tracebench frob",
+            "error: unrecognized subcommand 'frob'\n\n\
+             Usage: tracebench <COMMAND>\n\n\
+             For more information, try '--help'.\n",
+        ),
+        (
+            "tracebench encode --base 80000000 image.bin",
+            "error: the following required arguments were not provided:\n  <LOG>\n\n\
+             Usage: tracebench encode --base <B> <IMAGE> <LOG>\n\n\
+             For more information, try '--help'.\n",
+        ),
+        (
+            "tracebench encode --help",
+            "Write the trace messages of a log\n\n\
+             Usage: tracebench encode [OPTIONS] --base <B> <IMAGE> <LOG>\n\n\
+             Arguments:\n  \
+             <IMAGE>  File of the program's bytes\n  \
+             <LOG>    Log of one hart, as CSV\n\n\
+             Options:\n      \
+             --base <B>  Address of the image's first byte, in hexadecimal\n      \
+             --hex       Write a line of hexadecimal for each message\n  \
+             -h, --help      Print help\n",
+        ),
+    ];
+    for (line, text) in cases {
+        let answer = answer(rt.alloc(), line)?;
+        assert_eq!(rt; answer.as_str(), text, "{line}");
+    }
+    Ok(())
+}

@@ -1,0 +1,17 @@
+// What a command line may ask for.
+
+/// A subcommand with its files and options, as texts of the words.
+#[derive(Debug, PartialEq, Eq, Drop)]
+pub enum Asked<'a> {
+    /// `encode --base B [--hex] IMAGE LOG`: the messages of the log of one hart.
+    Encode {
+        /// The address of the image's first byte, not yet read as a number.
+        base: &'a str,
+        /// The path of the image.
+        image: &'a str,
+        /// The path of the log.
+        log: &'a str,
+        /// Whether the messages are wanted as lines of hexadecimal.
+        hex: bool,
+    },
+}
