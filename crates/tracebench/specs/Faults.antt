@@ -1,0 +1,47 @@
+-- What is told at each fault, and how a command ends there.
+use Rattle.std.specs.Prelude.{ℕ, List}
+use Rattle.std.specs.Borrow.{Bor}
+use Rattle.bench.specs.declared.fault.Straight.{Straight}
+use Rattle.bench.specs.declared.fault.Straight.TheVariants as straight
+use Rattle.retire.specs.declared.fault.LogFault.{LogFault}
+use Rattle.retire.specs.declared.fault.LogFault.TheVariants as log
+use Rattle.retire.specs.declared.fault.WriteFault.{WriteFault}
+use Rattle.retire.specs.declared.fault.WriteFault.TheVariants as write
+use Rattle.tracebench.specs.declared.fault.Fault.{Fault}
+use Rattle.tracebench.specs.declared.fault.Fault.TheVariants as fault
+use Rattle.tracebench.specs.declared.files.FileFault.{FileFault}
+use Rattle.tracebench.specs.declared.files.FileFault.TheVariants as file
+use Rattle.tracebench.specs.declared.status.Status.{Status}
+use Rattle.tracebench.specs.declared.status.Status.TheVariants.{Refused, Machine}
+
+-- a path, as text
+abbrev pub Path : Type 0
+Path = Bor (List ℕ)
+
+-- what is told of a file with no content
+abbrev pub file_fault : Path → FileFault → Fault
+file_fault path file.CannotRead = fault.Unreadable path
+file_fault path file.Memory = fault.Memory
+
+-- what is told of a log that was not read
+abbrev pub log_fault : Path → LogFault → Fault
+log_fault path log.Read = fault.Unreadable path
+log_fault path log.Memory = fault.Memory
+log_fault path why = fault.Log path why
+
+-- what is told of a log that is not straight
+abbrev pub straight_fault : Path → Straight → Fault
+straight_fault path (straight.NotStraight row) = fault.NotStraight path (straight.NotStraight row)
+straight_fault path straight.Memory = fault.Memory
+
+-- what is told of output that was not written
+abbrev pub write_fault : WriteFault → Fault
+write_fault write.Write = fault.Output
+write_fault write.Memory = fault.Memory
+
+-- files, the output and memory are the machine's, and every other fault is one of the input
+abbrev pub status_of : Fault → Status
+status_of (fault.Unreadable path) = Machine
+status_of fault.Output = Machine
+status_of fault.Memory = Machine
+status_of _ = Refused

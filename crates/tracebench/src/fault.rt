@@ -1,0 +1,111 @@
+// Why a command stops.
+
+ghost use Rattle.std.specs.Prelude.{◌≡◌};
+ghost use Rattle.tracebench.specs.declared.fault.Fault.TheVariants as fault;
+ghost use Rattle.tracebench.specs.Faults.{file_fault, log_fault, status_of, straight_fault, write_fault};
+
+use crate::files::FileFault;
+use crate::status::Status;
+use bench::Straight;
+use retire::{LogFault, WriteFault};
+use rvclass::ProgramFault;
+use thiserror::Error;
+
+/// Why a command stops. Its text is the line that is told, without the program's name.
+#[derive(Clone, Copy, Debug, PartialEq, Eq, Error)]
+pub(crate) enum Fault<'a> {
+    /// The words were not given as text.
+    #[error("words cannot be read")]
+    Words,
+    /// `encode` writes lines of hexadecimal alone, and they were not asked for.
+    #[error("encode needs --hex")]
+    NeedsHex,
+    /// The base is not spelt as a number of a log.
+    #[error("base is not a number")]
+    Base,
+    /// The file at this path was not read.
+    #[error("{0}: cannot be read")]
+    Unreadable(&'a str),
+    /// The image makes no program at the base.
+    #[error("{0}")]
+    Image(ProgramFault),
+    /// The log at this path is none.
+    #[error("{0}: {1}")]
+    Log(&'a str, LogFault),
+    /// The log at this path is not straight.
+    #[error("{0}: {1}")]
+    NotStraight(&'a str, Straight),
+    /// The output was not written whole.
+    #[error("output cannot be written")]
+    Output,
+    /// Memory was refused.
+    #[error("out of memory")]
+    Memory,
+}
+
+impl<'a> Fault<'a> {
+    /// Why the file at a path has no content.
+    pub(crate) fn of_file(path: &'a str, why: FileFault) -> Fault<'a>
+        ensures { result ≡ file_fault path.entry why }
+    {
+        match why {
+            FileFault::CannotRead => Fault::Unreadable(path),
+            FileFault::Memory => Fault::Memory,
+        }
+    }
+
+    /// Why the file at a path holds no log.
+    pub(crate) fn of_log(path: &'a str, why: LogFault) -> Fault<'a>
+        ensures { result ≡ log_fault path.entry why }
+    {
+        match why {
+            LogFault::Read => Fault::Unreadable(path),
+            LogFault::Memory => Fault::Memory,
+            _ => Fault::Log(path, why),
+        }
+    }
+
+    /// Why the log at a path has no straight payloads.
+    pub(crate) fn of_straight(path: &'a str, why: Straight) -> Fault<'a>
+        ensures { result ≡ straight_fault path.entry why }
+    {
+        match why {
+            Straight::NotStraight(_) => Fault::NotStraight(path, why),
+            Straight::Memory => Fault::Memory,
+        }
+    }
+
+    /// The status that a command ends with at this fault.
+    pub(crate) fn status(&self) -> Status
+        ensures { result ≡ status_of self.now }
+    {
+        match self {
+            Fault::Words
+            | Fault::NeedsHex
+            | Fault::Base
+            | Fault::Image(_)
+            | Fault::Log(..)
+            | Fault::NotStraight(..) => Status::Refused,
+            Fault::Unreadable(_) | Fault::Output | Fault::Memory => Status::Machine,
+        }
+    }
+}
+
+impl From<ProgramFault> for Fault<'_> {
+    ghost from_gives = { λ why told. told ≡ fault.Image why };
+
+    fn from(why: ProgramFault) -> Self {
+        Fault::Image(why)
+    }
+}
+
+impl From<WriteFault> for Fault<'_> {
+    ghost from_gives = { λ why told. told ≡ write_fault why };
+
+    fn from(why: WriteFault) -> Self {
+        match why {
+            WriteFault::Write => Fault::Output,
+            WriteFault::Memory => Fault::Memory,
+        }
+    }
+}

@@ -1,0 +1,25 @@
+//! The bench's program: what its words ask for, done over files and told on the standard streams.
+#![tactic(auto)]
+
+mod command;
+mod encode;
+mod fault;
+mod files;
+mod inputs;
+mod machine;
+mod status;
+mod tell;
+
+pub use bench::{Straight, hex_lines, straight_log, straight_payloads};
+pub use cli::{Asked, asked};
+pub use command::command;
+pub use files::{FileFault, Files};
+use std::process::ExitCode;
+
+fn main(rt: HostRuntime) -> ExitCode {
+    let mut err = rt.stderr();
+    ExitCode::from(machine::run(&rt, &mut err))
+}
+
+#[cfg(test)]
+mod tests;

@@ -1,0 +1,7 @@
+// Runs of the program over files in memory.
+
+mod logs;
+mod output;
+mod refusals;
+mod runs;
+mod table;

@@ -1,0 +1,100 @@
+// Logs that are refused.
+
+use super::table::{NOP, Table, tells};
+use std::alloc::{AllocError, Global};
+use std::fmt::Write;
+use std::test::Fail;
+
+const HEADER: &str = "addr,itype,priv,cause,tval\n";
+
+// The files of one log under a header, beside an image of three words: `nop`, `nop` and a jump to
+// itself.
+fn files_of(alloc: Global, rows: &str) -> Result<Table, AllocError> {
+    let mut log = HEADER.to_string(alloc)?;
+    log.push_str(rows)?;
+    let mut files = Table::new(alloc);
+    files.add("image.bin", b"\x13\0\0\0\x13\0\0\0\x6f\0\0\0")?;
+    files.add("log.csv", log.as_bytes())?;
+    Ok(files)
+}
+
+#[test]
+fn names_the_faulty_row(rt: HostRuntime) -> Result<(), Fail> {
+    let cases = [
+        ("80000000,0,3,\n", "row 1: wrong number of fields"),
+        ("80000000,0,3,,\n80000004g,0,3,,\n", "row 2: not a number"),
+        ("80000001,0,3,,\n", "row 1: odd address"),
+        ("80000000,7,3,,\n", "row 1: unknown type"),
+        ("80000000,0,2,,\n", "row 1: unknown privilege"),
+        ("80000000,1,3,40,0\n", "row 1: cause above 3f"),
+        (
+            "80000000,1,3,b,\n",
+            "row 1: cause or value missing or not wanted",
+        ),
+        ("80000000,2,3,7,1\n", "row 1: an interrupt has a value"),
+        ("80000000,4,3,,\n", "row 1: not straight"),
+        ("80000000,1,3,b,0\n", "row 1: not straight"),
+        ("80000000,0,3,,\n80000004,0,1,,\n", "row 2: not straight"),
+        ("80000000,0,3,,\n80000000,0,3,,\n", "row 2: not straight"),
+        (
+            "80000000,0,3,,\n80000004,0,3,,\n80000008,0,3,,\n",
+            "row 3: not straight",
+        ),
+        ("8000000c,0,3,,\n", "row 1: not straight"),
+    ];
+    for (rows, fault) in cases {
+        let mut files = files_of(rt.alloc(), rows)?;
+        let text = format!(in rt.alloc(); "tracebench: log.csv: {fault}\n")?;
+        let line = "tracebench encode --base 80000000 --hex image.bin log.csv";
+        tells(&rt, &mut files, &[(line, 2, text.as_str())])?;
+    }
+    Ok(())
+}
+
+#[test]
+fn names_the_file(rt: HostRuntime) -> Result<(), Fail> {
+    let mut files = Table::new(rt.alloc());
+    files.add("image.bin", &NOP)?;
+    files.add("short.csv", b"addr,itype,priv,cause\n80000000,0,3,\n")?;
+    let cases = [
+        (
+            "tracebench encode --base 80000000 --hex image.bin short.csv",
+            2,
+            "tracebench: short.csv: wrong header\n",
+        ),
+        (
+            "tracebench encode --base 80000000 --hex image.bin no.csv",
+            3,
+            "tracebench: no.csv: cannot be read\n",
+        ),
+        (
+            "tracebench encode --base 80000000 --hex image.bin full",
+            3,
+            "tracebench: out of memory\n",
+        ),
+    ];
+    tells(&rt, &mut files, cases.as_slice())?;
+    Ok(())
+}
+
+// A log is straight up to 1,024 rows.
+#[test]
+fn refuses_a_long_log(rt: HostRuntime) -> Result<(), Fail> {
+    let mut image = Vec::new(rt.alloc());
+    let mut log = HEADER.to_string(rt.alloc())?;
+    for row in 0..1025u64 {
+        image.extend_from_slice(&NOP)?;
+        let address = 0x8000_0000 + 4 * row;
+        writeln!(log, "{address:x},0,3,,")?;
+    }
+    let mut files = Table::new(rt.alloc());
+    files.add("image.bin", image.as_slice())?;
+    files.add("log.csv", log.as_bytes())?;
+    let cases = [(
+        "tracebench encode --base 80000000 --hex image.bin log.csv",
+        2,
+        "tracebench: log.csv: row 1025: not straight\n",
+    )];
+    tells(&rt, &mut files, cases.as_slice())?;
+    Ok(())
+}

@@ -1,0 +1,74 @@
+// Files in memory, and words of one line.
+
+use crate::{FileFault, Files, command};
+use std::alloc::{AllocError, Global};
+use std::process::Abort;
+
+/// A table of paths and contents.
+#[derive(Drop)]
+pub(super) struct Table {
+    alloc: Global,
+    rows: Vec<(&'static str, Vec<u8>)>,
+}
+
+impl Table {
+    pub(super) fn new(alloc: Global) -> Table {
+        Table {
+            alloc,
+            rows: Vec::new(alloc),
+        }
+    }
+
+    pub(super) fn add(&mut self, path: &'static str, content: &[u8]) -> Result<(), AllocError> {
+        let content = Vec::from_slice(self.alloc, content)?;
+        self.rows.push((path, content))?;
+        Ok(())
+    }
+}
+
+impl Files for Table {
+    // The path `full` is of a file that memory is refused for.
+    fn read(&mut self, path: &str) -> Result<Vec<u8>, FileFault> {
+        if path == "full" {
+            return Err(FileFault::Memory);
+        }
+        for (name, content) in &self.rows {
+            if *name == path {
+                return Vec::from_slice(self.alloc, content.as_slice()).map_err(
+                    |_| FileFault::Memory,
+                );
+            }
+        }
+        Err(FileFault::CannotRead)
+    }
+}
+
+/// The words of a line, which spaces part.
+pub(super) fn words_of(alloc: Global, line: &str) -> Result<Vec<String>, AllocError> {
+    let mut words = Vec::new(alloc);
+    for word in line.split_whitespace() {
+        words.push(word.to_string(alloc)?)?;
+    }
+    Ok(words)
+}
+
+/// Runs each line over the files: it writes nothing, ends with the status and tells the text.
+pub(super) fn tells<R: Abort + AllocGlobal>(
+    rt: &R,
+    files: &mut Table,
+    cases: &[(&str, u8, &str)],
+) -> Result<(), AllocError> {
+    for (line, status, text) in cases {
+        let words = words_of(rt.alloc(), line)?;
+        let mut out = Vec::new(rt.alloc());
+        let mut err = Vec::new(rt.alloc());
+        let ended = command(rt.alloc(), files, words.as_slice(), &mut out, &mut err);
+        assert!(rt; err.as_slice() == text.as_bytes(), "{line}");
+        assert!(rt; out.is_empty(), "{line}");
+        assert_eq!(rt; ended, *status, "{line}");
+    }
+    Ok(())
+}
+
+/// The instruction `nop`, as a little-endian word.
+pub(super) const NOP: [u8; 4] = [0x13, 0, 0, 0];
