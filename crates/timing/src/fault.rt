@@ -1,0 +1,32 @@
+//! Why nothing is measured.
+
+use rvclass::ProgramFault;
+use std::alloc::AllocError;
+use std::io;
+use thiserror::Error;
+
+/// Why nothing is measured.
+#[derive(Debug, Drop, Error)]
+pub(crate) enum Fault {
+    /// The words are not a base, an image and a log at least.
+    #[error("usage: timing BASE IMAGE LOG...")]
+    Words,
+    /// The image makes no program at the base.
+    #[error("{0}")]
+    Image(#[from] ProgramFault),
+    /// A log is not read, or not written.
+    #[error("a log is refused")]
+    Log,
+    /// A file or the clock is not read.
+    #[error("{0}")]
+    Io(#[from] io::Error),
+    /// Memory was refused.
+    #[error("out of memory")]
+    Memory,
+}
+
+impl From<AllocError> for Fault {
+    fn from(_: AllocError) -> Self {
+        Fault::Memory
+    }
+}

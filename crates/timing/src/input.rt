@@ -1,0 +1,36 @@
+//! What is measured: the texts of the logs that the words name.
+
+use crate::fault::Fault;
+use retire::number;
+use rvclass::Program;
+use std::env::Env;
+use std::rt::Files;
+use std::{env, fs};
+
+/// A program and its logs, as they lie in their files.
+#[derive(Drop)]
+pub(crate) struct Input {
+    pub(crate) program: Program,
+    pub(crate) texts: Vec<Vec<u8>>,
+}
+
+impl Input {
+    /// Reads the files that the words name.
+    pub(crate) fn read<R: Env + Files + AllocGlobal>(rt: &R) -> Result<Input, Fault> {
+        let words: Vec<String> = env::args(rt)?.collect(rt.alloc())?;
+        let [_, base, image, logs @ ..] = words.as_slice() else {
+            return Err(Fault::Words);
+        };
+        if logs.is_empty() {
+            return Err(Fault::Words);
+        }
+        let base = number(base.as_bytes()).ok_or(Fault::Words)?;
+        let program = Program::new(base, fs::read(rt, image.as_str())?)?;
+        let mut texts = Vec::new(rt.alloc());
+        for path in logs {
+            let text = fs::read(rt, path.as_str())?;
+            texts.push(text).map_err(|_| Fault::Memory)?;
+        }
+        Ok(Input { program, texts })
+    }
+}

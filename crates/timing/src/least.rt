@@ -1,0 +1,36 @@
+//! The least time of several runs.
+
+use crate::fault::Fault;
+use std::io::Write;
+use std::time::{Clock, Instant};
+
+/// How often a phase is run.
+const RUNS: u32 = 9;
+
+/// What is measured.
+pub(crate) trait Phase: Drop {
+    /// Runs once, and answers a number that the work gives.
+    fn run(&mut self) -> Result<u64, Fault>;
+}
+
+/// Runs a phase several times, and writes its name, its least time an event and the number that it gives.
+pub(crate) fn measure<R: Clock, E: Write, P: Phase>(
+    rt: &R,
+    err: &mut E,
+    name: &str,
+    events: usize,
+    mut phase: P,
+) -> Result<(), Fault> {
+    let mut least = u128::MAX;
+    let mut answer = 0;
+    for _ in 0..RUNS {
+        let start = Instant::now(rt)?;
+        answer = phase.run()?;
+        least = least.min(start.elapsed(rt)?.as_nanos());
+    }
+    let hundredths = least.saturating_mul(100) / (events.max(1) as u128);
+    let whole = hundredths / 100;
+    let part = hundredths % 100;
+    writeln!(err, "{name:<16} {whole:>6}.{part:02} ns/event  ({answer})")?;
+    Ok(())
+}

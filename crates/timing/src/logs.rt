@@ -1,0 +1,36 @@
+//! The phases over logs: reading and writing their text.
+
+use crate::fault::Fault;
+use crate::least::Phase;
+use retire::{Event, read_log, write_log};
+use std::alloc::Global;
+
+/// From the text of a log to its events.
+#[derive(Drop)]
+pub(crate) struct Reading<'a> {
+    pub(crate) alloc: Global,
+    pub(crate) text: &'a [u8],
+}
+
+impl Phase for Reading<'_> {
+    fn run(&mut self) -> Result<u64, Fault> {
+        let events = read_log(self.alloc, self.alloc, self.text).map_err(|_| Fault::Log)?;
+        Ok(events.len() as u64)
+    }
+}
+
+/// From the events of a log to its text.
+#[derive(Drop)]
+pub(crate) struct Writing<'a> {
+    pub(crate) alloc: Global,
+    pub(crate) events: &'a [Event],
+    pub(crate) text: Vec<u8>,
+}
+
+impl Phase for Writing<'_> {
+    fn run(&mut self) -> Result<u64, Fault> {
+        self.text.clear();
+        write_log(self.alloc, &mut self.text, self.events).map_err(|_| Fault::Log)?;
+        Ok(self.text.len() as u64)
+    }
+}

@@ -1,0 +1,27 @@
+//! Measures the bench: nanoseconds an event of each phase, over an image and logs.
+//!
+//! `timing BASE IMAGE LOG...` reads the files whole, runs each phase several times in memory, and writes one line a phase
+//! to standard error: the phase, and its least time an event. Nothing goes to standard output. The status is 0, or 1
+//! where the words, a file or a log is refused.
+#![tactic(auto)]
+
+mod fault;
+mod input;
+mod least;
+mod logs;
+mod packets;
+mod run;
+
+use std::io::Write;
+use std::process::ExitCode;
+
+fn main(rt: HostRuntime) -> ExitCode {
+    let mut err = rt.stderr();
+    match run::run(&rt, &mut err) {
+        Ok(()) => ExitCode::SUCCESS,
+        Err(fault) => {
+            let _ = writeln!(err, "timing: {fault}");
+            ExitCode::FAILURE
+        }
+    }
+}
