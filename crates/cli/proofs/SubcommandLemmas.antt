@@ -213,7 +213,7 @@ enters_known a (Some stop) known other some = finds a.subs stop.0 stop.1 known o
 finds_own : (words : List Text) → fault_of program_app words ≡ [] → FindsOwn (subcommand_of program_app words)
 finds_own words none =
     let met = level_enters (built program_app) (argument_words program_app words) refl refl none in
-    enters_known (built program_app) _ (inl refl, (inr (refl, refl), tt)) met.1 met.0
+    enters_known (built program_app) _ (inl (inl refl), (inl (inr refl), (inr (refl, refl), tt))) met.1 met.0
 
 -- ---- the same of a command with the program's grammar
 
@@ -240,4 +240,4 @@ module _ {Z : Type 0} where
   pub named : (met : Option (Box SubCommand Z)) (name : Text) → FindsOwn (subcommand_rows met)
       → Some name ≡ option_map (λ b. (out-SubCommand (box_value b)).name.now) met → IsSubcommand name
   named None name own is = absurd own
-  named (Some b) name own is = ap (λ (o : Option Text). unwrap_or o name) is ∙ own
+  named (Some b) name own is = subst IsSubcommand (sym (ap (λ (o : Option Text). unwrap_or o name) is)) own

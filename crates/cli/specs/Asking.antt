@@ -1,14 +1,18 @@
 -- What words ask for, by what clap finds in them.
-use Rattle.std.specs.Prelude.{◌≡◌, ◌≢◌, codes, Bool, true, false, List, [], Option}
+use Rattle.std.specs.Prelude.{◌≡◌, ◌≢◌, codes, Bool, true, false, List, [], Option, map}
 use Rattle.std.specs.Prelude.{Some, None, unwrap_or}
-use Rattle.clap.specs.Words.{Row, Text, fault_of, first_of, one_of, subcommand_of}
+use Rattle.clap.specs.Words.{Row, Text, all_of, fault_of, first_of, one_of, subcommand_of}
 use Rattle.cli.specs.Grammar.{program_app}
 use Rattle.cli.specs.declared.words.Asked.{Asked}
-use Rattle.cli.specs.declared.words.Asked.TheVariants.{Encode}
+use Rattle.cli.specs.declared.words.Asked.TheVariants.{Check, Encode}
 
 -- the first value of an argument, or no text where it has none
 abbrev pub text_of : Text → List Row → Text
 text_of id rows = unwrap_or (first_of id rows) []
+
+-- the values of an argument, in the order of the words, or none where it has none
+abbrev pub texts_of : Text → List Row → List Text
+texts_of id rows = unwrap_or (all_of id rows) []
 
 -- a flag is set by the value `true`, and not set by `false` or where it has no value
 abbrev pub IsFlag : Option Text → Bool → Type 0
@@ -17,6 +21,9 @@ IsFlag value is_set = (value ≡ Some (codes "true") → is_set ≡ true)
 
 -- a subcommand of this name with these rows is what is asked
 abbrev pub Asks : Text → List Row → Asked → Type 0
+Asks name rows (Check base image logs) = (name ≡ codes "check")
+    × (base.now ≡ text_of (codes "base") rows) × (image.now ≡ text_of (codes "IMAGE") rows)
+    × (map (λ log. log.now) logs.items ≡ texts_of (codes "LOG") rows)
 Asks name rows (Encode base image log hex) = (name ≡ codes "encode")
     × (base.now ≡ text_of (codes "base") rows) × (image.now ≡ text_of (codes "IMAGE") rows)
     × (log.now ≡ text_of (codes "LOG") rows) × IsFlag (one_of (codes "hex") rows) hex
@@ -29,6 +36,15 @@ AsksFound (Some found) asked = Asks found.0 found.1 asked
 -- the words ask for this
 abbrev pub WordsAsk : List Text → Asked → Type 0
 WordsAsk words = AsksFound (subcommand_of program_app words)
+
+-- what is asked is a run of `check`
+abbrev pub IsCheck : Asked → Type 0
+IsCheck (Check base image logs) = Unit {0}
+IsCheck (Encode base image log hex) = ⊥
+
+-- the words ask for no run of `check`
+abbrev pub AskNoCheck : List Text → Type 0
+AskNoCheck words = (asked : Asked) → WordsAsk words asked → ¬ IsCheck asked
 
 -- `clap` finds a fault in the words; a call for help is one
 abbrev pub AreRefused : List Text → Type 0

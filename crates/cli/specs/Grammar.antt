@@ -1,12 +1,14 @@
 -- The words that the program takes, in clap's own terms.
-use Rattle.std.specs.Prelude.{◌≡◌, codes, Some, true, false}
+use Rattle.std.specs.Prelude.{◌≡◌, ◌⊎◌, codes, Some, true, false}
 use Rattle.clap.specs.Words.{App, Rule, Text, app_of, new_app, new_rule, rule_of}
 use Rattle.clap.specs.Words.{with_rule, with_subcommand}
+use Rattle.clap.specs.Lexer.{usize_max}
 use Rattle.clap.specs.Simple.{on_top}
 use Rattle.clap.specs.declared.builder.arg.Arg.{Arg}
 use Rattle.clap.specs.declared.builder.command.Command.{Command}
 use Rattle.clap.specs.declared.builder.command.Command.TheViews.{out-Command as fields_of}
-use Rattle.clap.specs.declared.builder.action.ArgAction.TheVariants.{Set, SetTrue}
+use Rattle.clap.specs.declared.builder.action.ArgAction.TheVariants.{Append, Set, SetTrue}
+use Rattle.clap.specs.declared.builder.range.ValueRange.{ValueRange}
 
 -- `--base B`, which has to be there
 abbrev pub base_rule : Rule
@@ -30,6 +32,22 @@ image_rule = record (new_rule (codes "IMAGE")) { action = Some Set; required = t
 abbrev pub log_rule : Rule
 log_rule = record (new_rule (codes "LOG")) { action = Some Set; required = true }
 
+-- as many values as there are words, and one at least
+abbrev pub one_or_more : ValueRange
+one_or_more = record { start_inclusive = 1; end_inclusive = usize_max }
+
+-- LOG..., words of their own of which one has to be there
+abbrev pub logs_rule : Rule
+logs_rule = record (new_rule (codes "LOG")) {
+  action = Some Append;
+  range = Some one_or_more;
+  required = true;
+}
+
+-- `check --base B IMAGE LOG...`
+abbrev pub check_app : App
+check_app = with_rule (with_rule (with_rule (new_app (codes "check")) base_rule) image_rule) logs_rule
+
 -- `encode --base B [--hex] IMAGE LOG`
 abbrev pub encode_app : App
 encode_app = with_rule (with_rule (with_rule (with_rule (new_app (codes "encode")) base_rule) hex_rule)
@@ -42,11 +60,11 @@ bare_program =
 
 -- the program with its subcommands
 abbrev pub program_app : App
-program_app = with_subcommand bare_program encode_app.top
+program_app = with_subcommand (with_subcommand bare_program check_app.top) encode_app.top
 
 -- the names of the program's subcommands
 abbrev pub IsSubcommand : Text → Type 0
-IsSubcommand name = name ≡ codes "encode"
+IsSubcommand name = (name ≡ codes "check") ⊎ (name ≡ codes "encode")
 
 -- the argument is read by this rule, and at its own subcommand alone
 abbrev pub IsReadBy : Rule → Arg → Type 0

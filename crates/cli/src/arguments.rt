@@ -1,6 +1,6 @@
 // The arguments that subcommands take, one function each.
 
-ghost use Rattle.cli.specs.Grammar.{IsReadBy, base_rule, hex_rule, image_rule, log_rule};
+ghost use Rattle.cli.specs.Grammar.{IsReadBy, base_rule, hex_rule, image_rule, log_rule, logs_rule};
 
 use clap::{Arg, ArgAction};
 use std::alloc::Global;
@@ -41,4 +41,14 @@ pub(crate) fn log<'a>(alloc: Global) -> Arg<'a>
         .required(true)
         .action(ArgAction::Set)
         .help("Log of one hart, as CSV")
+}
+
+pub(crate) fn logs<'a>(alloc: Global) -> Arg<'a>
+    ensures { IsReadBy logs_rule result }
+{
+    Arg::new(alloc, "LOG")
+        .required(true)
+        .action(ArgAction::Append)
+        .num_args(1..)
+        .help("Logs, each of one hart, as CSV")
 }

@@ -2,19 +2,40 @@
 
 ghost use Rattle.std.specs.Prelude.{◌≡◌, IfOk, [], codes, map, string_bytes, unwrap_or};
 ghost use Rattle.clap.specs.Words.{FailsBy, fault_of, first_value, found_of, rows_of};
-ghost use Rattle.cli.specs.Asking.{Asks, WordsAsk};
+ghost use Rattle.cli.specs.Asking.{Asks, WordsAsk, texts_of};
 ghost use Rattle.cli.specs.Grammar.{IsSubcommand, program_app};
 
 use crate::subcommands::program;
 use crate::words::Asked;
 use clap::{ArgMatches, Error};
-use std::alloc::Global;
+use std::alloc::{AllocError, Global};
 
 // The value of an argument, which a parse that succeeds has where the argument is required.
 fn text<'a>(given: &ArgMatches<'a>, id: &str) -> &'a str
     ensures { result.now ≡ unwrap_or (first_value (found_of given.now) id.now) [] }
 {
     given.get_str(id).unwrap_or("")
+}
+
+// The values of an argument, of which a parse that succeeds has one at least where it is required.
+fn texts<'a>(alloc: Global, given: &ArgMatches<'a>, id: &str) -> Result<Vec<&'a str>, AllocError>
+    ensures { IfOk result (λ values.
+        map (λ value. value.now) values.items ≡ texts_of id.now (rows_of (found_of given.now))) }
+{
+    match given.get_strs(id) {
+        Some(values) => Vec::from_slice(alloc, values),
+        None => Ok(Vec::new(alloc)),
+    }
+}
+
+fn check_asked<'a>(alloc: Global, given: &ArgMatches<'a>) -> Result<Asked<'a>, AllocError>
+    ensures { IfOk result (Asks (codes "check") (rows_of (found_of given.now))) }
+{
+    Ok(Asked::Check {
+        base: text(given, "base"),
+        image: text(given, "IMAGE"),
+        logs: texts(alloc, given, "LOG")?,
+    })
 }
 
 fn encode_asked<'a>(given: &ArgMatches<'a>) -> Asked<'a>
@@ -28,12 +49,13 @@ fn encode_asked<'a>(given: &ArgMatches<'a>) -> Asked<'a>
     }
 }
 
-fn asked_of<'a>(name: &str, given: &ArgMatches<'a>) -> Asked<'a>
+fn asked_of<'a>(alloc: Global, name: &str, given: &ArgMatches<'a>) -> Result<Asked<'a>, AllocError>
     requires { IsSubcommand name.now }
-    ensures { Asks name.now (rows_of (found_of given.now)) result }
+    ensures { IfOk result (Asks name.now (rows_of (found_of given.now))) }
 {
     match name {
-        "encode" => encode_asked(given),
+        "check" => check_asked(alloc, given),
+        "encode" => Ok(encode_asked(given)),
         _ => unreachable!("clap knows no other subcommand"),
     }
 }
@@ -50,7 +72,7 @@ pub fn asked<'a>(alloc: Global, words: &'a [String]) -> Result<Asked<'a>, Error>
 {
     let matches = program(alloc)?.try_get_matches_from(words)?;
     match matches.subcommand() {
-        Some((name, given)) => Ok(asked_of(name, given)),
+        Some((name, given)) => Ok(asked_of(alloc, name, given)?),
         None => unreachable!("clap requires a subcommand"),
     }
 }

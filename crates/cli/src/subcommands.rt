@@ -1,11 +1,22 @@
 // The program's subcommands, one function each.
 
 ghost use Rattle.std.specs.Prelude.{IfOk};
-ghost use Rattle.cli.specs.Grammar.{HasGrammar, encode_app, program_app};
+ghost use Rattle.cli.specs.Grammar.{HasGrammar, check_app, encode_app, program_app};
 
-use crate::arguments::{base, hex, image, log};
+use crate::arguments::{base, hex, image, log, logs};
 use clap::Command;
 use std::alloc::{AllocError, Global};
+
+fn check<'a>(alloc: Global) -> Result<Command<'a>, AllocError>
+    ensures { IfOk result (HasGrammar check_app) }
+{
+    let command = Command::new(alloc, "check")
+        .about("Tell whether logs are legal")
+        .arg(base(alloc))?
+        .arg(image(alloc))?
+        .arg(logs(alloc))?;
+    Ok(command)
+}
 
 fn encode<'a>(alloc: Global) -> Result<Command<'a>, AllocError>
     ensures { IfOk result (HasGrammar encode_app) }
@@ -26,6 +37,7 @@ pub(crate) fn program<'a>(alloc: Global) -> Result<Command<'a>, AllocError>
     let command = Command::new(alloc, "tracebench")
         .about("A bench for RISC-V instruction trace (E-Trace)")
         .subcommand_required(true)
+        .subcommand(check(alloc)?)?
         .subcommand(encode(alloc)?)?;
     Ok(command)
 }

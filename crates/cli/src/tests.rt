@@ -32,9 +32,19 @@ fn reads_words(rt: HostRuntime) -> Result<(), Fail> {
             "Encode { base: \"-1\", image: \"image.bin\", log: \"log.csv\", hex: false }",
         ),
         (
+            "tracebench check --base 80000000 image.bin a.csv b.csv",
+            "Check { base: \"80000000\", image: \"image.bin\", logs: [\"a.csv\", \"b.csv\"] }",
+        ),
+        (
+            "tracebench check --base 80000000 image.bin",
+            "error: the following required arguments were not provided:\n  <LOG>...\n\n\
+             Usage: tracebench check --base <B> <IMAGE> <LOG>...\n\n\
+             For more information, try '--help'.\n",
+        ),
+        (
             "tracebench",
             "error: 'tracebench' requires a subcommand but one was not provided\n  \
-             [subcommands: encode, help]\n\n\
+             [subcommands: check, encode, help]\n\n\
              Usage: tracebench <COMMAND>\n\n\
              For more information, try '--help'.\n",
         ),

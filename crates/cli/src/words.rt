@@ -3,6 +3,15 @@
 /// A subcommand with its files and options, as texts of the words.
 #[derive(Debug, PartialEq, Eq, Drop)]
 pub enum Asked<'a> {
+    /// `check --base B IMAGE LOG...`: whether the log of each hart is legal.
+    Check {
+        /// The address of the image's first byte, not yet read as a number.
+        base: &'a str,
+        /// The path of the image.
+        image: &'a str,
+        /// The paths of the logs, at least one, in the order of the words.
+        logs: Vec<&'a str>,
+    },
     /// `encode --base B [--hex] IMAGE LOG`: the messages of the log of one hart.
     Encode {
         /// The address of the image's first byte, not yet read as a number.

@@ -1,8 +1,10 @@
-//! The phases over logs: reading and writing their text.
+//! The phases over logs: reading and writing their text, and judging them.
 
 use crate::fault::Fault;
 use crate::least::Phase;
+use legalpath::check;
 use retire::{Event, read_log, write_log};
+use rvclass::Program;
 use std::alloc::Global;
 
 /// From the text of a log to its events.
@@ -32,5 +34,27 @@ impl Phase for Writing<'_> {
         self.text.clear();
         write_log(self.alloc, &mut self.text, self.events).map_err(|_| Fault::Log)?;
         Ok(self.text.len() as u64)
+    }
+}
+
+/// The most events of a log.
+const MOST: usize = 1 << 24;
+
+/// From the events of a log to whether it is legal.
+#[derive(Drop)]
+pub(crate) struct Judging<'a> {
+    pub(crate) program: &'a Program,
+    pub(crate) events: &'a [Event],
+}
+
+impl Phase for Judging<'_> {
+    fn run(&mut self) -> Result<u64, Fault> {
+        if self.events.len() > MOST {
+            return Err(Fault::Log);
+        }
+        match check(self.program, self.events) {
+            Ok(()) => Ok(0),
+            Err(fault) => Ok(u64::from(fault.row)),
+        }
     }
 }

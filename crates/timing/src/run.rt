@@ -3,7 +3,7 @@
 use crate::fault::Fault;
 use crate::input::Input;
 use crate::least::measure;
-use crate::logs::{Reading, Writing};
+use crate::logs::{Judging, Reading, Writing};
 use crate::packets::{Packing, Unpacking, packets_of, payloads_of};
 use retire::read_log;
 use std::env::Env;
@@ -37,6 +37,14 @@ pub(crate) fn run<R: Env + Files + Clock + AllocGlobal, E: Write>(
                 events,
                 text: room,
             },
+        )?;
+        let program = &input.program;
+        measure(
+            rt,
+            err,
+            "legality check",
+            count,
+            Judging { program, events },
         )?;
         measure(
             rt,

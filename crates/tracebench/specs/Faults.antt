@@ -1,5 +1,5 @@
 -- What is told at each fault, and how a command ends there.
-use Rattle.std.specs.Prelude.{ℕ, List}
+use Rattle.std.specs.Prelude.{ℕ, List, Result, Ok, Err}
 use Rattle.std.specs.Borrow.{Bor}
 use Rattle.bench.specs.declared.fault.Straight.{Straight}
 use Rattle.bench.specs.declared.fault.Straight.TheVariants as straight
@@ -45,3 +45,8 @@ status_of (fault.Unreadable path) = Machine
 status_of fault.Output = Machine
 status_of fault.Memory = Machine
 status_of _ = Refused
+
+-- how a command ended, by its answer or by its fault
+abbrev pub end_of : Result Status Fault → Status
+end_of (Ok status) = status
+end_of (Err fault) = status_of fault

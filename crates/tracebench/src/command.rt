@@ -1,10 +1,11 @@
 // One run of the program.
 
-ghost use Rattle.std.specs.Prelude.{◌≡◌, ◌≢◌, ◌⊎◌, IfErr, IfSome, map, string_bytes};
-ghost use Rattle.cli.specs.Asking.{AreRefused};
-ghost use Rattle.tracebench.specs.Faults.{status_of};
+ghost use Rattle.std.specs.Prelude.{◌≡◌, ◌≢◌, ◌⊎◌, IfSome, map, string_bytes};
+ghost use Rattle.cli.specs.Asking.{AreRefused, AskNoCheck, IsCheck};
+ghost use Rattle.tracebench.specs.Faults.{end_of};
 ghost use Rattle.tracebench.specs.Order.{early_fault};
 
+use crate::check::check;
 use crate::encode::encode;
 use crate::fault::Fault;
 use crate::files::Files;
@@ -14,34 +15,35 @@ use cli::{Asked, asked};
 use std::alloc::Global;
 use std::io::Write;
 
-// Does what is asked, and sees that the output is written.
+// Does what is asked, and answers how it ended.
 fn done<'a, F: Files, O: Write>(
     alloc: Global,
     files: &mut F,
     what: &Asked<'a>,
     out: &mut O,
-) -> Result<(), Fault<'a>>
+) -> Result<Status, Fault<'a>>
     ensures early { IfSome (early_fault what.now) (λ fault. result ≡ Err fault) }
-    ensures refused { IfErr result (λ fault. status_of fault ≡ Status.Refused → out.new ≡ out.old) }
+    ensures refused { ¬ IsCheck what.now → end_of result ≡ Status.Refused → out.new ≡ out.old }
 {
     match what {
-        Asked::Encode { hex: false, .. } => return Err(Fault::NeedsHex),
+        Asked::Check { base, image, logs } => check(alloc, files, base, image, logs, out),
+        Asked::Encode { hex: false, .. } => Err(Fault::NeedsHex),
         Asked::Encode {
             base,
             image,
             log,
             ..
-        } => encode(alloc, files, base, image, log, out)?,
+        } => encode(alloc, files, base, image, log, out),
     }
-    out.flush().map_err(|_| Fault::Output)
 }
 
 /// Does what the words ask for, the program's name first among them, and answers the exit status: 0
-/// where all is done, 2 where the words, the image or a log is refused, 3 where a file is not read,
-/// the output is not written or memory is refused.
+/// where all is done, 2 where the words, the image or a log is refused or a log is illegal, 3 where a
+/// file is not read, the output is not written or memory is refused.
 ///
-/// The first fault is told on `err`, in the order words, base, image, log: one line, or `clap`'s own
-/// text where the words are at fault. That `err` itself fails changes no status.
+/// The first fault is told on `err`, in the order words, base, count of logs, image, each log in turn:
+/// one line, or `clap`'s own text where the words are at fault. That `err` itself fails changes no
+/// status. Illegal logs are no fault of `check`, which has a line for each log on `out`.
 pub fn command<F: Files, O: Write, E: Write>(
     alloc: Global,
     files: &mut F,
@@ -51,12 +53,12 @@ pub fn command<F: Files, O: Write, E: Write>(
 ) -> u8
     ensures statuses { (result ≡ 0) ⊎ ((result ≡ 2) ⊎ (result ≡ 3)) }
     ensures words { AreRefused (map string_bytes words.now) → (result ≢ 0) × (out.new ≡ out.old) }
-    // Where the input is refused, nothing is written.
-    ensures refused { result ≡ 2 → out.new ≡ out.old }
+    // Where the input is refused, nothing is written, but for the lines of `check`.
+    ensures refused { AskNoCheck (map string_bytes words.now) → result ≡ 2 → out.new ≡ out.old }
 {
     let status = match asked(alloc, words) {
         Ok(what) => match done(alloc, files, &what, out) {
-            Ok(()) => Status::Whole,
+            Ok(status) => status,
             Err(fault) => tell(err, &fault),
         },
         Err(error) => tell_words(err, &error),

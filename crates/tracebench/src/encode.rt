@@ -1,12 +1,13 @@
 // The subcommand `encode`.
 
-ghost use Rattle.std.specs.Prelude.{◌≡◌, IfErr};
+ghost use Rattle.std.specs.Prelude.{◌≡◌, IfSome};
 ghost use Rattle.retire.specs.Number.{number_of};
-ghost use Rattle.tracebench.specs.Faults.{status_of};
+ghost use Rattle.tracebench.specs.Faults.{end_of};
+ghost use Rattle.tracebench.specs.Order.{base_fault};
 
 use crate::fault::Fault;
 use crate::files::Files;
-use crate::inputs::{log_of, program_of};
+use crate::inputs::{base_of, legal_log_of, program_of};
 use crate::status::Status;
 use bench::{hex_lines, straight_payloads};
 use std::alloc::Global;
@@ -15,7 +16,8 @@ use std::io::Write;
 /// The number of the one hart.
 const HART: u16 = 0;
 
-/// Writes the messages of a straight log, a line of hexadecimal each, once the log is found straight.
+/// Writes the messages of a straight log, a line of hexadecimal each, once the log is found legal and
+/// straight.
 pub(crate) fn encode<'a, F: Files, O: Write>(
     alloc: Global,
     files: &mut F,
@@ -23,15 +25,17 @@ pub(crate) fn encode<'a, F: Files, O: Write>(
     image: &'a str,
     log: &'a str,
     out: &mut O,
-) -> Result<(), Fault<'a>>
-    ensures base { number_of base.now ≡ None → result ≡ Err Fault.Base }
-    ensures refused { IfErr result (λ fault. status_of fault ≡ Status.Refused → out.new ≡ out.old) }
+) -> Result<Status, Fault<'a>>
+    ensures early { IfSome (base_fault (number_of base.now)) (λ fault. result ≡ Err fault) }
+    ensures refused { end_of result ≡ Status.Refused → out.new ≡ out.old }
 {
+    let base = base_of(base)?;
     let program = program_of(files, base, image)?;
-    let events = log_of(alloc, files, log)?;
-    let payloads = straight_payloads(alloc, &program, events.as_slice()).map_err(
+    let legal = legal_log_of(alloc, files, &program, log)?;
+    let payloads = straight_payloads(alloc, &program, legal.events()).map_err(
         |why| Fault::of_straight(log, why),
     )?;
     hex_lines(HART, payloads.as_slice(), out)?;
-    Ok(())
+    out.flush().map_err(|_| Fault::Output)?;
+    Ok(Status::Whole)
 }

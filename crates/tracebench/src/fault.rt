@@ -7,6 +7,7 @@ ghost use Rattle.tracebench.specs.Faults.{file_fault, log_fault, status_of, stra
 use crate::files::FileFault;
 use crate::status::Status;
 use bench::Straight;
+use legalpath::PathFault;
 use retire::{LogFault, WriteFault};
 use rvclass::ProgramFault;
 use thiserror::Error;
@@ -23,6 +24,9 @@ pub(crate) enum Fault<'a> {
     /// The base is not spelt as a number of a log.
     #[error("base is not a number")]
     Base,
+    /// More logs are given than there may be harts.
+    #[error("more than 64 logs")]
+    ManyLogs,
     /// The file at this path was not read.
     #[error("{0}: cannot be read")]
     Unreadable(&'a str),
@@ -32,6 +36,9 @@ pub(crate) enum Fault<'a> {
     /// The log at this path is none.
     #[error("{0}: {1}")]
     Log(&'a str, LogFault),
+    /// The log at this path is not legal for the program.
+    #[error("{0}: {1}")]
+    Illegal(&'a str, PathFault),
     /// The log at this path is not straight.
     #[error("{0}: {1}")]
     NotStraight(&'a str, Straight),
@@ -83,8 +90,10 @@ impl<'a> Fault<'a> {
             Fault::Words
             | Fault::NeedsHex
             | Fault::Base
+            | Fault::ManyLogs
             | Fault::Image(_)
             | Fault::Log(..)
+            | Fault::Illegal(..)
             | Fault::NotStraight(..) => Status::Refused,
             Fault::Unreadable(_) | Fault::Output | Fault::Memory => Status::Machine,
         }

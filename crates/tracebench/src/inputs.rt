@@ -1,15 +1,17 @@
 // What a command is given: a base, an image and logs.
 
-ghost use Rattle.std.specs.Prelude.{◌≡◌, IfErr, IfOk};
+ghost use Rattle.std.specs.Prelude.{◌≡◌, ◌≤◌, ◌^◌, IfErr, IfOk, vec_len};
 ghost use Rattle.retire.specs.Number.{number_of};
 
 use crate::fault::Fault;
 use crate::files::Files;
+use legalpath::LegalLog;
 use retire::{Event, number, read_log};
 use rvclass::Program;
 use std::alloc::Global;
 
-fn base_of<'a>(text: &str) -> Result<u64, Fault<'a>>
+/// The number that a base is.
+pub(crate) fn base_of<'a>(text: &str) -> Result<u64, Fault<'a>>
     ensures number { IfOk result (λ base. number_of text.now ≡ Some base) }
     ensures none { IfErr result (λ fault. (fault ≡ Fault.Base) × (number_of text.now ≡ None)) }
 {
@@ -22,15 +24,12 @@ fn content_of<'a, F: Files>(files: &mut F, path: &'a str) -> Result<Vec<u8>, Fau
         .map_err(|fault| Fault::of_file(path, fault))
 }
 
-/// The program of an image at a base, which is looked at before the image is read.
+/// The program of an image at a base.
 pub(crate) fn program_of<'a, F: Files>(
     files: &mut F,
-    base: &str,
+    base: u64,
     image: &'a str,
-) -> Result<Program, Fault<'a>>
-    ensures base { number_of base.now ≡ None → result ≡ Err Fault.Base }
-{
-    let base = base_of(base)?;
+) -> Result<Program, Fault<'a>> {
     let bytes = content_of(files, image)?;
     Ok(Program::new(base, bytes)?)
 }
@@ -40,7 +39,20 @@ pub(crate) fn log_of<'a, F: Files>(
     alloc: Global,
     files: &mut F,
     path: &'a str,
-) -> Result<Vec<Event>, Fault<'a>> {
+) -> Result<Vec<Event>, Fault<'a>>
+    ensures { IfOk result (λ events. vec_len events ≤ 2 ^ 24) }
+{
     let bytes = content_of(files, path)?;
     read_log(alloc, alloc, bytes.as_slice()).map_err(|fault| Fault::of_log(path, fault))
+}
+
+/// The log at a path, where it is legal for the program.
+pub(crate) fn legal_log_of<'a, 'p, F: Files>(
+    alloc: Global,
+    files: &mut F,
+    program: &'p Program,
+    path: &'a str,
+) -> Result<LegalLog<'p>, Fault<'a>> {
+    let events = log_of(alloc, files, path)?;
+    LegalLog::new(program, events).map_err(|(why, _)| Fault::Illegal(path, why))
 }

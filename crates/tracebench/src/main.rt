@@ -1,6 +1,7 @@
 //! The bench's program: what its words ask for, done over files and told on the standard streams.
 #![tactic(auto)]
 
+mod check;
 mod command;
 mod encode;
 mod fault;

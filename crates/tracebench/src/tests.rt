@@ -1,5 +1,6 @@
 // Runs of the program over files in memory.
 
+mod checks;
 mod logs;
 mod output;
 mod refusals;

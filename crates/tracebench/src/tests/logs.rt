@@ -32,15 +32,15 @@ fn names_the_faulty_row(rt: HostRuntime) -> Result<(), Fail> {
             "row 1: cause or value missing or not wanted",
         ),
         ("80000000,2,3,7,1\n", "row 1: an interrupt has a value"),
-        ("80000000,4,3,,\n", "row 1: not straight"),
+        ("80000000,4,3,,\n", "row 1: WrongType"),
         ("80000000,1,3,b,0\n", "row 1: not straight"),
-        ("80000000,0,3,,\n80000004,0,1,,\n", "row 2: not straight"),
-        ("80000000,0,3,,\n80000000,0,3,,\n", "row 2: not straight"),
+        ("80000000,0,3,,\n80000004,0,1,,\n", "row 2: WrongPrivilege"),
+        ("80000000,0,3,,\n80000000,0,3,,\n", "row 2: WrongNext"),
         (
             "80000000,0,3,,\n80000004,0,3,,\n80000008,0,3,,\n",
             "row 3: not straight",
         ),
-        ("8000000c,0,3,,\n", "row 1: not straight"),
+        ("8000000c,0,3,,\n", "row 1: OffProgram"),
     ];
     for (rows, fault) in cases {
         let mut files = files_of(rt.alloc(), rows)?;

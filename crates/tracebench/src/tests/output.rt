@@ -87,6 +87,28 @@ fn tells_each_failure(rt: HostRuntime) -> Result<(), Fail> {
     Ok(())
 }
 
+// The output fails at each of its calls, and so does a log behind it: the output is told.
+#[test]
+fn tells_that_lines_fail(rt: HostRuntime) -> Result<(), Fail> {
+    let whole = b"log.csv: legal, 2 events\n".as_slice();
+    let mut files = files(rt.alloc())?;
+    for logs in ["log.csv", "log.csv no.csv"] {
+        let line = format!(in rt.alloc(); "tracebench check --base 80000000 image.bin {logs}")?;
+        let words = words_of(rt.alloc(), line.as_str())?;
+        for call in 1..whole.len() + 2 {
+            let mut out = FailsAt::new(rt.alloc(), call);
+            let mut err = Vec::new(rt.alloc());
+            let status = command(rt.alloc(), &mut files, words.as_slice(), &mut out, &mut err);
+            assert!(rt;
+                err.as_slice() == b"tracebench: output cannot be written\n".as_slice(),
+                "{call}"
+            );
+            assert_eq!(rt; status, 3, "{call}");
+        }
+    }
+    Ok(())
+}
+
 #[test]
 fn keeps_the_status_where_nothing_is_told(rt: HostRuntime) -> Result<(), Fail> {
     let cases = [

@@ -10,7 +10,7 @@ fn words(rt: HostRuntime) -> Result<(), Fail> {
             "",
             2,
             "error: 'tracebench' requires a subcommand but one was not provided\n  \
-             [subcommands: encode, help]\n\n\
+             [subcommands: check, encode, help]\n\n\
              Usage: tracebench <COMMAND>\n\n\
              For more information, try '--help'.\n",
         ),

@@ -52,6 +52,23 @@ pub(super) fn words_of(alloc: Global, line: &str) -> Result<Vec<String>, AllocEr
     Ok(words)
 }
 
+/// Runs a line over the files: it ends with the status, writes the first text and tells the second.
+pub(super) fn ends<R: Abort + AllocGlobal>(
+    rt: &R,
+    files: &mut Table,
+    line: &str,
+    (status, written, told): (u8, &str, &str),
+) -> Result<(), AllocError> {
+    let words = words_of(rt.alloc(), line)?;
+    let mut out = Vec::new(rt.alloc());
+    let mut err = Vec::new(rt.alloc());
+    let ended = command(rt.alloc(), files, words.as_slice(), &mut out, &mut err);
+    assert!(rt; err.as_slice() == told.as_bytes(), "{line}");
+    assert!(rt; out.as_slice() == written.as_bytes(), "{line}");
+    assert_eq!(rt; ended, status, "{line}");
+    Ok(())
+}
+
 /// Runs each line over the files: it writes nothing, ends with the status and tells the text.
 pub(super) fn tells<R: Abort + AllocGlobal>(
     rt: &R,
@@ -59,13 +76,7 @@ pub(super) fn tells<R: Abort + AllocGlobal>(
     cases: &[(&str, u8, &str)],
 ) -> Result<(), AllocError> {
     for (line, status, text) in cases {
-        let words = words_of(rt.alloc(), line)?;
-        let mut out = Vec::new(rt.alloc());
-        let mut err = Vec::new(rt.alloc());
-        let ended = command(rt.alloc(), files, words.as_slice(), &mut out, &mut err);
-        assert!(rt; err.as_slice() == text.as_bytes(), "{line}");
-        assert!(rt; out.is_empty(), "{line}");
-        assert_eq!(rt; ended, *status, "{line}");
+        ends(rt, files, line, (*status, "", text))?;
     }
     Ok(())
 }
