@@ -3,6 +3,7 @@ pub mod BranchBits
 pub mod ByteLists
 pub mod Choices
 pub mod Counts
+pub mod Differences
 pub mod Extending
 pub mod FirstFaults
 pub mod LongNumbers

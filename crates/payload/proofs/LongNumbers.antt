@@ -48,6 +48,11 @@ low_bytes-append (suc j) k n =
     let place : n / 2 ^ (8 * suc j) ≡ n / 256 / 2 ^ (8 * j) = ap (λ x. n / x) size ∙ sym (div-div-eq-div-mul n 256 (2 ^ (8 * j))) in
     rw (count, place) (ap (λ xs. n % 256 ∷ xs) (low_bytes-append j k (n / 256)))
 
+pub low_bytes-split : (j count n : ℕ) → j ≤ count → low_bytes j n ++ low_bytes (count - j) (n / 2 ^ (8 * j)) ≡ low_bytes count n
+low_bytes-split j count n some =
+    let whole : j + (count - j) ≡ count = omega arith in
+    sym (low_bytes-append j (count - j) n) ∙ ap (λ k. low_bytes k n) whole
+
 pub low_part_alone : (count low high : ℕ) → count ≤ 16 → low < 2 ^ 128 → low_bytes count low ≡ low_bytes count (low + 2 ^ 128 * high)
 low_part_alone count low high few bound =
     let cut : (low + 2 ^ 128 * high) % 2 ^ 128 ≡ low = omega arith in

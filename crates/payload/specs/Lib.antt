@@ -10,3 +10,4 @@ pub mod Faults
 pub mod Reading
 pub mod ReadingByKind
 pub mod Closing
+pub mod Difference

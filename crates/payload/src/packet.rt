@@ -1,5 +1,5 @@
 //! The packets of an instruction trace.
-ghost use Rattle.std.specs.Prelude.{◌↔◌, IsTrue};
+ghost use Rattle.std.specs.Prelude.{◌≡◌, ◌↔◌, IsTrue, false};
 
 use crate::Outcomes;
 
@@ -105,6 +105,19 @@ impl Packet {
                 ..
             } => outcomes.len() <= 31 && delta % 2 == 0,
             Packet::Map(outcomes) => outcomes.len() == 31,
+        }
+    }
+}
+
+impl Default for Packet {
+    /// A packet of zeros; it fills the unused places of an `ArrayVec`.
+    fn default() -> Self
+        ensures { result ≡ Packet.Sync false 0 0 }
+    {
+        Packet::Sync {
+            taken: false,
+            privilege: 0,
+            address: 0,
         }
     }
 }

@@ -1,5 +1,6 @@
 //! The bytes of one packet.
-ghost use Rattle.std.specs.Prelude.{◌≡◌, ◌+◌, ◌*◌, ◌^◌, ◌<◌, ◌≤◌, ◌↔◌, ℕ, List, length, IsOk, IfOk};
+ghost use Rattle.std.specs.Prelude.{◌≡◌, ◌+◌, ◌*◌, ◌^◌, ◌++◌, ◌<◌, ◌≤◌, ◌↔◌, ℕ, List, length, IsOk, IfOk};
+ghost use Rattle.arrayvec.specs.ArrayVec.{array_vec_len};
 ghost use Rattle.payload.specs.Bytes.{low_bytes};
 
 use crate::{PackFault, Packet, Support, unpack};
@@ -71,10 +72,16 @@ impl Payload {
         ensures { result ≡ low_bytes count n }
     {
         let mut bytes = ArrayVec::new();
-        match bytes.try_extend_from_slice(&bytes_of(n)[..count]) {
-            Ok(()) => Payload { bytes },
-            Err(_) => unreachable!(),
+        let low = (n % (1 << 64)) as u64;
+        if count < 8 {
+            append_up_to_7(&mut bytes, low, count);
+        } else if count < 16 {
+            append(&mut bytes, &low.to_le_bytes());
+            append_up_to_7(&mut bytes, (n >> 64) as u64, count - 8);
+        } else {
+            append_16(&mut bytes, n);
         }
+        Payload { bytes }
     }
 
     /// The lowest `count` bytes of `low + 2^128 * high`.
@@ -87,24 +94,51 @@ impl Payload {
             return Payload::of_low_bytes(low, count);
         }
         let mut bytes = ArrayVec::new();
-        match bytes.try_extend_from_slice(&bytes_of(low)) {
-            Ok(()) => {}
-            Err(_) => unreachable!(),
-        }
-        match bytes.try_extend_from_slice(&high.to_le_bytes()[..count - 16]) {
-            Ok(()) => Payload { bytes },
-            Err(_) => unreachable!(),
-        }
+        append_16(&mut bytes, low);
+        append_up_to_7(&mut bytes, u64::from(high), count - 16);
+        Payload { bytes }
     }
 }
 
-/// The 16 bytes of a number, the lowest first: two halves, each of which a machine stores at once.
+/// Appends the lowest `count` bytes of a number, by copies of 4, 2 and 1 bytes: a copy of `count` bytes would be a call.
 #[inline(always)]
-fn bytes_of(n: u128) -> [u8; 16]
-    ensures { result ≡ low_bytes 16 n }
+fn append_up_to_7(bytes: &mut ArrayVec<u8, MOST>, n: u64, count: usize)
+    requires room { array_vec_len bytes.old + count ≤ 18 }
+    requires few { count ≤ 7 }
+    ensures { bytes.new.items ≡ bytes.old.items ++ low_bytes count n }
 {
-    let mut bytes = [0; 16];
-    bytes[..8].copy_from_slice(&((n % (1 << 64)) as u64).to_le_bytes());
-    bytes[8..].copy_from_slice(&((n >> 64) as u64).to_le_bytes());
-    bytes
+    let mut rest = n;
+    if count >= 4 {
+        append(bytes, &((rest % (1 << 32)) as u32).to_le_bytes());
+        rest >>= 32;
+    }
+    if count % 4 >= 2 {
+        append(bytes, &((rest % (1 << 16)) as u16).to_le_bytes());
+        rest >>= 16;
+    }
+    if count % 2 == 1 {
+        bytes.push((rest % (1 << 8)) as u8);
+    }
+}
+
+/// Appends the 16 bytes of a number, the lowest first: two halves, each of which a machine stores at once.
+#[inline(always)]
+fn append_16(bytes: &mut ArrayVec<u8, MOST>, n: u128)
+    requires { array_vec_len bytes.old ≤ 2 }
+    ensures { bytes.new.items ≡ bytes.old.items ++ low_bytes 16 n }
+{
+    append(bytes, &((n % (1 << 64)) as u64).to_le_bytes());
+    append(bytes, &((n >> 64) as u64).to_le_bytes());
+}
+
+/// Appends bytes that fit.
+#[inline(always)]
+fn append(bytes: &mut ArrayVec<u8, MOST>, part: &[u8])
+    requires { array_vec_len bytes.old + length part.now ≤ 18 }
+    ensures { bytes.new.items ≡ bytes.old.items ++ part.now }
+{
+    match bytes.try_extend_from_slice(part) {
+        Ok(()) => {}
+        Err(_) => unreachable!(),
+    }
 }
