@@ -10,7 +10,8 @@ use Rattle.rvclass.specs.declared.class.Return.TheVariants.{Mret, Sret}
 use Rattle.legalpath.proofs.Telling.{Tells, tells_true, tells_false, tells_eq, tells_le, tells_lt, tells-same, tells-and, tells-or}
 use Rattle.legalpath.specs.Judging.{is_privilege, is_type_of, may_retire_at, may_stand_at, was_left, left_at_start, left_by_retirement, left_by_trap, is_never, judge_retirement, judge_trap, judge}
 use Rattle.legalpath.specs.Reason.{IsNotRetirable, AppliesToRetirement, AppliesToTrap, IsReason, earlier}
-use Rattle.legalpath.specs.Right.{IsTypeOf, MayRetireAt, RetiresOn, IsPrivilege, Right}
+use Rattle.retire.specs.InRange.{IsPrivilege}
+use Rattle.legalpath.specs.Right.{IsTypeOf, MayRetireAt, RetiresOn, Right}
 use Rattle.legalpath.specs.Successor.{leads, leads_from}
 use Rattle.legalpath.specs.Step.{MayStandAt, MayStandAfter, KeepsPrivilege, PrivilegeFrom, StepFrom}
 use Rattle.legalpath.specs.declared.fault.Why.{Why}

@@ -7,7 +7,8 @@ use Rattle.rvclass.specs.Words.{Word, Words}
 use Rattle.rvclass.specs.declared.class.Class.TheVariants.{Plain, Jump, Branch, Uninferable, TrapReturn, NotRetirable as NeverRetires}
 use Rattle.legalpath.proofs.JudgingLemmas.{step_parts, Outcome, judged}
 use Rattle.legalpath.specs.Reason.{IsNotRetirable, AppliesToRetirement, Applies, IsReason, earlier}
-use Rattle.legalpath.specs.Right.{RetiresOn, IsPrivilege, Right}
+use Rattle.retire.specs.InRange.{IsPrivilege}
+use Rattle.legalpath.specs.Right.{RetiresOn, Right}
 use Rattle.legalpath.specs.Step.{MayStandAfter, PrivilegeFrom, StepFrom}
 use Rattle.legalpath.specs.declared.fault.Why.{Why}
 use Rattle.legalpath.specs.declared.fault.Why.TheVariants.{OffProgram, NotRetirable, WrongType, WrongNext, WrongPrivilege, WrongEpc}

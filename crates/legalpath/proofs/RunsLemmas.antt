@@ -1,5 +1,5 @@
 -- Logs split and join.
-use Rattle.std.proofs.Common.{List, [], ◌∷◌, ◌++◌, Option, Some}
+use Rattle.std.proofs.Common.{◌≡◌, refl, List, [], ◌∷◌, ◌++◌, Option, Some}
 use Rattle.std.specs.List.{last_or}
 use Rattle.retire.specs.declared.event.Event.{Event}
 use Rattle.rvclass.specs.Words.{Words}
@@ -16,3 +16,8 @@ pub runs_join : (words : Words) (before : Option Event) (front rest : List Event
 runs_join words before [] rest first then = then
 runs_join words before (event ∷ front) rest first then =
     (first.0, first.1, runs_join words (Some event) front rest first.2 then)
+
+-- The last event of joined stretches is that of the second, or else that of the first.
+pub last_or-append : (before : Option Event) (front rest : List Event) → last_or before (front ++ rest) ≡ last_or (last_or before front) rest
+last_or-append before [] rest = refl
+last_or-append before (event ∷ front) rest = last_or-append (Some event) front rest

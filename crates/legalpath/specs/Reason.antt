@@ -5,7 +5,8 @@ use Rattle.retire.specs.declared.event.Event.{Event}
 use Rattle.retire.specs.declared.event.Event.TheVariants.{Retire, Trap}
 use Rattle.rvclass.specs.Words.{Word, Words}
 use Rattle.rvclass.specs.declared.class.Class.TheVariants.{Plain, Jump, Branch, Uninferable, TrapReturn, NotRetirable as NeverRetires}
-use Rattle.legalpath.specs.Right.{IsTypeOf, MayRetireAt, IsPrivilege}
+use Rattle.retire.specs.InRange.{IsPrivilege}
+use Rattle.legalpath.specs.Right.{IsTypeOf, MayRetireAt}
 use Rattle.legalpath.specs.Step.{MayStandAfter, PrivilegeFrom}
 use Rattle.legalpath.specs.declared.fault.Why.{Why}
 use Rattle.legalpath.specs.declared.fault.Why.TheVariants.{OffProgram, NotRetirable, WrongType, WrongNext, WrongPrivilege, WrongEpc}

@@ -1,5 +1,6 @@
 -- Which events are right by themselves.
 use Rattle.std.specs.Prelude.{ℕ, ◌≡◌, ◌≢◌, ◌≤◌, ◌<◌, ◌%◌, ◌⊎◌, true, Option, Some, None}
+use Rattle.retire.specs.InRange.{IsPrivilege}
 use Rattle.retire.specs.declared.event.Event.{Event}
 use Rattle.retire.specs.declared.event.Event.TheVariants.{Retire, Trap}
 use Rattle.rvclass.specs.Words.{Word, Words}
@@ -28,10 +29,6 @@ MayRetireAt _ priv = Unit {0}
 abbrev pub RetiresOn : Option Word → ℕ → ℕ → Type 0
 RetiresOn None itype priv = ⊥
 RetiresOn (Some word) itype priv = IsTypeOf word.0 itype × MayRetireAt word.0 priv
-
--- User, supervisor or machine: 0, 1 or 3.
-abbrev pub IsPrivilege : ℕ → Type 0
-IsPrivilege priv = (priv ≤ 3) × (priv ≢ 2)
 
 -- An event is right by itself.
 abbrev pub Right : Words → Event → Type 0

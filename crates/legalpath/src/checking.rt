@@ -1,3 +1,5 @@
+//! Which log is legal, and the first illegal row of one that is not.
+
 ghost use Rattle.std.specs.Prelude.{◌≡◌, ◌↔◌, ◌^◌, ◌≤◌, length, IsOk, IfErr};
 ghost use Rattle.rvclass.specs.Fetch.{words_of};
 ghost use Rattle.legalpath.specs.FirstFault.{IsFirstFault};

@@ -1,3 +1,5 @@
+//! Why a log is illegal.
+
 use thiserror::Error;
 
 /// Why a row of a log is illegal. Where more than one applies, the first in this order is told.

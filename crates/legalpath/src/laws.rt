@@ -1,4 +1,4 @@
-// What the definitions of legal logs promise of one another.
+//! What the definitions of legal logs promise of one another.
 
 ghost use Rattle.legalpath.specs.ReasonLaws.{RefusesTheIllegal, NamesOneFault};
 ghost use Rattle.legalpath.specs.RunsLaws.{SplitsAndJoins};

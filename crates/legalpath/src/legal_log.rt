@@ -1,3 +1,5 @@
+//! A log that is known to be legal.
+
 ghost use Rattle.std.specs.Prelude.{◌≡◌, ◌↔◌, ◌^◌, ◌≤◌, length, vec_len, IsOk, IfOk, IfErr};
 ghost use Rattle.rvclass.specs.Fetch.{words_of};
 ghost use Rattle.legalpath.specs.FirstFault.{IsFirstFault};

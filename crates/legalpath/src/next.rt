@@ -1,3 +1,5 @@
+//! Where an event leads.
+
 ghost use Rattle.std.specs.Prelude.{◌≡◌, ◌+◌, ◌^◌, ◌<◌};
 ghost use Rattle.rvclass.specs.Fetch.{words_of};
 ghost use Rattle.legalpath.specs.Successor as path;

@@ -1,4 +1,4 @@
-// Small programs, and logs of them.
+//! Small programs, and logs of them.
 
 mod faults;
 mod legal_logs;

@@ -7,3 +7,4 @@ pub mod LineLemmas
 pub mod WriteLemmas
 pub mod RoundTrip
 pub mod RangeLemmas
+pub mod OutcomesLemmas

@@ -1,5 +1,5 @@
 -- What is written is read back.
-use Rattle.std.proofs.Common.{◌≡◌, ◌≤◌, ◌<◌, ◌^◌, ◌%◌, ◌==◌, ◌+◌, ◌++◌, ◌∙◌, ◌&&◌, ℕ, List, [], ◌∷◌, All, Bool, true, false, None, Ok, lit<, codes, length, map, nat_lt, arith, rules, refl, ap, inl, inr, append-nil}
+use Rattle.std.proofs.Common.{◌≡◌, ◌≢◌, ◌⊎◌, ◌≤◌, ◌<◌, ◌^◌, ◌%◌, ◌==◌, ◌+◌, ◌++◌, ◌∙◌, ◌&&◌, ℕ, List, [], ◌∷◌, All, Bool, true, false, None, Ok, lit<, codes, length, map, nat_lt, arith, rules, refl, ap, inl, inr, append-nil}
 use Rattle.std.proofs.lemmas.Bool.{ne_eqb}
 use Rattle.std.proofs.lemmas.List.Elements.{All-head, All-tail}
 use Rattle.std.specs.List.{flat_map, join_with_byte, list_any}
@@ -38,9 +38,7 @@ unfolding is_blank
 row_text-plain a b rest p = rw (row_body-plain a (b ∷ rest) p) refl
 
 small_privilege : (priv : ℕ) → IsPrivilege priv → priv < 2 ^ 64
-small_privilege priv (inl e) = omega (arith, e)
-small_privilege priv (inr (inl e)) = omega (arith, e)
-small_privilege priv (inr (inr e)) = omega (arith, e)
+small_privilege priv level = omega (arith, level.0)
 
 small_type : (itype : ℕ) → IsRetirementType itype → itype < 2 ^ 64
 small_type itype (inl e) = omega (arith, e)
@@ -77,9 +75,11 @@ records_left-events (event ∷ rest) h =
     ∙ ap (λ t. event_fields event ∷ t) (records_left-events rest (All-tail IsInRange event rest h))
 
 is_privilege-IsPrivilege : (priv : ℕ) → IsPrivilege priv → is_privilege priv ≡ true
-is_privilege-IsPrivilege priv (inl e) = rw e refl
-is_privilege-IsPrivilege priv (inr (inl e)) = rw e refl
-is_privilege-IsPrivilege priv (inr (inr e)) = rw e refl
+is_privilege-IsPrivilege priv level =
+    let low : priv ≤ 3 = level.0 in
+    let known : priv ≢ 2 = level.1 in
+    let one_of : (priv ≡ 0) ⊎ ((priv ≡ 1) ⊎ (priv ≡ 3)) = grind arith in
+    elim one_of [ inl e ↦ rw e refl | inr other ↦ elim other [ inl e ↦ rw e refl | inr e ↦ rw e refl ] ]
 
 is_even : (addr : ℕ) → IsAddress addr → (addr % 2 == 1) ≡ false
 is_even addr (small, even) = rw even refl

@@ -1,4 +1,4 @@
-// One row of a log.
+//! One row of a log.
 
 /// What a core did: it retired an instruction, or it took a trap.
 #[derive(Clone, Copy, Debug, PartialEq, Eq)]

@@ -1,4 +1,4 @@
-// The number that a field spells.
+//! The number that a field spells.
 
 ghost use Rattle.std.specs.Prelude.{◌≡◌};
 ghost use Rattle.retire.specs.Number.{digits_number, hex_value, number_of, without_prefix};

@@ -1,4 +1,4 @@
-// What the definitions of a log promise of one another.
+//! What the definitions of a log promise of one another.
 
 ghost use Rattle.retire.specs.InRange.{ReadsInRange};
 ghost use Rattle.retire.specs.ReadBack.{ReadsBack};

@@ -1,4 +1,4 @@
-// Reading a log.
+//! Reading a log.
 
 ghost use Rattle.std.specs.Prelude.{◌≡◌, ◌⊎◌, ◌≤◌, ℕ, List, IfOk, OnOk, IfErr, IfSome, Some, vec_len};
 ghost use Rattle.csv.specs.Reading.{ReadRecord, Ready, default_config, reader_config, reader_state, reader_trim, source_of};

@@ -1,4 +1,4 @@
-// The event of a record.
+//! The event of a record.
 
 ghost use Rattle.std.specs.Prelude.{◌≡◌, ◌≤◌, unwrap_or};
 ghost use Rattle.csv.specs.Records.{fields_of};

@@ -1,4 +1,4 @@
-// Logs read and written, by devices and memory that fail too.
+//! Logs read and written, by devices and memory that fail too.
 
 mod definitions;
 mod devices;

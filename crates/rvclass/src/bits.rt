@@ -1,3 +1,5 @@
+//! Bits of a word.
+
 ghost use Rattle.std.specs.Prelude.{◌≡◌, ◌+◌, ◌-◌, ◌^◌, ◌<◌, ◌≤◌};
 ghost use Rattle.rvclass.specs.Bits.{bits, moved};
 

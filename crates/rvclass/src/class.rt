@@ -1,3 +1,5 @@
+//! The classes of words.
+
 /// How control goes on from a word, by the word alone. Targets are absolute addresses, modulo 2^64.
 #[derive(Clone, Copy, Debug, PartialEq, Eq)]
 pub enum Class {

@@ -1,3 +1,5 @@
+//! Why bytes are no program.
+
 use thiserror::Error;
 
 /// Why bytes make no program. Where more than one applies, the first in this order is told.

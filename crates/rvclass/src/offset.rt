@@ -1,3 +1,5 @@
+//! Offsets of jumps and branches.
+
 ghost use Rattle.std.specs.Prelude.{◌≡◌, ◌^◌, ◌<◌};
 ghost use Rattle.rvclass.specs.Offset.{b_offset, cb_offset, cj_offset, i_offset, j_offset};
 

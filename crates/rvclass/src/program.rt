@@ -1,3 +1,5 @@
+//! A program, and the word at each of its addresses.
+
 ghost use Rattle.std.specs.Prelude.{◌≡◌, ◌↔◌, ◌+◌, ◌-◌, ◌*◌, ◌%◌, ◌^◌, ◌<◌, ◌≤◌, length, vec_len, IsOk, IfOk, Err};
 ghost use Rattle.rvclass.specs.Fetch.{half_at, word_at, words_of};
 ghost use Rattle.rvclass.specs.Image.{Image, IsImage, image_at};

@@ -1,3 +1,5 @@
+//! Words and images of the RISC-V Unprivileged ISA, with their classes.
+
 use crate::{Class, Program, ProgramFault, Return};
 use std::alloc::Global;
 use std::test::Fail;

@@ -1,3 +1,5 @@
+//! The classes of 16-bit words.
+
 ghost use Rattle.std.specs.Prelude.{◌≡◌, ◌^◌, ◌<◌};
 ghost use Rattle.rvclass.specs.Word16.{class16};
 

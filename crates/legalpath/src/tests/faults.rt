@@ -1,4 +1,4 @@
-// What `check` tells of logs.
+//! What `check` tells of logs.
 
 ghost use Rattle.std.specs.Prelude.{◌<◌, ◌≤◌, length};
 

@@ -1,4 +1,4 @@
-// Logs kept with the program that they are legal for.
+//! Logs kept with the program that they are legal for.
 
 use super::{BASE, BEQ, NOP, program_of, retired};
 use crate::{LegalLog, PathFault, Why};

@@ -1,4 +1,4 @@
-// Every pair of kinds of events at every pair of privileges, by the table of what may follow what.
+//! Every pair of kinds of events at every pair of privileges, by the table of what may follow what.
 
 ghost use Rattle.std.specs.Prelude.{◌<◌};
 

@@ -1,4 +1,4 @@
-// Where events lead.
+//! Where events lead.
 
 use super::{BASE, BEQ, ECALL, JAL, MRET, NOP, RET, SRET, program_of, retired, trap};
 use crate::{Next, successor};
