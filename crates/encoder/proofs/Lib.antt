@@ -1,0 +1,11 @@
+pub mod SpotLemmas
+pub mod StepLemmas
+pub mod RuleLemmas
+pub mod CountLemmas
+pub mod ViewLemmas
+pub mod CodeLemmas
+pub mod PushLemmas
+pub mod StandsLemmas
+pub mod ProfileLemmas
+pub mod EndLemmas
+pub mod WorkedLogs

@@ -1,0 +1,9 @@
+pub mod Spot
+pub mod Rule
+pub mod Piece
+pub mod Packets
+pub mod PacketsSoFar
+pub mod Due
+pub mod Stands
+pub mod Profile
+pub mod Stepping

@@ -1,0 +1,80 @@
+-- Which packets a log gives.
+use Rattle.std.specs.Prelude.{ℕ, Bool, true, false, List, [], ◌∷◌, ◌++◌, if◌then◌else◌}
+use Rattle.retire.specs.Events.{place, privilege, is_taken, outcomes}
+use Rattle.retire.specs.declared.event.Event.{Event}
+use Rattle.retire.specs.declared.event.Event.TheVariants.{Retire, Trap}
+use Rattle.rvclass.specs.Words.{Words}
+use Rattle.payload.specs.Difference.{difference}
+use Rattle.payload.specs.declared.packet.Packet.{Packet}
+use Rattle.payload.specs.declared.packet.Packet.TheVariants as packet
+use Rattle.payload.specs.declared.packet.Report.TheVariants.{Plain, Updiscon, Notify}
+use Rattle.payload.specs.declared.packet.Support.{Support}
+use Rattle.payload.specs.declared.packet.Support.TheVariants.{Open, EndedRep, EndedNtr}
+use Rattle.encoder.specs.Piece.{Piece, pieces_of}
+use Rattle.encoder.specs.declared.rule.Rule.{Rule}
+use Rattle.encoder.specs.declared.rule.Rule.TheVariants as by
+
+-- The packet of a trap, with the address, privilege and branch of this retirement or of the trap
+-- itself.
+abbrev pub trap_packet : Event → Bool → ℕ → Bool → ℕ → Packet
+trap_packet (Trap epc priv interrupt cause tval) taken level handler address =
+    packet.Trap taken level cause interrupt handler address tval
+trap_packet (Retire addr itype priv) taken level handler address =
+    packet.Trap taken level 0 false handler address 0
+
+-- The first of these events, or this one where there is none.
+abbrev pub first_or : Event → List Event → Event
+first_or event [] = event
+first_or event (first ∷ events) = first
+
+-- The packet of these events and the last, by its rule, after the last reported address: a sync packet, a trap
+-- packet, an address packet with the outcomes of the branches and the difference of the addresses, or a branch map alone.
+abbrev pub packet_by : ℕ → List Event → Event → Rule → Packet
+packet_by reported front last (by.Trap handler) = trap_packet last false (privilege last) false (place last)
+packet_by reported front last by.Handler = trap_packet (first_or last front) (is_taken last) (privilege last) true (place last)
+packet_by reported front last by.Sync = packet.Sync (is_taken last) (privilege last) (place last)
+packet_by reported front last (by.Target cut_off) =
+    packet.Address (outcomes (front ++ last ∷ [])) (difference reported (place last)) (if cut_off then Updiscon else Plain)
+packet_by reported front last by.Explicit = packet.Address (outcomes (front ++ last ∷ [])) (difference reported (place last)) Plain
+packet_by reported front last by.Notify = packet.Address (outcomes (front ++ last ∷ [])) (difference reported (place last)) Notify
+packet_by reported front last by.Unreported = packet.Map (outcomes (front ++ last ∷ []))
+
+-- The last reported address after a packet: a branch map leaves it.
+abbrev pub reported_by : Rule → ℕ → Event → ℕ
+reported_by (by.Trap handler) reported last = place last
+reported_by by.Handler reported last = place last
+reported_by by.Sync reported last = place last
+reported_by (by.Target cut_off) reported last = place last
+reported_by by.Explicit reported last = place last
+reported_by by.Notify reported last = place last
+reported_by by.Unreported reported last = reported
+
+-- The packets of pieces, after this last reported address.
+abbrev pub reports : ℕ → List Piece → List Packet
+reports reported [] = []
+reports reported (piece ∷ pieces) =
+    packet_by reported piece.front piece.last piece.by ∷ reports (reported_by piece.by reported piece.last) pieces
+
+-- The rule of the last of these pieces, or this one where there is none.
+abbrev pub last_rule : Rule → List Piece → Rule
+last_rule rule [] = rule
+last_rule rule (piece ∷ pieces) = last_rule piece.by pieces
+
+-- How tracing ends: the last address was reported because of it, or would have been anyway.
+abbrev pub closing : Rule → Support
+closing (by.Trap handler) = EndedNtr
+closing by.Handler = EndedNtr
+closing by.Sync = EndedNtr
+closing (by.Target cut_off) = EndedNtr
+closing by.Explicit = EndedRep
+closing by.Notify = EndedNtr
+closing by.Unreported = EndedNtr
+
+-- The closing packet of a log.
+abbrev pub closing_packet : Words → ℕ → List Event → Packet
+closing_packet words period log = packet.Support (closing (last_rule by.Unreported (pieces_of words period log)))
+
+-- The packets of a log: Open, one for each piece, and the closing one.
+abbrev pub packets : Words → ℕ → List Event → List Packet
+packets words period log =
+    packet.Support Open ∷ reports 0 (pieces_of words period log) ++ closing_packet words period log ∷ []

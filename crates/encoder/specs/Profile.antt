@@ -1,0 +1,17 @@
+-- Every packet of a legal log is of the profile.
+use Rattle.std.specs.Prelude.{ℕ, All, List}
+use Rattle.retire.specs.declared.event.Event.{Event}
+use Rattle.rvclass.specs.Words.{Words, IsProgram}
+use Rattle.legalpath.specs.Legal.{Legal}
+use Rattle.payload.specs.Profile.{InProfile}
+use Rattle.encoder.specs.Packets.{packets}
+use Rattle.encoder.specs.Stands.{Is64Bit}
+
+-- The packets of a legal log of 64-bit numbers are of the profile.
+abbrev pub PacketsAreInProfile : Type 0
+PacketsAreInProfile =
+    (words : Words) (period : ℕ) (log : List Event) →
+    IsProgram words →
+    All Is64Bit log →
+    Legal words log →
+    All InProfile (packets words period log)

@@ -1,0 +1,190 @@
+-- How this crate's code goes from one event to the next, by its fields. What the packets of a log are
+-- is said in the files on spots, rules, pieces and packets.
+use Rattle.std.specs.Prelude.{ℕ, ◌-◌, ◌==◌, ◌&&◌, ◌||◌, not, nat_le, nat_lt, Bool, true, false, List, [], ◌∷◌, ◌++◌, length, Option, Some, None, if◌then◌else◌}
+use Rattle.retire.specs.Events.{place, privilege, is_branch, is_taken}
+use Rattle.retire.specs.declared.event.Event.{Event}
+use Rattle.retire.specs.declared.event.Event.TheVariants.{Retire, Trap}
+use Rattle.rvclass.specs.Words.{Words}
+use Rattle.legalpath.specs.Backward.{jumps_back}
+use Rattle.payload.specs.Difference.{difference}
+use Rattle.payload.specs.declared.packet.Packet.{Packet}
+use Rattle.payload.specs.declared.packet.Packet.TheVariants as packet
+use Rattle.payload.specs.declared.packet.Report.TheVariants.{Plain, Updiscon, Notify}
+use Rattle.payload.specs.declared.packet.Support.TheVariants.{EndedNtr}
+use Rattle.encoder.specs.Packets.{trap_packet, reported_by, closing}
+use Rattle.encoder.specs.declared.due.Due.{Due}
+use Rattle.encoder.specs.declared.due.Due.TheVariants as due_of
+use Rattle.encoder.specs.declared.encoder.Encoder.{Encoder}
+use Rattle.encoder.specs.declared.rule.Rule.{Rule}
+use Rattle.encoder.specs.declared.rule.Rule.TheVariants as by
+
+-- A retirement of this type is an uninferable discontinuity.
+abbrev pub leaves_by_type : ℕ → Bool
+leaves_by_type itype = (itype == 3) || (itype == 6)
+
+-- What is due of a retirement behind a trap of which this is due.
+abbrev pub due_behind_trap : Due → Due
+due_behind_trap due_of.TrapOrHandler = due_of.Handler
+due_behind_trap due_of.Trap = due_of.Sync
+due_behind_trap due_of.Handler = due_of.Sync
+due_behind_trap due_of.Sync = due_of.Sync
+due_behind_trap due_of.Target = due_of.Sync
+due_behind_trap due_of.Nothing = due_of.Sync
+
+-- What is due of an event behind the held one, of which this is due, with so many retirements left.
+abbrev pub next_due : Option Event → Due → ℕ → Event → Due
+next_due None due left (Retire addr itype priv) = due_of.Sync
+next_due None due left (Trap epc priv interrupt cause tval) = due_of.Trap
+next_due (Some (Retire at type level)) due left (Retire addr itype priv) =
+    if not (priv == level) || (left == 0) then due_of.Sync else
+    if leaves_by_type type then due_of.Target else
+    due_of.Nothing
+next_due (Some (Trap epc level interrupt cause tval)) due left (Retire addr itype priv) = due_behind_trap due
+next_due (Some (Retire at type level)) due left (Trap epc priv interrupt cause tval) =
+    if leaves_by_type type then due_of.Trap else due_of.TrapOrHandler
+next_due (Some (Trap at level irq code value)) due left (Trap epc priv interrupt cause tval) = due_of.Trap
+
+-- A trap or a new start, by what is due of it.
+abbrev pub cuts_off : Due → Bool
+cuts_off due_of.TrapOrHandler = true
+cuts_off due_of.Trap = true
+cuts_off due_of.Handler = false
+cuts_off due_of.Sync = true
+cuts_off due_of.Target = false
+cuts_off due_of.Nothing = false
+
+-- The event is a backward jump, by its type, by where the next one stands, and by its word.
+abbrev pub jumps_back_to : Words → Event → Event → Bool
+jumps_back_to words (Retire addr itype priv) next = (itype == 0) && nat_le (place next) addr && jumps_back addr (words addr)
+jumps_back_to words (Trap epc priv interrupt cause tval) next = false
+
+-- The rule of an event of which nothing is due, before one of which this is due.
+abbrev pub rule_of_quiet : Bool → Bool → Rule
+rule_of_quiet true back = by.Explicit
+rule_of_quiet false true = by.Notify
+rule_of_quiet false false = by.Unreported
+
+-- The rule of an event of which this is due, before the next one, of which that is due, and which is
+-- no handler.
+abbrev pub rule_before : Words → Event → Due → Event → Due → Rule
+rule_before words held due_of.TrapOrHandler next after = by.Trap false
+rule_before words held due_of.Trap next after = by.Trap false
+rule_before words held due_of.Handler next after = by.Handler
+rule_before words held due_of.Sync next after = by.Sync
+rule_before words held due_of.Target next after = by.Target (cuts_off after)
+rule_before words held due_of.Nothing next after = rule_of_quiet (cuts_off after) (jumps_back_to words held next)
+
+-- The rule of the last event of a log.
+abbrev pub rule_at_end : Due → Rule
+rule_at_end due_of.TrapOrHandler = by.Trap false
+rule_at_end due_of.Trap = by.Trap false
+rule_at_end due_of.Handler = by.Handler
+rule_at_end due_of.Sync = by.Sync
+rule_at_end due_of.Target = by.Target false
+rule_at_end due_of.Nothing = by.Explicit
+
+-- The packets of an event by its rule, with these outcomes, after this last reported address; that of
+-- a handler is given already.
+abbrev pub packets_by : Rule → Event → List Bool → ℕ → List Packet
+packets_by (by.Trap handler) held outcomes reported = trap_packet held false (privilege held) false (place held) ∷ []
+packets_by by.Handler held outcomes reported = []
+packets_by by.Sync held outcomes reported = packet.Sync (is_taken held) (privilege held) (place held) ∷ []
+packets_by (by.Target cut_off) held outcomes reported =
+    packet.Address outcomes (difference reported (place held)) (if cut_off then Updiscon else Plain) ∷ []
+packets_by by.Explicit held outcomes reported = packet.Address outcomes (difference reported (place held)) Plain ∷ []
+packets_by by.Notify held outcomes reported = packet.Address outcomes (difference reported (place held)) Notify ∷ []
+packets_by by.Unreported held outcomes reported = packet.Map outcomes ∷ []
+
+-- The packet of a trap and its handler.
+abbrev pub handler_packet : Event → Event → Packet
+handler_packet trap handler = trap_packet trap (is_taken handler) (privilege handler) true (place handler)
+
+-- A handler is due: the packet of the trap before it told of it.
+abbrev pub is_handler_due : Due → Bool
+is_handler_due due_of.TrapOrHandler = false
+is_handler_due due_of.Trap = false
+is_handler_due due_of.Handler = true
+is_handler_due due_of.Sync = false
+is_handler_due due_of.Target = false
+is_handler_due due_of.Nothing = false
+
+-- Nothing reports the event, unless it fills the branch map.
+abbrev pub is_unreported : Rule → Bool
+is_unreported (by.Trap handler) = false
+is_unreported by.Handler = false
+is_unreported by.Sync = false
+is_unreported (by.Target cut_off) = false
+is_unreported by.Explicit = false
+is_unreported by.Notify = false
+is_unreported by.Unreported = true
+
+-- The next event, of which this is due, leaves the held one without a packet.
+abbrev pub is_quiet : Words → Encoder → Option Event → Event → Due → Bool
+is_quiet words e None next after = false
+is_quiet words e (Some held) next after =
+    is_unreported (rule_before words held e.due next after) && nat_lt (length e.pending) 31
+
+-- The packets that the next event gives, of which this is due, where it does not leave the held one
+-- without a packet.
+abbrev pub packets_before : Words → Encoder → Option Event → Event → Due → List Packet
+packets_before words e None next after = []
+packets_before words e (Some held) next after =
+    if is_handler_due after then handler_packet held next ∷ [] else
+    packets_by (rule_before words held e.due next after) held e.pending e.reported
+
+-- The last reported address after them.
+abbrev pub reported_before : Words → Encoder → Option Event → Event → Due → ℕ
+reported_before words e None next after = e.reported
+reported_before words e (Some held) next after =
+    if is_handler_due after then place next else
+    reported_by (rule_before words held e.due next after) e.reported held
+
+-- How many retirements are left with this event.
+abbrev pub left_after : ℕ → ℕ → Event → ℕ
+left_after between left (Retire addr itype priv) = if left == 0 then between else left - 1
+left_after between left (Trap epc priv interrupt cause tval) = left
+
+-- The outcomes with that of an event of which this is due; that of a handler is told already.
+abbrev pub pending_with : Due → Event → List Bool → List Bool
+pending_with due event pending =
+    if not (is_handler_due due) && is_branch event then pending ++ is_taken event ∷ [] else pending
+
+-- The encoder holds an event of which this is due, with these outcomes before it and this last
+-- reported address.
+abbrev pub hold : Encoder → List Bool → ℕ → Event → Due → Encoder
+hold e pending reported event due = record {
+  between = e.between;
+  left = left_after e.between e.left event;
+  held = Some event;
+  due = due;
+  pending = pending_with due event pending;
+  reported = reported;
+}
+
+-- The packets that an event gives, of which this is due.
+abbrev pub given_with : Words → Encoder → Event → Due → List Packet
+given_with words e event due = if is_quiet words e e.held event due then [] else packets_before words e e.held event due
+
+-- The encoder after it.
+abbrev pub after_with : Words → Encoder → Event → Due → Encoder
+after_with words e event due =
+    if is_quiet words e e.held event due then hold e e.pending e.reported event due else
+    hold e [] (reported_before words e e.held event due) event due
+
+-- What is due of an event that an encoder is given.
+abbrev pub due_next : Encoder → Event → Due
+due_next e event = next_due e.held e.due e.left event
+
+-- The packets that an event gives.
+abbrev pub given : Words → Encoder → Event → List Packet
+given words e event = given_with words e event (due_next e event)
+
+-- The encoder after an event.
+abbrev pub after : Words → Encoder → Event → Encoder
+after words e event = after_with words e event (due_next e event)
+
+-- The packets that are left at the end of a log.
+abbrev pub given_at_end : Encoder → Option Event → List Packet
+given_at_end e None = packet.Support EndedNtr ∷ []
+given_at_end e (Some held) =
+    packets_by (rule_at_end e.due) held e.pending e.reported ++ packet.Support (closing (rule_at_end e.due)) ∷ []

@@ -1,0 +1,94 @@
+//! What is due of an event before the next one comes.
+
+ghost use Rattle.std.specs.Prelude.{◌≡◌};
+ghost use Rattle.encoder.specs.Stepping.{next_due, leaves_by_type, cuts_off, is_handler_due};
+
+use retire::Event;
+
+/// What is known of the rule of an event before the next one comes.
+#[derive(Clone, Copy, Debug, PartialEq, Eq)]
+pub enum Due {
+    /// The packet of a trap, with its handler if a retirement comes next.
+    TrapOrHandler,
+    /// The packet of a trap, with its own address.
+    Trap,
+    /// Nothing more: the event is a handler, and was reported with its trap.
+    Handler,
+    /// A sync packet.
+    Sync,
+    /// An address packet, as the target of an uninferable discontinuity.
+    Target,
+    /// Nothing, unless what comes next or the event itself asks for it.
+    Nothing,
+}
+
+impl Due {
+    /// Whether it is due of a trap, or of a retirement that is a new start.
+    #[inline]
+    pub fn cuts_off(self) -> bool
+        ensures { result ≡ cuts_off self }
+    {
+        matches!(self, Due::Sync | Due::Trap | Due::TrapOrHandler)
+    }
+
+    /// Whether it is due of a handler.
+    #[inline]
+    pub fn is_handler(self) -> bool
+        ensures { result ≡ is_handler_due self }
+    {
+        matches!(self, Due::Handler)
+    }
+}
+
+/// What is due of an event behind the held one, of which `due` is, with so many retirements before
+/// the next periodic sync.
+#[inline]
+pub fn due_behind(held: &Option<Event>, due: Due, left: u16, event: &Event) -> Due
+    ensures { result ≡ next_due held.now due left event.now }
+{
+    match event {
+        Event::Retire { privilege, .. } => match held {
+            Some(
+                Event::Retire {
+                    itype,
+                    privilege: level,
+                    ..
+                },
+            ) => {
+                if *privilege != *level || left == 0 {
+                    Due::Sync
+                } else if leaves(*itype) {
+                    Due::Target
+                } else {
+                    Due::Nothing
+                }
+            }
+            Some(Event::Trap { .. }) => {
+                if matches!(due, Due::TrapOrHandler) {
+                    Due::Handler
+                } else {
+                    Due::Sync
+                }
+            }
+            None => Due::Sync,
+        },
+        Event::Trap { .. } => match held {
+            Some(Event::Retire { itype, .. }) => {
+                if leaves(*itype) {
+                    Due::Trap
+                } else {
+                    Due::TrapOrHandler
+                }
+            }
+            Some(Event::Trap { .. }) | None => Due::Trap,
+        },
+    }
+}
+
+/// Whether a retirement of this type is an uninferable discontinuity.
+#[inline]
+fn leaves(itype: u8) -> bool
+    ensures { result ≡ leaves_by_type itype }
+{
+    itype == 3 || itype == 6
+}

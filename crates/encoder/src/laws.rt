@@ -1,0 +1,8 @@
+//! What the definitions of a log's packets promise.
+
+ghost use Rattle.encoder.specs.Profile.{PacketsAreInProfile};
+
+/// Every packet of a legal log is of this project's profile, so each has a payload.
+pub fn packets_are_in_profile()
+    ensures { PacketsAreInProfile }
+{}

@@ -1,0 +1,99 @@
+//! The packets of an event by its rule.
+
+ghost use Rattle.std.specs.Prelude.{◌≡◌, [], ◌∷◌, ◌<◌, Bool, List};
+ghost use Rattle.std.specs.Option.{option_to_list};
+ghost use Rattle.retire.specs.Events.{place};
+ghost use Rattle.payload.specs.Difference.{difference};
+ghost use Rattle.encoder.specs.Packets.{reported_by, trap_packet};
+ghost use Rattle.encoder.specs.Stepping.{packets_by, handler_packet};
+
+use crate::event::{is_taken, place_of, privilege_of};
+use crate::rule::Rule;
+use payload::{Outcomes, Packet, Report};
+use retire::Event;
+
+/// The packet of an event by its rule, with these outcomes, after this last reported address; none
+/// where it was given already.
+pub fn packet_by(rule: Rule, held: &Event, outcomes: &Outcomes, reported: u64) -> Option<Packet>
+    ensures { option_to_list result ≡ packets_by rule held.now outcomes.now reported }
+{
+    match rule {
+        Rule::Trap { .. } => Some(trap_packet(
+            held,
+            false,
+            privilege_of(held),
+            false,
+            place_of(held),
+        )),
+        Rule::Handler => None,
+        Rule::Sync => Some(Packet::Sync {
+            taken: is_taken(held),
+            privilege: privilege_of(held),
+            address: place_of(held),
+        }),
+        Rule::Target { cut_off: true } => Some(address(held, outcomes, reported, Report::Updiscon)),
+        Rule::Target { cut_off: false } | Rule::Explicit => {
+            Some(address(held, outcomes, reported, Report::Plain))
+        }
+        Rule::Notify => Some(address(held, outcomes, reported, Report::Notify)),
+        Rule::Unreported => Some(Packet::Map(*outcomes)),
+    }
+}
+
+/// The packet of a trap and its handler.
+pub fn handler_packet(trap: &Event, handler: &Event) -> Packet
+    ensures { result ≡ handler_packet trap.now handler.now }
+{
+    trap_packet(
+        trap,
+        is_taken(handler),
+        privilege_of(handler),
+        true,
+        place_of(handler),
+    )
+}
+
+/// The last reported address after the packet of an event by its rule: a branch map leaves it.
+pub fn reported_by(rule: Rule, reported: u64, held: &Event) -> u64
+    ensures { result ≡ reported_by rule reported held.now }
+{
+    match rule {
+        Rule::Unreported => reported,
+        _ => place_of(held),
+    }
+}
+
+/// An address packet.
+fn address(held: &Event, outcomes: &Outcomes, reported: u64, report: Report) -> Packet
+    ensures { result ≡ Packet.Address outcomes.now (difference reported (place held.now)) report }
+{
+    Packet::Address {
+        outcomes: *outcomes,
+        delta: place_of(held).wrapping_sub(reported),
+        report,
+    }
+}
+
+/// The packet of a trap, with this address, privilege and branch.
+fn trap_packet(trap: &Event, taken: bool, privilege: u8, handler: bool, address: u64) -> Packet
+    ensures { result ≡ trap_packet trap.now taken privilege handler address }
+{
+    let (cause, interrupt, tval) = match trap {
+        Event::Trap {
+            interrupt,
+            cause,
+            tval,
+            ..
+        } => (*cause, *interrupt, *tval),
+        Event::Retire { .. } => (0, false, 0),
+    };
+    Packet::Trap {
+        taken,
+        privilege,
+        cause,
+        interrupt,
+        handler,
+        address,
+        tval,
+    }
+}

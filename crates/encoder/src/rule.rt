@@ -1,0 +1,98 @@
+//! The rules by which events are reported.
+
+ghost use Rattle.std.specs.Prelude.{◌≡◌};
+ghost use Rattle.rvclass.specs.Fetch.{words_of};
+ghost use Rattle.legalpath.specs.Backward.{jumps_back};
+ghost use Rattle.encoder.specs.Stepping.{rule_before, rule_at_end, jumps_back_to};
+
+use crate::due::Due;
+use crate::event::place_of;
+use retire::Event;
+use rvclass::{Class, Program};
+
+/// By which rule an event is reported.
+#[derive(Clone, Copy, Debug, PartialEq, Eq)]
+pub enum Rule {
+    /// A trap is reported.
+    Trap {
+        /// With the retirement behind it, its handler.
+        handler: bool,
+    },
+    /// A retirement is reported with the trap before it.
+    Handler,
+    /// A retirement is reported as a new start.
+    Sync,
+    /// A retirement is reported as the target of an uninferable discontinuity.
+    Target {
+        /// A trap or a new start comes next.
+        cut_off: bool,
+    },
+    /// A retirement is reported since a trap, a new start or nothing comes next.
+    Explicit,
+    /// A retirement is reported as a backward jump.
+    Notify,
+    /// Nothing reports the event, unless it fills the branch map.
+    Unreported,
+}
+
+/// The rule of the held event, of which `due` is, before the next one, of which `after` is due, and
+/// which is no handler.
+#[inline]
+pub fn rule_before(program: &Program, held: &Event, due: Due, next: &Event, after: Due) -> Rule
+    ensures { result ≡ rule_before (words_of program.now) held.now due next.now after }
+{
+    match due {
+        Due::Nothing => {
+            if after.cuts_off() {
+                Rule::Explicit
+            } else if jumps_back(program, held, next) {
+                Rule::Notify
+            } else {
+                Rule::Unreported
+            }
+        }
+        Due::TrapOrHandler | Due::Trap => Rule::Trap { handler: false },
+        Due::Handler => Rule::Handler,
+        Due::Sync => Rule::Sync,
+        Due::Target => Rule::Target {
+            cut_off: after.cuts_off(),
+        },
+    }
+}
+
+/// The rule of the last event of a log, of which `due` is.
+pub fn rule_at_end(due: Due) -> Rule
+    ensures { result ≡ rule_at_end due }
+{
+    match due {
+        Due::TrapOrHandler | Due::Trap => Rule::Trap { handler: false },
+        Due::Handler => Rule::Handler,
+        Due::Sync => Rule::Sync,
+        Due::Target => Rule::Target { cut_off: false },
+        Due::Nothing => Rule::Explicit,
+    }
+}
+
+/// Whether a retirement is a backward jump, where this event comes next. Only what does not stand
+/// above a retirement of type 0 can be the target of one, so few words are looked at.
+#[inline]
+fn jumps_back(program: &Program, event: &Event, next: &Event) -> bool
+    ensures { result ≡ jumps_back_to (words_of program.now) event.now next.now }
+{
+    match event {
+        Event::Retire { addr, itype, .. } => {
+            *itype == 0 && place_of(next) <= *addr && is_backward(program, *addr)
+        }
+        Event::Trap { .. } => false,
+    }
+}
+
+/// Whether the word at this address, if there is one, jumps to an address that is not greater.
+fn is_backward(program: &Program, addr: u64) -> bool
+    ensures { result ≡ jumps_back addr (words_of program.now addr) }
+{
+    match program.at(addr) {
+        Some((Class::Jump(to), _)) => to <= addr,
+        _ => false,
+    }
+}

@@ -1,0 +1,179 @@
+// Logs whose payloads were worked by hand.
+
+use super::{BASE, at, packets_of, payloads_of, program_of, trap};
+use retire::Event;
+use std::test::Fail;
+
+// Words, as the RISC-V Unprivileged ISA and the Privileged Architecture encode them.
+const NOP: u32 = 0x0000_0013;
+
+const ECALL: u32 = 0x0000_0073;
+
+const MRET: u32 = 0x3020_0073;
+
+// A return to the address in ra.
+const RET: u32 = 0x0000_8067;
+
+// A jump to itself.
+const JAL: u32 = 0x0000_006f;
+
+// A branch to itself, and one to 8 bytes on.
+const BEQ: u32 = 0x0000_0063;
+
+const BEQ_8: u32 = 0x0000_0463;
+
+// The packets that begin and end most logs.
+const OPEN: &[u8] = &[0x1f];
+
+const SYNC: &[u8] = &[0x73, 0, 0, 0, 0x20];
+
+const TAKEN_SYNC: &[u8] = &[0x63, 0, 0, 0, 0x20];
+
+const ENDED_REP: &[u8] = &[0x4f];
+
+const ENDED_NTR: &[u8] = &[0xcf, 0];
+
+#[test]
+fn payloads_of_worked_logs(rt: HostRuntime) -> Result<(), Fail> {
+    let call = [at(0, 0, 3), at(4, 0, 3), at(8, 6, 3), at(4, 0, 3)];
+    let [a, b, c, d] = call;
+    let interrupted = [a, b, c, d, trap(BASE + 8, true, 7, 0)];
+    let mut far = [0; 65];
+    far[0] = NOP;
+    far[1] = ECALL;
+    far[64] = NOP;
+    let table: [(&[u32], u16, &[Event], &[&[u8]]); 17] = [
+        (&[], 1024, &[], &[OPEN, ENDED_NTR]),
+        (&[NOP], 1024, &[at(0, 0, 3)], &[OPEN, SYNC, ENDED_NTR]),
+        (
+            &[NOP, NOP],
+            1024,
+            &[at(0, 0, 3), at(4, 0, 3)],
+            &[OPEN, SYNC, &[0x0a], ENDED_REP],
+        ),
+        (
+            &[BEQ],
+            1024,
+            &[at(0, 5, 3); 32],
+            &[OPEN, TAKEN_SYNC, &[0x7d], ENDED_REP],
+        ),
+        (
+            &[BEQ],
+            1024,
+            &[at(0, 5, 3); 33],
+            &[OPEN, TAKEN_SYNC, &[0x01], &[0x05], ENDED_REP],
+        ),
+        (
+            &[JAL],
+            1024,
+            &[at(0, 0, 3); 3],
+            &[
+                OPEN,
+                SYNC,
+                &[0x02, 0, 0, 0, 0, 0, 0, 0, 0xfe],
+                &[0x02],
+                ENDED_REP,
+            ],
+        ),
+        (
+            &[NOP, NOP, RET],
+            1024,
+            &[at(0, 0, 3), at(4, 0, 3)],
+            &[OPEN, SYNC, &[0x0a], ENDED_REP],
+        ),
+        (
+            &[NOP, NOP, RET],
+            1024,
+            &call,
+            &[OPEN, SYNC, &[0x0a], ENDED_NTR],
+        ),
+        (
+            &[NOP, NOP, RET],
+            1024,
+            &interrupted,
+            &[
+                OPEN,
+                SYNC,
+                &[0x0a, 0, 0, 0, 0, 0, 0, 0, 0xfc],
+                &[0xf7, 0x23, 0x02, 0, 0, 0x20],
+                ENDED_NTR,
+            ],
+        ),
+        (
+            &far,
+            1024,
+            &[at(0, 0, 3), trap(BASE + 4, false, 0xb, 0), at(0x100, 0, 3)],
+            &[OPEN, SYNC, &[0xf7, 0x45, 0x40, 0, 0, 0x20], ENDED_NTR],
+        ),
+        (
+            &[RET],
+            1024,
+            &[at(0, 6, 3), trap(0x4000, false, 1, 0x8000_0000_0000_4000)],
+            &[
+                OPEN,
+                SYNC,
+                &[
+                    0xf7, 0, 0, 0x10, 0, 0, 0, 0, 0, 0, 0, 0x10, 0, 0, 0, 0, 0, 0xe0,
+                ],
+                ENDED_NTR,
+            ],
+        ),
+        (
+            &[NOP, NOP, NOP],
+            2,
+            &[at(0, 0, 3), at(4, 0, 3), at(8, 0, 3)],
+            &[OPEN, SYNC, &[0x0a], &[0x73, 0x02, 0, 0, 0x20], ENDED_NTR],
+        ),
+        (
+            &[MRET, NOP, NOP],
+            1024,
+            &[at(0, 3, 3), at(8, 0, 0)],
+            &[OPEN, SYNC, &[0x13, 0x02, 0, 0, 0x20], ENDED_NTR],
+        ),
+        (
+            &[NOP, BEQ_8, NOP],
+            1024,
+            &[at(0, 0, 3), at(4, 4, 3), at(8, 0, 3)],
+            &[OPEN, SYNC, &[0x85, 0x04], ENDED_REP],
+        ),
+        (
+            &[BEQ_8, NOP, NOP],
+            1024,
+            &[at(0, 5, 3), at(8, 0, 3)],
+            &[OPEN, TAKEN_SYNC, &[0x12], ENDED_REP],
+        ),
+        // The worked values end here; a sync at each retirement, and a trap first and right behind a trap.
+        (
+            &[NOP, NOP],
+            1,
+            &[at(0, 0, 3), at(4, 0, 3)],
+            &[OPEN, SYNC, &[0x73, 0x01, 0, 0, 0x20], ENDED_NTR],
+        ),
+        (
+            &[NOP],
+            1024,
+            &[
+                trap(BASE + 8, true, 7, 0),
+                trap(BASE + 8, true, 7, 0),
+                at(0, 0, 3),
+            ],
+            &[
+                OPEN,
+                &[0xf7, 0x23, 0x02, 0, 0, 0x20],
+                &[0xf7, 0x23, 0x02, 0, 0, 0x20],
+                SYNC,
+                ENDED_NTR,
+            ],
+        ),
+    ];
+    for (i, (words, period, log, want)) in table.iter().enumerate() {
+        let program = program_of(rt.alloc(), words)?;
+        let packets = packets_of(rt.alloc(), &program, *period, log)?;
+        let payloads = payloads_of(rt.alloc(), packets.as_slice())?;
+        assert_eq!(rt; payloads.len(), want.len(), "log {i}");
+        for (payload, bytes) in payloads.iter().zip(want.iter()) {
+            assert_eq!(rt; payload.bytes(), *bytes, "log {i}");
+        }
+    }
+    Ok(())
+}
