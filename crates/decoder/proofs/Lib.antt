@@ -1,0 +1,15 @@
+pub mod WalkLaws
+pub mod OutcomesLeft
+pub mod WalkFinding
+pub mod WalkPasses
+pub mod WalkBound
+pub mod WalkAnswers
+pub mod UniqueLemmas
+pub mod ExtendingLemmas
+pub mod FeedLemmas
+pub mod WaitingLemmas
+pub mod TrapLemmas
+pub mod PartLemmas
+pub mod PlanLemmas
+pub mod StandsLemmas
+pub mod NamedLemmas

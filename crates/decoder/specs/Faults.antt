@@ -1,0 +1,14 @@
+-- Faults that are found on the way.
+use Rattle.decoder.specs.declared.fault.DecodeFault.{DecodeFault}
+use Rattle.decoder.specs.declared.fault.DecodeFault.TheVariants.{NotOpened, OffProgram, MissedNotify, Branches, WrongPlace, WrongPrivilege, AfterClose, Memory}
+
+-- The fault is one of the events that a packet reports: the trace is open, and no room was refused.
+abbrev pub IsOnTheWay : DecodeFault → Type 0
+IsOnTheWay NotOpened = ⊥
+IsOnTheWay OffProgram = Unit {0}
+IsOnTheWay MissedNotify = Unit {0}
+IsOnTheWay Branches = Unit {0}
+IsOnTheWay WrongPlace = Unit {0}
+IsOnTheWay WrongPrivilege = Unit {0}
+IsOnTheWay AfterClose = ⊥
+IsOnTheWay Memory = ⊥

@@ -1,0 +1,15 @@
+pub mod Walk
+pub mod Settling
+pub mod Fits
+pub mod Order
+pub mod Pieces
+pub mod Describes
+pub mod SettledPieces
+pub mod Ended
+pub mod Stands
+pub mod Faults
+pub mod Walks
+pub mod WalkSteps
+pub mod Parts
+pub mod Reporting
+pub mod Planning

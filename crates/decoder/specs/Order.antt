@@ -1,0 +1,43 @@
+-- In which order packets come.
+use Rattle.std.specs.Prelude.{◌≡◌, true, false, List, [], ◌∷◌, Option, Some, None}
+use Rattle.payload.specs.Closing.{is_closing_packet}
+use Rattle.payload.specs.declared.packet.Packet.{Packet}
+use Rattle.payload.specs.declared.packet.Packet.TheVariants as packet
+use Rattle.payload.specs.declared.packet.Support.TheVariants as support
+use Rattle.decoder.specs.Settling.{waits}
+
+-- The support packet that opens a trace comes nowhere but first, and the one that tells that the last
+-- instruction was reported follows an address packet with plain bits.
+abbrev pub MayFollow : Packet → Packet → Type 0
+MayFollow before (packet.Sync taken priv address) = Unit {0}
+MayFollow before (packet.Trap taken priv cause interrupt handler address tval) = Unit {0}
+MayFollow before (packet.Support support.Open) = ⊥
+MayFollow before (packet.Support support.EndedRep) = waits before ≡ true
+MayFollow before (packet.Support support.EndedNtr) = Unit {0}
+MayFollow before (packet.Address outcomes delta report) = Unit {0}
+MayFollow before (packet.Map outcomes) = Unit {0}
+
+-- Nothing follows a packet that closes a trace.
+abbrev pub MayPrecede : Packet → Option Packet → Type 0
+MayPrecede packet None = Unit {0}
+MayPrecede packet (Some next) = (is_closing_packet packet ≡ false) × MayFollow packet next
+
+-- The first of these packets, or else this one.
+abbrev pub first : List Packet → Option Packet → Option Packet
+first [] next = next
+first (packet ∷ packets) next = Some packet
+
+-- The packet opens a trace.
+abbrev pub IsOpen : Packet → Type 0
+IsOpen (packet.Sync taken priv address) = ⊥
+IsOpen (packet.Trap taken priv cause interrupt handler address tval) = ⊥
+IsOpen (packet.Support support.Open) = Unit {0}
+IsOpen (packet.Support support.EndedRep) = ⊥
+IsOpen (packet.Support support.EndedNtr) = ⊥
+IsOpen (packet.Address outcomes delta report) = ⊥
+IsOpen (packet.Map outcomes) = ⊥
+
+-- The first packet, if there is one, opens the trace.
+abbrev pub Begins : List Packet → Type 0
+Begins [] = Unit {0}
+Begins (packet ∷ packets) = IsOpen packet

@@ -1,0 +1,73 @@
+-- What a part that a packet adds to a log stands for.
+use Rattle.std.specs.Prelude.{◌≡◌, ℕ, ◌+◌, ◌≤◌, List, [], ◌∷◌, ◌++◌, length, Option, Some, None}
+use Rattle.std.specs.List.{last_or}
+use Rattle.retire.specs.Events.{place}
+use Rattle.retire.specs.declared.event.Event.{Event}
+use Rattle.rvclass.specs.Words.{Words}
+use Rattle.legalpath.specs.Legal.{Runs}
+use Rattle.legalpath.specs.Right.{Right}
+use Rattle.decoder.specs.Faults.{IsOnTheWay}
+use Rattle.decoder.specs.Walks.{event_of, end_of, IsHere, WalksOn}
+use Rattle.decoder.specs.declared.fault.DecodeFault.{DecodeFault}
+use Rattle.decoder.specs.declared.part.Part.{Part}
+use Rattle.decoder.specs.declared.part.Part.TheVariants.{Nothing, One, Two, Walk}
+
+-- How many events the part has.
+abbrev pub part_count : Part → ℕ
+part_count Nothing = 0
+part_count (One event) = 1
+part_count (Two trap event) = 2
+part_count (Walk walk) = walk.walked.count
+
+-- The last event after the part, where this was the last before it.
+abbrev pub part_last : Option Event → Part → Option Event
+part_last before Nothing = before
+part_last before (One event) = Some event
+part_last before (Two trap event) = Some event
+part_last before (Walk walk) = Some (event_of walk.walked.last)
+
+-- The place of the last event of the part, or this one where it has none.
+abbrev pub part_place : ℕ → Part → ℕ
+part_place at Nothing = at
+part_place at (One event) = place event
+part_place at (Two trap event) = place event
+part_place at (Walk walk) = walk.walked.last.addr
+
+-- These are the events of the part.
+abbrev pub Gives : Words → Part → List Event → Type 0
+Gives words Nothing events = events ≡ []
+Gives words (One event) events = events ≡ event ∷ []
+Gives words (Two trap event) events = events ≡ trap ∷ event ∷ []
+Gives words (Walk walk) events =
+    IsHere words walk.from × WalksOn words (event_of walk.from) walk.outcomes (end_of walk.goal) events ×
+    (walk.walked.count ≡ length events) ×
+    (last_or (Some (event_of walk.from)) events ≡ Some (event_of walk.walked.last))
+
+-- The event before, if there is one, is right.
+abbrev pub RightBefore : Words → Option Event → Type 0
+RightBefore words None = Unit {0}
+RightBefore words (Some before) = Right words before
+
+-- The part has events that fit and may follow the event before.
+pub record Suits (words : Words) (before : Option Event) (Fit : List Event → Type 0) (part : Part) : Type 0 where
+  pub events : List Event
+  pub gives : Gives words part events
+  pub fits : RightBefore words before → Fit events × Runs words before events
+
+-- These events fit and may follow the event before.
+abbrev pub SuitsOne : Words → Option Event → (List Event → Type 0) → List Event → Type 0
+SuitsOne words before Fit events = RightBefore words before → Fit events × Runs words before events
+
+-- No events fit and may follow the event before, and the fault is of a kind that tells so.
+pub record SuitsNone (words : Words) (before : Option Event) (Fit : List Event → Type 0) (fault : DecodeFault) : Type 0 where
+  pub named : IsOnTheWay fault
+  pub none : RightBefore words before → (events : List Event) → Fit events → Runs words before events → ⊥
+
+-- There is room for the events of the part.
+abbrev pub HasRoomFor : Words → Part → ℕ → ℕ → Type 0
+HasRoomFor words part len capacity =
+    (events : List Event) × Gives words part events × (len + length events ≤ capacity)
+
+-- The events of the part were added.
+abbrev pub AddsPart : Words → Part → List Event → List Event → Type 0
+AddsPart words part old new = (events : List Event) → Gives words part events → new ≡ old ++ events

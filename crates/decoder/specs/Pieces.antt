@@ -1,0 +1,36 @@
+-- A piece of a log for each packet.
+use Rattle.std.specs.Prelude.{ℕ, List, [], ◌∷◌, Option}
+use Rattle.std.specs.List.{last_or}
+use Rattle.retire.specs.declared.event.Event.{Event}
+use Rattle.rvclass.specs.Words.{Words}
+use Rattle.legalpath.specs.LastPlace.{last_place}
+use Rattle.payload.specs.declared.packet.Packet.{Packet}
+use Rattle.payload.specs.declared.packet.Packet.TheVariants as packet
+use Rattle.decoder.specs.Fits.{Fits}
+use Rattle.decoder.specs.Order.{MayPrecede, first}
+
+-- The last reported address after a packet with this piece: the place of its last event, where it has
+-- an event. A full branch map reports no address.
+abbrev pub reported_after : Packet → ℕ → List Event → ℕ
+reported_after (packet.Sync taken priv address) reported piece = last_place reported piece
+reported_after (packet.Trap taken priv cause interrupt handler address tval) reported piece = last_place reported piece
+reported_after (packet.Support support) reported piece = last_place reported piece
+reported_after (packet.Address outcomes delta report) reported piece = last_place reported piece
+reported_after (packet.Map outcomes) reported piece = reported
+
+-- Each packet has its piece, in order. The first comes after this event and this last reported
+-- address, the last before this packet.
+abbrev pub Pieces : Words → Option Event → ℕ → List Packet → Option Packet → List (List Event) → Type 0
+Pieces words before reported [] next [] = Unit {0}
+Pieces words before reported [] next (piece ∷ pieces) = ⊥
+Pieces words before reported (packet ∷ packets) next [] = ⊥
+Pieces words before reported (packet ∷ packets) next (piece ∷ pieces) =
+    MayPrecede packet (first packets next) × Fits words before reported packet (first packets next) piece ×
+    Pieces words (last_or before piece) (reported_after packet reported piece) packets next pieces
+
+-- The last reported address after these packets with these pieces.
+abbrev pub reported_end : ℕ → List Packet → List (List Event) → ℕ
+reported_end reported [] pieces = reported
+reported_end reported (packet ∷ packets) [] = reported
+reported_end reported (packet ∷ packets) (piece ∷ pieces) =
+    reported_end (reported_after packet reported piece) packets pieces

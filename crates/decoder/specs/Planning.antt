@@ -1,0 +1,109 @@
+-- What a decoder plans to do with a packet.
+use Rattle.std.specs.Prelude.{◌≡◌, ℕ, true, List, [], Option, Some, None, is_some, Result, Ok, Err}
+use Rattle.std.specs.List.{last_or}
+use Rattle.retire.specs.declared.event.Event.{Event}
+use Rattle.rvclass.specs.Words.{Words}
+use Rattle.legalpath.specs.LastPlace.{last_place}
+use Rattle.legalpath.specs.Legal.{Runs}
+use Rattle.payload.specs.Difference.{aim}
+use Rattle.payload.specs.declared.packet.Packet.{Packet}
+use Rattle.payload.specs.declared.packet.Packet.TheVariants as packet
+use Rattle.payload.specs.declared.packet.Support.TheVariants as support
+use Rattle.decoder.specs.Faults.{IsOnTheWay}
+use Rattle.decoder.specs.Fits.{FitsAddress, Fits}
+use Rattle.decoder.specs.Parts.{part_last, part_place, Gives, RightBefore}
+use Rattle.decoder.specs.Settling.{settled_by}
+use Rattle.decoder.specs.Stands.{phase_after, waiting_after}
+use Rattle.decoder.specs.declared.decoding.Decoder.{Decoder}
+use Rattle.decoder.specs.declared.decoding.Phase.{Phase}
+use Rattle.decoder.specs.declared.decoding.Phase.TheVariants.{Unopened, Running, Closed}
+use Rattle.decoder.specs.declared.decoding.Plan.{Plan}
+use Rattle.decoder.specs.declared.fault.DecodeFault.{DecodeFault}
+use Rattle.decoder.specs.declared.fault.DecodeFault.TheVariants.{NotOpened, AfterClose}
+use Rattle.decoder.specs.declared.part.Part.{Part}
+use Rattle.decoder.specs.declared.settling.Waiting.{Waiting}
+
+-- The packet may come in this phase of a trace, by its kind and by what waits.
+abbrev pub MayCome : Phase → Option Waiting → Packet → Type 0
+MayCome phase waiting (packet.Sync taken priv address) = Unit {0}
+MayCome phase waiting (packet.Trap taken priv cause interrupt handler address tval) = Unit {0}
+MayCome phase waiting (packet.Support support.Open) = phase ≡ Unopened
+MayCome phase waiting (packet.Support support.EndedRep) = is_some waiting ≡ true
+MayCome phase waiting (packet.Support support.EndedNtr) = Unit {0}
+MayCome phase waiting (packet.Address taken delta report) = Unit {0}
+MayCome phase waiting (packet.Map taken) = Unit {0}
+
+-- A trace that was not opened takes a packet that opens it.
+abbrev pub admitted_first : Packet → Result Unit DecodeFault
+admitted_first (packet.Sync taken priv address) = Err NotOpened
+admitted_first (packet.Trap taken priv cause interrupt handler address tval) = Err NotOpened
+admitted_first (packet.Support support.Open) = Ok tt
+admitted_first (packet.Support support.EndedRep) = Err NotOpened
+admitted_first (packet.Support support.EndedNtr) = Err NotOpened
+admitted_first (packet.Address taken delta report) = Err NotOpened
+admitted_first (packet.Map taken) = Err NotOpened
+
+-- Whether the trace takes a packet in this phase.
+abbrev pub admitted : Phase → Packet → Result Unit DecodeFault
+admitted Unopened packet = admitted_first packet
+admitted Running packet = Ok tt
+admitted Closed packet = Err AfterClose
+
+-- These are the events of what waits, if anything does, before this packet.
+abbrev pub FitsWaiting : Words → Option Event → ℕ → Option Waiting → Packet → List Event → Type 0
+FitsWaiting words before reported None packet piece = piece ≡ []
+FitsWaiting words before reported (Some waiting) packet piece =
+    FitsAddress words before waiting.outcomes (aim reported waiting.delta) (settled_by (Some packet)) piece
+
+-- The last reported address after the packet, where this is the place of its last event.
+abbrev pub reported_past : Packet → ℕ → ℕ → ℕ
+reported_past (packet.Sync taken priv address) reported at = at
+reported_past (packet.Trap taken priv cause interrupt handler address tval) reported at = at
+reported_past (packet.Support support) reported at = at
+reported_past (packet.Address taken delta report) reported at = at
+reported_past (packet.Map taken) reported at = reported
+
+-- The events of what waits, and then those of the packet itself, after this event and this last reported
+-- address.
+pub record CanFollow (words : Words) (phase : Phase) (waiting : Option Waiting) (last : Option Event) (reported : ℕ) (packet : Packet) (settled own : List Event) : Type 0 where
+  pub admits : admitted phase packet ≡ Ok tt
+  pub comes : MayCome phase waiting packet
+  pub settles : FitsWaiting words last reported waiting packet settled
+  pub settled_runs : Runs words last settled
+  pub fits : Fits words (last_or last settled) (last_place reported settled) packet None own
+  pub runs : Runs words (last_or last settled) own
+
+-- The same after what a decoder remembers.
+abbrev pub CanFollowAt : Words → Decoder → Packet → List Event → List Event → Type 0
+CanFollowAt words decoder packet settled own =
+    CanFollow words decoder.phase decoder.waiting decoder.last decoder.reported packet settled own
+
+-- The decoder after the packet, with these parts.
+abbrev pub decoder_after : Decoder → Packet → Part → Part → Decoder
+decoder_after decoder packet settled own = record {
+  phase = phase_after (Some packet);
+  waiting = waiting_after (Some packet);
+  last = part_last (part_last decoder.last settled) own;
+  reported =
+      reported_past packet (part_place decoder.reported settled) (part_place (part_place decoder.reported settled) own);
+}
+
+-- The plan has the events that can follow, and the decoder after them.
+pub record Plans (words : Words) (decoder : Decoder) (packet : Packet) (plan : Plan) : Type 0 where
+  pub settled : List Event
+  pub own : List Event
+  pub gives_settled : Gives words plan.settled settled
+  pub gives_own : Gives words plan.own own
+  pub next : plan.next ≡ decoder_after decoder packet plan.settled plan.own
+  pub can : RightBefore words decoder.last → CanFollowAt words decoder packet settled own
+
+-- A fault that is told at once, or else one of those that are found on the way.
+abbrev pub IsNamed : Result Unit DecodeFault → DecodeFault → Type 0
+IsNamed (Ok admitted) fault = IsOnTheWay fault
+IsNamed (Err first) fault = fault ≡ first
+
+-- No events can follow, and the fault is of the kind that tells why.
+pub record PlansNone (words : Words) (decoder : Decoder) (packet : Packet) (fault : DecodeFault) : Type 0 where
+  pub named : IsNamed (admitted decoder.phase packet) fault
+  pub none :
+      RightBefore words decoder.last → (settled own : List Event) → CanFollowAt words decoder packet settled own → ⊥

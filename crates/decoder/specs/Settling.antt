@@ -1,0 +1,51 @@
+-- When it is known where the retirements of an address packet end.
+use Rattle.std.specs.Prelude.{Bool, true, false, Option, Some, None}
+use Rattle.payload.specs.declared.packet.Packet.{Packet}
+use Rattle.payload.specs.declared.packet.Packet.TheVariants as packet
+use Rattle.payload.specs.declared.packet.Report.{Report}
+use Rattle.payload.specs.declared.packet.Report.TheVariants as report
+use Rattle.payload.specs.declared.packet.Support.TheVariants as support
+
+-- An address packet reports an address on the way, or the target of an uninferable discontinuity, or
+-- it is not settled yet which.
+pub data Settled : Type 0 where
+  Explicit : Settled
+  Target : Settled
+  Unsettled : Settled
+
+-- Before this packet an address packet with plain bits is explicit: a synchronisation, a trap, or the
+-- support packet that tells that the last instruction was reported.
+abbrev pub makes_explicit : Packet → Bool
+makes_explicit (packet.Sync taken priv address) = true
+makes_explicit (packet.Trap taken priv cause interrupt handler address tval) = true
+makes_explicit (packet.Support support.Open) = false
+makes_explicit (packet.Support support.EndedRep) = true
+makes_explicit (packet.Support support.EndedNtr) = false
+makes_explicit (packet.Address outcomes delta bits) = false
+makes_explicit (packet.Map outcomes) = false
+
+abbrev pub explicit_or_target : Bool → Settled
+explicit_or_target true = Explicit
+explicit_or_target false = Target
+
+-- An address packet with plain bits waits for the packet that follows it.
+abbrev pub settled_by : Option Packet → Settled
+settled_by None = Unsettled
+settled_by (Some next) = explicit_or_target (makes_explicit next)
+
+-- An address packet with these report bits, before this packet. With `updiscon` flipped it is the
+-- target of a discontinuity at once, with `notify` flipped it is explicit at once.
+abbrev pub settled : Report → Option Packet → Settled
+settled report.Plain next = settled_by next
+settled report.Updiscon next = Target
+settled report.Notify next = Explicit
+
+-- The packet waits for the one that follows it.
+abbrev pub waits : Packet → Bool
+waits (packet.Sync taken priv address) = false
+waits (packet.Trap taken priv cause interrupt handler address tval) = false
+waits (packet.Support support) = false
+waits (packet.Address outcomes delta report.Plain) = true
+waits (packet.Address outcomes delta report.Updiscon) = false
+waits (packet.Address outcomes delta report.Notify) = false
+waits (packet.Map outcomes) = false

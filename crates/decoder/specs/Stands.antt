@@ -1,0 +1,44 @@
+-- What a decoder stands for.
+use Rattle.std.specs.Prelude.{◌≡◌, Bool, true, false, List, Option, Some, None}
+use Rattle.std.specs.List.{last_or}
+use Rattle.retire.specs.declared.event.Event.{Event}
+use Rattle.rvclass.specs.Words.{Words}
+use Rattle.payload.specs.Closing.{is_closing_packet}
+use Rattle.payload.specs.declared.packet.Packet.{Packet}
+use Rattle.payload.specs.declared.packet.Packet.TheVariants as packet
+use Rattle.payload.specs.declared.packet.Report.TheVariants as report
+use Rattle.decoder.specs.Describes.{Describes}
+use Rattle.decoder.specs.Pieces.{reported_end}
+use Rattle.decoder.specs.declared.decoding.Decoder.{Decoder}
+use Rattle.decoder.specs.declared.decoding.Phase.{Phase}
+use Rattle.decoder.specs.declared.decoding.Phase.TheVariants.{Unopened, Running, Closed}
+use Rattle.decoder.specs.declared.settling.Waiting.{Waiting}
+
+abbrev pub running_or_closed : Bool → Phase
+running_or_closed true = Closed
+running_or_closed false = Running
+
+-- The phase of a trace after its last packet, if it has one.
+abbrev pub phase_after : Option Packet → Phase
+phase_after None = Unopened
+phase_after (Some packet) = running_or_closed (is_closing_packet packet)
+
+-- What waits after the last packet: an address packet with plain bits.
+abbrev pub waiting_after : Option Packet → Option Waiting
+waiting_after None = None
+waiting_after (Some (packet.Sync taken priv address)) = None
+waiting_after (Some (packet.Trap taken priv cause interrupt handler address tval)) = None
+waiting_after (Some (packet.Support support)) = None
+waiting_after (Some (packet.Address taken delta report.Plain)) = Some (record { outcomes = taken; delta = delta })
+waiting_after (Some (packet.Address taken delta report.Updiscon)) = None
+waiting_after (Some (packet.Address taken delta report.Notify)) = None
+waiting_after (Some (packet.Map taken)) = None
+
+-- A decoder stands for packets and a log: the packets describe the log, and the decoder's fields are
+-- those of both.
+pub record Stands (words : Words) (packets : List Packet) (log : List Event) (decoder : Decoder) : Type 0 where
+  pub described : Describes words packets log
+  pub phase : decoder.phase ≡ phase_after (last_or None packets)
+  pub waiting : decoder.waiting ≡ waiting_after (last_or None packets)
+  pub last : decoder.last ≡ last_or None log
+  pub reported : decoder.reported ≡ reported_end 0 packets described.pieces

@@ -1,0 +1,189 @@
+-- How this crate's code finds a walk, one retirement after the other. What a walk is is said in the
+-- file on walks.
+use Rattle.std.specs.Prelude.{ℕ, zero, suc, ◌+◌, ◌≡◌, ◌≤◌, ◌==◌, ◌&&◌, nat_le, if◌then◌else◌, Bool, true, false, List, [], ◌∷◌, ◌++◌, length, drop, Option, Some, None, Result, Ok, Err}
+use Rattle.std.specs.List.{last_or}
+use Rattle.retire.specs.Events.{place, privilege, is_branch}
+use Rattle.retire.specs.declared.event.Event.{Event}
+use Rattle.retire.specs.declared.event.Event.TheVariants.{Retire}
+use Rattle.rvclass.specs.Words.{Word, Words}
+use Rattle.rvclass.specs.declared.class.Class.{Class}
+use Rattle.rvclass.specs.declared.class.Class.TheVariants.{Plain, Jump, Branch, Uninferable, TrapReturn, NotRetirable}
+use Rattle.rvclass.specs.declared.class.Return.TheVariants.{Mret, Sret}
+use Rattle.legalpath.specs.Backward.{is_backward}
+use Rattle.legalpath.specs.Successor.{successor}
+use Rattle.legalpath.specs.WordOf.{word_of}
+use Rattle.legalpath.specs.declared.next.Next.{Next}
+use Rattle.legalpath.specs.declared.next.Next.TheVariants.{One, Any, NoneInside}
+use Rattle.decoder.specs.Faults.{IsOnTheWay}
+use Rattle.decoder.specs.Walk.{End, AtBranch, AtAddress, AtTarget}
+use Rattle.decoder.specs.Walks.{event_of, Carries}
+use Rattle.decoder.specs.declared.fault.DecodeFault.{DecodeFault}
+use Rattle.decoder.specs.declared.stepping.Course.{Course}
+use Rattle.decoder.specs.declared.stepping.Here.{Here}
+use Rattle.decoder.specs.declared.stepping.Step.{Step}
+use Rattle.decoder.specs.declared.stepping.Step.TheVariants.{Goes, Ends, Fails}
+use Rattle.decoder.specs.declared.walking.Walked.{Walked}
+
+-- The type of a retirement of this class by the oldest of these outcomes, and the outcomes that it
+-- leaves; none where the class does not retire, or is a branch and no outcome is left.
+abbrev pub type_on : Class → List Bool → Option (ℕ × List Bool)
+type_on Plain taken = Some (0, taken)
+type_on (Jump to) taken = Some (0, taken)
+type_on (Branch to) [] = None
+type_on (Branch to) (true ∷ taken) = Some (5, taken)
+type_on (Branch to) (false ∷ taken) = Some (4, taken)
+type_on Uninferable taken = Some (6, taken)
+type_on (TrapReturn ret) taken = Some (3, taken)
+type_on NotRetirable taken = None
+
+-- A word of this class may retire at this privilege.
+abbrev pub may_retire : Class → ℕ → Bool
+may_retire Plain priv = true
+may_retire (Jump to) priv = true
+may_retire (Branch to) priv = true
+may_retire Uninferable priv = true
+may_retire (TrapReturn Mret) priv = priv == 3
+may_retire (TrapReturn Sret) priv = nat_le 1 priv
+may_retire NotRetirable priv = true
+
+abbrev pub retirement : ℕ → ℕ → Option (ℕ × List Bool) → Option (Event × List Bool)
+retirement addr priv None = None
+retirement addr priv (Some (itype, taken)) = Some (Retire addr itype priv, taken)
+
+-- The retirement at an address and of a privilege on this word, with the outcomes that it leaves.
+abbrev pub retire_on : ℕ → ℕ → Option Word → List Bool → Option (Event × List Bool)
+retire_on addr priv None taken = None
+retire_on addr priv (Some word) taken =
+    if may_retire word.0 priv then retirement addr priv (type_on word.0 taken) else None
+
+abbrev pub is_empty : List Bool → Bool
+is_empty [] = true
+is_empty (taken ∷ rest) = false
+
+-- A walk ends at this retirement, with these outcomes left.
+abbrev pub stops : End → Event → List Bool → Bool
+stops AtBranch event taken = is_branch event && is_empty taken
+stops (AtAddress addr) event taken = (place event == addr) && is_empty taken
+stops (AtTarget addr) event taken = false
+
+-- The privilege may stay after a retirement of this class: an SRET leaves 3.
+abbrev pub may_stay : Class → ℕ → Bool
+may_stay Plain priv = true
+may_stay (Jump to) priv = true
+may_stay (Branch to) priv = true
+may_stay Uninferable priv = true
+may_stay (TrapReturn Mret) priv = true
+may_stay (TrapReturn Sret) priv = nat_le priv 1
+may_stay NotRetirable priv = true
+
+abbrev pub may_stay_on : Option Word → ℕ → Bool
+may_stay_on None priv = true
+may_stay_on (Some word) priv = may_stay word.0 priv
+
+-- One step: no walk goes on from here, or this retirement is its last, or it goes on from this one
+-- with these outcomes.
+pub data Move : Type 0 where
+  Stop : Move
+  Last : Event → Move
+  On : Event → List Bool → Move
+
+-- A step to this retirement, if there is one.
+abbrev pub next_move : Words → End → Option (Event × List Bool) → Move
+next_move words end None = Stop
+next_move words end (Some (event, taken)) =
+    if stops end event taken then Last event else
+    if is_backward words event then Stop else
+    On event taken
+
+abbrev pub last_move : Option (Event × List Bool) → Move
+last_move None = Stop
+last_move (Some (event, [])) = Last event
+last_move (Some (event, outcome ∷ taken)) = Stop
+
+-- A step from a discontinuity on this word, at this privilege.
+abbrev pub target_move : Words → Option Word → ℕ → List Bool → End → Move
+target_move words word priv taken AtBranch = Stop
+target_move words word priv taken (AtAddress addr) = Stop
+target_move words word priv taken (AtTarget addr) =
+    if may_stay_on word priv then last_move (retire_on addr priv (words addr) taken) else Stop
+
+-- A step from an event that leads here.
+abbrev pub move_to : Words → Event → List Bool → End → Next → Move
+move_to words event taken end (One to) =
+    next_move words end (retire_on to (privilege event) (words to) taken)
+move_to words event taken end Any = target_move words (word_of words event) (privilege event) taken end
+move_to words event taken end NoneInside = Stop
+
+-- A step of a walk from this event, with these outcomes left.
+unfoldable pub advance : Words → Event → List Bool → End → Move
+advance words event taken end = move_to words event taken end (successor words event)
+
+abbrev pub behind : Event → Option (List Event) → Option (List Event)
+behind event None = None
+behind event (Some walk) = Some (event ∷ walk)
+
+abbrev pub follow : Move → (Event → List Bool → Option (List Event)) → Option (List Event)
+follow Stop rest = None
+follow (Last event) rest = Some (event ∷ [])
+follow (On event taken) rest = behind event (rest event taken)
+
+-- The walk of at most so many steps.
+unfoldable pub walk_within : Words → ℕ → Event → List Bool → End → Option (List Event)
+walk_within words zero event taken end = None
+walk_within words (suc steps) event taken end =
+    follow (advance words event taken end) (λ next left. walk_within words steps next left end)
+
+-- The step that the code answers, with the retirement that was reached and the outcomes after so many.
+abbrev pub move_of : List Bool → Here → ℕ → Step → Move
+move_of taken here used Goes = On (event_of here) (drop used taken)
+move_of taken here used Ends = Last (event_of here)
+move_of taken here used (Fails fault) = Stop
+
+-- Where a step leads to a retirement, its word is kept with it; else the fault is one of its kind.
+abbrev pub StepCarries : Words → Here → Step → Type 0
+StepCarries words here Goes = Carries words here
+StepCarries words here Ends = Carries words here
+StepCarries words here (Fails fault) = IsOnTheWay fault
+
+-- The number of the outcomes is kept with them, and they are no more than a packet has.
+abbrev pub IsCourse : Course → Type 0
+IsCourse course = (course.count ≡ length course.outcomes) × (course.count ≤ 31)
+
+-- The type that the code answers, and the outcomes after so many.
+abbrev pub type_told : List Bool → ℕ → Result ℕ DecodeFault → Option (ℕ × List Bool)
+type_told taken used (Ok itype) = Some (itype, drop used taken)
+type_told taken used (Err fault) = None
+
+-- The length and the last event of a walk from this event.
+abbrev pub summary : Event → Option (List Event) → Option (ℕ × Option Event)
+summary from None = None
+summary from (Some walk) = Some (length walk, last_or (Some from) walk)
+
+-- The length and the last event that the code answers.
+abbrev pub summary_of : Result Walked DecodeFault → Option (ℕ × Option Event)
+summary_of (Ok walked) = Some (walked.count, Some (event_of walked.last))
+summary_of (Err fault) = None
+
+-- So many steps more.
+abbrev pub plus : ℕ → Option (ℕ × Option Event) → Option (ℕ × Option Event)
+plus steps None = None
+plus steps (Some told) = Some (steps + told.0, told.1)
+
+-- There is a walk of at most so many steps, and room for it behind so many events.
+abbrev pub HasRoomWithin : Words → ℕ → Event → List Bool → End → ℕ → ℕ → Type 0
+HasRoomWithin words steps from taken end len capacity =
+    (walk : List Event) × (walk_within words steps from taken end ≡ Some walk) × (len + length walk ≤ capacity)
+
+-- That walk was added.
+abbrev pub AddsWithin : Words → ℕ → Event → List Bool → End → List Event → List Event → Type 0
+AddsWithin words steps from taken end old new =
+    (walk : List Event) × (walk_within words steps from taken end ≡ Some walk) × (new ≡ old ++ walk)
+
+-- A part of it was added, and there is room for the rest.
+pub record Adding (words : Words) (steps : ℕ) (from : Event) (taken : List Bool) (end : End) (old : List Event) (ahead : ℕ) (here : Event) (left : List Bool) (new : List Event) (len capacity : ℕ) : Type 0 where
+  pub whole : List Event
+  pub back : List Event
+  pub found : walk_within words steps from taken end ≡ Some whole
+  pub later : walk_within words ahead here left end ≡ Some back
+  pub joined : old ++ whole ≡ new ++ back
+  pub room : len + length back ≤ capacity

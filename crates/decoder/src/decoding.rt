@@ -1,0 +1,262 @@
+//! The decoder.
+
+ghost use Rattle.std.specs.Prelude.{◌≡◌, ◌↔◌, ◌⊎◌, ◌+◌, ◌*◌, ◌/◌, ◌^◌, ◌≤◌, List, [], ◌∷◌, ◌++◌, true, Some, Ok, Err, length, vec_len, IfOk, IfErr, OnOk, IsTrue};
+ghost use Rattle.retire.specs.declared.event.Event.{Event};
+ghost use Rattle.rvclass.specs.Fetch.{words_of};
+ghost use Rattle.rvclass.specs.Words.{Words, IsProgram};
+ghost use Rattle.payload.specs.declared.packet.Packet.{Packet};
+ghost use Rattle.decoder.specs.Describes.{Describes};
+ghost use Rattle.decoder.specs.Ended.{has_ended};
+ghost use Rattle.decoder.specs.Order.{IsOpen};
+ghost use Rattle.decoder.specs.Parts.{part_count, Suits, SuitsNone};
+ghost use Rattle.decoder.specs.Planning.{MayCome, FitsWaiting, Plans, PlansNone, admitted, decoder_after, reported_past};
+ghost use Rattle.decoder.specs.Stands.{Stands, phase_after, waiting_after};
+ghost use Rattle.decoder.specs.declared.fault.DecodeFault.TheVariants.{NotOpened, AfterClose, Memory};
+
+use crate::fault::DecodeFault;
+use crate::part::Part;
+use crate::settling::{Waiting, own, settle};
+use crate::walking::program_kept;
+use payload::{Packet, Report, Support};
+use retire::Event;
+use rvclass::Program;
+use std::alloc::Allocator;
+
+/// How far a trace has come.
+#[derive(Clone, Copy, Debug, PartialEq, Eq)]
+enum Phase {
+    /// No packet came.
+    Unopened,
+    /// The trace was opened.
+    Running,
+    /// The trace was closed.
+    Closed,
+}
+
+/// A decoder of one hart's trace: it takes the packets in their order, and adds to a log the events that they describe.
+///
+/// An address packet with plain bits is not settled before the next packet, so the events of such a packet come with the
+/// one that follows it. The events of all other packets come at once.
+#[derive(Clone, Copy, Debug)]
+pub struct Decoder {
+    phase: Phase,
+    waiting: Option<Waiting>,
+    last: Option<Event>,
+    reported: u64,
+}
+
+/// What a packet adds to a log: the events of the packet that waited, then its own; and the decoder after them.
+#[derive(Clone, Copy)]
+struct Plan {
+    settled: Part,
+    own: Part,
+    next: Decoder,
+}
+
+/// The phase after a packet.
+fn phase_after(packet: &Packet) -> Phase
+    ensures { result ≡ phase_after (Some packet.now) }
+{
+    match packet {
+        Packet::Support(Support::EndedRep | Support::EndedNtr) => Phase::Closed,
+        _ => Phase::Running,
+    }
+}
+
+/// What waits after a packet.
+fn waiting_after(packet: &Packet) -> Option<Waiting>
+    ensures { result ≡ waiting_after (Some packet.now) }
+{
+    match packet {
+        Packet::Address {
+            outcomes,
+            delta,
+            report: Report::Plain,
+        } => Some(Waiting {
+            outcomes: *outcomes,
+            delta: *delta,
+        }),
+        _ => None,
+    }
+}
+
+/// The last reported address after a packet, where this is the place of its last event.
+fn reported_past(packet: &Packet, reported: u64, at: u64) -> u64
+    ensures { result ≡ reported_past packet.now reported at }
+{
+    match packet {
+        Packet::Map(_) => reported,
+        _ => at,
+    }
+}
+
+/// Whether a packet opens a trace.
+fn is_open(packet: &Packet) -> bool
+    ensures { IsTrue result ↔ IsOpen packet.now }
+{
+    matches!(packet, Packet::Support(Support::Open))
+}
+
+impl Decoder {
+    /// A decoder before the first packet.
+    pub fn new() -> Decoder
+        ensures { (words : Words) → Stands words [] [] result }
+    {
+        Decoder {
+            phase: Phase::Unopened,
+            waiting: None,
+            last: None,
+            reported: 0,
+        }
+    }
+
+    /// Whether the packet that closes the trace came.
+    pub fn is_closed(&self) -> bool
+        ensures { (words : Words) (packets : List Packet) (log : List Event) → Stands words packets log self.now
+            → result ≡ has_ended packets }
+    {
+        self.phase == Phase::Closed
+    }
+
+    /// Takes the next packet, and adds to the log the events that are known by it. The program is the one of the packets
+    /// before, and the log the one that they gave.
+    ///
+    /// Room for all of them is reserved first, so that a fault leaves the decoder and the log as they were: the packet may
+    /// be fed again where memory was refused.
+    pub fn feed<A: Allocator>(
+        &mut self,
+        program: &Program,
+        packet: &Packet,
+        log: &mut Vec<Event, A>,
+    ) -> Result<(), DecodeFault>
+        ensures stands { (packets : List Packet) → Stands (words_of program.now) packets log.old.items self.old
+            → OnOk result (Stands (words_of program.now) (packets ++ packet.now ∷ []) log.new.items self.new) }
+        ensures goes_on { (rest : List Event) × (log.new.items ≡ log.old.items ++ rest) }
+        ensures only { (packets : List Packet) → Stands (words_of program.now) packets log.old.items self.old
+            → OnOk result ((other : List Event) → Describes (words_of program.now) (packets ++ packet.now ∷ []) other
+            → other ≡ log.new.items) }
+        ensures none { (packets : List Packet) → Stands (words_of program.now) packets log.old.items self.old
+            → IfErr result (λ fault. (fault ≡ Memory)
+            ⊎ ((other : List Event) → ¬ Describes (words_of program.now) (packets ++ packet.now ∷ []) other)) }
+        ensures kept { IfErr result (λ fault. self.new ≡ self.old) }
+        ensures list_kept { IfErr result (λ fault. log.new.items ≡ log.old.items) }
+        ensures closed { (packets : List Packet) → Stands (words_of program.now) packets log.old.items self.old
+            → (result ≡ Err AfterClose) ↔ (has_ended packets ≡ true) }
+        ensures not_opened { (packets : List Packet) → Stands (words_of program.now) packets log.old.items self.old
+            → (result ≡ Err NotOpened) ↔ ((packets ≡ []) × ¬ IsOpen packet.now) }
+        ensures short { vec_len log.new ≤ vec_len log.old + 2 * (32 * (length program.now.bytes / 2)) + 2 }
+    {
+        let plan = match self.plan(program, packet) {
+            Ok(plan) => plan,
+            Err(fault) => return Err(fault),
+        };
+        if log
+            .reserve(plan.settled.count() + plan.own.count())
+            .is_err()
+        {
+            return Err(DecodeFault::Memory);
+        }
+        plan.settled.write(program, log);
+        plan.own.write(program, log);
+        *self = plan.next;
+        Ok(())
+    }
+
+    /// What the next packet adds, and the decoder after it.
+    fn plan(&self, program: &Program, packet: &Packet) -> Result<Plan, DecodeFault>
+        ensures found { IfOk result (λ plan. Plans (words_of program.now) self.now packet.now plan) }
+        ensures none { IfErr result (λ fault. PlansNone (words_of program.now) self.now packet.now fault) }
+        ensures admitted { IfOk result (λ plan. admitted self.now.phase packet.now ≡ Ok tt) }
+        ensures short { IfOk result (λ plan. part_count plan.settled + part_count plan.own
+            ≤ 2 * (32 * (length program.now.bytes / 2)) + 2) }
+        ensures words { IsProgram (words_of program.now) }
+        ensures small { length program.now.bytes ≤ 2 ^ 24 }
+    {
+        program_kept(program);
+        if let Err(fault) = self.admit(packet) {
+            return Err(fault);
+        }
+        let settled = match self.settled(program, packet) {
+            Ok(part) => part,
+            Err(fault) => return Err(fault),
+        };
+        if !self.may_come(packet) {
+            return Err(DecodeFault::WrongPlace);
+        }
+        let last = settled.last(self.last);
+        let reported = settled.place(self.reported);
+        match own(program, last, reported, packet) {
+            Ok(own) => Ok(Plan {
+                settled,
+                own,
+                next: self.after(packet, &settled, &own),
+            }),
+            Err(fault) => Err(fault),
+        }
+    }
+
+    /// Tests that the packet comes neither before the one that opens the trace nor after the one that closes it.
+    fn admit(&self, packet: &Packet) -> Result<(), DecodeFault>
+        ensures { result ≡ admitted self.now.phase packet.now }
+    {
+        match self.phase {
+            Phase::Unopened => {
+                if is_open(packet) {
+                    Ok(())
+                } else {
+                    Err(DecodeFault::NotOpened)
+                }
+            }
+            Phase::Running => Ok(()),
+            Phase::Closed => Err(DecodeFault::AfterClose),
+        }
+    }
+
+    /// Whether the packet may come next by its kind: the packet that opens the trace comes first alone, and the one that
+    /// tells that the last instruction was reported follows an address packet that waits.
+    fn may_come(&self, packet: &Packet) -> bool
+        ensures { IsTrue result ↔ MayCome self.now.phase self.now.waiting packet.now }
+    {
+        match packet {
+            Packet::Support(Support::Open) => self.phase == Phase::Unopened,
+            Packet::Support(Support::EndedRep) => self.waiting.is_some(),
+            _ => true,
+        }
+    }
+
+    /// The events of the packet that waits, if one does, before this packet.
+    fn settled(&self, program: &Program, packet: &Packet) -> Result<Part, DecodeFault>
+        ensures found { IfOk result (λ part. Suits (words_of program.now) self.now.last
+            (FitsWaiting (words_of program.now) self.now.last self.now.reported self.now.waiting packet.now) part) }
+        ensures none { IfErr result (λ fault. SuitsNone (words_of program.now) self.now.last
+            (FitsWaiting (words_of program.now) self.now.last self.now.reported self.now.waiting packet.now)
+            fault) }
+        ensures short { IfOk result (λ part. part_count part ≤ 32 * (length program.now.bytes / 2)) }
+    {
+        match &self.waiting {
+            Some(waiting) => settle(program, self.last, self.reported, waiting, packet),
+            None => Ok(Part::Nothing),
+        }
+    }
+
+    /// The decoder after the packet, with the events that it adds.
+    fn after(&self, packet: &Packet, settled: &Part, own: &Part) -> Decoder
+        ensures { result ≡ decoder_after self.now packet.now settled.now own.now }
+    {
+        let reported = settled.place(self.reported);
+        Decoder {
+            phase: phase_after(packet),
+            waiting: waiting_after(packet),
+            last: own.last(settled.last(self.last)),
+            reported: reported_past(packet, reported, own.place(reported)),
+        }
+    }
+}
+
+impl Default for Decoder {
+    fn default() -> Decoder
+        ensures { (words : Words) → Stands words [] [] result }
+    {
+        Decoder::new()
+    }
+}

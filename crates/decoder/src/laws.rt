@@ -1,0 +1,40 @@
+//! What the definition of described logs promises.
+
+ghost use Rattle.std.specs.Prelude.{ℕ, ◌≡◌, ◌≤◌, ◌*◌, ◌/◌, ◌++◌, Bool, List, Some, length};
+ghost use Rattle.retire.specs.declared.event.Event.{Event};
+ghost use Rattle.rvclass.specs.Words.{Words, IsProgram, LiesIn};
+ghost use Rattle.payload.specs.declared.packet.Packet.{Packet};
+ghost use Rattle.legalpath.specs.Join.{join};
+ghost use Rattle.legalpath.specs.Legal.{Runs};
+ghost use Rattle.decoder.specs.Describes.{Describes};
+ghost use Rattle.decoder.specs.SettledPieces.{settled_pieces};
+ghost use Rattle.decoder.specs.Walk.{End, IsWalk};
+
+/// The same packets describe one log at most.
+pub fn one_log_is_described()
+    ensures { (words : Words) (packets : List Packet) (log other : List Event) →
+        IsProgram words → Describes words packets log → Describes words packets other → log ≡ other }
+{}
+
+/// What more packets describe begins with what fewer describe.
+pub fn more_packets_describe_a_longer_log()
+    ensures { (words : Words) (packets more : List Packet) (log other : List Event) →
+        IsProgram words → Describes words packets log → Describes words (packets ++ more) other →
+        (rest : List Event) × (other ≡ log ++ rest) }
+{}
+
+/// The first packets of a trace describe the events of their settled pieces, with which its log begins.
+pub fn first_packets_describe_a_beginning()
+    ensures { (words : Words) (packets more : List Packet) (log : List Event) →
+        (all : Describes words (packets ++ more) log) →
+        Describes words packets (join (settled_pieces packets all.pieces)) ×
+        ((rest : List Event) × (log ≡ join (settled_pieces packets all.pieces) ++ rest)) }
+{}
+
+/// A walk of at most 31 branches has at most 32 times half as many retirements as the program has bytes.
+pub fn walks_are_short()
+    ensures { (words : Words) (base count : ℕ) (before : Event) (taken : List Bool) (end : End) (walk : List Event) →
+        IsProgram words → LiesIn words base count → length taken ≤ 31 →
+        IsWalk words before taken end walk → Runs words (Some before) walk →
+        length walk ≤ 32 * (count / 2) }
+{}

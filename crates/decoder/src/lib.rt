@@ -1,0 +1,22 @@
+//! The log that the packets of an instruction trace describe. Where the retirements of a packet end is as the E-Trace
+//! specification's decoder algorithm says, with the choices of this project's profile.
+#![tactic(auto)]
+
+mod decoding;
+mod fault;
+mod laws;
+mod part;
+mod reporting;
+mod settling;
+mod stepping;
+mod walking;
+
+pub use decoding::Decoder;
+pub use fault::DecodeFault;
+pub use laws::{
+    first_packets_describe_a_beginning, more_packets_describe_a_longer_log, one_log_is_described,
+    walks_are_short,
+};
+
+#[cfg(test)]
+mod tests;

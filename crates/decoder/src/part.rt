@@ -1,0 +1,98 @@
+//! The events that a packet adds to a log.
+
+ghost use Rattle.std.specs.Prelude.{◌≡◌, vec_len, vec_capacity};
+ghost use Rattle.rvclass.specs.Fetch.{words_of};
+ghost use Rattle.retire.specs.Events.{place};
+ghost use Rattle.decoder.specs.Parts.{part_count, part_last, part_place, HasRoomFor, AddsPart};
+
+use crate::stepping::{Goal, Here};
+use crate::walking::{Walked, event, write};
+use payload::Outcomes;
+use retire::Event;
+use rvclass::Program;
+use std::alloc::Allocator;
+
+/// A walk that was measured.
+#[derive(Clone, Copy)]
+pub struct MeasuredWalk {
+    pub from: Here,
+    pub outcomes: Outcomes,
+    pub goal: Goal,
+    pub walked: Walked,
+}
+
+/// Events that a packet adds to a log.
+#[derive(Clone, Copy)]
+pub enum Part {
+    /// None.
+    Nothing,
+    /// One event.
+    One(Event),
+    /// A trap, and the first retirement of its handler.
+    Two(Event, Event),
+    /// The retirements of a walk.
+    Walk(MeasuredWalk),
+}
+
+/// The address of a retirement, the exception program counter of a trap.
+fn place_of(event: &Event) -> u64
+    ensures { result ≡ place event.now }
+{
+    match event {
+        Event::Retire { addr, .. } => *addr,
+        Event::Trap { epc, .. } => *epc,
+    }
+}
+
+impl Part {
+    /// How many events there are.
+    pub fn count(&self) -> usize
+        ensures { result ≡ part_count self.now }
+    {
+        match self {
+            Part::Nothing => 0,
+            Part::One(_) => 1,
+            Part::Two(_, _) => 2,
+            Part::Walk(walk) => walk.walked.count,
+        }
+    }
+
+    /// The last event after them, where this was the last before.
+    pub fn last(&self, before: Option<Event>) -> Option<Event>
+        ensures { result ≡ part_last before self.now }
+    {
+        match self {
+            Part::Nothing => before,
+            Part::One(event) | Part::Two(_, event) => Some(*event),
+            Part::Walk(walk) => Some(event(walk.walked.last)),
+        }
+    }
+
+    /// The place of the last of them, or this one where there is none.
+    pub fn place(&self, at: u64) -> u64
+        ensures { result ≡ part_place at self.now }
+    {
+        match self {
+            Part::Nothing => at,
+            Part::One(event) | Part::Two(_, event) => place_of(event),
+            Part::Walk(walk) => walk.walked.last.addr,
+        }
+    }
+
+    /// Writes them into room that was reserved.
+    pub fn write<A: Allocator>(&self, program: &Program, log: &mut Vec<Event, A>)
+        requires { HasRoomFor (words_of program.now) self.now (vec_len log.old) (vec_capacity log.old) }
+        ensures adds { AddsPart (words_of program.now) self.now log.old.items log.new.items }
+        ensures room { vec_capacity log.new ≡ vec_capacity log.old }
+    {
+        match self {
+            Part::Nothing => {}
+            Part::One(event) => log.push_reserved(*event),
+            Part::Two(trap, event) => {
+                log.push_reserved(*trap);
+                log.push_reserved(*event);
+            }
+            Part::Walk(walk) => write(program, walk.from, &walk.outcomes, walk.goal, log),
+        }
+    }
+}

@@ -1,0 +1,297 @@
+//! The events that a packet reports by itself: the retirement of a synchronisation, and a trap.
+
+ghost use Rattle.std.specs.Prelude.{◌≡◌, ◌↔◌, ◌≤◌, true, false, [], ◌∷◌, Some, IsTrue, IfOk, IfErr, OnOk};
+ghost use Rattle.retire.specs.declared.event.Event.TheVariants.{Trap};
+ghost use Rattle.rvclass.specs.Fetch.{words_of};
+ghost use Rattle.legalpath.specs.Legal.{Runs};
+ghost use Rattle.legalpath.specs.Step.{MayStandAfter};
+ghost use Rattle.decoder.specs.Faults.{IsOnTheWay};
+ghost use Rattle.decoder.specs.Fits.{AfterRetirement, FitsSync};
+ghost use Rattle.decoder.specs.Parts.{RightBefore, Suits, SuitsOne, SuitsNone, part_count};
+ghost use Rattle.decoder.specs.Reporting as reporting;
+ghost use Rattle.decoder.specs.Walks.{event_of, IsHere};
+
+use crate::fault::DecodeFault;
+use crate::part::Part;
+use crate::stepping::Here;
+use legalpath::{Next, Why, check, successor};
+use retire::Event;
+use rvclass::{Class, Program};
+
+/// What a reason why an event is illegal says of the decoding.
+fn fault_of(why: Why) -> DecodeFault
+    ensures { result ≡ reporting.fault_of why }
+{
+    match why {
+        Why::OffProgram | Why::NotRetirable => DecodeFault::OffProgram,
+        Why::WrongType => DecodeFault::Branches,
+        Why::WrongNext | Why::WrongEpc => DecodeFault::WrongPlace,
+        Why::WrongPrivilege => DecodeFault::WrongPrivilege,
+    }
+}
+
+/// Tests that an event is right by itself and may follow the one before.
+fn follows(program: &Program, before: Option<Event>, event: Event) -> Result<(), DecodeFault>
+    ensures ok { OnOk result (Runs (words_of program.now) before (event ∷ [])) }
+    ensures err { IfErr result (λ fault. IsOnTheWay fault
+        × (RightBefore (words_of program.now) before → Runs (words_of program.now) before (event ∷ []) → ⊥)) }
+{
+    let checked = match before {
+        None => check(program, &[event]),
+        Some(before) => check(program, &[before, event]),
+    };
+    match checked {
+        Ok(()) => Ok(()),
+        Err(fault) => Err(fault_of(fault.why)),
+    }
+}
+
+/// The retirement that a walk starts from: the event before it.
+pub fn start(program: &Program, before: Option<Event>) -> Result<Here, DecodeFault>
+    ensures here { IfOk result (λ here. IsHere (words_of program.now) here × (before ≡ Some (event_of here))) }
+    ensures none { IfErr result (λ fault. IsOnTheWay fault
+        × (RightBefore (words_of program.now) before → AfterRetirement before → ⊥)) }
+{
+    let Some(event) = before else {
+        return Err(DecodeFault::WrongPlace);
+    };
+    let Event::Retire {
+        addr,
+        itype,
+        privilege,
+    } = event
+    else {
+        return Err(DecodeFault::WrongPlace);
+    };
+    if let Err(fault) = follows(program, None, event) {
+        return Err(fault);
+    }
+    let Some((class, length)) = program.at(addr) else {
+        return Err(DecodeFault::OffProgram);
+    };
+    Ok(Here {
+        addr,
+        itype,
+        privilege,
+        class,
+        length,
+    })
+}
+
+/// The type of a retirement of a class, which is a taken branch or not.
+fn type_by(class: Class, taken: bool) -> Result<u8, DecodeFault>
+    ensures { result ≡ reporting.type_by class taken }
+{
+    match class {
+        Class::NotRetirable => Err(DecodeFault::OffProgram),
+        Class::Branch(_) => Ok(if taken { 5 } else { 4 }),
+        _ if taken => Err(DecodeFault::Branches),
+        Class::Plain | Class::Jump(_) => Ok(0),
+        Class::Uninferable => Ok(6),
+        Class::TrapReturn(_) => Ok(3),
+    }
+}
+
+/// What a packet tells of the event at the address that it reports.
+#[derive(Clone, Copy)]
+pub struct Told {
+    /// It is a taken branch.
+    pub taken: bool,
+    /// Its privilege.
+    pub privilege: u8,
+    /// The address.
+    pub addr: u64,
+}
+
+impl Told {
+    /// What a packet with these fields tells.
+    pub fn new(taken: bool, privilege: u8, addr: u64) -> Told
+        ensures { result ≡ record { taken = taken; privilege = privilege; addr = addr } }
+    {
+        Told {
+            taken,
+            privilege,
+            addr,
+        }
+    }
+}
+
+/// What a packet tells of why a trap was taken.
+#[derive(Clone, Copy)]
+pub struct Cause {
+    pub interrupt: bool,
+    pub cause: u8,
+    pub tval: u64,
+}
+
+impl Cause {
+    /// The cause that a packet with these fields tells.
+    pub fn new(interrupt: bool, cause: u8, tval: u64) -> Cause
+        ensures { result ≡ record { interrupt = interrupt; cause = cause; tval = tval } }
+    {
+        Cause {
+            interrupt,
+            cause,
+            tval,
+        }
+    }
+
+    /// The trap that was taken for this cause at an exception program counter, from a privilege.
+    fn trap(self, epc: u64, privilege: u8) -> Event
+        ensures { result ≡ Trap epc privilege self.interrupt self.cause self.tval }
+    {
+        Event::Trap {
+            epc,
+            privilege,
+            interrupt: self.interrupt,
+            cause: self.cause,
+            tval: self.tval,
+        }
+    }
+}
+
+/// The retirement that a packet reports, by the word at its address.
+fn retirement(program: &Program, told: Told) -> Result<Event, DecodeFault>
+    ensures { result ≡ reporting.retirement_of told.addr told.privilege
+        (reporting.type_at (words_of program.now told.addr) told.taken) }
+{
+    let Some((class, _)) = program.at(told.addr) else {
+        return Err(DecodeFault::OffProgram);
+    };
+    match type_by(class, told.taken) {
+        Ok(itype) => Ok(Event::Retire {
+            addr: told.addr,
+            itype,
+            privilege: told.privilege,
+        }),
+        Err(fault) => Err(fault),
+    }
+}
+
+/// The retirement that a packet reports, after the event before.
+pub fn reported(program: &Program, before: Option<Event>, told: Told) -> Result<Event, DecodeFault>
+    ensures found { IfOk result (λ event. SuitsOne (words_of program.now) before
+        (FitsSync told.taken told.privilege told.addr) (event ∷ [])) }
+    ensures none { IfErr result (λ fault. SuitsNone (words_of program.now) before
+        (FitsSync told.taken told.privilege told.addr) fault) }
+{
+    let event = match retirement(program, told) {
+        Ok(event) => event,
+        Err(fault) => return Err(fault),
+    };
+    match follows(program, before, event) {
+        Ok(()) => Ok(event),
+        Err(fault) => Err(fault),
+    }
+}
+
+/// Whether an event may stand at a place, after the event before.
+fn may_stand(program: &Program, before: Option<Event>, at: u64) -> bool
+    ensures { IsTrue result ↔ MayStandAfter (words_of program.now) before at }
+{
+    let Some(event) = before else {
+        return true;
+    };
+    match successor(program, &event) {
+        Next::One(to) => at == to,
+        Next::Any => true,
+        Next::NoneInside => false,
+    }
+}
+
+/// The trap that a packet reports without its handler, after the event before.
+fn trap_alone(
+    program: &Program,
+    before: Option<Event>,
+    told: Told,
+    cause: Cause,
+) -> Result<Part, DecodeFault>
+    ensures found { IfOk result (λ part. Suits (words_of program.now) before
+        (reporting.FitsTold (words_of program.now) before told cause false) part) }
+    ensures none { IfErr result (λ fault. SuitsNone (words_of program.now) before
+        (reporting.FitsTold (words_of program.now) before told cause false) fault) }
+    ensures short { IfOk result (λ part. part_count part ≤ 2) }
+{
+    if told.taken {
+        return Err(DecodeFault::Branches);
+    }
+    if !may_stand(program, before, told.addr) {
+        return Err(DecodeFault::WrongPlace);
+    }
+    let trap = cause.trap(told.addr, told.privilege);
+    match follows(program, before, trap) {
+        Ok(()) => Ok(Part::One(trap)),
+        Err(fault) => Err(fault),
+    }
+}
+
+/// The trap that a packet reports by its handler, after the event before: it was taken where that event leads.
+fn trap_handled(
+    program: &Program,
+    before: Option<Event>,
+    cause: Cause,
+) -> Result<Event, DecodeFault>
+    ensures found { IfOk result (λ trap. SuitsOne (words_of program.now) before
+        (reporting.IsHandled (words_of program.now) before cause) (trap ∷ [])) }
+    ensures none { IfErr result (λ fault. SuitsNone (words_of program.now) before
+        (reporting.IsHandled (words_of program.now) before cause) fault) }
+{
+    let Some(event) = before else {
+        return Err(DecodeFault::WrongPlace);
+    };
+    let Event::Retire { privilege, .. } = event else {
+        return Err(DecodeFault::WrongPlace);
+    };
+    let Next::One(epc) = successor(program, &event) else {
+        return Err(DecodeFault::WrongPlace);
+    };
+    let trap = cause.trap(epc, privilege);
+    match follows(program, before, trap) {
+        Ok(()) => Ok(trap),
+        Err(fault) => Err(fault),
+    }
+}
+
+/// The trap and the first retirement of its handler that a packet reports, after the event before.
+fn trap_and_handler(
+    program: &Program,
+    before: Option<Event>,
+    told: Told,
+    cause: Cause,
+) -> Result<Part, DecodeFault>
+    ensures found { IfOk result (λ part. Suits (words_of program.now) before
+        (reporting.FitsTold (words_of program.now) before told cause true) part) }
+    ensures none { IfErr result (λ fault. SuitsNone (words_of program.now) before
+        (reporting.FitsTold (words_of program.now) before told cause true) fault) }
+    ensures short { IfOk result (λ part. part_count part ≤ 2) }
+{
+    let trap = match trap_handled(program, before, cause) {
+        Ok(trap) => trap,
+        Err(fault) => return Err(fault),
+    };
+    match reported(program, Some(trap), told) {
+        Ok(event) => Ok(Part::Two(trap, event)),
+        Err(fault) => Err(fault),
+    }
+}
+
+/// The events of a trap that a packet reports with its handler's address, or without, after the event before.
+pub fn trap(
+    program: &Program,
+    before: Option<Event>,
+    told: Told,
+    cause: Cause,
+    handler: bool,
+) -> Result<Part, DecodeFault>
+    ensures found { IfOk result (λ part. Suits (words_of program.now) before
+        (reporting.FitsTold (words_of program.now) before told cause handler) part) }
+    ensures none { IfErr result (λ fault. SuitsNone (words_of program.now) before
+        (reporting.FitsTold (words_of program.now) before told cause handler) fault) }
+    ensures short { IfOk result (λ part. part_count part ≤ 2) }
+{
+    if handler {
+        trap_and_handler(program, before, told, cause)
+    } else {
+        trap_alone(program, before, told, cause)
+    }
+}

@@ -1,0 +1,170 @@
+//! The events that each packet adds, after the event before and the last reported address.
+
+ghost use Rattle.std.specs.Prelude.{◌≡◌, ◌+◌, ◌*◌, ◌/◌, ◌≤◌, None, Some, length, IfOk, IfErr};
+ghost use Rattle.rvclass.specs.Fetch.{words_of};
+ghost use Rattle.decoder.specs.Fits.{Fits, FitsAddress, FitsSync};
+ghost use Rattle.decoder.specs.Parts.{Suits, SuitsNone, part_count};
+ghost use Rattle.decoder.specs.Planning.{FitsWaiting};
+ghost use Rattle.decoder.specs.Settling.{makes_explicit, settled};
+ghost use Rattle.decoder.specs.Walk.{IsWalkFrom};
+ghost use Rattle.decoder.specs.Walks.{end_of};
+
+use crate::fault::DecodeFault;
+use crate::part::{MeasuredWalk, Part};
+use crate::reporting::{Cause, Told, reported, start, trap};
+use crate::stepping::Goal;
+use crate::walking::measure;
+use payload::{Outcomes, Packet, Report, Support};
+use retire::Event;
+use rvclass::Program;
+
+/// An address packet with plain bits, which waits for the packet that follows it.
+#[derive(Clone, Copy, Debug)]
+pub struct Waiting {
+    pub outcomes: Outcomes,
+    pub delta: u64,
+}
+
+/// The walk of these outcomes to this goal, after the event before.
+fn walk(
+    program: &Program,
+    before: Option<Event>,
+    outcomes: &Outcomes,
+    goal: Goal,
+) -> Result<Part, DecodeFault>
+    ensures found { IfOk result (λ part. Suits (words_of program.now) before
+        (IsWalkFrom (words_of program.now) before outcomes.now (end_of goal)) part) }
+    ensures none { IfErr result (λ fault. SuitsNone (words_of program.now) before
+        (IsWalkFrom (words_of program.now) before outcomes.now (end_of goal)) fault) }
+    ensures short { IfOk result (λ part. part_count part ≤ 32 * (length program.now.bytes / 2)) }
+{
+    let from = match start(program, before) {
+        Ok(from) => from,
+        Err(fault) => return Err(fault),
+    };
+    match measure(program, from, outcomes, goal) {
+        Ok(walked) => Ok(Part::Walk(MeasuredWalk {
+            from,
+            outcomes: *outcomes,
+            goal,
+            walked,
+        })),
+        Err(fault) => Err(fault),
+    }
+}
+
+/// Whether an address packet with plain bits is explicit before this packet.
+fn makes_explicit(packet: &Packet) -> bool
+    ensures { result ≡ makes_explicit packet.now }
+{
+    matches!(
+        packet,
+        Packet::Sync { .. } | Packet::Trap { .. } | Packet::Support(Support::EndedRep)
+    )
+}
+
+/// The events of a packet that waits, before the packet that settles it.
+pub fn settle(
+    program: &Program,
+    before: Option<Event>,
+    reported: u64,
+    waiting: &Waiting,
+    packet: &Packet,
+) -> Result<Part, DecodeFault>
+    ensures found { IfOk result (λ part. Suits (words_of program.now) before
+        (FitsWaiting (words_of program.now) before reported (Some waiting.now) packet.now) part) }
+    ensures none { IfErr result (λ fault. SuitsNone (words_of program.now) before
+        (FitsWaiting (words_of program.now) before reported (Some waiting.now) packet.now) fault) }
+    ensures short { IfOk result (λ part. part_count part ≤ 32 * (length program.now.bytes / 2)) }
+{
+    let addr = reported.wrapping_add(waiting.delta);
+    let goal = if makes_explicit(packet) {
+        Goal::Address(addr)
+    } else {
+        Goal::Target(addr)
+    };
+    walk(program, before, &waiting.outcomes, goal)
+}
+
+/// The events of an address packet at its address, as long as no other follows.
+fn address(
+    program: &Program,
+    before: Option<Event>,
+    outcomes: &Outcomes,
+    addr: u64,
+    report: Report,
+) -> Result<Part, DecodeFault>
+    ensures found { IfOk result (λ part. Suits (words_of program.now) before
+        (FitsAddress (words_of program.now) before outcomes.now addr (settled report None)) part) }
+    ensures none { IfErr result (λ fault. SuitsNone (words_of program.now) before
+        (FitsAddress (words_of program.now) before outcomes.now addr (settled report None)) fault) }
+    ensures short { IfOk result (λ part. part_count part ≤ 32 * (length program.now.bytes / 2)) }
+{
+    match report {
+        Report::Plain => match before {
+            Some(Event::Retire { .. }) => Ok(Part::Nothing),
+            _ => Err(DecodeFault::WrongPlace),
+        },
+        Report::Updiscon => walk(program, before, outcomes, Goal::Target(addr)),
+        Report::Notify => walk(program, before, outcomes, Goal::Address(addr)),
+    }
+}
+
+/// The events of a synchronisation.
+fn sync(program: &Program, before: Option<Event>, told: Told) -> Result<Part, DecodeFault>
+    ensures found { IfOk result (λ part. Suits (words_of program.now) before
+        (FitsSync told.taken told.privilege told.addr) part) }
+    ensures none { IfErr result (λ fault. SuitsNone (words_of program.now) before
+        (FitsSync told.taken told.privilege told.addr) fault) }
+    ensures short { IfOk result (λ part. part_count part ≤ 2) }
+{
+    match reported(program, before, told) {
+        Ok(event) => Ok(Part::One(event)),
+        Err(fault) => Err(fault),
+    }
+}
+
+/// The events of a packet, as long as no other follows.
+pub fn own(
+    program: &Program,
+    before: Option<Event>,
+    last_reported: u64,
+    packet: &Packet,
+) -> Result<Part, DecodeFault>
+    ensures found { IfOk result (λ part. Suits (words_of program.now) before
+        (Fits (words_of program.now) before last_reported packet.now None) part) }
+    ensures none { IfErr result (λ fault. SuitsNone (words_of program.now) before
+        (Fits (words_of program.now) before last_reported packet.now None) fault) }
+    ensures short { IfOk result (λ part. part_count part ≤ 32 * (length program.now.bytes / 2) + 2) }
+{
+    match packet {
+        Packet::Sync {
+            taken,
+            privilege,
+            address,
+        } => sync(program, before, Told::new(*taken, *privilege, *address)),
+        Packet::Trap {
+            taken,
+            privilege,
+            cause,
+            interrupt,
+            handler,
+            address,
+            tval,
+        } => {
+            let told = Told::new(*taken, *privilege, *address);
+            let cause = Cause::new(*interrupt, *cause, *tval);
+            trap(program, before, told, cause, *handler)
+        }
+        Packet::Support(_) => Ok(Part::Nothing),
+        Packet::Address {
+            outcomes,
+            delta,
+            report,
+        } => {
+            let addr = last_reported.wrapping_add(*delta);
+            address(program, before, outcomes, addr, *report)
+        }
+        Packet::Map(outcomes) => walk(program, before, outcomes, Goal::Branch),
+    }
+}

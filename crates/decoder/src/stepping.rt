@@ -1,0 +1,249 @@
+//! One step of a walk: the retirement after another, and where it ends.
+
+ghost use Rattle.std.specs.Prelude.{ℕ, ◌≡◌, ◌+◌, ◌^◌, ◌<◌, ◌≤◌, drop, length, Some, IfErr};
+ghost use Rattle.retire.specs.declared.event.Event.TheVariants.{Retire};
+ghost use Rattle.legalpath.specs.Backward.{jumps_back};
+ghost use Rattle.rvclass.specs.Fetch.{words_of};
+ghost use Rattle.rvclass.specs.Words.{IsProgram};
+ghost use Rattle.decoder.specs.Faults.{IsOnTheWay};
+ghost use Rattle.decoder.specs.WalkSteps as steps;
+ghost use Rattle.decoder.specs.Walks.{event_of, end_of, Carries};
+
+use crate::fault::DecodeFault;
+use payload::Outcomes;
+use rvclass::{Class, Program, Return};
+
+/// A retirement, with the word that it stands on.
+#[derive(Clone, Copy)]
+pub struct Here {
+    /// The instruction's address.
+    pub addr: u64,
+    /// Its type.
+    pub itype: u8,
+    /// The privilege that it retired at.
+    pub privilege: u8,
+    /// The length of the word there, in bytes.
+    pub length: u8,
+    /// The class of that word.
+    pub class: Class,
+}
+
+/// Where a walk ends.
+#[derive(Clone, Copy)]
+pub enum Goal {
+    /// At a branch.
+    Branch,
+    /// At this address.
+    Address(u64),
+    /// At this address, the target of the first uninferable discontinuity on the way.
+    Target(u64),
+}
+
+/// What a packet tells of its walk: the outcomes of the branches, how many they are, and where it ends.
+#[derive(Clone, Copy)]
+pub struct Course {
+    pub outcomes: Outcomes,
+    pub count: usize,
+    pub goal: Goal,
+}
+
+impl Course {
+    pub fn new(outcomes: &Outcomes, goal: Goal) -> Course
+        ensures course { steps.IsCourse result }
+        ensures outcomes { result.outcomes ≡ outcomes.now }
+        ensures goal { result.goal ≡ goal }
+    {
+        Course {
+            outcomes: *outcomes,
+            count: outcomes.len(),
+            goal,
+        }
+    }
+}
+
+/// What a step of a walk comes to.
+#[derive(Clone, Copy)]
+pub enum Step {
+    /// It goes on from the retirement that was reached.
+    Goes,
+    /// It ends there.
+    Ends,
+    /// There is no such walk.
+    Fails(DecodeFault),
+}
+
+/// A step from a retirement, where so many outcomes are used, to the next one.
+#[inline(always)]
+#[tactic(auto, unfolding(crate::specs::WalkSteps::advance))]
+pub fn step_from(program: &Program, here: &mut Here, used: &mut usize, course: &Course) -> Step
+    requires program { IsProgram (words_of program.now) }
+    requires here { Carries (words_of program.now) here.old }
+    requires course { steps.IsCourse course.now }
+    ensures step { steps.move_of course.now.outcomes here.new used.new result
+        ≡ steps.advance (words_of program.now) (event_of here.old) (drop used.old course.now.outcomes) (end_of course.now.goal) }
+    ensures carries { steps.StepCarries (words_of program.now) here.new result }
+{
+    let to = match here.class {
+        Class::Plain => here.addr + u64::from(here.length),
+        Class::Jump(to) => to,
+        Class::Branch(to) => {
+            if here.itype == 5 {
+                to
+            } else {
+                here.addr + u64::from(here.length)
+            }
+        }
+        Class::Uninferable | Class::TrapReturn(_) => {
+            return step_last(program, here, used, course);
+        }
+        Class::NotRetirable => return Step::Fails(DecodeFault::OffProgram),
+    };
+    step_on(program, to, here, used, course)
+}
+
+/// The step to an address.
+#[inline(always)]
+fn step_on(program: &Program, addr: u64, here: &mut Here, used: &mut usize, course: &Course) -> Step
+    requires { steps.IsCourse course.now }
+    ensures step { steps.move_of course.now.outcomes here.new used.new result
+        ≡ steps.next_move (words_of program.now) (end_of course.now.goal)
+        (steps.retire_on addr here.old.privilege (words_of program.now addr) (drop used.old course.now.outcomes)) }
+    ensures carries { steps.StepCarries (words_of program.now) here.new result }
+{
+    let Some((class, length)) = program.at(addr) else {
+        return Step::Fails(DecodeFault::OffProgram);
+    };
+    let itype = match type_of(class, used, course) {
+        Ok(itype) => itype,
+        Err(fault) => return Step::Fails(fault),
+    };
+    if !may_retire(class, here.privilege) {
+        return Step::Fails(DecodeFault::WrongPrivilege);
+    }
+    here.addr = addr;
+    here.itype = itype;
+    here.length = length;
+    here.class = class;
+    if ends(addr, itype, *used, course) {
+        Step::Ends
+    } else if jumps_back(addr, class) {
+        Step::Fails(DecodeFault::MissedNotify)
+    } else {
+        Step::Goes
+    }
+}
+
+/// The step from a discontinuity.
+#[inline(never)]
+fn step_last(program: &Program, here: &mut Here, used: &mut usize, course: &Course) -> Step
+    requires here { Carries (words_of program.now) here.old }
+    requires course { steps.IsCourse course.now }
+    ensures step { steps.move_of course.now.outcomes here.new used.new result
+        ≡ steps.target_move (words_of program.now) (words_of program.now here.old.addr) here.old.privilege
+        (drop used.old course.now.outcomes) (end_of course.now.goal) }
+    ensures carries { steps.StepCarries (words_of program.now) here.new result }
+{
+    let Goal::Target(addr) = course.goal else {
+        return Step::Fails(DecodeFault::WrongPlace);
+    };
+    let Some((class, length)) = program.at(addr) else {
+        return Step::Fails(DecodeFault::OffProgram);
+    };
+    let itype = match type_of(class, used, course) {
+        Ok(itype) => itype,
+        Err(fault) => return Step::Fails(fault),
+    };
+    if !are_used(*used, course) {
+        return Step::Fails(DecodeFault::Branches);
+    }
+    if !may_retire(class, here.privilege) || !may_stay(here.class, here.privilege) {
+        return Step::Fails(DecodeFault::WrongPrivilege);
+    }
+    here.addr = addr;
+    here.itype = itype;
+    here.length = length;
+    here.class = class;
+    Step::Ends
+}
+
+/// The type of a retirement of a class, where a branch uses one outcome more.
+#[inline]
+fn type_of(class: Class, used: &mut usize, course: &Course) -> Result<u8, DecodeFault>
+    requires { steps.IsCourse course.now }
+    ensures told { steps.type_told course.now.outcomes used.new result ≡ steps.type_on class (drop used.old course.now.outcomes) }
+    ensures named { IfErr result IsOnTheWay }
+{
+    match class {
+        Class::Plain | Class::Jump(_) => Ok(0),
+        Class::Branch(_) => match course.outcomes.get(*used) {
+            Some(true) => {
+                *used += 1;
+                Ok(5)
+            }
+            Some(false) => {
+                *used += 1;
+                Ok(4)
+            }
+            None => Err(DecodeFault::Branches),
+        },
+        Class::Uninferable => Ok(6),
+        Class::TrapReturn(_) => Ok(3),
+        Class::NotRetirable => Err(DecodeFault::OffProgram),
+    }
+}
+
+/// Whether a word of a class may retire at a privilege.
+#[inline]
+fn may_retire(class: Class, privilege: u8) -> bool
+    ensures { result ≡ steps.may_retire class privilege }
+{
+    match class {
+        Class::TrapReturn(Return::Mret) => privilege == 3,
+        Class::TrapReturn(Return::Sret) => privilege >= 1,
+        _ => true,
+    }
+}
+
+/// Whether the privilege may stay after a retirement of a class.
+#[inline]
+fn may_stay(class: Class, privilege: u8) -> bool
+    ensures { result ≡ steps.may_stay class privilege }
+{
+    match class {
+        Class::TrapReturn(Return::Sret) => privilege <= 1,
+        _ => true,
+    }
+}
+
+/// Whether all outcomes are used.
+#[inline]
+fn are_used(used: usize, course: &Course) -> bool
+    requires { steps.IsCourse course.now }
+    ensures { result ≡ steps.is_empty (drop used course.now.outcomes) }
+{
+    used >= course.count
+}
+
+/// Whether a walk ends at a retirement at this address and of this type, where so many outcomes are used.
+#[inline]
+fn ends(addr: u64, itype: u8, used: usize, course: &Course) -> bool
+    requires { steps.IsCourse course.now }
+    ensures { (priv : ℕ) → result ≡ steps.stops (end_of course.now.goal) (Retire addr itype priv) (drop used course.now.outcomes) }
+{
+    match course.goal {
+        Goal::Branch => (itype == 4 || itype == 5) && are_used(used, course),
+        Goal::Address(to) => addr == to && are_used(used, course),
+        Goal::Target(_) => false,
+    }
+}
+
+/// Whether a word of a class at this address is a backward jump.
+#[inline]
+fn jumps_back(addr: u64, class: Class) -> bool
+    ensures { (length : ℕ) → result ≡ jumps_back addr (Some (class, length)) }
+{
+    match class {
+        Class::Jump(to) => to <= addr,
+        _ => false,
+    }
+}

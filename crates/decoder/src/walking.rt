@@ -1,0 +1,160 @@
+//! Walks, in two passes: the first measures, the second writes.
+
+ghost use Rattle.std.specs.Prelude.{◌≡◌, ◌+◌, ◌*◌, ◌/◌, ◌^◌, ◌≤◌, length, vec_len, vec_capacity, IsOk, IfOk, IfErr};
+ghost use Rattle.rvclass.specs.Fetch.{words_of};
+ghost use Rattle.rvclass.specs.Words.{IsProgram, LiesIn};
+ghost use Rattle.decoder.specs.Faults.{IsOnTheWay};
+ghost use Rattle.decoder.specs.WalkSteps as steps;
+ghost use Rattle.decoder.specs.Walks.{event_of, end_of, Carries, IsHere, Finds, FindsNone, HasRoom, Adds};
+
+use crate::fault::DecodeFault;
+use crate::stepping::{Course, Goal, Here, Step, step_from};
+use payload::Outcomes;
+use retire::Event;
+use rvclass::Program;
+use std::alloc::Allocator;
+
+/// How many retirements a walk has, and the last of them.
+#[derive(Clone, Copy)]
+pub struct Walked {
+    pub count: usize,
+    pub last: Here,
+}
+
+/// The walk from a retirement, measured; or the first thing on the way that no walk has.
+pub fn measure(
+    program: &Program,
+    from: Here,
+    outcomes: &Outcomes,
+    goal: Goal,
+) -> Result<Walked, DecodeFault>
+    requires { IsHere (words_of program.now) from }
+    ensures found { IfOk result
+        (λ walked. Finds (words_of program.now) from outcomes.now (end_of goal) walked) }
+    ensures short { IfOk result (λ walked. walked.count ≤ 32 * (length program.now.bytes / 2)) }
+    ensures none { IfErr result
+        (λ fault. FindsNone (words_of program.now) from outcomes.now (end_of goal)) }
+    ensures named { IfErr result IsOnTheWay }
+{
+    measure_within(
+        program,
+        longest(program),
+        from,
+        &Course::new(outcomes, goal),
+    )
+}
+
+/// Writes a walk that was measured, into room that was reserved.
+pub fn write<A: Allocator>(
+    program: &Program,
+    from: Here,
+    outcomes: &Outcomes,
+    goal: Goal,
+    log: &mut Vec<Event, A>,
+)
+    requires from { IsHere (words_of program.now) from }
+    requires room { HasRoom (words_of program.now) from outcomes.now (end_of goal)
+        (vec_len log.old) (vec_capacity log.old) }
+    ensures walk { Adds (words_of program.now) from outcomes.now (end_of goal) log.old.items log.new.items }
+    ensures room { vec_capacity log.new ≡ vec_capacity log.old }
+{
+    write_within(
+        program,
+        longest(program),
+        from,
+        &Course::new(outcomes, goal),
+        log,
+    );
+}
+
+/// How many retirements a walk has at most.
+fn longest(program: &Program) -> usize
+    ensures value { result ≡ 32 * (length program.now.bytes / 2) }
+    ensures program { IsProgram (words_of program.now) }
+    ensures within { LiesIn (words_of program.now) program.now.base (length program.now.bytes) }
+{
+    32 * (program.byte_count() / 2)
+}
+
+/// Does nothing. Its contract hands to a caller what every program keeps.
+pub fn program_kept(program: &Program)
+    ensures words { IsProgram (words_of program.now) }
+    ensures small { length program.now.bytes ≤ 2 ^ 24 }
+{
+    let _ = program.byte_count();
+}
+
+/// Measures a walk of at most so many steps.
+fn measure_within(
+    program: &Program,
+    limit: usize,
+    from: Here,
+    course: &Course,
+) -> Result<Walked, DecodeFault>
+    requires program { IsProgram (words_of program.now) }
+    requires from { Carries (words_of program.now) from }
+    requires course { steps.IsCourse course.now }
+    ensures told { steps.summary_of result ≡ steps.summary (event_of from)
+        (steps.walk_within (words_of program.now) limit (event_of from) course.now.outcomes (end_of course.now.goal)) }
+    ensures carries { IfOk result (λ walked. Carries (words_of program.now) walked.last) }
+    ensures named { IfErr result IsOnTheWay }
+{
+    let mut here = from;
+    let mut used = 0;
+    for done in 0..limit {
+        match step_from(program, &mut here, &mut used, course) {
+            Step::Goes => {}
+            Step::Ends => {
+                return Ok(Walked {
+                    count: done + 1,
+                    last: here,
+                });
+            }
+            Step::Fails(fault) => return Err(fault),
+        }
+    }
+    Err(DecodeFault::WrongPlace)
+}
+
+/// Writes a walk of at most so many steps.
+fn write_within<A: Allocator>(
+    program: &Program,
+    limit: usize,
+    from: Here,
+    course: &Course,
+    log: &mut Vec<Event, A>,
+)
+    requires program { IsProgram (words_of program.now) }
+    requires from { Carries (words_of program.now) from }
+    requires course { steps.IsCourse course.now }
+    requires room { steps.HasRoomWithin (words_of program.now) limit (event_of from) course.now.outcomes (end_of course.now.goal)
+        (vec_len log.old) (vec_capacity log.old) }
+    ensures walk { steps.AddsWithin (words_of program.now) limit (event_of from) course.now.outcomes (end_of course.now.goal)
+        log.old.items log.new.items }
+    ensures room { vec_capacity log.new ≡ vec_capacity log.old }
+{
+    let mut here = from;
+    let mut used = 0;
+    for _ in 0..limit {
+        match step_from(program, &mut here, &mut used, course) {
+            Step::Goes => log.push_reserved(event(here)),
+            Step::Ends => {
+                log.push_reserved(event(here));
+                return;
+            }
+            Step::Fails(_) => return,
+        }
+    }
+}
+
+/// The retirement as an event.
+#[inline]
+pub fn event(here: Here) -> Event
+    ensures { result ≡ event_of here }
+{
+    Event::Retire {
+        addr: here.addr,
+        itype: here.itype,
+        privilege: here.privilege,
+    }
+}
