@@ -1,0 +1,7 @@
+pub mod Answering
+pub mod Cuts
+pub mod Heads
+pub mod LittleBytes
+pub mod Moving
+pub mod ReadBack
+pub mod Writes

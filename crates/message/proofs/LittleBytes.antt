@@ -1,0 +1,36 @@
+-- The bytes of the number that bytes spell.
+use Rattle.std.proofs.Common.{◌≡◌, ◌<◌, ◌≤◌, ◌+◌, ◌*◌, ◌/◌, ◌%◌, ◌^◌, ℕ, zero, suc, List, [], ◌∷◌, length, take, slice_index, refl, sym, ap, ◌∙◌, arith}
+use Rattle.std.proofs.Math.Nat.{div-div-eq-div-mul, div-one, pow-succ'}
+use Rattle.std.specs.Int.{byte_at, bytes_low_first}
+use Rattle.byteorder.specs.Endian.{little_from, little_number, little_bytes}
+use Rattle.byteorder.specs.Numbers.{little_from-cons}
+
+byte_at-pow : (j n : ℕ) → byte_at j n ≡ n / 256 ^ j % 256
+byte_at-pow zero n = ap (λ (q : ℕ). q % 256) (sym (div-one n))
+byte_at-pow (suc j) n = refl
+
+-- a byte above the lowest is a byte of the number without its lowest byte
+byte_at-suc : (j b y : ℕ) → b < 256 → byte_at (suc j) (b + 256 * y) ≡ byte_at j y
+byte_at-suc j b y h =
+    let rest : (b + 256 * y) / 256 ≡ y = omega (arith, h) in
+    let power : 256 ^ suc j ≡ 256 * 256 ^ j = pow-succ' 256 j in
+    let shift : (b + 256 * y) / 256 ^ suc j ≡ (b + 256 * y) / 256 / 256 ^ j =
+    ap (λ (p : ℕ). (b + 256 * y) / p) power ∙ sym (div-div-eq-div-mul (b + 256 * y) 256 (256 ^ j)) in
+    byte_at-pow (suc j) (b + 256 * y) ∙ ap (λ (q : ℕ). q % 256) (shift ∙ ap (λ (q : ℕ). q / 256 ^ j) rest) ∙ sym (byte_at-pow j y)
+
+-- the bytes above the lowest are those of the number without its lowest byte
+bytes_low_first-suc : (n j b y : ℕ) → b < 256 → bytes_low_first (suc j) n (b + 256 * y) ≡ bytes_low_first j n y
+bytes_low_first-suc zero j b y h = refl
+bytes_low_first-suc (suc n) j b y h = rw (byte_at-suc j b y h, bytes_low_first-suc n (suc j) b y h) refl
+
+-- the bytes of the number that the first bytes spell are those bytes
+pub little_bytes-little_number : (n : ℕ) (xs : List ℕ) → n ≤ length xs → ((k : ℕ) → slice_index xs k < 256)
+    → little_bytes n (little_number n xs) ≡ take n xs
+little_bytes-little_number zero xs h bytes = refl
+little_bytes-little_number (suc n) [] h bytes = absurd (omega (arith, h))
+little_bytes-little_number (suc n) (x ∷ xs) h bytes =
+    let first : x < 256 = bytes 0 in
+    let moved = little_from-cons 0 n x xs in
+    let lowest : (x + 256 * little_from 0 n xs) % 256 ≡ x = omega (arith, first) in
+    let rest = bytes_low_first-suc n 0 x (little_from 0 n xs) first ∙ little_bytes-little_number n xs (omega (arith, h)) (λ k. bytes (suc k)) in
+    rw (moved, lowest, rest) refl

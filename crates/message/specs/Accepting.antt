@@ -1,0 +1,51 @@
+-- What a demultiplexer answers to a message, and what it expects then.
+use Rattle.std.specs.Prelude.{ℕ, ◌+◌, nat_lt, if◌then◌else◌, Option, Some, None, Result, Ok, Err, slice_get, slice_set}
+use Rattle.payload.specs.Closing.{is_closing_packet}
+use Rattle.payload.specs.Reading.{reading}
+use Rattle.payload.specs.declared.packet.Packet.{Packet}
+use Rattle.payload.specs.declared.fault.PackFault.{PackFault}
+use Rattle.message.specs.Harts.{Harts, is_over}
+use Rattle.message.specs.declared.hart.Hart.{Hart}
+use Rattle.message.specs.declared.message.Message.{Message}
+use Rattle.message.specs.declared.fault.DemuxFault.{DemuxFault}
+use Rattle.message.specs.declared.fault.DemuxFault.TheVariants as fault
+
+abbrev pub packet_or_fault : Result Packet PackFault → Result Packet DemuxFault
+packet_or_fault (Ok packet) = Ok packet
+packet_or_fault (Err why) = Err (fault.Packet why)
+
+-- what is answered to a message of a hart, of which this is expected: the first fault, or else the packet
+abbrev pub answer : Hart → Message → Result Packet DemuxFault
+answer h m =
+    if is_over h then Err fault.AfterClose else
+    if nat_lt m.number h.expected then Err fault.Repeat else
+    if nat_lt h.expected m.number then Err (fault.Gap h.expected) else
+    packet_or_fault (reading m.payload)
+
+abbrev pub state_by : Hart → Result Packet DemuxFault → Hart
+state_by h (Ok packet) = record { expected = h.expected + 1; closed = is_closing_packet packet }
+state_by h (Err why) = h
+
+-- what is expected of the hart after a message of it
+abbrev pub state_after : Hart → Message → Hart
+state_after h m = state_by h (answer h m)
+
+-- what is expected of a hart of which this number was accepted
+abbrev pub next_of : ℕ → Packet → Hart
+next_of number packet = record { expected = number + 1; closed = is_closing_packet packet }
+
+abbrev pub answer_of : Option Hart → Message → Result Packet DemuxFault
+answer_of None m = Err fault.Stranger
+answer_of (Some h) m = answer h m
+
+-- what is answered to a message
+abbrev pub accepting : Harts → Message → Result Packet DemuxFault
+accepting harts m = answer_of (slice_get harts m.hart) m
+
+abbrev pub harts_by : Harts → Message → Option Hart → Harts
+harts_by harts m None = harts
+harts_by harts m (Some h) = slice_set harts m.hart (state_after h m)
+
+-- what is expected after a message: of its hart alone something else
+abbrev pub harts_after : Harts → Message → Harts
+harts_after harts m = harts_by harts m (slice_get harts m.hart)

@@ -1,0 +1,79 @@
+//! The demultiplexer.
+ghost use Rattle.std.specs.Prelude.{◌≡◌, ◌↔◌, ◌≤◌, ◌<◌, ℕ, length, replicate, slice_set, Some, OnErr, IfOk, Err, Ok};
+ghost use Rattle.message.specs.Harts.{Harts, newcomer, Expects, IsOver, has_closed};
+ghost use Rattle.message.specs.Accepting.{accepting, harts_after, next_of};
+ghost use Rattle.payload.specs.Reading.{reading};
+ghost use Rattle.payload.specs.declared.fault.PackFault.{PackFault as AnyFault};
+ghost use Rattle.payload.specs.declared.packet.Packet.{Packet as AnyPacket};
+
+use crate::hart::Hart;
+use crate::{DemuxFault, Message};
+use payload::Packet;
+use std::alloc::{AllocError, Allocator, Global};
+use std::marker::Model;
+
+/// Parts the messages of several harts, and lets through just those that come in each hart's order.
+#[derive(Debug, Drop)]
+pub struct Demux<A: Allocator = Global> {
+    harts: Vec<Hart, A>,
+}
+
+impl<A: Allocator> Model for Demux<A> {
+    ghost Value = { Harts };
+
+    ghost view = { λ demux. demux.harts.items };
+}
+
+impl<A: Allocator> Demux<A> {
+    /// A demultiplexer that knows the harts below `harts`, and accepted nothing of any.
+    pub fn new(alloc: A, harts: u16) -> Result<Demux<A>, AllocError>
+        ensures { IfOk result (λ demux. demux ≡ replicate harts newcomer) }
+    {
+        Ok(Demux {
+            harts: vec![in alloc; Hart::FIRST; usize::from(harts)]?,
+        })
+    }
+
+    /// The packet of the message, where it is the next of a hart that is known and open. A refusal changes nothing.
+    pub fn accept(&mut self, message: &Message) -> Result<Packet, DemuxFault>
+        ensures accepted { (packet : AnyPacket) → (result ≡ Ok packet)
+            ↔ (Expects self.old message.now.hart (λ expected. expected ≡ message.now.number) × (reading message.now.payload ≡ Ok packet)) }
+        ensures stranger { (result ≡ Err DemuxFault.Stranger) ↔ (length self.old ≤ message.now.hart) }
+        ensures after_close { (result ≡ Err DemuxFault.AfterClose) ↔ IsOver self.old message.now.hart }
+        ensures repeat { (result ≡ Err DemuxFault.Repeat) ↔ Expects self.old message.now.hart (λ expected. message.now.number < expected) }
+        ensures gap { (k : ℕ) → (result ≡ Err (DemuxFault.Gap k))
+            ↔ Expects self.old message.now.hart (λ expected. (expected ≡ k) × (k < message.now.number)) }
+        ensures bad_packet { (why : AnyFault) → (result ≡ Err (DemuxFault.Packet why))
+            ↔ (Expects self.old message.now.hart (λ expected. expected ≡ message.now.number) × (reading message.now.payload ≡ Err why)) }
+
+        ensures moves { IfOk result (λ packet. self.new ≡ slice_set self.old message.now.hart (next_of message.now.number packet)) }
+        ensures refused { OnErr result (self.new ≡ self.old) }
+
+        // What is answered and what is expected then are functions of the message and of what was expected.
+        ensures value { result ≡ accepting self.old message.now }
+        ensures state { self.new ≡ harts_after self.old message.now }
+    {
+        self.accept_by_hart(message)
+    }
+
+    fn accept_by_hart(&mut self, message: &Message) -> Result<Packet, DemuxFault>
+        ensures value { result ≡ accepting self.old message.now }
+        ensures state { self.new ≡ harts_after self.old message.now }
+    {
+        let at = usize::from(message.hart);
+        if at >= self.harts.len() {
+            return Err(DemuxFault::Stranger);
+        }
+        self.harts[at].accept(message)
+    }
+
+    /// Whether the hart's closing packet was accepted. It is false for a hart that the demultiplexer does not know.
+    pub fn is_closed(&self, hart: u16) -> bool
+        ensures { result ≡ has_closed self.now hart }
+    {
+        match self.harts.get(usize::from(hart)) {
+            Some(state) => state.closed,
+            None => false,
+        }
+    }
+}

@@ -1,0 +1,104 @@
+//! Bytes to messages.
+ghost use Rattle.std.specs.Prelude.{◌⊎◌, List, ◌≡◌, ◌≢◌, ◌<◌, ◌++◌, ℕ, length, take, slice_index, Ok, Err, Some, None, IfOk, IfErr, IfSome};
+ghost use Rattle.std.specs.Io.KnownBytes.{Consumes, IsAtEnd, Keeps};
+ghost use Rattle.message.specs.Capture.{head_bytes, message_bytes};
+ghost use Rattle.message.specs.Cut.{IsCut, IsMessage, IsBadLength, HasBadLength};
+ghost use Rattle.message.specs.Filling.{Fills};
+ghost use Rattle.message.specs.declared.message.Message.{Message as AnyMessage};
+
+use crate::message::HEAD;
+use crate::{Message, MessageFault};
+use byteorder::{ByteOrder, LittleEndian};
+use payload::Payload;
+use std::io::{ErrorKind, Read};
+
+/// The most bytes of a payload.
+const MOST: usize = 18;
+
+/// Reads the next message, or `None` where the input ends before it.
+///
+/// [`MessageFault::Read`] comes only where the reader failed; a reader that is interrupted is asked again. Bytes are
+/// counted as they come, so an error of the reader's own is never taken for the end of the input. After a fault the
+/// place in the stream is unknown.
+pub fn read_message<R: Read>(r: &mut R) -> Result<Option<Message>, MessageFault>
+    ensures message { IfOk result (λ found. IfSome found
+        (λ message. Consumes (R.remaining r.old) (R.remaining r.new) (message_bytes message))) }
+    ensures end { result ≡ Ok None → IsAtEnd (R.remaining r.old) × Keeps (R.remaining r.old) (R.remaining r.new) }
+    ensures short { result ≡ Err MessageFault.Short → IfSome (R.remaining r.old) IsCut }
+    ensures bad_length { result ≡ Err MessageFault.BadLength → IfSome (R.remaining r.old) HasBadLength }
+    ensures never_write { IfErr result (λ fault. fault ≢ MessageFault.Write) }
+
+    // A message that the input begins with is read, unless the reader fails.
+    ensures reads_back { (message : AnyMessage) (rest : List ℕ) → IsMessage message → R.remaining r.old ≡ Some (message_bytes message ++ rest)
+        → (result ≡ Ok (Some message)) ⊎ (result ≡ Err MessageFault.Read) }
+{
+    next_message(r)
+}
+
+fn next_message<R: Read>(r: &mut R) -> Result<Option<Message>, MessageFault>
+    ensures ranges { IfOk result (λ found. IfSome found (λ message. IsMessage message)) }
+    ensures message { IfOk result (λ found. IfSome found
+        (λ message. Consumes (R.remaining r.old) (R.remaining r.new) (message_bytes message))) }
+    ensures end { result ≡ Ok None → IsAtEnd (R.remaining r.old) × Keeps (R.remaining r.old) (R.remaining r.new) }
+    ensures short { result ≡ Err MessageFault.Short → IfSome (R.remaining r.old) IsCut }
+    ensures bad_length { result ≡ Err MessageFault.BadLength → IfSome (R.remaining r.old) HasBadLength }
+    ensures never_write { IfErr result (λ fault. fault ≢ MessageFault.Write) }
+{
+    let mut head = [0; HEAD];
+    match fill(r, &mut head)? {
+        0 => Ok(None),
+        HEAD => Ok(Some(read_payload(r, &head)?)),
+        _ => Err(MessageFault::Short),
+    }
+}
+
+/// Reads the payload of a message of this head.
+fn read_payload<R: Read>(r: &mut R, head: &[u8]) -> Result<Message, MessageFault>
+    requires { length head.now ≡ 11 }
+    ensures ranges { IfOk result (λ message. IsMessage message) }
+    ensures head { IfOk result (λ message. head_bytes message ≡ head.now) }
+    ensures payload { IfOk result (λ message. Consumes (R.remaining r.old) (R.remaining r.new) message.payload) }
+    ensures short { result ≡ Err MessageFault.Short → IfSome (R.remaining r.old) (λ rest. IsCut (head.now ++ rest)) }
+    ensures bad_length { result ≡ Err MessageFault.BadLength → IsBadLength (slice_index head.now 10) }
+    ensures never_write { IfErr result (λ fault. fault ≢ MessageFault.Write) }
+{
+    let length = usize::from(head[10]);
+    let mut bytes = [0; MOST];
+    if length == 0 || length > MOST {
+        return Err(MessageFault::BadLength);
+    }
+    if fill(r, &mut bytes[..length])? < length {
+        return Err(MessageFault::Short);
+    }
+    match Payload::new(&bytes[..length]) {
+        Ok(payload) => Ok(Message {
+            hart: LittleEndian::read_u16(head),
+            number: LittleEndian::read_u64(&head[2..]),
+            payload,
+        }),
+        Err(_) => unreachable!(),
+    }
+}
+
+/// Reads until the room is full or the input ends, and tells how many bytes came.
+fn fill<R: Read>(r: &mut R, room: &mut [u8]) -> Result<usize, MessageFault>
+    ensures filled { IfOk result (λ count. Fills (R.remaining r.old) (R.remaining r.new) room.new count) }
+    ensures fault { IfErr result (λ fault. fault ≡ MessageFault.Read) }
+{
+    let mut count = 0;
+    for _ in 0..u64::MAX {
+        if count == room.len() {
+            return Ok(count);
+        }
+        match r.read(&mut room[count..]) {
+            Ok(0) => return Ok(count),
+            Ok(more) => count += more,
+            Err(error) => {
+                if error.kind() != ErrorKind::Interrupted {
+                    return Err(MessageFault::Read);
+                }
+            }
+        }
+    }
+    Err(MessageFault::Read)
+}

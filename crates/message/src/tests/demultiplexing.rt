@@ -1,0 +1,99 @@
+//! Messages that are accepted and messages that are not.
+
+use super::message;
+use crate::hart::Hart;
+use crate::{Demux, DemuxFault};
+use payload::{PackFault, Packet, Support};
+use std::test::Fail;
+
+const OPEN: &[u8] = &[0x1f];
+
+const SYNC: &[u8] = &[0x73, 0, 0, 0, 0x20];
+
+const MAP: &[u8] = &[0x01];
+
+const ENDED: &[u8] = &[0x4f];
+
+const RESERVED: &[u8] = &[0x53];
+
+#[test]
+fn messages_by_table(rt: HostRuntime) -> Result<(), Fail> {
+    // In order: hart, number, payload, whether it is accepted and else why not.
+    let table: [(u16, u64, &[u8], Option<DemuxFault>); 18] = [
+        (0, 1, OPEN, Some(DemuxFault::Gap { expected: 0 })),
+        (0, 0, OPEN, None),
+        (0, 0, OPEN, Some(DemuxFault::Repeat)),
+        (0, 2, SYNC, Some(DemuxFault::Gap { expected: 1 })),
+        (
+            0,
+            1,
+            RESERVED,
+            Some(DemuxFault::Packet(PackFault::BadPrivilege)),
+        ),
+        (0, 2, RESERVED, Some(DemuxFault::Gap { expected: 1 })),
+        (0, 0, RESERVED, Some(DemuxFault::Repeat)),
+        (1, 0, OPEN, None),
+        (2, 0, OPEN, Some(DemuxFault::Stranger)),
+        (65535, 9, RESERVED, Some(DemuxFault::Stranger)),
+        (0, 1, SYNC, None),
+        (0, 2, MAP, None),
+        (0, u64::MAX, ENDED, Some(DemuxFault::Gap { expected: 3 })),
+        (0, 3, ENDED, None),
+        (0, 4, ENDED, Some(DemuxFault::AfterClose)),
+        (0, 3, ENDED, Some(DemuxFault::AfterClose)),
+        (0, 9, RESERVED, Some(DemuxFault::AfterClose)),
+        (1, 1, ENDED, None),
+    ];
+    let mut demux = Demux::new(rt.alloc(), 2)?;
+    for (row, (hart, number, bytes, fault)) in table.into_iter().enumerate() {
+        let answer = demux.accept(&message(hart, number, bytes)?);
+        match fault {
+            Some(fault) => assert_eq!(rt; answer, Err(fault), "row {row}"),
+            None => assert_eq!(rt; answer, Ok(payload::unpack(bytes)?), "row {row}"),
+        }
+        assert_eq!(rt; demux.is_closed(0), row >= 13, "row {row}");
+        assert_eq!(rt; demux.is_closed(1), row >= 17, "row {row}");
+        assert!(rt; !demux.is_closed(2) && !demux.is_closed(65535));
+    }
+    Ok(())
+}
+
+#[test]
+fn no_more_than_2_to_the_63(rt: HostRuntime) -> Result<(), Fail> {
+    let last = (1 << 63) - 1;
+    let mut hart = Hart {
+        expected: last,
+        closed: false,
+    };
+    assert_eq!(rt;
+        hart.accept(&message(0, last - 1, OPEN)?),
+        Err(DemuxFault::Repeat)
+    );
+    assert_eq!(rt;
+        hart.accept(&message(0, last, OPEN)?),
+        Ok(Packet::Support(Support::Open))
+    );
+    for number in [0, last, last + 1, last + 2] {
+        assert_eq!(rt;
+            hart.accept(&message(0, number, OPEN)?),
+            Err(DemuxFault::AfterClose)
+        );
+    }
+    assert!(rt; !hart.closed);
+    Ok(())
+}
+
+#[test]
+fn texts(rt: HostRuntime) -> Result<(), Fail> {
+    let table = [
+        (DemuxFault::Stranger, "stranger"),
+        (DemuxFault::Repeat, "repeat"),
+        (DemuxFault::AfterClose, "after close"),
+        (DemuxFault::Gap { expected: 12 }, "gap, expected number 12"),
+        (DemuxFault::Packet(PackFault::BadPad), "bad packet: BadPad"),
+    ];
+    for (fault, text) in table {
+        assert_eq!(rt; format!(in rt.alloc(); "{fault}")?.as_str(), text);
+    }
+    Ok(())
+}

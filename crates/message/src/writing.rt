@@ -1,0 +1,41 @@
+//! Messages to bytes.
+ghost use Rattle.std.specs.Prelude.{◌≡◌, OnOk, IfErr};
+ghost use Rattle.std.specs.Io.KnownBytes.{Appends};
+ghost use Rattle.message.specs.Capture.{head_bytes, message_bytes};
+
+use crate::message::HEAD;
+use crate::{Message, MessageFault};
+use byteorder::{ByteOrder, LittleEndian};
+use std::io::Write;
+
+/// Writes a message: the hart in 2 bytes and the number in 8, both little endian, the payload's length in one, and the
+/// payload. Where the writer fails, a beginning of it may have been written. The writer is not flushed.
+pub fn write_message<W: Write>(w: &mut W, message: &Message) -> Result<(), MessageFault>
+    ensures written { OnOk result (Appends (W.contents w.old) (W.contents w.new) (message_bytes message.now)) }
+    ensures fault { IfErr result (λ fault. fault ≡ MessageFault.Write) }
+{
+    put(w, &head_of(message))?;
+    put(w, message.payload.bytes())
+}
+
+/// The bytes of a message that stand before its payload.
+fn head_of(message: &Message) -> [u8; HEAD]
+    ensures { result ≡ head_bytes message.now }
+{
+    let mut head = [0; HEAD];
+    LittleEndian::write_u16(&mut head, message.hart);
+    LittleEndian::write_u64(&mut head[2..], message.number);
+    head[10] = message.payload.bytes().len() as u8;
+    head
+}
+
+/// Writes bytes.
+fn put<W: Write>(w: &mut W, bytes: &[u8]) -> Result<(), MessageFault>
+    ensures written { OnOk result (Appends (W.contents w.old) (W.contents w.new) bytes.now) }
+    ensures fault { IfErr result (λ fault. fault ≡ MessageFault.Write) }
+{
+    match w.write_all(bytes) {
+        Ok(()) => Ok(()),
+        Err(_) => Err(MessageFault::Write),
+    }
+}
