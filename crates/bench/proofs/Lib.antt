@@ -1,7 +1,9 @@
-pub mod Runs
-pub mod Rows
-pub mod ToldSpans
-pub mod Items
-pub mod Ahead
-pub mod Back
 pub mod HexTexts
+pub mod LogLines
+pub mod QuietLemmas
+pub mod RuleFacts
+pub mod PacketOrder
+pub mod Telling
+pub mod QuietTelling
+pub mod EventTelling
+pub mod FirstPackets

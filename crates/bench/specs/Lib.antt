@@ -1,5 +1,3 @@
+pub mod Payloads
 pub mod HexLines
-pub mod Run
-pub mod Span
-pub mod Straight
-pub mod StraightPackets
+pub mod Reach

@@ -1,34 +1,24 @@
-mod lines;
-mod memory;
-mod straight;
+//! Logs through the bench.
 
+mod decoding;
+mod encoding;
+mod made;
+
+use legalpath::LegalLog;
 use retire::Event;
 use rvclass::Program;
-use std::alloc::Global;
 use std::test::Fail;
 
-/// ADDI x0, x0, 0.
-const NOP: [u8; 4] = [0x13, 0, 0, 0];
+/// The periods that logs are encoded at.
+const PERIODS: [u16; 5] = [1, 2, 31, 1024, 65535];
 
-/// JAL x0, 0.
-const JUMP: [u8; 4] = [0x6f, 0, 0, 0];
-
-const BASE: u64 = 0x8000_0000;
-
-/// The program of these words from the base on.
-fn program_of(alloc: Global, words: &[[u8; 4]]) -> Result<Program, Fail> {
-    let mut bytes = Vec::new(alloc);
-    for word in words {
-        bytes.extend_from_slice(word)?;
+/// The log of these events, which are legal for the program.
+fn legal_log<'p>(program: &'p Program, events: Vec<Event>) -> Result<LegalLog<'p>, Fail> {
+    if events.len() > 1 << 24 {
+        return Err(Fail::new("too many events"));
     }
-    Ok(Program::new(BASE, bytes)?)
-}
-
-/// A plain word's retirement at the base plus this offset, at machine level.
-fn retired(offset: u16) -> Event {
-    Event::Retire {
-        addr: BASE + u64::from(offset),
-        itype: 0,
-        privilege: 3,
+    match LegalLog::new(program, events) {
+        Ok(log) => Ok(log),
+        Err((why, _)) => Err(Fail::new(why)),
     }
 }

@@ -1,2 +1,3 @@
 mod GrammarLemmas
+mod PeriodLemmas
 mod SubcommandLemmas

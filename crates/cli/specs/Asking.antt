@@ -1,5 +1,6 @@
 -- What words ask for, by what clap finds in them.
-use Rattle.std.specs.Prelude.{◌≡◌, ◌≢◌, codes, Bool, true, false, List, [], Option, map}
+use Rattle.std.specs.Prelude.{◌≡◌, ◌≢◌, ◌≤◌, ◌<◌, ◌^◌, ℕ, codes, Bool, true, false, List, [], Option, map}
+use Rattle.std.specs.Str.Parse.{IsNumeral, digits_value, without_leading_plus}
 use Rattle.std.specs.Prelude.{Some, None, unwrap_or}
 use Rattle.clap.specs.Words.{Row, Text, all_of, fault_of, first_of, one_of, subcommand_of}
 use Rattle.cli.specs.Grammar.{program_app}
@@ -19,14 +20,28 @@ abbrev pub IsFlag : Option Text → Bool → Type 0
 IsFlag value is_set = (value ≡ Some (codes "true") → is_set ≡ true)
     × (value ≡ Some (codes "false") → is_set ≡ false) × (value ≡ None → is_set ≡ false)
 
+-- the number that a decimal text is
+abbrev pub decimal : Text → ℕ
+decimal text = digits_value 10 (without_leading_plus text)
+
+-- the text is a decimal number from 1 to 65535
+abbrev pub TellsPeriod : Text → Type 0
+TellsPeriod text = IsNumeral 10 (without_leading_plus text) × (1 ≤ decimal text) × (decimal text < 2 ^ 16)
+
+-- a period is 1 or more, and the one that the text tells, where it tells one
+abbrev pub IsPeriod : Option Text → ℕ → Type 0
+IsPeriod value period = (1 ≤ period)
+    × ((text : Text) → value ≡ Some text → TellsPeriod text → period ≡ decimal text)
+
 -- a subcommand of this name with these rows is what is asked
 abbrev pub Asks : Text → List Row → Asked → Type 0
 Asks name rows (Check base image logs) = (name ≡ codes "check")
     × (base.now ≡ text_of (codes "base") rows) × (image.now ≡ text_of (codes "IMAGE") rows)
     × (map (λ log. log.now) logs.items ≡ texts_of (codes "LOG") rows)
-Asks name rows (Encode base image log hex) = (name ≡ codes "encode")
-    × (base.now ≡ text_of (codes "base") rows) × (image.now ≡ text_of (codes "IMAGE") rows)
-    × (log.now ≡ text_of (codes "LOG") rows) × IsFlag (one_of (codes "hex") rows) hex
+Asks name rows (Encode base period hex image logs) = (name ≡ codes "encode")
+    × (base.now ≡ text_of (codes "base") rows) × IsPeriod (one_of (codes "period") rows) period
+    × IsFlag (one_of (codes "hex") rows) hex × (image.now ≡ text_of (codes "IMAGE") rows)
+    × (map (λ log. log.now) logs.items ≡ texts_of (codes "LOG") rows)
 
 -- what was found of a subcommand is what is asked
 abbrev pub AsksFound : Option (Text × List Row) → Asked → Type 0
@@ -40,7 +55,7 @@ WordsAsk words = AsksFound (subcommand_of program_app words)
 -- what is asked is a run of `check`
 abbrev pub IsCheck : Asked → Type 0
 IsCheck (Check base image logs) = Unit {0}
-IsCheck (Encode base image log hex) = ⊥
+IsCheck (Encode base period hex image logs) = ⊥
 
 -- the words ask for no run of `check`
 abbrev pub AskNoCheck : List Text → Type 0

@@ -1,5 +1,5 @@
 -- The words that the program takes, in clap's own terms.
-use Rattle.std.specs.Prelude.{◌≡◌, ◌⊎◌, codes, Some, true, false}
+use Rattle.std.specs.Prelude.{◌≡◌, ◌⊎◌, codes, pos, [], ◌∷◌, Some, true, false}
 use Rattle.clap.specs.Words.{App, Rule, Text, app_of, new_app, new_rule, rule_of}
 use Rattle.clap.specs.Words.{with_rule, with_subcommand}
 use Rattle.clap.specs.Lexer.{usize_max}
@@ -9,6 +9,8 @@ use Rattle.clap.specs.declared.builder.command.Command.{Command}
 use Rattle.clap.specs.declared.builder.command.Command.TheViews.{out-Command as fields_of}
 use Rattle.clap.specs.declared.builder.action.ArgAction.TheVariants.{Append, Set, SetTrue}
 use Rattle.clap.specs.declared.builder.range.ValueRange.{ValueRange}
+use Rattle.clap.specs.declared.builder.value_parser.ValueParser.{ValueParser}
+use Rattle.clap.specs.declared.builder.value_parser.ValueParser.TheVariants.{Signed}
 
 -- `--base B`, which has to be there
 abbrev pub base_rule : Rule
@@ -28,9 +30,19 @@ hex_rule =
 abbrev pub image_rule : Rule
 image_rule = record (new_rule (codes "IMAGE")) { action = Some Set; required = true }
 
--- LOG, a word of its own that has to be there
-abbrev pub log_rule : Rule
-log_rule = record (new_rule (codes "LOG")) { action = Some Set; required = true }
+-- a number from 1 to 65535
+abbrev pub period_parser : ValueParser
+period_parser = Signed (pos 1) (pos 65535)
+
+-- `--period N`, which is 1024 where it is not there
+abbrev pub period_rule : Rule
+period_rule = record (new_rule (codes "period")) {
+  long = Some (codes "period");
+  action = Some Set;
+  value_names = 1;
+  defaults = codes "1024" ∷ [];
+  parser = Some period_parser;
+}
 
 -- as many values as there are words, and one at least
 abbrev pub one_or_more : ValueRange
@@ -48,10 +60,10 @@ logs_rule = record (new_rule (codes "LOG")) {
 abbrev pub check_app : App
 check_app = with_rule (with_rule (with_rule (new_app (codes "check")) base_rule) image_rule) logs_rule
 
--- `encode --base B [--hex] IMAGE LOG`
+-- `encode --base B [--period N] [--hex] IMAGE LOG...`
 abbrev pub encode_app : App
-encode_app = with_rule (with_rule (with_rule (with_rule (new_app (codes "encode")) base_rule) hex_rule)
-    image_rule) log_rule
+encode_app = with_rule (with_rule (with_rule (with_rule (with_rule (new_app (codes "encode")) base_rule)
+    period_rule) hex_rule) image_rule) logs_rule
 
 -- the program by itself, which wants a subcommand
 abbrev pub bare_program : App

@@ -1,3 +1,4 @@
 pub mod Grammar
 pub mod Asking
+pub mod Limits
 pub mod Errors

@@ -1,8 +1,8 @@
-// The arguments that subcommands take, one function each.
+//! The arguments that subcommands take, one function each.
 
-ghost use Rattle.cli.specs.Grammar.{IsReadBy, base_rule, hex_rule, image_rule, log_rule, logs_rule};
+ghost use Rattle.cli.specs.Grammar.{IsReadBy, base_rule, hex_rule, image_rule, logs_rule, period_rule};
 
-use clap::{Arg, ArgAction};
+use clap::{Arg, ArgAction, value_parser};
 use std::alloc::Global;
 
 pub(crate) fn base<'a>(alloc: Global) -> Arg<'a>
@@ -34,15 +34,6 @@ pub(crate) fn image<'a>(alloc: Global) -> Arg<'a>
         .help("File of the program's bytes")
 }
 
-pub(crate) fn log<'a>(alloc: Global) -> Arg<'a>
-    ensures { IsReadBy log_rule result }
-{
-    Arg::new(alloc, "LOG")
-        .required(true)
-        .action(ArgAction::Set)
-        .help("Log of one hart, as CSV")
-}
-
 pub(crate) fn logs<'a>(alloc: Global) -> Arg<'a>
     ensures { IsReadBy logs_rule result }
 {
@@ -51,4 +42,16 @@ pub(crate) fn logs<'a>(alloc: Global) -> Arg<'a>
         .action(ArgAction::Append)
         .num_args(1..)
         .help("Logs, each of one hart, as CSV")
+}
+
+pub(crate) fn period<'a>(alloc: Global) -> Arg<'a>
+    ensures { IsReadBy period_rule result }
+{
+    Arg::new(alloc, "period")
+        .long("period")
+        .value_name("N")
+        .value_parser(value_parser!(u16).range(1..=65535))
+        .default_value("1024")
+        .action(ArgAction::Set)
+        .help("Retirements from one periodic synchronisation to the next, 1 to 65535")
 }

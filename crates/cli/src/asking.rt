@@ -1,14 +1,18 @@
-// What the words of a command line ask for.
+//! What the words of a command line ask for.
 
 ghost use Rattle.std.specs.Prelude.{◌≡◌, IfOk, [], codes, map, string_bytes, unwrap_or};
-ghost use Rattle.clap.specs.Words.{FailsBy, fault_of, first_value, found_of, rows_of};
-ghost use Rattle.cli.specs.Asking.{Asks, WordsAsk, texts_of};
+ghost use Rattle.clap.specs.Words.{FailsBy, fault_of, first_value, found_of, one_of, rows_of};
+ghost use Rattle.cli.specs.Asking.{Asks, IsPeriod, WordsAsk, texts_of};
+ghost use Rattle.cli.specs.Limits.{IsWithinLimits};
 ghost use Rattle.cli.specs.Grammar.{IsSubcommand, program_app};
 
 use crate::subcommands::program;
 use crate::words::Asked;
 use clap::{ArgMatches, Error};
 use std::alloc::{AllocError, Global};
+
+/// The period where the words give none.
+const DEFAULT_PERIOD: u16 = 1024;
 
 // The value of an argument, which a parse that succeeds has where the argument is required.
 fn text<'a>(given: &ArgMatches<'a>, id: &str) -> &'a str
@@ -38,15 +42,26 @@ fn check_asked<'a>(alloc: Global, given: &ArgMatches<'a>) -> Result<Asked<'a>, A
     })
 }
 
-fn encode_asked<'a>(given: &ArgMatches<'a>) -> Asked<'a>
-    ensures { Asks (codes "encode") (rows_of (found_of given.now)) result }
+// The period, 1 or more by the range that `clap` keeps.
+fn period<'a>(given: &ArgMatches<'a>) -> u16
+    ensures { IsPeriod (one_of (codes "period") (rows_of (found_of given.now))) result }
 {
-    Asked::Encode {
+    given
+        .get_one::<u16>("period")
+        .unwrap_or(DEFAULT_PERIOD)
+        .max(1)
+}
+
+fn encode_asked<'a>(alloc: Global, given: &ArgMatches<'a>) -> Result<Asked<'a>, AllocError>
+    ensures { IfOk result (Asks (codes "encode") (rows_of (found_of given.now))) }
+{
+    Ok(Asked::Encode {
         base: text(given, "base"),
-        image: text(given, "IMAGE"),
-        log: text(given, "LOG"),
+        period: period(given),
         hex: given.get_flag("hex"),
-    }
+        image: text(given, "IMAGE"),
+        logs: texts(alloc, given, "LOG")?,
+    })
 }
 
 fn asked_of<'a>(alloc: Global, name: &str, given: &ArgMatches<'a>) -> Result<Asked<'a>, AllocError>
@@ -55,7 +70,7 @@ fn asked_of<'a>(alloc: Global, name: &str, given: &ArgMatches<'a>) -> Result<Ask
 {
     match name {
         "check" => check_asked(alloc, given),
-        "encode" => Ok(encode_asked(given)),
+        "encode" => encode_asked(alloc, given),
         _ => unreachable!("clap knows no other subcommand"),
     }
 }
@@ -64,10 +79,11 @@ fn asked_of<'a>(alloc: Global, name: &str, given: &ArgMatches<'a>) -> Result<Ask
 ///
 /// `Ok` comes where `clap` finds no fault in the words by the program's grammar, and holds the texts of
 /// the subcommand's arguments as the words give them: a base is not yet a number, and no file was
-/// looked at. An error is `clap`'s own, calls for help among them: its `Display` is the text for the
+/// looked at. A period is a number, within its limits. An error is `clap`'s own, calls for help among them: its `Display` is the text for the
 /// user, and its kind is `ErrorKind::OutOfMemory` where memory ran out.
 pub fn asked<'a>(alloc: Global, words: &'a [String]) -> Result<Asked<'a>, Error>
     ensures found { IfOk result (WordsAsk (map string_bytes words.now)) }
+    ensures limits { IfOk result IsWithinLimits }
     ensures refused { FailsBy (fault_of program_app (map string_bytes words.now)) result }
 {
     let matches = program(alloc)?.try_get_matches_from(words)?;

@@ -1,9 +1,9 @@
-// The program's subcommands, one function each.
+//! The program's subcommands, one function each.
 
 ghost use Rattle.std.specs.Prelude.{IfOk};
 ghost use Rattle.cli.specs.Grammar.{HasGrammar, check_app, encode_app, program_app};
 
-use crate::arguments::{base, hex, image, log, logs};
+use crate::arguments::{base, hex, image, logs, period};
 use clap::Command;
 use std::alloc::{AllocError, Global};
 
@@ -22,11 +22,12 @@ fn encode<'a>(alloc: Global) -> Result<Command<'a>, AllocError>
     ensures { IfOk result (HasGrammar encode_app) }
 {
     let command = Command::new(alloc, "encode")
-        .about("Write the trace messages of a log")
+        .about("Write the trace messages of logs")
         .arg(base(alloc))?
+        .arg(period(alloc))?
         .arg(hex(alloc))?
         .arg(image(alloc))?
-        .arg(log(alloc))?;
+        .arg(logs(alloc))?;
     Ok(command)
 }
 

@@ -1,4 +1,4 @@
-// What words ask for, and what `clap` says of words that ask for nothing.
+//! What words ask for, and what `clap` says of words that ask for nothing.
 
 use crate::asked;
 use std::alloc::{AllocError, Global};
@@ -25,11 +25,26 @@ fn reads_words(rt: HostRuntime) -> Result<(), Fail> {
     let cases = [
         (
             "tracebench encode --base 80000000 --hex image.bin log.csv",
-            "Encode { base: \"80000000\", image: \"image.bin\", log: \"log.csv\", hex: true }",
+            "Encode { base: \"80000000\", period: 1024, hex: true, image: \"image.bin\", logs: [\"log.csv\"] }",
         ),
         (
-            "tracebench encode image.bin --base=-1 log.csv",
-            "Encode { base: \"-1\", image: \"image.bin\", log: \"log.csv\", hex: false }",
+            "tracebench encode image.bin --base=-1 --period 65535 a.csv b.csv",
+            "Encode { base: \"-1\", period: 65535, hex: false, image: \"image.bin\", \
+             logs: [\"a.csv\", \"b.csv\"] }",
+        ),
+        (
+            "tracebench encode --base 0 --period 1 image.bin log.csv",
+            "Encode { base: \"0\", period: 1, hex: false, image: \"image.bin\", logs: [\"log.csv\"] }",
+        ),
+        (
+            "tracebench encode --base 0 --period 0 image.bin log.csv",
+            "error: invalid value '0' for '--period <N>': 0 is not in 1..=65535\n\n\
+             For more information, try '--help'.\n",
+        ),
+        (
+            "tracebench encode --base 0 --period 65536 image.bin log.csv",
+            "error: invalid value '65536' for '--period <N>': 65536 is not in 1..=65535\n\n\
+             For more information, try '--help'.\n",
         ),
         (
             "tracebench check --base 80000000 image.bin a.csv b.csv",
@@ -56,21 +71,23 @@ fn reads_words(rt: HostRuntime) -> Result<(), Fail> {
         ),
         (
             "tracebench encode --base 80000000 image.bin",
-            "error: the following required arguments were not provided:\n  <LOG>\n\n\
-             Usage: tracebench encode --base <B> <IMAGE> <LOG>\n\n\
+            "error: the following required arguments were not provided:\n  <LOG>...\n\n\
+             Usage: tracebench encode --base <B> <IMAGE> <LOG>...\n\n\
              For more information, try '--help'.\n",
         ),
         (
             "tracebench encode --help",
-            "Write the trace messages of a log\n\n\
-             Usage: tracebench encode [OPTIONS] --base <B> <IMAGE> <LOG>\n\n\
+            "Write the trace messages of logs\n\n\
+             Usage: tracebench encode [OPTIONS] --base <B> <IMAGE> <LOG>...\n\n\
              Arguments:\n  \
-             <IMAGE>  File of the program's bytes\n  \
-             <LOG>    Log of one hart, as CSV\n\n\
+             <IMAGE>   File of the program's bytes\n  \
+             <LOG>...  Logs, each of one hart, as CSV\n\n\
              Options:\n      \
-             --base <B>  Address of the image's first byte, in hexadecimal\n      \
-             --hex       Write a line of hexadecimal for each message\n  \
-             -h, --help      Print help\n",
+             --base <B>    Address of the image's first byte, in hexadecimal\n      \
+             --period <N>  Retirements from one periodic synchronisation to the next, 1 to 65535 \
+             [default: 1024]\n      \
+             --hex         Write a line of hexadecimal for each message\n  \
+             -h, --help        Print help\n",
         ),
     ];
     for (line, text) in cases {

@@ -1,4 +1,4 @@
-// What a command line may ask for.
+//! What a command line may ask for.
 
 /// A subcommand with its files and options, as texts of the words.
 #[derive(Debug, PartialEq, Eq, Drop)]
@@ -12,15 +12,17 @@ pub enum Asked<'a> {
         /// The paths of the logs, at least one, in the order of the words.
         logs: Vec<&'a str>,
     },
-    /// `encode --base B [--hex] IMAGE LOG`: the messages of the log of one hart.
+    /// `encode --base B [--period N] [--hex] IMAGE LOG...`: the messages of the log of each hart.
     Encode {
         /// The address of the image's first byte, not yet read as a number.
         base: &'a str,
-        /// The path of the image.
-        image: &'a str,
-        /// The path of the log.
-        log: &'a str,
+        /// How many retirements there are from one periodic synchronisation to the next, 1 to 65535.
+        period: u16,
         /// Whether the messages are wanted as lines of hexadecimal.
         hex: bool,
+        /// The path of the image.
+        image: &'a str,
+        /// The paths of the logs, at least one, in the order of the words.
+        logs: Vec<&'a str>,
     },
 }

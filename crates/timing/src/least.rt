@@ -13,12 +13,12 @@ pub(crate) trait Phase: Drop {
     fn run(&mut self) -> Result<u64, Fault>;
 }
 
-/// Runs a phase several times, and writes its name, its least time an event and the number that it gives.
+/// Runs a phase several times, and writes its name, its least time for each of so many items and the number that it gives.
 pub(crate) fn measure<R: Clock, E: Write, P: Phase>(
     rt: &R,
     err: &mut E,
     name: &str,
-    events: usize,
+    items: usize,
     mut phase: P,
 ) -> Result<(), Fault> {
     let mut least = u128::MAX;
@@ -28,9 +28,9 @@ pub(crate) fn measure<R: Clock, E: Write, P: Phase>(
         answer = phase.run()?;
         least = least.min(start.elapsed(rt)?.as_nanos());
     }
-    let hundredths = least.saturating_mul(100) / (events.max(1) as u128);
+    let hundredths = least.saturating_mul(100) / (items.max(1) as u128);
     let whole = hundredths / 100;
     let part = hundredths % 100;
-    writeln!(err, "{name:<16} {whole:>6}.{part:02} ns/event  ({answer})")?;
+    writeln!(err, "{name:<18} {whole:>6}.{part:02} ns  ({answer})")?;
     Ok(())
 }

@@ -2,42 +2,38 @@
 
 use crate::fault::Fault;
 use crate::least::Phase;
-use payload::{Outcomes, Packet, Payload, Report, pack, unpack};
+use encoder::Encoder;
+use payload::{Packet, Payload, pack, unpack};
 use retire::Event;
+use rvclass::Program;
 use std::alloc::{AllocError, Global};
 
-/// How many events there are to a sync packet.
-const PERIOD: usize = 18;
+/// How many retirements there are from one periodic synchronisation to the next.
+pub(crate) const PERIOD: u16 = 1024;
 
-/// A packet for each event: a sync packet at each period, and else the difference from the event before.
-pub(crate) fn packets_of(alloc: Global, events: &[Event]) -> Result<Vec<Packet>, AllocError> {
+/// The packets of a log.
+pub(crate) fn packets_of(
+    alloc: Global,
+    program: &Program,
+    events: &[Event],
+) -> Result<Vec<Packet>, AllocError> {
     let mut packets = Vec::new(alloc);
-    let mut last = 0;
-    for (i, event) in events.iter().enumerate() {
-        let (address, privilege) = match *event {
-            Event::Retire {
-                addr,
-                privilege,
-                ..
-            } => (addr, privilege),
-            Event::Trap { epc, privilege, .. } => (epc, privilege),
-        };
-        packets.push(if i % PERIOD == 0 {
-            Packet::Sync {
-                taken: false,
-                privilege,
-                address,
-            }
-        } else {
-            Packet::Address {
-                outcomes: Outcomes::new(),
-                delta: address.wrapping_sub(last),
-                report: Report::Plain,
-            }
-        })?;
-        last = address;
+    let mut encoder = Encoder::new(PERIOD);
+    packets.push(encoder.open())?;
+    for event in events {
+        packets.extend_from_slice(encoder.push(program, *event).as_slice())?;
     }
+    packets.extend_from_slice(encoder.finish(program).as_slice())?;
     Ok(packets)
+}
+
+/// How many bytes the payload of a packet has; none where the packet is not of the profile.
+pub(crate) fn byte_count(packet: &Packet) -> u64 {
+    if packet.in_profile() {
+        pack(packet).bytes().len() as u64
+    } else {
+        0
+    }
 }
 
 /// The payloads of packets in the profile.
@@ -61,9 +57,7 @@ impl Phase for Packing<'_> {
     fn run(&mut self) -> Result<u64, Fault> {
         let mut bytes = 0u64;
         for packet in self.packets {
-            if packet.in_profile() {
-                bytes = bytes.wrapping_add(pack(packet).bytes().len() as u64);
-            }
+            bytes = bytes.wrapping_add(byte_count(packet));
         }
         Ok(bytes)
     }

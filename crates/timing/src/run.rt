@@ -1,5 +1,6 @@
 //! All phases, one after the other.
 
+use crate::coding::{Decoding, Encoding};
 use crate::fault::Fault;
 use crate::input::Input;
 use crate::least::measure;
@@ -21,7 +22,7 @@ pub(crate) fn run<R: Env + Files + Clock + AllocGlobal, E: Write>(
     for text in &input.texts {
         let text = text.as_slice();
         let events = read_log(alloc, alloc, text).map_err(|_| Fault::Log)?;
-        let packets = packets_of(alloc, events.as_slice())?;
+        let packets = packets_of(alloc, &input.program, events.as_slice())?;
         let payloads = payloads_of(alloc, packets.as_slice())?;
         let count = events.len();
         measure(rt, err, "log reading", count, Reading { alloc, text })?;
@@ -49,21 +50,25 @@ pub(crate) fn run<R: Env + Files + Clock + AllocGlobal, E: Write>(
         measure(
             rt,
             err,
-            "pack",
+            "encode and pack",
             count,
-            Packing {
-                packets: packets.as_slice(),
-            },
+            Encoding { program, events },
         )?;
+        let payloads = payloads.as_slice();
         measure(
             rt,
             err,
-            "unpack",
+            "unpack and decode",
             count,
-            Unpacking {
-                payloads: payloads.as_slice(),
+            Decoding {
+                alloc,
+                program,
+                payloads,
             },
         )?;
+        let packets = packets.as_slice();
+        measure(rt, err, "pack", packets.len(), Packing { packets })?;
+        measure(rt, err, "unpack", payloads.len(), Unpacking { payloads })?;
     }
     Ok(())
 }

@@ -1,8 +1,6 @@
 -- What is told at each fault, and how a command ends there.
 use Rattle.std.specs.Prelude.{ℕ, List, Result, Ok, Err}
 use Rattle.std.specs.Borrow.{Bor}
-use Rattle.bench.specs.declared.fault.Straight.{Straight}
-use Rattle.bench.specs.declared.fault.Straight.TheVariants as straight
 use Rattle.retire.specs.declared.fault.LogFault.{LogFault}
 use Rattle.retire.specs.declared.fault.LogFault.TheVariants as log
 use Rattle.retire.specs.declared.fault.WriteFault.{WriteFault}
@@ -28,11 +26,6 @@ abbrev pub log_fault : Path → LogFault → Fault
 log_fault path log.Read = fault.Unreadable path
 log_fault path log.Memory = fault.Memory
 log_fault path why = fault.Log path why
-
--- what is told of a log that is not straight
-abbrev pub straight_fault : Path → Straight → Fault
-straight_fault path (straight.NotStraight row) = fault.NotStraight path (straight.NotStraight row)
-straight_fault path straight.Memory = fault.Memory
 
 -- what is told of output that was not written
 abbrev pub write_fault : WriteFault → Fault

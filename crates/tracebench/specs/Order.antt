@@ -6,22 +6,18 @@ use Rattle.retire.specs.Number.{number_of}
 use Rattle.tracebench.specs.declared.fault.Fault.{Fault}
 use Rattle.tracebench.specs.declared.fault.Fault.TheVariants as fault
 
--- a base has to be a number
-abbrev pub base_fault : Option ℕ → Option Fault
-base_fault None = Some fault.Base
-base_fault (Some base) = None
-
 -- the base has to be a number, and there are at most 64 logs, which is looked at after the base is
-abbrev pub check_fault : Option ℕ → ℕ → Option Fault
-check_fault None logs = base_fault None
-check_fault (Some base) logs = if nat_lt 64 logs then Some fault.ManyLogs else None
+abbrev pub logs_fault : Option ℕ → ℕ → Option Fault
+logs_fault None count = Some fault.Base
+logs_fault (Some base) count = if nat_lt 64 count then Some fault.ManyLogs else None
 
 -- the output has to be lines of hexadecimal, which is looked at before the base is
-abbrev pub encode_fault : Bool → Option ℕ → Option Fault
-encode_fault false base = Some fault.NeedsHex
-encode_fault true base = base_fault base
+abbrev pub encode_fault : Bool → Option ℕ → ℕ → Option Fault
+encode_fault false base count = Some fault.NeedsHex
+encode_fault true base count = logs_fault base count
 
 -- the first fault that is seen without the files
 abbrev pub early_fault : Asked → Option Fault
-early_fault (Check base image logs) = check_fault (number_of base.now) (length logs.items)
-early_fault (Encode base image log hex) = encode_fault hex (number_of base.now)
+early_fault (Check base image logs) = logs_fault (number_of base.now) (length logs.items)
+early_fault (Encode base period hex image logs) =
+    encode_fault hex (number_of base.now) (length logs.items)

@@ -1,22 +1,19 @@
-// The subcommand `check`.
+//! The subcommand `check`.
 
 ghost use Rattle.std.specs.Prelude.{◌≡◌, ◌≤◌, ◌^◌, ◌↔◌, IfOk, IfSome, IsTrue, length};
 ghost use Rattle.legalpath.specs.Legal.{Legal};
 ghost use Rattle.retire.specs.Number.{number_of};
 ghost use Rattle.rvclass.specs.Fetch.{words_of};
-ghost use Rattle.tracebench.specs.Order.{check_fault};
+ghost use Rattle.tracebench.specs.Order.{logs_fault};
 
 use crate::fault::Fault;
 use crate::files::Files;
-use crate::inputs::{base_of, log_of, program_of};
+use crate::inputs::{base_of, counted, log_of, program_of};
 use crate::status::Status;
 use retire::Event;
 use rvclass::Program;
 use std::alloc::Global;
 use std::io::Write;
-
-/// The most logs of one command, one for each hart.
-const MOST_LOGS: usize = 64;
 
 /// Writes a line for each log, whether it is legal, and answers that all is done where all are, and
 /// else that input is refused. A log that is not read ends it, after the lines of the logs before.
@@ -28,13 +25,11 @@ pub(crate) fn check<'a, F: Files, O: Write>(
     logs: &[&'a str],
     out: &mut O,
 ) -> Result<Status, Fault<'a>>
-    ensures early { IfSome (check_fault (number_of base.now) (length logs.now))
+    ensures early { IfSome (logs_fault (number_of base.now) (length logs.now))
         (λ fault. result ≡ Err fault) }
 {
     let base = base_of(base)?;
-    if logs.len() > MOST_LOGS {
-        return Err(Fault::ManyLogs);
-    }
+    counted(logs)?;
     let program = program_of(files, base, image)?;
     let ended = judge_all(alloc, files, &program, logs, out);
     out.flush().map_err(|_| Fault::Output)?;

@@ -1,7 +1,8 @@
-// One run of the program.
+//! One run of the program.
 
 ghost use Rattle.std.specs.Prelude.{◌≡◌, ◌≢◌, ◌⊎◌, IfSome, map, string_bytes};
 ghost use Rattle.cli.specs.Asking.{AreRefused, AskNoCheck, IsCheck};
+ghost use Rattle.cli.specs.Limits.{IsWithinLimits};
 ghost use Rattle.tracebench.specs.Faults.{end_of};
 ghost use Rattle.tracebench.specs.Order.{early_fault};
 
@@ -22,6 +23,7 @@ fn done<'a, F: Files, O: Write>(
     what: &Asked<'a>,
     out: &mut O,
 ) -> Result<Status, Fault<'a>>
+    requires { IsWithinLimits what.now }
     ensures early { IfSome (early_fault what.now) (λ fault. result ≡ Err fault) }
     ensures refused { ¬ IsCheck what.now → end_of result ≡ Status.Refused → out.new ≡ out.old }
 {
@@ -30,10 +32,11 @@ fn done<'a, F: Files, O: Write>(
         Asked::Encode { hex: false, .. } => Err(Fault::NeedsHex),
         Asked::Encode {
             base,
+            period,
             image,
-            log,
+            logs,
             ..
-        } => encode(alloc, files, base, image, log, out),
+        } => encode(alloc, files, base, *period, image, logs, out),
     }
 }
 

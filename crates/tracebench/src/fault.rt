@@ -1,12 +1,11 @@
-// Why a command stops.
+//! Why a command stops.
 
 ghost use Rattle.std.specs.Prelude.{◌≡◌};
 ghost use Rattle.tracebench.specs.declared.fault.Fault.TheVariants as fault;
-ghost use Rattle.tracebench.specs.Faults.{file_fault, log_fault, status_of, straight_fault, write_fault};
+ghost use Rattle.tracebench.specs.Faults.{file_fault, log_fault, status_of, write_fault};
 
 use crate::files::FileFault;
 use crate::status::Status;
-use bench::Straight;
 use legalpath::PathFault;
 use retire::{LogFault, WriteFault};
 use rvclass::ProgramFault;
@@ -39,9 +38,6 @@ pub(crate) enum Fault<'a> {
     /// The log at this path is not legal for the program.
     #[error("{0}: {1}")]
     Illegal(&'a str, PathFault),
-    /// The log at this path is not straight.
-    #[error("{0}: {1}")]
-    NotStraight(&'a str, Straight),
     /// The output was not written whole.
     #[error("output cannot be written")]
     Output,
@@ -72,16 +68,6 @@ impl<'a> Fault<'a> {
         }
     }
 
-    /// Why the log at a path has no straight payloads.
-    pub(crate) fn of_straight(path: &'a str, why: Straight) -> Fault<'a>
-        ensures { result ≡ straight_fault path.entry why }
-    {
-        match why {
-            Straight::NotStraight(_) => Fault::NotStraight(path, why),
-            Straight::Memory => Fault::Memory,
-        }
-    }
-
     /// The status that a command ends with at this fault.
     pub(crate) fn status(&self) -> Status
         ensures { result ≡ status_of self.now }
@@ -93,8 +79,7 @@ impl<'a> Fault<'a> {
             | Fault::ManyLogs
             | Fault::Image(_)
             | Fault::Log(..)
-            | Fault::Illegal(..)
-            | Fault::NotStraight(..) => Status::Refused,
+            | Fault::Illegal(..) => Status::Refused,
             Fault::Unreadable(_) | Fault::Output | Fault::Memory => Status::Machine,
         }
     }

@@ -1,4 +1,4 @@
-// Where the content of files comes from.
+//! Where the content of files comes from.
 
 use thiserror::Error;
 

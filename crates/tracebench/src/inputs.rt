@@ -1,6 +1,6 @@
-// What a command is given: a base, an image and logs.
+//! What a command is given: a base, an image and logs.
 
-ghost use Rattle.std.specs.Prelude.{◌≡◌, ◌≤◌, ◌^◌, IfErr, IfOk, vec_len};
+ghost use Rattle.std.specs.Prelude.{◌≡◌, ◌≤◌, ◌<◌, ◌^◌, IfErr, IfOk, length, vec_len};
 ghost use Rattle.retire.specs.Number.{number_of};
 
 use crate::fault::Fault;
@@ -9,6 +9,20 @@ use legalpath::LegalLog;
 use retire::{Event, number, read_log};
 use rvclass::Program;
 use std::alloc::Global;
+
+/// The most logs of one command, one for each hart.
+const MOST_LOGS: usize = 64;
+
+/// Whether there are no more logs than there may be harts.
+pub(crate) fn counted<'a>(logs: &[&'a str]) -> Result<(), Fault<'a>>
+    ensures few { IfOk result (λ _. length logs.now ≤ 64) }
+    ensures many { IfErr result (λ fault. (fault ≡ Fault.ManyLogs) × (64 < length logs.now)) }
+{
+    if logs.len() > MOST_LOGS {
+        return Err(Fault::ManyLogs);
+    }
+    Ok(())
+}
 
 /// The number that a base is.
 pub(crate) fn base_of<'a>(text: &str) -> Result<u64, Fault<'a>>
@@ -55,4 +69,21 @@ pub(crate) fn legal_log_of<'a, 'p, F: Files>(
 ) -> Result<LegalLog<'p>, Fault<'a>> {
     let events = log_of(alloc, files, path)?;
     LegalLog::new(program, events).map_err(|(why, _)| Fault::Illegal(path, why))
+}
+
+/// The logs at these paths, in turn, where each is legal for the program.
+pub(crate) fn legal_logs_of<'a, 'p, F: Files>(
+    alloc: Global,
+    files: &mut F,
+    program: &'p Program,
+    paths: &[&'a str],
+) -> Result<Vec<LegalLog<'p>>, Fault<'a>>
+    ensures { IfOk result (λ logs. vec_len logs ≡ length paths.now) }
+{
+    let mut logs = Vec::new(alloc);
+    for path in paths {
+        let log = legal_log_of(alloc, files, program, path)?;
+        logs.push(log).map_err(|_| Fault::Memory)?;
+    }
+    Ok(logs)
 }

@@ -11,7 +11,7 @@ mod machine;
 mod status;
 mod tell;
 
-pub use bench::{Straight, hex_lines, straight_log, straight_payloads};
+pub use bench::encode_hex;
 pub use cli::{Asked, asked};
 pub use command::command;
 pub use files::{FileFault, Files};

@@ -1,4 +1,4 @@
-// How a command ends.
+//! How a command ends.
 
 ghost use Rattle.std.specs.Prelude.{◌≡◌};
 ghost use Rattle.tracebench.specs.Status.{code_of};

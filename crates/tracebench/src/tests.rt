@@ -1,4 +1,4 @@
-// Runs of the program over files in memory.
+//! Runs of the program over files in memory.
 
 mod checks;
 mod logs;

@@ -1,4 +1,4 @@
-// Output that is not written.
+//! Output that is not written.
 
 use super::table::{Table, words_of};
 use crate::command;

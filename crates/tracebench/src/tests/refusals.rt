@@ -1,4 +1,4 @@
-// Words, bases and images that are refused.
+//! Words, bases and images that are refused.
 
 use super::table::{NOP, Table, tells};
 use std::test::Fail;
@@ -24,8 +24,14 @@ fn words(rt: HostRuntime) -> Result<(), Fail> {
         (
             "tracebench encode --base 80000000 image.bin",
             2,
-            "error: the following required arguments were not provided:\n  <LOG>\n\n\
-             Usage: tracebench encode --base <B> <IMAGE> <LOG>\n\n\
+            "error: the following required arguments were not provided:\n  <LOG>...\n\n\
+             Usage: tracebench encode --base <B> <IMAGE> <LOG>...\n\n\
+             For more information, try '--help'.\n",
+        ),
+        (
+            "tracebench encode --base 80000000 --period 0 image.bin no.csv",
+            2,
+            "error: invalid value '0' for '--period <N>': 0 is not in 1..=65535\n\n\
              For more information, try '--help'.\n",
         ),
         (

@@ -1,48 +1,253 @@
-// Logs that are straight, with the messages that the E-Trace specification's packets give.
+//! Logs with the messages that the E-Trace specification's packets and this project's profile give.
 
-use super::table::{NOP, Table, words_of};
-use crate::command;
+use super::table::{HEADER, NOP, Table, ends};
 use std::alloc::{AllocError, Global};
 use std::test::Fail;
 
-fn files(alloc: Global) -> Result<Table, AllocError> {
-    let mut files = Table::new(alloc);
-    files.add("one.bin", &NOP)?;
-    files.add("two.bin", b"\x13\0\0\0\x13\0\0\0")?;
-    files.add("nine.bin", b"\x13\0\0\0\x13\0\0\0\0")?;
-    files.add("none.csv", b"addr,itype,priv,cause,tval\n")?;
-    files.add("one.csv", b"addr,itype,priv,cause,tval\n80000000,0,3,,\n")?;
-    files.add(
-        "two.csv",
-        b"addr,itype,priv,cause,tval\n80000000,0,3,,\n0X80000004,0,3,,\n",
-    )?;
-    Ok(files)
+/// An image, as its words from the base on; rows of a log, the first so often; and what is written for it.
+#[derive(Clone, Copy)]
+struct Run {
+    name: &'static str,
+    image: &'static [u8],
+    first: usize,
+    rows: &'static [&'static str],
+    written: &'static str,
+}
+
+const RUNS: [Run; 15] = [
+    Run {
+        name: "no event",
+        image: &NOP,
+        first: 0,
+        rows: &[""],
+        written: "0 0 1f\n0 1 cf00\n",
+    },
+    Run {
+        name: "one event",
+        image: &NOP,
+        first: 1,
+        rows: &["80000000,0,3,,"],
+        written: "0 0 1f\n0 1 7300000020\n0 2 cf00\n",
+    },
+    Run {
+        name: "two events",
+        image: b"\x13\0\0\0\x13\0\0\0",
+        first: 1,
+        rows: &["80000000,0,3,,", "0X80000004,0,3,,"],
+        written: "0 0 1f\n0 1 7300000020\n0 2 0a\n0 3 4f\n",
+    },
+    Run {
+        name: "two events and a byte after the image's last word",
+        image: b"\x13\0\0\0\x13\0\0\0\0",
+        first: 1,
+        rows: &["80000000,0,3,,", "80000004,0,3,,"],
+        written: "0 0 1f\n0 1 7300000020\n0 2 0a\n0 3 4f\n",
+    },
+    Run {
+        name: "a branch taken 33 times",
+        image: b"\x63\0\0\0",
+        first: 33,
+        rows: &["80000000,5,3,,"],
+        written: "0 0 1f\n0 1 6300000020\n0 2 01\n0 3 05\n0 4 4f\n",
+    },
+    Run {
+        name: "a branch taken 32 times",
+        image: b"\x63\0\0\0",
+        first: 32,
+        rows: &["80000000,5,3,,"],
+        written: "0 0 1f\n0 1 6300000020\n0 2 7d\n0 3 4f\n",
+    },
+    Run {
+        name: "a jump to itself",
+        image: b"\x6f\0\0\0",
+        first: 3,
+        rows: &["80000000,0,3,,"],
+        written: "0 0 1f\n0 1 7300000020\n0 2 0200000000000000fe\n0 3 02\n0 4 4f\n",
+    },
+    Run {
+        name: "no return yet",
+        image: RETURNS,
+        first: 1,
+        rows: &["80000000,0,3,,", "80000004,0,3,,"],
+        written: "0 0 1f\n0 1 7300000020\n0 2 0a\n0 3 4f\n",
+    },
+    Run {
+        name: "a return to an address passed before",
+        image: RETURNS,
+        first: 1,
+        rows: &[
+            "80000000,0,3,,",
+            "80000004,0,3,,",
+            "80000008,6,3,,",
+            "80000004,0,3,,",
+        ],
+        written: "0 0 1f\n0 1 7300000020\n0 2 0a\n0 3 cf00\n",
+    },
+    Run {
+        name: "an interrupt right after a return",
+        image: RETURNS,
+        first: 1,
+        rows: &[
+            "80000000,0,3,,",
+            "80000004,0,3,,",
+            "80000008,6,3,,",
+            "80000004,0,3,,",
+            "80000008,2,3,7,",
+        ],
+        written: "0 0 1f\n0 1 7300000020\n0 2 0a00000000000000fc\n0 3 f72302000020\n0 4 cf00\n",
+    },
+    Run {
+        name: "an exception past the first address of a program, with its value",
+        image: b"\x67\x80\0\0",
+        first: 1,
+        rows: &["80000000,6,3,,", "4000,1,3,1,8000000000004000"],
+        written: "0 0 1f\n0 1 7300000020\n0 2 f700001000000000000000100000000000e0\n0 3 cf00\n",
+    },
+    Run {
+        name: "a return to user level",
+        image: b"\x73\x00\x20\x30\x13\0\0\0\x13\0\0\0",
+        first: 1,
+        rows: &["80000000,3,3,,", "80000008,0,0,,"],
+        written: "0 0 1f\n0 1 7300000020\n0 2 1302000020\n0 3 cf00\n",
+    },
+    Run {
+        name: "a branch not taken",
+        image: b"\x13\0\0\0\x63\x04\0\0\x13\0\0\0",
+        first: 1,
+        rows: &["80000000,0,3,,", "80000004,4,3,,", "80000008,0,3,,"],
+        written: "0 0 1f\n0 1 7300000020\n0 2 8504\n0 3 4f\n",
+    },
+    Run {
+        name: "a taken branch first",
+        image: b"\x63\x04\0\0\x13\0\0\0\x13\0\0\0",
+        first: 1,
+        rows: &["80000000,5,3,,", "80000008,0,3,,"],
+        written: "0 0 1f\n0 1 6300000020\n0 2 12\n0 3 4f\n",
+    },
+    Run {
+        name: "three events",
+        image: b"\x13\0\0\0\x13\0\0\0\x13\0\0\0",
+        first: 1,
+        rows: &["80000000,0,3,,", "80000004,0,3,,", "80000008,0,3,,"],
+        written: "0 0 1f\n0 1 7300000020\n0 2 12\n0 3 4f\n",
+    },
+];
+
+/// Two words `nop` and a return.
+const RETURNS: &[u8] = b"\x13\0\0\0\x13\0\0\0\x67\x80\0\0";
+
+/// The text of a log of these rows, the first so often.
+fn log_of(alloc: Global, first: usize, rows: &[&str]) -> Result<String, AllocError> {
+    let mut text = HEADER.to_string(alloc)?;
+    for (i, row) in rows.iter().enumerate() {
+        let times = if i == 0 { first } else { 1 };
+        for _ in 0..times {
+            text.push_str(row)?;
+            text.push_str("\n")?;
+        }
+    }
+    Ok(text)
 }
 
 #[test]
-fn encodes_straight_logs(rt: HostRuntime) -> Result<(), Fail> {
-    let cases = [
-        ("one.bin none.csv", "0 0 1f\n0 1 cf00\n"),
-        ("one.bin one.csv", "0 0 1f\n0 1 7300000020\n0 2 cf00\n"),
-        (
-            "two.bin two.csv",
-            "0 0 1f\n0 1 7300000020\n0 2 0a\n0 3 4f\n",
-        ),
-        (
-            "nine.bin two.csv",
-            "0 0 1f\n0 1 7300000020\n0 2 0a\n0 3 4f\n",
-        ),
-    ];
-    let mut files = files(rt.alloc())?;
-    for (paths, lines) in cases {
-        let line = format!(in rt.alloc(); "tracebench encode --base 80000000 --hex {paths}")?;
-        let words = words_of(rt.alloc(), line.as_str())?;
-        let mut out = Vec::new(rt.alloc());
-        let mut err = Vec::new(rt.alloc());
-        let status = command(rt.alloc(), &mut files, words.as_slice(), &mut out, &mut err);
-        assert!(rt; err.is_empty(), "{paths}");
-        assert!(rt; out.as_slice() == lines.as_bytes(), "{paths}");
-        assert_eq!(rt; status, 0, "{paths}");
+fn encodes_logs(rt: HostRuntime) -> Result<(), Fail> {
+    for run in RUNS {
+        let mut files = Table::new(rt.alloc());
+        files.add("image.bin", run.image)?;
+        files.add(
+            "log.csv",
+            log_of(rt.alloc(), run.first, run.rows)?.as_bytes(),
+        )?;
+        let line = "tracebench encode --base 80000000 --hex image.bin log.csv";
+        ends(&rt, &mut files, line, (0, run.written, ""))?;
     }
+    Ok(())
+}
+
+/// An exception whose handler is the next event: the handler's address is sent, and no address of the exception.
+#[test]
+fn reports_a_handler(rt: HostRuntime) -> Result<(), Fail> {
+    let mut image = vec![in rt.alloc(); 0u8; 0x104]?;
+    image[0] = 0x13;
+    image[4] = 0x73;
+    image[0x100] = 0x13;
+    let mut files = Table::new(rt.alloc());
+    files.add("image.bin", image.as_slice())?;
+    files.add(
+        "log.csv",
+        b"addr,itype,priv,cause,tval\n80000000,0,3,,\n80000004,1,3,b,0\n80000100,0,3,,\n",
+    )?;
+    let line = "tracebench encode --base 80000000 --hex image.bin log.csv";
+    let written = "0 0 1f\n0 1 7300000020\n0 2 f74540000020\n0 3 cf00\n";
+    ends(&rt, &mut files, line, (0, written, ""))?;
+    Ok(())
+}
+
+/// Every second retirement gives a synchronisation packet, and at a period of 1 each does.
+#[test]
+fn keeps_the_period(rt: HostRuntime) -> Result<(), Fail> {
+    let cases = [
+        (
+            "2",
+            "0 0 1f\n0 1 7300000020\n0 2 0a\n0 3 7302000020\n0 4 cf00\n",
+        ),
+        (
+            "1",
+            "0 0 1f\n0 1 7300000020\n0 2 7301000020\n0 3 7302000020\n0 4 cf00\n",
+        ),
+        ("65535", "0 0 1f\n0 1 7300000020\n0 2 12\n0 3 4f\n"),
+    ];
+    let mut files = Table::new(rt.alloc());
+    files.add("image.bin", b"\x13\0\0\0\x13\0\0\0\x13\0\0\0")?;
+    files.add(
+        "log.csv",
+        b"addr,itype,priv,cause,tval\n80000000,0,3,,\n80000004,0,3,,\n80000008,0,3,,\n",
+    )?;
+    for (period, written) in cases {
+        let line = format!(in rt.alloc();
+            "tracebench encode --base 80000000 --period {period} --hex image.bin log.csv"
+        )?;
+        ends(&rt, &mut files, line.as_str(), (0, written, ""))?;
+    }
+    Ok(())
+}
+
+/// Each log is one hart's, numbered in the order of the words.
+#[test]
+fn encodes_harts(rt: HostRuntime) -> Result<(), Fail> {
+    let mut files = Table::new(rt.alloc());
+    files.add("image.bin", b"\x13\0\0\0\x13\0\0\0")?;
+    files.add("none.csv", HEADER.as_bytes())?;
+    files.add(
+        "two.csv",
+        b"addr,itype,priv,cause,tval\n80000000,0,3,,\n80000004,0,3,,\n",
+    )?;
+    let line = "tracebench encode --base 80000000 --hex image.bin two.csv none.csv two.csv";
+    let written = "0 0 1f\n0 1 7300000020\n0 2 0a\n0 3 4f\n1 0 1f\n1 1 cf00\n\
+         2 0 1f\n2 1 7300000020\n2 2 0a\n2 3 4f\n";
+    ends(&rt, &mut files, line, (0, written, ""))?;
+    Ok(())
+}
+
+/// There are up to 64 harts.
+#[test]
+fn encodes_64_harts(rt: HostRuntime) -> Result<(), Fail> {
+    let mut files = Table::new(rt.alloc());
+    files.add("image.bin", &NOP)?;
+    files.add("none.csv", HEADER.as_bytes())?;
+    let mut line = "tracebench encode --base 80000000 --hex image.bin".to_string(rt.alloc())?;
+    let mut written = String::new(rt.alloc());
+    for hart in 0..64u16 {
+        line.push_str(" none.csv")?;
+        written.push_str(format!(in rt.alloc(); "{hart} 0 1f\n{hart} 1 cf00\n")?.as_str())?;
+    }
+    ends(&rt, &mut files, line.as_str(), (0, written.as_str(), ""))?;
+    line.push_str(" none.csv")?;
+    ends(
+        &rt,
+        &mut files,
+        line.as_str(),
+        (2, "", "tracebench: more than 64 logs\n"),
+    )?;
     Ok(())
 }

@@ -1,4 +1,4 @@
-// Files in memory, and words of one line.
+//! Files in memory, and words of one line.
 
 use crate::{FileFault, Files, command};
 use std::alloc::{AllocError, Global};
@@ -80,6 +80,9 @@ pub(super) fn tells<R: Abort + AllocGlobal>(
     }
     Ok(())
 }
+
+/// The first line of a log.
+pub(super) const HEADER: &str = "addr,itype,priv,cause,tval\n";
 
 /// The instruction `nop`, as a little-endian word.
 pub(super) const NOP: [u8; 4] = [0x13, 0, 0, 0];

@@ -9,11 +9,12 @@ returns c =
     let none_or : Option (List ℕ) → List ℕ = λ o. unwrap_or o [] in (
       refl,
       c.text.ensures ∙ ap none_or (first_value-rows given (codes "base")),
-      c.text-2.ensures ∙ ap none_or (first_value-rows given (codes "IMAGE")),
-      c.text-3.ensures ∙ ap none_or (first_value-rows given (codes "LOG")),
+      c.period.ensures,
       (
         (λ is. c.get_flag.ensures.value (one_text-rows given (codes "hex") ∙ is)),
         (λ is. c.get_flag.ensures.other (one_text-rows given (codes "hex") ∙ is)),
         (λ is. c.get_flag.ensures.none (one_text-rows given (codes "hex") ∙ is)),
       ),
+      c.text-2.ensures ∙ ap none_or (first_value-rows given (codes "IMAGE")),
+      c.in_ok-texts.ensures,
     )

@@ -1,0 +1,25 @@
+-- How far the first packets of a log reach.
+use Rattle.std.specs.Prelude.{ℕ, List, [], ◌∷◌, length, take}
+use Rattle.retire.specs.declared.event.Event.{Event}
+use Rattle.rvclass.specs.Words.{Words}
+use Rattle.legalpath.specs.Join.{join}
+use Rattle.decoder.specs.SettledPieces.{settled_pieces}
+use Rattle.encoder.specs.Packets.{packets}
+use Rattle.encoder.specs.Piece.{Piece, events_of, pieces_of}
+
+-- The events that packets of pieces report, a list for each packet: none for the closing one.
+abbrev pub stretches_of : List Piece → List (List Event)
+stretches_of [] = [] ∷ []
+stretches_of (piece ∷ pieces) = events_of piece ∷ stretches_of pieces
+
+-- The events that each packet of a log reports, none for Open and the closing packet.
+abbrev pub stretches : Words → ℕ → List Event → List (List Event)
+stretches words period log = [] ∷ stretches_of (pieces_of words period log)
+
+-- The events that the first packets of a log settle.
+abbrev pub told : Words → ℕ → List Event → ℕ → List Event
+told words period log count = join (settled_pieces (take count (packets words period log)) (stretches words period log))
+
+-- How many they are.
+abbrev pub reach : Words → ℕ → List Event → ℕ → ℕ
+reach words period log count = length (told words period log count)

@@ -1,0 +1,9 @@
+-- Which numbers words may ask for.
+use Rattle.std.specs.Prelude.{◌≤◌}
+use Rattle.cli.specs.declared.words.Asked.{Asked}
+use Rattle.cli.specs.declared.words.Asked.TheVariants.{Check, Encode}
+
+-- a period is 1 to 65535 retirements
+abbrev pub IsWithinLimits : Asked → Type 0
+IsWithinLimits (Check base image logs) = Unit {0}
+IsWithinLimits (Encode base period hex image logs) = (1 ≤ period) × (period ≤ 65535)
