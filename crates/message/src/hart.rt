@@ -1,10 +1,9 @@
 //! What a demultiplexer expects of one hart.
 ghost use Rattle.std.specs.Prelude.{◌≡◌};
 ghost use Rattle.message.specs.Accepting.{answer, state_after};
-ghost use Rattle.payload.specs.Closing.{is_closing_packet};
 
 use crate::{DemuxFault, Message};
-use payload::{Packet, Support, unpack};
+use payload::{Packet, unpack};
 
 /// How many messages of a hart are accepted at most.
 const MOST: u64 = 1 << 63;
@@ -44,20 +43,10 @@ impl Hart {
         match unpack(message.payload.bytes()) {
             Ok(packet) => {
                 self.expected += 1;
-                self.closed = is_closing(&packet);
+                self.closed = packet.is_closing();
                 Ok(packet)
             }
             Err(fault) => Err(DemuxFault::Packet(fault)),
         }
     }
-}
-
-/// Whether the packet ends a trace.
-fn is_closing(packet: &Packet) -> bool
-    ensures { result ≡ is_closing_packet packet.now }
-{
-    matches!(
-        packet,
-        Packet::Support(Support::EndedRep | Support::EndedNtr)
-    )
 }

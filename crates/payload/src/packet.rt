@@ -71,6 +71,7 @@ pub enum Report {
 }
 
 impl Packet {
+    ghost use Rattle.payload.specs.Closing.{is_closing_packet};
     ghost use Rattle.payload.specs.Profile.{InProfile};
 
     /// Whether the packet is one of this project's profile: addresses and differences even, privilege 0, 1 or 3,
@@ -106,6 +107,17 @@ impl Packet {
             } => outcomes.len() <= 31 && delta % 2 == 0,
             Packet::Map(outcomes) => outcomes.len() == 31,
         }
+    }
+
+    /// Whether the packet ends a trace: EndedRep or EndedNtr.
+    #[inline]
+    pub fn is_closing(&self) -> bool
+        ensures { result ≡ is_closing_packet self.now }
+    {
+        matches!(
+            self,
+            Packet::Support(Support::EndedRep | Support::EndedNtr)
+        )
     }
 }
 

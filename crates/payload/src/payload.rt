@@ -3,7 +3,7 @@ ghost use Rattle.std.specs.Prelude.{◌≡◌, ◌+◌, ◌*◌, ◌^◌, ◌++�
 ghost use Rattle.arrayvec.specs.ArrayVec.{array_vec_len};
 ghost use Rattle.payload.specs.Bytes.{low_bytes};
 
-use crate::{PackFault, Packet, Support, unpack};
+use crate::{PackFault, unpack};
 use arrayvec::ArrayVec;
 use std::marker::Model;
 
@@ -59,10 +59,10 @@ impl Payload {
     pub fn is_closing(&self) -> bool
         ensures { result ≡ is_closing self.now }
     {
-        matches!(
-            unpack(self.bytes()),
-            Ok(Packet::Support(Support::EndedRep | Support::EndedNtr))
-        )
+        match unpack(self.bytes()) {
+            Ok(packet) => packet.is_closing(),
+            Err(_) => false,
+        }
     }
 
     /// The lowest `count` bytes of a number.

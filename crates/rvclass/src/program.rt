@@ -66,7 +66,7 @@ impl Program {
     /// The class of the word at an address, and its length in bytes, 2 or 4. There is none where the
     /// address is odd or outside the image, or where the image ends before the word does. A word of
     /// more than 32 bits is told by its first 16 bits, as one of length 2 that does not retire.
-    #[inline]
+    #[inline(always)]
     pub fn at(&self, addr: u64) -> Option<(Class, u8)>
         ensures word { result ≡ words_of self.now addr }
         ensures kept { IsProgram (words_of self.now) }
@@ -77,7 +77,7 @@ impl Program {
 }
 
 /// The word at an address of the image that these bytes are from `base` on.
-#[inline]
+#[inline(always)]
 #[tactic(auto, unfolding(crate::specs::Fetch::words_of))]
 fn word_of(base: u64, bytes: &[u8], addr: u64) -> Option<(Class, u8)>
     requires { IsImage (image_at base bytes.now) }

@@ -1,0 +1,8 @@
+use Rattle.std.proofs.Common.{◌∙◌, ap, sym}
+use Rattle.payload.specs.Closing.{is_closing_reading}
+use Rattle.payload.specs.Reading.{reading}
+use Rattle.payload.proofs.payload.Payload.is_closing.Goals as goal
+
+pub returns-in-Ok : goal.returns-in-Ok
+returns-in-Ok c =
+    c.is_closing.ensures ∙ ap is_closing_reading (sym c.in-Ok.is ∙ c.unpack.ensures.value ∙ ap reading c.bytes.ensures.same)
