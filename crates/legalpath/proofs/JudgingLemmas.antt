@@ -1,5 +1,5 @@
 -- What judging an event finds.
-use Rattle.std.proofs.Common.{◌≡◌, ◌⊎◌, ◌≤◌, ◌<◌, ◌≢◌, ℕ, ◌%◌, Bool, true, false, not, ◌||◌, ◌==◌, Option, Some, None, Result, Ok, Err, if◌then◌else◌, refl, inl, inr, arith}
+use Rattle.std.proofs.Common.{◌≡◌, ◌⊎◌, ◌≤◌, ◌<◌, ◌≢◌, ℕ, ◌%◌, Bool, true, false, not, ◌&&◌, ◌||◌, ◌==◌, nat_le, Option, Some, None, Result, Ok, Err, if◌then◌else◌, refl, inl, inr, arith}
 use Rattle.retire.specs.Events.{place, privilege}
 use Rattle.retire.specs.declared.event.Event.{Event}
 use Rattle.retire.specs.declared.event.Event.TheVariants.{Retire, Trap}
@@ -58,20 +58,14 @@ never_tells (Uninferable, length) = tells_false (λ h. h)
 never_tells (TrapReturn ret, length) = tells_false (λ h. h)
 never_tells (NeverRetires, length) = tells_true tt
 
-pub retire_tells : (class : Class) (priv : ℕ) → Tells (may_retire_at class priv) (IsPrivilege priv × MayRetireAt class priv)
-retire_tells Plain priv = tells-same (λ p. (p, tt)) (λ h. h.0) (privilege_tells priv)
-retire_tells (Jump to) priv = tells-same (λ p. (p, tt)) (λ h. h.0) (privilege_tells priv)
-retire_tells (Branch to) priv = tells-same (λ p. (p, tt)) (λ h. h.0) (privilege_tells priv)
-retire_tells Uninferable priv = tells-same (λ p. (p, tt)) (λ h. h.0) (privilege_tells priv)
-retire_tells (TrapReturn Mret) priv = tells-same (λ e. ((omega arith, λ q. omega arith), e)) (λ h. h.1) (tells_eq priv 3)
-retire_tells (TrapReturn Sret) priv = tells-same to from (tells-or (tells_eq priv 1) (tells_eq priv 3))
-  where
-    to : (priv ≡ 1) ⊎ (priv ≡ 3) → IsPrivilege priv × (1 ≤ priv)
-    to h = elim h [ inl e ↦ ((omega arith, λ q. omega arith), omega arith) | inr e ↦ ((omega arith, λ q. omega arith), omega arith) ]
-
-    from : IsPrivilege priv × (1 ≤ priv) → (priv ≡ 1) ⊎ (priv ≡ 3)
-    from h = let a : priv ≤ 3 = h.0.0 in let b : priv ≢ 2 = h.0.1 in let d : 1 ≤ priv = h.1 in grind arith
-retire_tells NeverRetires priv = tells-same (λ p. (p, tt)) (λ h. h.0) (privilege_tells priv)
+pub retire_tells : (class : Class) (priv : ℕ) → Tells (may_retire_at class priv) (MayRetireAt class priv)
+retire_tells Plain priv = tells_true tt
+retire_tells (Jump to) priv = tells_true tt
+retire_tells (Branch to) priv = tells_true tt
+retire_tells Uninferable priv = tells_true tt
+retire_tells (TrapReturn Mret) priv = tells_eq priv 3
+retire_tells (TrapReturn Sret) priv = tells_le 1 priv
+retire_tells NeverRetires priv = tells_true tt
 
 pub stand_tells : (next : Next) (at : ℕ) → Tells (may_stand_at next at) (MayStandAt next at)
 stand_tells (One to) at = tells_eq at to
@@ -87,16 +81,19 @@ stand_after_tells words (Some (Retire addr itype priv)) at = on (words addr)
     on (Some word) = stand_tells (leads addr itype word.0 word.1) at
 stand_after_tells words (Some (Trap epc priv interrupt cause tval)) at = tells_true tt
 
-between : (left : Left) (priv : ℕ) → Tells (was_left left priv) ((left.least ≤ priv) × (priv ≤ left.greatest))
+abbrev is_between : Left → ℕ → Bool
+is_between left priv = nat_le left.least priv && nat_le priv left.greatest
+
+between : (left : Left) (priv : ℕ) → Tells (is_between left priv) ((left.least ≤ priv) × (priv ≤ left.greatest))
 between left priv = tells-and (tells_le left.least priv) (λ h. tells_le priv left.greatest)
 
-pub left_on_tells : (addr itype priv after : ℕ) (word : Option Word) → IsPrivilege after → Tells (was_left (left_on addr itype priv word) after) (KeepsPrivilege word priv after)
+left_on_tells : (addr itype priv after : ℕ) (word : Option Word) → IsPrivilege after → Tells (is_between (left_on addr itype priv word) after) (KeepsPrivilege word priv after)
 left_on_tells addr itype priv after word is = on word
   where
-    same : (left : Left) → left.least ≡ priv → left.greatest ≡ priv → Tells (was_left left after) (after ≡ priv)
+    same : (left : Left) → left.least ≡ priv → left.greatest ≡ priv → Tells (is_between left after) (after ≡ priv)
     same left l g = tells-same (λ h. let a = h.0 in let b = h.1 in omega arith) (λ e. (omega arith, omega arith)) (between left after)
 
-    on : (word : Option Word) → Tells (was_left (left_on addr itype priv word) after) (KeepsPrivilege word priv after)
+    on : (word : Option Word) → Tells (is_between (left_on addr itype priv word) after) (KeepsPrivilege word priv after)
     on None = same (left_on addr itype priv None) refl refl
     on (Some (Plain, length)) = same (left_on addr itype priv (Some (Plain, length))) refl refl
     on (Some (Jump to, length)) = same (left_on addr itype priv (Some (Jump to, length))) refl refl
@@ -106,11 +103,14 @@ left_on_tells addr itype priv after word is = on word
     on (Some (TrapReturn Sret, length)) = tells-same (λ h. h.1) (λ h. (omega arith, h)) (between (left_on addr itype priv (Some (TrapReturn Sret, length))) after)
     on (Some (NeverRetires, length)) = same (left_on addr itype priv (Some (NeverRetires, length))) refl refl
 
-pub left_tells : (words : Words) (before : Option Event) (after : ℕ) → IsPrivilege after → Tells (was_left (left_after words before) after) (PrivilegeFrom words before after)
-left_tells words None after is = tells-same (λ h. tt) (λ u. (omega arith, is.0)) (between left_at_start after)
-left_tells words (Some (Retire addr itype priv)) after is = left_on_tells addr itype priv after (words addr) is
-left_tells words (Some (Trap epc priv interrupt cause tval)) after is =
+between_tells : (words : Words) (before : Option Event) (after : ℕ) → IsPrivilege after → Tells (is_between (left_after words before) after) (PrivilegeFrom words before after)
+between_tells words None after is = tells-same (λ h. tt) (λ u. (omega arith, is.0)) (between left_at_start after)
+between_tells words (Some (Retire addr itype priv)) after is = left_on_tells addr itype priv after (words addr) is
+between_tells words (Some (Trap epc priv interrupt cause tval)) after is =
     tells-same (λ h. let a = h.0 in (omega arith, omega arith)) (λ h. let a = h.0 in let b = h.1 in let d = is.0 in (omega arith, d)) (between (left_by_trap priv) after)
+
+pub left_tells : (words : Words) (before : Option Event) (after : ℕ) → Tells (was_left (left_after words before) after) (IsPrivilege after × PrivilegeFrom words before after)
+left_tells words before after = tells-and (privilege_tells after) (λ is. between_tells words before after is)
 
 pub step_from : (words : Words) (before : Option Event) (event : Event) → MayStandAfter words before (place event) → PrivilegeFrom words before (privilege event) → StepFrom words before event
 step_from words None event stands keeps = tt
@@ -159,10 +159,14 @@ module _ (words : Words) (before : Option Event) (addr itype priv : ℕ) where
     never_judged true e = (n.holds e, ((λ e. cc), tt))
     never_judged false e = type_judged (n.fails e) type refl
 
+  at_right_privilege : (word : Word) → Tells (may_retire_at word.0 priv && was_left (left_after words before) priv) ((IsPrivilege priv × MayRetireAt word.0 priv) × PrivilegeFrom words before priv)
+  at_right_privilege word =
+      tells-same (λ h. ((h.1.0, h.0), h.1.1)) (λ h. (h.0.1, (h.0.0, h.1))) (tells-and (retire_tells word.0 priv) (λ h. left_tells words before priv))
+
   pub retirement_judged : (word : Option Word) → RetirementOutcome word (judge_retirement (left_after words before) addr itype priv word)
   retirement_judged None = (refl, tt)
   retirement_judged (Some word) =
-      never_judged word _ _ _ _ (never_tells word) (type_tells word.0 itype) (stand_after_tells words before addr) (tells-and (retire_tells word.0 priv) (λ h. left_tells words before priv h.0)) (is_never word.0) refl
+      never_judged word _ _ _ _ (never_tells word) (type_tells word.0 itype) (stand_after_tells words before addr) (at_right_privilege word) (is_never word.0) refl
 
 value_tells : (interrupt : Bool) (tval : ℕ) → Tells (not interrupt || (tval == 0)) (interrupt ≡ true → tval ≡ 0)
 value_tells true tval = tells-same (λ e f. e) (λ h. h refl) (tells_eq tval 0)
@@ -201,7 +205,7 @@ module _ (words : Words) (before : Option Event) (epc priv : ℕ) (interrupt : B
 
   pub trap_judged : TrapOutcome (judge_trap (left_after words before) epc priv interrupt cause tval)
   trap_judged =
-      trap_type_judged _ _ _ (tells-and (tells_lt cause 64) (λ h. value_tells interrupt tval)) (tells-and (privilege_tells priv) (λ h. left_tells words before priv h)) (tells-and (tells_eq (epc % 2) 0) (λ h. stand_after_tells words before epc)) _ refl
+      trap_type_judged _ _ _ (tells-and (tells_lt cause 64) (λ h. value_tells interrupt tval)) (left_tells words before priv) (tells-and (tells_eq (epc % 2) 0) (λ h. stand_after_tells words before epc)) _ refl
 
 -- What judging an event answers.
 abbrev pub Outcome : Words → Option Event → Event → Result Left Why → Type 0

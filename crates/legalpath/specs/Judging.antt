@@ -28,15 +28,15 @@ is_type_of Uninferable itype = itype == 6
 is_type_of (TrapReturn ret) itype = itype == 3
 is_type_of NeverRetires itype = false
 
--- A word of this class may retire at this privilege.
+-- A word of this class may retire at this privilege, where that is one.
 abbrev pub may_retire_at : Class → ℕ → Bool
-may_retire_at Plain priv = is_privilege priv
-may_retire_at (Jump to) priv = is_privilege priv
-may_retire_at (Branch to) priv = is_privilege priv
-may_retire_at Uninferable priv = is_privilege priv
+may_retire_at Plain priv = true
+may_retire_at (Jump to) priv = true
+may_retire_at (Branch to) priv = true
+may_retire_at Uninferable priv = true
 may_retire_at (TrapReturn Mret) priv = priv == 3
-may_retire_at (TrapReturn Sret) priv = (priv == 1) || (priv == 3)
-may_retire_at NeverRetires priv = is_privilege priv
+may_retire_at (TrapReturn Sret) priv = nat_le 1 priv
+may_retire_at NeverRetires priv = true
 
 -- An event may stand at this place.
 abbrev pub may_stand_at : Next → ℕ → Bool
@@ -44,9 +44,9 @@ may_stand_at (One to) at = at == to
 may_stand_at Any at = true
 may_stand_at NoneInside at = false
 
--- The privilege is one that was left.
+-- This is a privilege, and one that was left.
 abbrev pub was_left : Left → ℕ → Bool
-was_left left priv = nat_le left.least priv && nat_le priv left.greatest
+was_left left priv = is_privilege priv && (nat_le left.least priv && nat_le priv left.greatest)
 
 -- What is left to the first event.
 abbrev pub left_at_start : Left
@@ -107,7 +107,7 @@ judge_retirement left addr itype priv (Some word) =
 abbrev pub judge_trap : Left → ℕ → ℕ → Bool → ℕ → ℕ → Result Left Why
 judge_trap left epc priv interrupt cause tval =
     if not (nat_lt cause 64 && (not interrupt || (tval == 0))) then Err WrongType else
-    if not (is_privilege priv && was_left left priv) then Err WrongPrivilege else
+    if not (was_left left priv) then Err WrongPrivilege else
     if not ((epc % 2 == 0) && may_stand_at left.next epc) then Err WrongEpc else
     Ok (left_by_trap priv)
 

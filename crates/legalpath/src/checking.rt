@@ -25,6 +25,7 @@ pub fn check(program: &Program, log: &[Event]) -> Result<(), PathFault>
 }
 
 /// Judges the events in turn, up to the first fault.
+#[inline(never)]
 fn judge_all(program: &Program, log: &[Event]) -> Result<(), PathFault>
     requires { length log.now ≤ 2 ^ 24 }
     ensures { result ≡ judging.judge_all (words_of program.now) judging.left_at_start 1 log.now }

@@ -1,6 +1,6 @@
 //! One event, judged by what the event before left to it.
 
-ghost use Rattle.std.specs.Prelude.{◌≡◌, ◌+◌, ◌^◌, ◌<◌, IsTrue};
+ghost use Rattle.std.specs.Prelude.{◌≡◌, ◌+◌, ◌^◌, ◌<◌, ◌≤◌, IfOk, IsTrue};
 ghost use Rattle.rvclass.specs.Fetch.{words_of};
 ghost use Rattle.legalpath.specs.Judging as judging;
 
@@ -16,7 +16,7 @@ pub struct Left {
     pub next: Next,
     /// The least privilege that it may have.
     pub least: u8,
-    /// The greatest privilege that it may have.
+    /// The greatest privilege that it may have, at most 3.
     pub greatest: u8,
 }
 
@@ -35,7 +35,9 @@ pub fn left_at_start() -> Left
 /// What an event leaves, after what was left to it, or the first reason that refuses it.
 #[inline]
 pub fn judge(program: &Program, left: Left, event: &Event) -> Result<Left, Why>
-    ensures { result ≡ judging.judge (words_of program.now) left event.now }
+    requires { left.greatest ≤ 3 }
+    ensures value { result ≡ judging.judge (words_of program.now) left event.now }
+    ensures below { IfOk result (λ next. next.greatest ≤ 3) }
 {
     match *event {
         Event::Retire {
@@ -62,8 +64,10 @@ fn judge_retirement(
     itype: u8,
     privilege: u8,
 ) -> Result<Left, Why>
-    ensures { result
+    requires { left.greatest ≤ 3 }
+    ensures value { result
         ≡ judging.judge_retirement left addr itype privilege (words_of program.now addr) }
+    ensures below { IfOk result (λ next. next.greatest ≤ 3) }
 {
     let Some((class, length)) = program.at(addr) else {
         return Err(Why::OffProgram);
@@ -99,12 +103,14 @@ fn judge_trap(
     cause: u8,
     tval: u64,
 ) -> Result<Left, Why>
-    ensures { result ≡ judging.judge_trap left epc privilege interrupt cause tval }
+    requires { left.greatest ≤ 3 }
+    ensures value { result ≡ judging.judge_trap left epc privilege interrupt cause tval }
+    ensures below { IfOk result (λ next. next.greatest ≤ 3) }
 {
     if cause > 63 || interrupt && tval != 0 {
         return Err(Why::WrongType);
     }
-    if !is_privilege(privilege) || !was_left(left, privilege) {
+    if !was_left(left, privilege) {
         return Err(Why::WrongPrivilege);
     }
     if !epc.is_multiple_of(2) || !may_stand_at(left.next, epc) {
@@ -143,14 +149,6 @@ fn may_stand_at(next: Next, at: u64) -> bool
     }
 }
 
-/// Whether this is a privilege: 0, 1 or 3.
-#[inline]
-fn is_privilege(privilege: u8) -> bool
-    ensures { result ≡ judging.is_privilege privilege }
-{
-    privilege == 0 || privilege == 1 || privilege == 3
-}
-
 /// Whether a word of this class may retire at this privilege.
 #[inline]
 fn may_retire_at(class: Class, privilege: u8) -> bool
@@ -158,17 +156,18 @@ fn may_retire_at(class: Class, privilege: u8) -> bool
 {
     match class {
         Class::TrapReturn(Return::Mret) => privilege == 3,
-        Class::TrapReturn(Return::Sret) => privilege == 1 || privilege == 3,
-        _ => is_privilege(privilege),
+        Class::TrapReturn(Return::Sret) => privilege >= 1,
+        _ => true,
     }
 }
 
-/// Whether the privilege is one that was left.
+/// Whether this is a privilege, 0, 1 or 3, and one that was left.
 #[inline]
 fn was_left(left: Left, privilege: u8) -> bool
+    requires { left.greatest ≤ 3 }
     ensures { result ≡ judging.was_left left privilege }
 {
-    left.least <= privilege && privilege <= left.greatest
+    left.least <= privilege && privilege <= left.greatest && privilege != 2
 }
 
 /// The least privilege after a retirement of this class at this one.

@@ -5,7 +5,7 @@ use Rattle.rvclass.specs.Fetch.{words_of}
 use Rattle.rvclass.specs.Image.{Image, IsImage}
 use Rattle.rvclass.specs.Words.{IsProgram, LiesIn, Word}
 
--- a word stands at an even address, and all of its bytes in the image
+-- A word stands at an even address, and all of its bytes in the image.
 pub record Stands (p : Image) (addr : ℕ) (w : Word) : Type 0 where
   pub even : addr % 2 ≡ 0
   pub from : p.base ≤ addr

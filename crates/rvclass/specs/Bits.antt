@@ -1,14 +1,14 @@
 -- The bits of a word, and addresses moved by an offset.
 use Rattle.std.specs.Prelude.{ℕ, ◌+◌, ◌-◌, ◌/◌, ◌%◌, ◌^◌, nat_lt, if◌then◌else◌}
 
--- the number that the bits from high down to low of a word spell
+-- The number that the bits from high down to low of a word spell.
 abbrev pub bits : ℕ → ℕ → ℕ → ℕ
 bits word high low = word / 2 ^ low % 2 ^ (high + 1 - low)
 
--- a number of this many bits at 64 bits, by copies of its top bit
+-- A number of this many bits at 64 bits, by copies of its top bit.
 abbrev pub sign_extended : ℕ → ℕ → ℕ
 sign_extended width n = if nat_lt n (2 ^ (width - 1)) then n else n + (2 ^ 64 - 2 ^ width)
 
--- an address moved by an offset of this many bits, modulo 2 ^ 64
+-- An address moved by an offset of this many bits, modulo 2 ^ 64.
 abbrev pub moved : ℕ → ℕ → ℕ → ℕ
 moved width addr offset = (addr + sign_extended width offset) % 2 ^ 64

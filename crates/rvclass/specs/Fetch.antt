@@ -7,32 +7,32 @@ use Rattle.rvclass.specs.Word32.{class32}
 use Rattle.rvclass.specs.Words.{Words}
 use Rattle.rvclass.specs.declared.class.Class.TheVariants.{NotRetirable}
 
--- whether this many bytes stand in the image from an address on
+-- Whether this many bytes stand in the image from an address on.
 abbrev pub holds : Image → ℕ → ℕ → Bool
 holds p addr count = nat_le p.base addr && nat_le (addr + count) (p.base + length p.bytes)
 
--- the byte at an address
+-- The byte at an address.
 abbrev pub byte_at : Image → ℕ → ℕ
 byte_at p addr = slice_index p.bytes (addr - p.base)
 
--- the 16 bits at an address, little endian
+-- The 16 bits at an address, little endian.
 abbrev pub half_at : Image → ℕ → ℕ
 half_at p addr = byte_at p addr + 2 ^ 8 * byte_at p (addr + 1)
 
--- the 32 bits at an address, little endian
+-- The 32 bits at an address, little endian.
 abbrev pub word_at : Image → ℕ → ℕ
 word_at p addr = half_at p addr + 2 ^ 16 * half_at p (addr + 2)
 
--- whether 16 bits are a word of their own
+-- Whether 16 bits are a word of their own.
 abbrev pub is_compressed : ℕ → Bool
 is_compressed half = not (bits half 1 0 == 0b11)
 
--- whether 16 bits begin a word of more than 32 bits
+-- Whether 16 bits begin a word of more than 32 bits.
 abbrev pub is_longer : ℕ → Bool
 is_longer half = bits half 4 0 == 0b11111
 
--- the class and the length of the word at an address; that a word of more than 32 bits does not
--- retire, and is told by its first 16 bits, is this project's profile
+-- The class and the length of the word at an address; that a word of more than 32 bits does not
+-- retire, and is told by its first 16 bits, is this project's profile.
 unfoldable pub words_of : Image → Words
 words_of p addr =
     if not (addr % 2 == 0) then None else

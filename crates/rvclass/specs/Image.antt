@@ -1,16 +1,16 @@
 -- The image of a program in memory.
 use Rattle.std.specs.Prelude.{◌≡◌, ◌+◌, ◌%◌, ◌^◌, ◌<◌, ◌≤◌, ℕ, List, length}
 
--- bytes from an address on
+-- Bytes from an address on.
 pub record Image : Type 0 where
   pub base : ℕ
   pub bytes : List ℕ
 
--- the image of these bytes from a base on
+-- The image of these bytes from a base on.
 abbrev pub image_at : ℕ → List ℕ → Image
 image_at base bytes = record { base = base; bytes = bytes }
 
--- what the image of every program keeps, by this project's profile
+-- What the image of every program keeps, by this project's profile.
 pub record IsImage (p : Image) : Type 0 where
   pub even : p.base % 2 ≡ 0
   pub small : length p.bytes ≤ 2 ^ 24

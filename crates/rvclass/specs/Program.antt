@@ -4,7 +4,7 @@ use Rattle.rvclass.specs.Image.{Image, image_at}
 use Rattle.rvclass.specs.declared.fault.ProgramFault.{ProgramFault}
 use Rattle.rvclass.specs.declared.fault.ProgramFault.TheVariants.{OddBase, TooLarge, PastEnd}
 
--- the program of these bytes from a base on, or the first fault that applies
+-- The program of these bytes from a base on, or the first fault that applies.
 abbrev pub program_of : ℕ → List ℕ → Result Image ProgramFault
 program_of base bytes =
     if not (base % 2 == 0) then Err OddBase else

@@ -7,48 +7,48 @@ use Rattle.rvclass.specs.declared.class.Class.{Class}
 use Rattle.rvclass.specs.declared.class.Class.TheVariants.{Plain, Jump, Branch, Uninferable, TrapReturn, NotRetirable}
 use Rattle.rvclass.specs.declared.class.Return.TheVariants.{Mret, Sret}
 
--- the instruction's opcode field
+-- The instruction's opcode field.
 abbrev pub opcode : ℕ → ℕ
 opcode w = bits w 6 0
 
--- the field that tells instructions of one opcode apart
+-- The field that tells instructions of one opcode apart.
 abbrev pub funct3 : ℕ → ℕ
 funct3 w = bits w 14 12
 
--- the number of the register that JALR adds its offset to
+-- The number of the register that JALR adds its offset to.
 abbrev pub rs1 : ℕ → ℕ
 rs1 w = bits w 19 15
 
--- opcode JAL
+-- Opcode JAL.
 abbrev pub is_jal : ℕ → Bool
 is_jal w = opcode w == 0b1101111
 
--- opcode JALR, of which all funct3 but 0 are reserved
+-- Opcode JALR, of which all funct3 but 0 are reserved.
 abbrev pub is_jalr : ℕ → Bool
 is_jalr w = (opcode w == 0b1100111) && (funct3 w == 0)
 
--- opcode BRANCH, of which funct3 2 and 3 are reserved
+-- Opcode BRANCH, of which funct3 2 and 3 are reserved.
 abbrev pub is_branch : ℕ → Bool
 is_branch w = (opcode w == 0b1100011) && (not (funct3 w == 2) && not (funct3 w == 3))
 
--- ECALL, which raises an exception and does not retire
+-- ECALL, which raises an exception and does not retire.
 abbrev pub is_ecall : ℕ → Bool
 is_ecall w = w == 0x00000073
 
--- EBREAK, which raises an exception and does not retire
+-- EBREAK, which raises an exception and does not retire.
 abbrev pub is_ebreak : ℕ → Bool
 is_ebreak w = w == 0x00100073
 
--- SRET, the return from a trap into S-mode
+-- SRET, the return from a trap into S-mode.
 abbrev pub is_sret : ℕ → Bool
 is_sret w = w == 0x10200073
 
--- MRET, the return from a trap into M-mode
+-- MRET, the return from a trap into M-mode.
 abbrev pub is_mret : ℕ → Bool
 is_mret w = w == 0x30200073
 
--- the class of a 32-bit word at an address; that JALR with rs1 0 is inferable, and every other JALR
--- not, is this project's profile
+-- The class of a 32-bit word at an address; that JALR with rs1 0 is inferable, and every other JALR
+-- not, is this project's profile.
 unfoldable pub class32 : ℕ → ℕ → Class
 class32 addr w =
     if is_jal w then Jump (moved 21 addr (j_offset w)) else

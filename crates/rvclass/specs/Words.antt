@@ -2,21 +2,21 @@
 use Rattle.std.specs.Prelude.{◌≡◌, ◌+◌, ◌%◌, ◌^◌, ◌<◌, ◌≤◌, ℕ, Option, Some}
 use Rattle.rvclass.specs.declared.class.Class.{Class}
 
--- a word's class and its length in bytes
+-- A word's class and its length in bytes.
 abbrev pub Word : Type 0
 Word = Class × ℕ
 
--- the word at each address, or none where no whole word stands
+-- The word at each address, or none where no whole word stands.
 abbrev pub Words : Type 0
 Words = ℕ → Option Word
 
--- what the words of every program keep
+-- What the words of every program keep.
 pub record IsProgram (words : Words) : Type 0 where
   pub even : (addr : ℕ) (w : Word) → words addr ≡ Some w → addr % 2 ≡ 0
   pub long : (addr : ℕ) (w : Word) → words addr ≡ Some w → 2 ≤ w.1
   pub below : (addr : ℕ) (w : Word) → words addr ≡ Some w → addr + w.1 < 2 ^ 64
 
--- every word stands whole among this many bytes from the base on
+-- Every word stands whole among this many bytes from the base on.
 pub record LiesIn (words : Words) (base count : ℕ) : Type 0 where
   pub from : (addr : ℕ) (w : Word) → words addr ≡ Some w → base ≤ addr
   pub until : (addr : ℕ) (w : Word) → words addr ≡ Some w → addr + w.1 ≤ base + count

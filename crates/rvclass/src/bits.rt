@@ -27,7 +27,7 @@ pub(crate) fn target(addr: u64, offset: u32, width: u32) -> u64
     let extended = if offset < 1 << (width - 1) {
         offset
     } else {
-        offset + (u64::MAX - ((1 << width) - 1))
+        offset.wrapping_sub(1 << width)
     };
     addr.wrapping_add(extended)
 }

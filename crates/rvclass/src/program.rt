@@ -21,6 +21,8 @@ const MAX_BYTES: usize = 1 << 24;
 pub struct Program {
     base: u64,
     bytes: Vec<u8>,
+    /// At how many places four bytes stand.
+    windows: u64,
 }
 
 impl Model for Program {
@@ -28,7 +30,8 @@ impl Model for Program {
 
     ghost view = { λ p. image_at p.base p.bytes.items };
 
-    ghost invariant = { λ p. IsImage (image_at p.base p.bytes.items) };
+    ghost invariant = { λ p.
+        IsImage (image_at p.base p.bytes.items) × (p.windows ≡ length p.bytes.items - 3) };
 }
 
 impl Program {
@@ -51,7 +54,12 @@ impl Program {
         if u64::MAX - base < bytes.len() as u64 {
             return Err(ProgramFault::PastEnd);
         }
-        Ok(Program { base, bytes })
+        let windows = bytes.len().saturating_sub(3) as u64;
+        Ok(Program {
+            base,
+            bytes,
+            windows,
+        })
     }
 
     /// The number of bytes of the image.
@@ -72,37 +80,53 @@ impl Program {
         ensures kept { IsProgram (words_of self.now) }
         ensures within { LiesIn (words_of self.now) self.now.base (length self.now.bytes) }
     {
-        word_of(self.base, &self.bytes, addr)
+        word_of(self.base, &self.bytes, self.windows, addr)
     }
 }
 
-/// The word at an address of the image that these bytes are from `base` on.
+/// The word at an address of the image that these bytes are from `base` on; at so many places of it
+/// four bytes stand.
 #[inline(always)]
 #[tactic(auto, unfolding(crate::specs::Fetch::words_of))]
-fn word_of(base: u64, bytes: &[u8], addr: u64) -> Option<(Class, u8)>
-    requires { IsImage (image_at base bytes.now) }
+fn word_of(base: u64, bytes: &[u8], windows: u64, addr: u64) -> Option<(Class, u8)>
+    requires image { IsImage (image_at base bytes.now) }
+    requires windows { windows ≡ length bytes.now - 3 }
     ensures { result ≡ words_of (image_at base bytes.now) addr }
 {
-    if !addr.is_multiple_of(2) || addr < base {
+    if !addr.is_multiple_of(2) {
         return None;
     }
-    let place = addr - base;
-    if (bytes.len() as u64) < 2 || place > bytes.len() as u64 - 2 {
+    // Far behind the image where the address is below its base.
+    let place = addr.wrapping_sub(base);
+    let word = if place < windows {
+        word_at(bytes, place as usize)
+    } else if place < bytes.len().saturating_sub(1) as u64 {
+        let half = half_of(bytes, place as usize);
+        if bits_of(half, 1, 0) == 0b11 && bits_of(half, 4, 0) != 0b1_1111 {
+            return None;
+        }
+        half
+    } else {
         return None;
+    };
+    let half = word % (1 << 16);
+    if bits_of(half, 1, 0) != 0b11 {
+        return Some((class_of_word16(addr, half), 2));
     }
-    let place = place as usize;
-    let low = half_of(bytes, place);
-    if bits_of(low, 1, 0) != 0b11 {
-        return Some((class_of_word16(addr, low), 2));
-    }
-    if bits_of(low, 4, 0) == 0b1_1111 {
+    if bits_of(half, 4, 0) == 0b1_1111 {
         return Some((Class::NotRetirable, 2));
     }
-    if bytes.len() < place + 4 {
-        return None;
-    }
-    let word = low + (half_of(bytes, place + 2) << 16);
     Some((class_of_word32(addr, word), 4))
+}
+
+/// The 32 bits at a place, little endian.
+#[inline(always)]
+fn word_at(bytes: &[u8], place: usize) -> u32
+    requires { place + 3 < length bytes.now }
+    ensures value { result ≡ word_at (image_at 0 bytes.now) place }
+    ensures low { result % 2 ^ 16 ≡ half_at (image_at 0 bytes.now) place }
+{
+    half_of(bytes, place) + (half_of(bytes, place + 2) << 16)
 }
 
 /// The 16 bits at a place, little endian.

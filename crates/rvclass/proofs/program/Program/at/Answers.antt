@@ -2,7 +2,7 @@ use Rattle.rvclass.proofs.WordsLemmas.{words_of-IsProgram, words_of-LiesIn}
 use Rattle.rvclass.proofs.program.Program.at.Goals as goal
 
 pub returns-clause-kept : goal.returns-clause-kept
-returns-clause-kept c = rw (← c.self.view_is) (words_of-IsProgram _ c.self.invariant)
+returns-clause-kept c = rw (← c.self.view_is) (words_of-IsProgram _ c.self.invariant.0)
 
 pub returns-clause-within : goal.returns-clause-within
 returns-clause-within c = words_of-LiesIn _
