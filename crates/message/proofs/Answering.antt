@@ -13,7 +13,7 @@ use Rattle.message.specs.declared.message.Message.{Message}
 use Rattle.message.specs.declared.fault.DemuxFault.{DemuxFault}
 use Rattle.message.specs.declared.fault.DemuxFault.TheVariants as fault
 
--- the next number of an open hart answers its packet
+-- The next number of an open hart answers its packet.
 pub answer-next : (h : Hart) (m : Message) (packet : Packet) → h.closed ≡ false → h.expected < 2 ^ 63 → m.number ≡ h.expected → reading m.payload ≡ Ok packet
     → answer h m ≡ Ok packet
 answer-next h m packet going few next read =
@@ -25,7 +25,7 @@ answer-next h m packet going few next read =
 abbrev Answer : Type 0
 Answer = Result Packet DemuxFault
 
--- what holds of the answer of each test holds of the answer
+-- What holds of the answer of each test holds of the answer.
 by_tests : (h : Hart) (m : Message) (P : Answer → Type 0)
     → (is_over h ≡ true → P (Err fault.AfterClose))
     → (is_over h ≡ false → m.number < h.expected → P (Err fault.Repeat))
@@ -47,7 +47,7 @@ by_tests h m P over low high next = go (is_over h) (nat_lt m.number h.expected) 
 not_both : (b : Bool) → b ≡ true → b ≡ false → ⊥
 not_both b p q = cc
 
--- the place of an answer among its kinds
+-- The place of an answer among its kinds.
 abbrev kind : Answer → ℕ
 kind (Ok packet) = 0
 kind (Err fault.Stranger) = 1
@@ -63,12 +63,12 @@ kind-packet_or_fault : (r : Result Packet PackFault) → (kind (packet_or_fault 
 kind-packet_or_fault (Ok packet) = inl refl
 kind-packet_or_fault (Err why) = inr refl
 
--- what a payload gives is no answer of another kind
+-- What a payload gives is no answer of another kind.
 unpacked_apart : (a : Answer) (r : Result Packet PackFault) → (kind a ≡ 0 → ⊥) → (kind a ≡ 5 → ⊥) → packet_or_fault r ≡ a → ⊥
 unpacked_apart a (Ok packet) p q e = p (sym (ap kind e))
 unpacked_apart a (Err why) p q e = q (sym (ap kind e))
 
--- the hart is open
+-- The hart is open.
 abbrev Going : Hart → Type 0
 Going h = is_over h ≡ false
 
@@ -86,7 +86,7 @@ repeat h m = by_tests h m (λ r. (r ≡ Err fault.Repeat) ↔ (Going h × (m.num
     (λ going high. (λ e. absurd (apart _ _ (inr (omega arith)) e), λ w. absurd (let l = w.1 in omega (arith, l, high))))
     (λ going next. (λ e. absurd (unpacked_apart _ (reading m.payload) (λ k. omega (arith, k)) (λ k. omega (arith, k)) e), λ w. absurd (let l = w.1 in omega (arith, l, next))))
 
--- the number that a gap tells
+-- The number that a gap tells.
 abbrev gap_of : Answer → ℕ
 gap_of (Ok packet) = 0
 gap_of (Err fault.Stranger) = 0
@@ -102,7 +102,7 @@ gap h m k = by_tests h m (λ r. (r ≡ Err (fault.Gap k)) ↔ (Going h × ((h.ex
     (λ going high. (λ e. let same : h.expected ≡ k = ap gap_of e in (going, (same, omega (arith, same, high))), λ w. ap (λ n. Err (fault.Gap n)) w.1.0))
     (λ going next. (λ e. absurd (unpacked_apart _ (reading m.payload) (λ n. omega (arith, n)) (λ n. omega (arith, n)) e), λ w. absurd (let a = w.1.0 in let b = w.1.1 in omega (arith, a, b, next))))
 
--- what a payload gave to an answer, or else this
+-- What a payload gave to an answer, or else this.
 abbrev reading_of : Result Packet PackFault → Answer → Result Packet PackFault
 reading_of r (Ok packet) = Ok packet
 reading_of r (Err fault.Stranger) = r
@@ -117,7 +117,7 @@ packet_or_fault-back (Ok a) (Err g) e = ap (reading_of (Ok a)) e
 packet_or_fault-back (Err f) (Ok b) e = ap (reading_of (Ok b)) e
 packet_or_fault-back (Err f) (Err g) e = ap (reading_of (Err f)) e
 
--- what a payload gives is none of the refusals that come before it
+-- What a payload gives is none of the refusals that come before it.
 unpacked_kind : (r : Result Packet PackFault) (a : Answer) → (1 ≤ kind a) × (kind a ≤ 4) → a ≡ packet_or_fault r → ⊥
 unpacked_kind r a w e =
     let low = w.0 in
@@ -131,28 +131,28 @@ unpacked h m r = by_tests h m (λ a. (a ≡ packet_or_fault r) ↔ (Going h × (
     (λ going high. (λ e. absurd (unpacked_kind r _ (omega arith, omega arith) e), λ w. absurd (let n = w.1 in omega (arith, n, high))))
     (λ going next. (λ e. (going, next, packet_or_fault-back (reading m.payload) r e), λ w. ap packet_or_fault w.2))
 
--- AfterClose is answered exactly where the hart is known and over
+-- AfterClose is answered exactly where the hart is known and over.
 pub answer-after_close : (o : Option Hart) (m : Message) → (answer_of o m ≡ Err fault.AfterClose) ↔ IsSomeAnd o (λ h. is_over h ≡ true)
 answer-after_close None m = (λ e. absurd (apart _ _ (inl (omega arith)) e), λ w. absurd w)
 answer-after_close (Some h) m = after_close h m
 
--- Repeat is answered exactly where the hart is known and open, and the number below the expected one
+-- Repeat is answered exactly where the hart is known and open, and the number below the expected one.
 pub answer-repeat : (o : Option Hart) (m : Message) → (answer_of o m ≡ Err fault.Repeat) ↔ IsSomeAnd o (λ h. Going h × (m.number < h.expected))
 answer-repeat None m = (λ e. absurd (apart _ _ (inl (omega arith)) e), λ w. absurd w)
 answer-repeat (Some h) m = repeat h m
 
--- Gap is answered exactly where the hart is known and open, and the number above the expected one, which is told
+-- Gap is answered exactly where the hart is known and open, and the number above the expected one, which is told.
 pub answer-gap : (o : Option Hart) (m : Message) (k : ℕ) → (answer_of o m ≡ Err (fault.Gap k)) ↔ IsSomeAnd o (λ h. Going h × ((h.expected ≡ k) × (k < m.number)))
 answer-gap None m k = (λ e. absurd (apart _ _ (inl (omega arith)) e), λ w. absurd w)
 answer-gap (Some h) m k = gap h m k
 
--- what the payload gives is answered exactly where the hart is known and open, and the number is the expected one
+-- What the payload gives is answered exactly where the hart is known and open, and the number is the expected one.
 pub answer-unpacked : (o : Option Hart) (m : Message) (r : Result Packet PackFault)
     → (answer_of o m ≡ packet_or_fault r) ↔ (IsSomeAnd o (λ h. Going h × (h.expected ≡ m.number)) × (reading m.payload ≡ r))
 answer-unpacked None m r = (λ e. absurd (unpacked_kind r _ (omega arith, omega arith) e), λ w. absurd w.0)
 answer-unpacked (Some h) m r = let law = unpacked h m r in (λ e. let w = law.0 e in ((w.0, w.1), w.2), λ w. law.1 (w.0.0, w.0.1, w.1))
 
--- Stranger is answered exactly where the hart is not known
+-- Stranger is answered exactly where the hart is not known.
 pub answer-stranger : (harts : Harts) (m : Message) → (answer_of (slice_get harts m.hart) m ≡ Err fault.Stranger) ↔ (length harts ≤ m.hart)
 answer-stranger harts m = elim (slice_get_cases harts m.hart).1 [
   | inl known ↦ rw known.2 (λ e. absurd (known_hart known.0 m e), λ past. absurd (let within = known.1 in omega (arith, within, past)))

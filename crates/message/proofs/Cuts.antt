@@ -6,12 +6,8 @@ use Rattle.byteorder.specs.Endian.{little_number, little_bytes}
 use Rattle.byteorder.specs.Numbers.{little_from-lt}
 use Rattle.message.specs.Filling.{AreBytes}
 use Rattle.message.specs.Cut.{IsCut, IsMessage}
-use Rattle.message.specs.declared.message.Message.{Message}
+use Rattle.message.specs.Front.{message_of}
 use Rattle.message.proofs.Heads.{AreBytes-drop, head_bytes-read, numbers-read}
-
--- the message of this head and payload
-abbrev message_of : List ℕ → List ℕ → Message
-message_of head payload = record { hart = little_number 2 head; number = little_number 8 (drop 2 head); payload = payload }
 
 message_of-ranges : (head payload : List ℕ) → AreBytes head → 1 ≤ length payload → length payload ≤ 18 → IsMessage (message_of head payload)
 message_of-ranges head payload bytes some few =
@@ -19,7 +15,7 @@ message_of-ranges head payload bytes some few =
     let number = little_from-lt 0 8 (drop 2 head) (AreBytes-drop 2 head bytes) in
     record { hart = hart; number = number; some = some; few = few }
 
--- a whole head and not all of the payload that it tells of
+-- A whole head and not all of the payload that it tells of.
 pub IsCut-payload : (head room : List ℕ) (n : ℕ) → length head ≡ 11 → AreBytes head → length room ≡ slice_index head 10
     → 1 ≤ length room → length room ≤ 18 → n < length room → IsCut (head ++ take n room)
 IsCut-payload head room n whole bytes count some few less =
@@ -36,7 +32,7 @@ IsCut-payload head room n whole bytes count some few less =
       more = omega (arith, right, less);
     }
 
--- not all of a head
+-- Not all of a head.
 pub IsCut-head : (room : List ℕ) (n : ℕ) → length room ≡ 11 → AreBytes room → 1 ≤ n → n ≤ 10 → IsCut (take n room)
 IsCut-head room n whole bytes some few =
     let m = message_of room (0 ∷ []) in

@@ -11,7 +11,7 @@ AreBytes-drop zero xs bytes = bytes
 AreBytes-drop (suc n) [] bytes = bytes
 AreBytes-drop (suc n) (x ∷ xs) bytes = AreBytes-drop n xs (λ k. bytes (suc k))
 
--- what stands from the last place on
+-- What stands from the last place on.
 drop-last : (n : ℕ) (xs : List ℕ) → length xs ≡ suc n → drop n xs ≡ slice_index xs n ∷ []
 drop-last n [] h = absurd (omega (arith, h))
 drop-last zero (x ∷ []) h = refl
@@ -28,14 +28,14 @@ drop_2-drop_8 [] = refl
 drop_2-drop_8 (x ∷ []) = refl
 drop_2-drop_8 (x ∷ y ∷ xs) = refl
 
--- the bytes of the hart and the number that are read of a head
+-- The bytes of the hart and the number that are read of a head.
 pub numbers-read : (xs : List ℕ) → length xs ≡ 11 → AreBytes xs
     → (little_bytes 2 (little_number 2 xs) ≡ take 2 xs) × (little_bytes 8 (little_number 8 (drop 2 xs)) ≡ take 8 (drop 2 xs))
 numbers-read xs whole bytes =
     let long = length-drop_2 xs whole in
     (little_bytes-little_number 2 xs (omega (arith, whole)) bytes, little_bytes-little_number 8 (drop 2 xs) (omega (arith, long)) (AreBytes-drop 2 xs bytes))
 
--- a message of the hart, the number and the payload's length that a head spells has this head
+-- A message of the hart, the number and the payload's length that a head spells has this head.
 pub head_bytes-read : (m : Message) (head : List ℕ) → length head ≡ 11 → AreBytes head
     → m.hart ≡ little_number 2 head → m.number ≡ little_number 8 (drop 2 head) → length m.payload ≡ slice_index head 10 → head_bytes m ≡ head
 head_bytes-read m head whole bytes hart number count =

@@ -1,5 +1,6 @@
 pub mod Answering
 pub mod Cuts
+pub mod Fronts
 pub mod Heads
 pub mod LittleBytes
 pub mod Moving

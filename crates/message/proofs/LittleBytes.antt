@@ -9,7 +9,7 @@ byte_at-pow : (j n : ℕ) → byte_at j n ≡ n / 256 ^ j % 256
 byte_at-pow zero n = ap (λ (q : ℕ). q % 256) (sym (div-one n))
 byte_at-pow (suc j) n = refl
 
--- a byte above the lowest is a byte of the number without its lowest byte
+-- A byte above the lowest is a byte of the number without its lowest byte.
 byte_at-suc : (j b y : ℕ) → b < 256 → byte_at (suc j) (b + 256 * y) ≡ byte_at j y
 byte_at-suc j b y h =
     let rest : (b + 256 * y) / 256 ≡ y = omega (arith, h) in
@@ -18,12 +18,12 @@ byte_at-suc j b y h =
     ap (λ (p : ℕ). (b + 256 * y) / p) power ∙ sym (div-div-eq-div-mul (b + 256 * y) 256 (256 ^ j)) in
     byte_at-pow (suc j) (b + 256 * y) ∙ ap (λ (q : ℕ). q % 256) (shift ∙ ap (λ (q : ℕ). q / 256 ^ j) rest) ∙ sym (byte_at-pow j y)
 
--- the bytes above the lowest are those of the number without its lowest byte
+-- The bytes above the lowest are those of the number without its lowest byte.
 bytes_low_first-suc : (n j b y : ℕ) → b < 256 → bytes_low_first (suc j) n (b + 256 * y) ≡ bytes_low_first j n y
 bytes_low_first-suc zero j b y h = refl
 bytes_low_first-suc (suc n) j b y h = rw (byte_at-suc j b y h, bytes_low_first-suc n (suc j) b y h) refl
 
--- the bytes of the number that the first bytes spell are those bytes
+-- The bytes of the number that the first bytes spell are those bytes.
 pub little_bytes-little_number : (n : ℕ) (xs : List ℕ) → n ≤ length xs → ((k : ℕ) → slice_index xs k < 256)
     → little_bytes n (little_number n xs) ≡ take n xs
 little_bytes-little_number zero xs h bytes = refl

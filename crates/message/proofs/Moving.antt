@@ -10,14 +10,14 @@ use Rattle.message.specs.declared.message.Message.{Message}
 use Rattle.message.specs.declared.fault.DemuxFault.{DemuxFault}
 use Rattle.message.proofs.Answering.{answer-unpacked}
 
--- a message that is accepted moves its hart on by one
+-- A message that is accepted moves its hart on by one.
 moved : (harts : Harts) (m : Message) (packet : Packet) (o : Option Hart) → answer_of o m ≡ Ok packet → harts_by harts m o ≡ slice_set harts m.hart (next_of m.number packet)
 moved harts m packet None e = absurd ((answer-unpacked None m (Ok packet)).0 e).0
 moved harts m packet (Some h) e =
     let same = ((answer-unpacked (Some h) m (Ok packet)).0 e).0.1 in
     rw (e, same) refl
 
--- a refusal changes nothing
+-- A refusal changes nothing.
 kept : (harts : Harts) (m : Message) (why : DemuxFault) (o : Option Hart) → slice_get harts m.hart ≡ o → answer_of o m ≡ Err why → harts_by harts m o ≡ harts
 kept harts m why None is e = refl
 kept harts m why (Some h) is e =

@@ -3,32 +3,31 @@ use Rattle.std.proofs.Common.{◌≡◌, ◌⊎◌, ◌++◌, ℕ, List, [], Opt
 use Rattle.std.proofs.lemmas.List.{length-append}
 use Rattle.std.specs.Io.KnownBytes.{Consumes, IsAtEnd}
 use lib.Seq.{take-append_seam}
-use Rattle.byteorder.specs.Endian.{little_number}
 use Rattle.byteorder.specs.Numbers.{little_number-reads_back}
-use Rattle.message.specs.Capture.{message_bytes}
+use Rattle.message.specs.Capture.{head_bytes, message_bytes}
 use Rattle.message.specs.Cut.{IsCut, IsMessage, HasBadLength}
+use Rattle.message.specs.Front.{message_of}
 use Rattle.message.specs.declared.message.Message.{Message}
 use Rattle.message.specs.declared.fault.MessageFault.{MessageFault}
 use Rattle.message.specs.declared.fault.MessageFault.TheVariants as fault
 
--- the message of the numbers that bytes begin with
-message_in : List ℕ → Message
-message_in bytes = record { hart = little_number 2 bytes; number = little_number 8 (drop 2 bytes); payload = take (slice_index bytes 10) (drop 11 bytes) }
+-- The message of the numbers that bytes begin with.
+abbrev pub message_in : List ℕ → Message
+message_in bytes = message_of (take 11 bytes) (take (slice_index bytes 10) (drop 11 bytes))
 
--- bytes that begin with a message begin with no other
-message_in-message_bytes : (m : Message) (rest : List ℕ) → IsMessage m → message_in (message_bytes m ++ rest) ≡ m
-unfolding message_in
+-- Bytes that begin with a message begin with no other.
+pub message_in-message_bytes : (m : Message) (rest : List ℕ) → IsMessage m → message_in (message_bytes m ++ rest) ≡ m
 message_in-message_bytes m rest is =
-    let hart = little_number-reads_back 2 m.hart (drop 2 (message_bytes m ++ rest)) is.hart in
-    let number = little_number-reads_back 8 m.number (drop 10 (message_bytes m ++ rest)) is.number in
+    let hart = little_number-reads_back 2 m.hart (drop 2 (head_bytes m)) is.hart in
+    let number = little_number-reads_back 8 m.number (drop 10 (head_bytes m)) is.number in
     let payload = take-append_seam m.payload rest in
     rw (hart, number, payload) refl
 
-message_only : (m n : Message) (xs ys : List ℕ) → IsMessage m → IsMessage n → message_bytes m ++ xs ≡ message_bytes n ++ ys → m ≡ n
+pub message_only : (m n : Message) (xs ys : List ℕ) → IsMessage m → IsMessage n → message_bytes m ++ xs ≡ message_bytes n ++ ys → m ≡ n
 message_only m n xs ys is also e = sym (message_in-message_bytes m xs is) ∙ ap message_in e ∙ message_in-message_bytes n ys also
 
--- bytes that begin with a message are no cut one
-not_cut : (m : Message) (rest : List ℕ) → IsMessage m → IsCut (message_bytes m ++ rest) → ⊥
+-- Bytes that begin with a message are no cut one.
+pub not_cut : (m : Message) (rest : List ℕ) → IsMessage m → IsCut (message_bytes m ++ rest) → ⊥
 not_cut m rest is cut =
     let long : message_bytes m ++ (rest ++ cut.rest) ≡ message_bytes cut.message ++ [] = sym (append_assoc (message_bytes m) rest cut.rest) ∙ cut.whole ∙ sym (append-nil (message_bytes cut.message)) in
     let same : m ≡ cut.message = message_only m cut.message (rest ++ cut.rest) [] is cut.ranges long in
@@ -38,15 +37,15 @@ not_cut m rest is cut =
     let more = cut.more in
     omega (arith, lengths, left, right, more)
 
--- nor have they a bad length
-not_bad : (m : Message) (rest : List ℕ) → IsMessage m → HasBadLength (message_bytes m ++ rest) → ⊥
+-- Nor have they a bad length.
+pub not_bad : (m : Message) (rest : List ℕ) → IsMessage m → HasBadLength (message_bytes m ++ rest) → ⊥
 not_bad m rest is bad =
     let some = is.some in
     let few = is.few in
     let wrong = bad.1 in
     omega (arith, some, few, wrong)
 
--- from bytes that begin with a message that message is read, unless the reader fails
+-- From bytes that begin with a message that message is read, unless the reader fails.
 pub reads_back : (m : Message) (rest : List ℕ) (r : Result (Option Message) MessageFault) (old new : Option (List ℕ)) → IsMessage m → old ≡ Some (message_bytes m ++ rest)
     → IfOk r (λ found. IfSome found (λ n. IsMessage n)) → IfOk r (λ found. IfSome found (λ n. Consumes old new (message_bytes n)))
     → (r ≡ Ok None → IsAtEnd old) → (r ≡ Err fault.Short → IfSome old IsCut) → (r ≡ Err fault.BadLength → IfSome old HasBadLength) → IfErr r (λ why. why ≢ fault.Write)

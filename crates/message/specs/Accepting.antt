@@ -14,7 +14,7 @@ abbrev pub packet_or_fault : Result Packet PackFault → Result Packet DemuxFaul
 packet_or_fault (Ok packet) = Ok packet
 packet_or_fault (Err why) = Err (fault.Packet why)
 
--- what is answered to a message of a hart, of which this is expected: the first fault, or else the packet
+-- What is answered to a message of a hart, of which this is expected: the first fault, or else the packet.
 abbrev pub answer : Hart → Message → Result Packet DemuxFault
 answer h m =
     if is_over h then Err fault.AfterClose else
@@ -26,11 +26,11 @@ abbrev pub state_by : Hart → Result Packet DemuxFault → Hart
 state_by h (Ok packet) = record { expected = h.expected + 1; closed = is_closing_packet packet }
 state_by h (Err why) = h
 
--- what is expected of the hart after a message of it
+-- What is expected of the hart after a message of it.
 abbrev pub state_after : Hart → Message → Hart
 state_after h m = state_by h (answer h m)
 
--- what is expected of a hart of which this number was accepted
+-- What is expected of a hart of which this number was accepted.
 abbrev pub next_of : ℕ → Packet → Hart
 next_of number packet = record { expected = number + 1; closed = is_closing_packet packet }
 
@@ -38,7 +38,7 @@ abbrev pub answer_of : Option Hart → Message → Result Packet DemuxFault
 answer_of None m = Err fault.Stranger
 answer_of (Some h) m = answer h m
 
--- what is answered to a message
+-- What is answered to a message.
 abbrev pub accepting : Harts → Message → Result Packet DemuxFault
 accepting harts m = answer_of (slice_get harts m.hart) m
 
@@ -46,6 +46,6 @@ abbrev pub harts_by : Harts → Message → Option Hart → Harts
 harts_by harts m None = harts
 harts_by harts m (Some h) = slice_set harts m.hart (state_after h m)
 
--- what is expected after a message: of its hart alone something else
+-- What is expected after a message: of its hart alone something else.
 abbrev pub harts_after : Harts → Message → Harts
 harts_after harts m = harts_by harts m (slice_get harts m.hart)

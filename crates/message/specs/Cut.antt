@@ -3,14 +3,14 @@ use Rattle.std.specs.Prelude.{◌≡◌, ◌⊎◌, ◌<◌, ◌≤◌, ◌^◌,
 use Rattle.message.specs.Capture.{message_bytes}
 use Rattle.message.specs.declared.message.Message.{Message}
 
--- the numbers of a message are within their ranges
+-- The numbers of a message are within their ranges.
 pub record IsMessage (m : Message) : Type 0 where
   pub hart : m.hart < 2 ^ 16
   pub number : m.number < 2 ^ 64
   pub some : 1 ≤ length m.payload
   pub few : length m.payload ≤ 18
 
--- the bytes are a beginning of a message, neither none of it nor all of it
+-- The bytes are a beginning of a message, neither none of it nor all of it.
 pub record IsCut (bytes : List ℕ) : Type 0 where
   pub message : Message
   pub rest : List ℕ
@@ -19,10 +19,10 @@ pub record IsCut (bytes : List ℕ) : Type 0 where
   pub some : 1 ≤ length bytes
   pub more : 1 ≤ length rest
 
--- the byte for a payload's length is 0 or above 18
+-- The byte for a payload's length is 0 or above 18.
 abbrev pub IsBadLength : ℕ → Type 0
 IsBadLength count = (count ≡ 0) ⊎ (18 < count)
 
--- the bytes begin with a whole head, whose byte for the payload's length is bad
+-- The bytes begin with a whole head, whose byte for the payload's length is bad.
 abbrev pub HasBadLength : List ℕ → Type 0
 HasBadLength bytes = (11 ≤ length bytes) × IsBadLength (slice_index bytes 10)

@@ -2,11 +2,11 @@
 use Rattle.std.specs.Prelude.{◌<◌, ◌≤◌, ℕ, List, length, take, slice_index, Option}
 use Rattle.std.specs.Io.KnownBytes.{Consumes, IsAtEnd}
 
--- each number of the list is a byte
+-- Each number of the list is a byte.
 abbrev pub AreBytes : List ℕ → Type 0
 AreBytes xs = (k : ℕ) → slice_index xs k < 256
 
--- so many bytes were consumed into the front of a room, fewer than it has only at the end of the input
+-- So many bytes were consumed into the front of a room, fewer than it has only at the end of the input.
 pub record Fills (old new : Option (List ℕ)) (room : List ℕ) (count : ℕ) : Type 0 where
   pub within : count ≤ length room
   pub consumed : Consumes old new (take count room)

@@ -2,15 +2,15 @@
 use Rattle.std.specs.Prelude.{◌^◌, ℕ, nat_lt, not, ◌||◌, Bool, false, List, Option, Some, None, IsSomeAnd, IsTrue, IsFalse, slice_get}
 use Rattle.message.specs.declared.hart.Hart.{Hart}
 
--- what is expected of hart h stands at place h
+-- What is expected of hart h stands at place h.
 abbrev pub Harts : Type 0
 Harts = List Hart
 
--- a hart of which nothing was accepted
+-- A hart of which nothing was accepted.
 abbrev pub newcomer : Hart
 newcomer = record { expected = 0; closed = false }
 
--- nothing more of the hart is accepted: its closing packet was, or 2^63 of its messages were
+-- Nothing more of the hart is accepted: its closing packet was, or 2^63 of its messages were.
 abbrev pub is_over : Hart → Bool
 is_over h = h.closed || not (nat_lt h.expected (2 ^ 63))
 
@@ -18,14 +18,14 @@ abbrev pub is_closed : Option Hart → Bool
 is_closed None = false
 is_closed (Some h) = h.closed
 
--- the hart is known, and its closing packet was accepted
+-- The hart is known, and its closing packet was accepted.
 abbrev pub has_closed : Harts → ℕ → Bool
 has_closed harts hart = is_closed (slice_get harts hart)
 
--- the hart is known, and nothing more of it is accepted
+-- The hart is known, and nothing more of it is accepted.
 abbrev pub IsOver : Harts → ℕ → Type 0
 IsOver harts hart = IsSomeAnd (slice_get harts hart) (λ h. IsTrue (is_over h))
 
--- the hart is known and open, and its next number is such
+-- The hart is known and open, and its next number is such.
 abbrev pub Expects : Harts → ℕ → (ℕ → Type 0) → Type 0
 Expects harts hart P = IsSomeAnd (slice_get harts hart) (λ h. IsFalse (is_over h) × P h.expected)

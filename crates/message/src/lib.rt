@@ -1,13 +1,15 @@
 //! The messages of a capture, and the demultiplexer that parts them by hart.
 //!
 //! A [`Message`] is one payload of one hart with its number. [`write_message`] and [`read_message`] are the two ways of
-//! a capture, which is messages one after the other; [`Demux`] takes the messages of several harts and lets through just
-//! those that come in each hart's order. Only [`Demux::new`] takes memory.
+//! a capture, which is messages one after the other; [`message_at`] reads one that is in memory. [`Demux`] takes the
+//! messages of several harts and lets through just those that come in each hart's order. Only [`Demux::new`] takes memory.
 #![tactic(auto)]
 
 mod demux;
 mod fault;
 mod hart;
+mod head;
+mod in_memory;
 mod message;
 mod reading;
 #[cfg(test)]
@@ -16,6 +18,7 @@ mod writing;
 
 pub use demux::Demux;
 pub use fault::{DemuxFault, MessageFault};
+pub use in_memory::message_at;
 pub use message::Message;
 pub use reading::read_message;
 pub use writing::write_message;

@@ -1,5 +1,8 @@
 //! One payload on its way.
 
+ghost use Rattle.std.specs.Prelude.{◌≡◌, ◌+◌, length};
+
+use crate::head::HEAD;
 use payload::Payload;
 
 /// A payload of a hart.
@@ -13,5 +16,11 @@ pub struct Message {
     pub payload: Payload,
 }
 
-/// How many bytes of a message stand before its payload: the hart, the number and the payload's length.
-pub(crate) const HEAD: usize = 11;
+impl Message {
+    /// How many bytes of a capture the message takes: 11, and those of its payload.
+    pub fn size(&self) -> usize
+        ensures { result ≡ 11 + length self.now.payload }
+    {
+        HEAD + self.payload.bytes().len()
+    }
+}

@@ -6,14 +6,9 @@ ghost use Rattle.message.specs.Cut.{IsCut, IsMessage, IsBadLength, HasBadLength}
 ghost use Rattle.message.specs.Filling.{Fills};
 ghost use Rattle.message.specs.declared.message.Message.{Message as AnyMessage};
 
-use crate::message::HEAD;
+use crate::head::{HEAD, MOST, message_of, payload_length};
 use crate::{Message, MessageFault};
-use byteorder::{ByteOrder, LittleEndian};
-use payload::Payload;
 use std::io::{ErrorKind, Read};
-
-/// The most bytes of a payload.
-const MOST: usize = 18;
 
 /// Reads the next message, or `None` where the input ends before it.
 ///
@@ -62,22 +57,15 @@ fn read_payload<R: Read>(r: &mut R, head: &[u8]) -> Result<Message, MessageFault
     ensures bad_length { result ≡ Err MessageFault.BadLength → IsBadLength (slice_index head.now 10) }
     ensures never_write { IfErr result (λ fault. fault ≢ MessageFault.Write) }
 {
-    let length = usize::from(head[10]);
+    let length = match payload_length(head) {
+        Ok(length) => length,
+        Err(fault) => return Err(fault),
+    };
     let mut bytes = [0; MOST];
-    if length == 0 || length > MOST {
-        return Err(MessageFault::BadLength);
-    }
     if fill(r, &mut bytes[..length])? < length {
         return Err(MessageFault::Short);
     }
-    match Payload::new(&bytes[..length]) {
-        Ok(payload) => Ok(Message {
-            hart: LittleEndian::read_u16(head),
-            number: LittleEndian::read_u64(&head[2..]),
-            payload,
-        }),
-        Err(_) => unreachable!(),
-    }
+    Ok(message_of(head, &bytes[..length]))
 }
 
 /// Reads until the room is full or the input ends, and tells how many bytes came.

@@ -3,7 +3,7 @@ ghost use Rattle.std.specs.Prelude.{◌≡◌, OnOk, IfErr};
 ghost use Rattle.std.specs.Io.KnownBytes.{Appends};
 ghost use Rattle.message.specs.Capture.{head_bytes, message_bytes};
 
-use crate::message::HEAD;
+use crate::head::HEAD;
 use crate::{Message, MessageFault};
 use byteorder::{ByteOrder, LittleEndian};
 use std::io::Write;

@@ -1,7 +1,7 @@
 //! Worked captures, whole and cut.
 
 use super::message;
-use crate::{Message, MessageFault, read_message, write_message};
+use crate::{Message, MessageFault, message_at, read_message, write_message};
 use std::test::Fail;
 
 // A capture with a gap: messages 0, 1 and 3 of hart 0, of 12, 16 and 12 bytes.
@@ -96,6 +96,58 @@ fn length_is_1_to_18(rt: HostRuntime) -> Result<(), Fail> {
                 read_message(&mut &bytes[..11]),
                 Err(MessageFault::BadLength)
             );
+        }
+    }
+    Ok(())
+}
+
+#[test]
+fn capture_in_memory(rt: HostRuntime) -> Result<(), Fail> {
+    let mut place = 0;
+    for message in gap()? {
+        let size = message.size();
+        assert_eq!(rt; message_at(&GAP, place), Ok(Some(message)), "{place}");
+        place += size;
+    }
+    assert_eq!(rt; place, 40);
+    for behind in [40, 41, usize::MAX] {
+        assert_eq!(rt; message_at(&GAP, behind), Ok(None), "{behind}");
+    }
+    Ok(())
+}
+
+#[test]
+fn cut_capture_in_memory_is_short(rt: HostRuntime) -> Result<(), Fail> {
+    for length in 0..40usize {
+        let place = match length {
+            0..12 => 0,
+            12..28 => 12,
+            _ => 28,
+        };
+        let wanted = if length == place {
+            Ok(None)
+        } else {
+            Err(MessageFault::Short)
+        };
+        assert_eq!(rt; message_at(&GAP[..length], place), wanted, "{length}");
+    }
+    Ok(())
+}
+
+#[test]
+fn length_in_memory_is_1_to_18(rt: HostRuntime) -> Result<(), Fail> {
+    for length in 0..=255u8 {
+        let mut bytes = [7; 31];
+        bytes[12] = length;
+        let answer = message_at(&bytes, 2);
+        if (1..=18).contains(&length) {
+            let payload = &bytes[13..13 + usize::from(length)];
+            let sent = message(0x0707, 0x0707_0707_0707_0707, payload)?;
+            assert_eq!(rt; answer, Ok(Some(sent)));
+        } else {
+            assert_eq!(rt; answer, Err(MessageFault::BadLength));
+            // It is told where no byte of the payload stands.
+            assert_eq!(rt; message_at(&bytes[..13], 2), Err(MessageFault::BadLength));
         }
     }
     Ok(())

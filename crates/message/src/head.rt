@@ -1,0 +1,45 @@
+//! What stands before a payload.
+
+ghost use Rattle.std.specs.Prelude.{◌≡◌, ◌≤◌, length, slice_index, IfOk, IfErr};
+ghost use Rattle.message.specs.Cut.{IsBadLength};
+ghost use Rattle.message.specs.Front.{message_of};
+
+use crate::{Message, MessageFault};
+use byteorder::{ByteOrder, LittleEndian};
+use payload::Payload;
+
+/// How many bytes of a message stand before its payload: the hart, the number and the payload's length.
+pub(crate) const HEAD: usize = 11;
+
+/// The most bytes of a payload.
+pub(crate) const MOST: usize = 18;
+
+/// The payload's length that a head tells.
+pub(crate) fn payload_length(head: &[u8]) -> Result<usize, MessageFault>
+    requires { length head.now ≡ 11 }
+    ensures length { IfOk result (λ n. (n ≡ slice_index head.now 10) × (1 ≤ n) × (n ≤ 18)) }
+    ensures fault { IfErr result (λ fault. (fault ≡ MessageFault.BadLength) × IsBadLength (slice_index head.now 10)) }
+{
+    let length = usize::from(head[10]);
+    if length == 0 || length > MOST {
+        return Err(MessageFault::BadLength);
+    }
+    Ok(length)
+}
+
+/// The message of a head and a payload.
+pub(crate) fn message_of(head: &[u8], payload: &[u8]) -> Message
+    requires whole { length head.now ≡ 11 }
+    requires some { 1 ≤ length payload.now }
+    requires few { length payload.now ≤ 18 }
+    ensures { result ≡ message_of head.now payload.now }
+{
+    match Payload::new(payload) {
+        Ok(payload) => Message {
+            hart: LittleEndian::read_u16(head),
+            number: LittleEndian::read_u64(&head[2..]),
+            payload,
+        },
+        Err(_) => unreachable!(),
+    }
+}
