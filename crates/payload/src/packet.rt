@@ -114,10 +114,7 @@ impl Packet {
     pub fn is_closing(&self) -> bool
         ensures { result ≡ is_closing_packet self.now }
     {
-        matches!(
-            self,
-            Packet::Support(Support::EndedRep | Support::EndedNtr)
-        )
+        matches!(self, Packet::Support(Support::EndedRep | Support::EndedNtr))
     }
 }
 
