@@ -1,5 +1,5 @@
--- How many outcomes a piece has, and how many retirements are left to the next periodic sync.
-use Rattle.std.proofs.Common.{◌≡◌, ◌≢◌, ℕ, ◌+◌, ◌-◌, ◌*◌, ◌/◌, ◌%◌, ◌≤◌, Bool, true, false, ◌&&◌, not, ◌==◌, cond, List, [], ◌∷◌, ◌++◌, length, refl, sym, ap, ◌∙◌, arith, length-append, add-one}
+-- How many packets a log has, how many outcomes a piece has, and how many retirements are left to the next periodic sync.
+use Rattle.std.proofs.Common.{◌≡◌, ◌≢◌, ℕ, ◌+◌, ◌-◌, ◌*◌, ◌/◌, ◌%◌, ◌≤◌, Bool, true, false, ◌&&◌, not, ◌==◌, cond, List, [], ◌∷◌, ◌++◌, length, Option, Some, None, refl, sym, ap, ◌∙◌, arith, length-append, add-one}
 use Rattle.std.specs.Prelude.{nat_lt}
 use Rattle.std.proofs.Math.Nat.{mul-mod_left, mul_comm, suc-mul}
 use Rattle.std.proofs.lemmas.Nat.{mod-mul-add}
@@ -9,9 +9,10 @@ use Rattle.retire.specs.Events.{is_retirement, is_branch, outcomes}
 use Rattle.retire.specs.declared.event.Event.{Event}
 use Rattle.retire.specs.declared.event.Event.TheVariants.{Retire, Trap}
 use Rattle.rvclass.specs.Words.{Words}
-use Rattle.encoder.specs.Piece.{is_cut}
+use Rattle.encoder.specs.Packets.{reported_by, reports, closing_packet, packets}
+use Rattle.encoder.specs.Piece.{Piece, is_cut, cut_or_go_on, pieces, pieces_of}
 use Rattle.encoder.specs.Rule.{rule}
-use Rattle.encoder.specs.Spot.{Spot, count_with}
+use Rattle.encoder.specs.Spot.{Spot, count_with, spots, spots_of}
 use Rattle.encoder.specs.Stands.{AreLeft, since_cut}
 use Rattle.encoder.specs.Stepping.{left_after}
 use Rattle.encoder.specs.declared.rule.Rule.{Rule}
@@ -126,3 +127,28 @@ left-next period between number left (Retire addr itype priv) b h = go (left == 
         let f = h.few in
         let w = h.whole in
         record { few = omega (arith, f); rounds = h.rounds; whole = omega (arith, w) }
+
+length_spots : (n : ℕ) (b2 b : Option Event) (log : List Event) (next : Option Event) → length (spots n b2 b log next) ≡ length log
+length_spots n b2 b [] next = refl
+length_spots n b2 b (event ∷ log) next = let rest = length_spots (count_with n event) b (Some event) log next in omega (arith, rest)
+
+-- Each packet of a piece is of one event at least.
+few_pieces : (words : Words) (period : ℕ) (front : List Event) (ss : List Spot) → length (pieces words period front ss) ≤ length ss
+few_pieces words period front [] = omega arith
+few_pieces words period front (s ∷ ss) = go (is_cut front s.event (rule words period s)) (few_pieces words period [] ss) (few_pieces words period (front ++ s.event ∷ []) ss)
+  where
+    go : (c : Bool) → length (pieces words period [] ss) ≤ length ss → length (pieces words period (front ++ s.event ∷ []) ss) ≤ length ss → length (cut_or_go_on c (record { front = front; last = s.event; by = rule words period s }) (λ since. pieces words period since ss)) ≤ length (s ∷ ss)
+    go true fresh on = omega (arith, fresh)
+    go false fresh on = omega (arith, on)
+
+length_reports : (reported : ℕ) (ps : List Piece) → length (reports reported ps) ≡ length ps
+length_reports reported [] = refl
+length_reports reported (p ∷ ps) = let rest = length_reports (reported_by p.by reported p.last) ps in omega (arith, rest)
+
+pub few_packets : (words : Words) (period : ℕ) (log : List Event) → length (packets words period log) ≤ length log + 2
+few_packets words period log =
+    let joined = length-append (reports 0 (pieces_of words period log)) (closing_packet words period log ∷ []) in
+    let count = length_reports 0 (pieces_of words period log) in
+    let few = few_pieces words period [] (spots_of log) in
+    let events = length_spots 0 None None log None in
+    omega (arith, joined, count, few, events)

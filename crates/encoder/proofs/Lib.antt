@@ -8,4 +8,6 @@ pub mod PushLemmas
 pub mod StandsLemmas
 pub mod ProfileLemmas
 pub mod EndLemmas
+pub mod PassLemmas
+pub mod SourceLemmas
 pub mod WorkedLogs

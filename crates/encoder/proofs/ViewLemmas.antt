@@ -59,7 +59,7 @@ module _ (words : Words) (period : ℕ) where
     asked = ap (λ x. due_at_last words period (last_or None x)) (spots-snoc log held None) ∙ ap (due_at_last words period) (last_or-snoc None (spots 0 None None log (Some held)) (spot_after log held None));
   }
 
-  decided_is : (log : List Event) (held : Event) (k : Bool) → is_known words (spot_after log held None) ≡ k → decided words (spots_of (log ++ held ∷ [])) ≡ spots 0 None None log (Some held) ++ cond k (spot_after log held None ∷ []) []
+  pub decided_is : (log : List Event) (held : Event) (k : Bool) → is_known words (spot_after log held None) ≡ k → decided words (spots_of (log ++ held ∷ [])) ≡ spots 0 None None log (Some held) ++ cond k (spot_after log held None ∷ []) []
   decided_is log held k e =
       ap (decided words) (spots-snoc log held None) ∙ decided-snoc words (spots 0 None None log (Some held)) (spot_after log held None)
       ∙ ap (λ b. spots 0 None None log (Some held) ++ cond b (spot_after log held None ∷ []) []) e

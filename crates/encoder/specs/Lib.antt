@@ -2,8 +2,12 @@ pub mod Spot
 pub mod Rule
 pub mod Piece
 pub mod Packets
+pub mod Payloads
 pub mod PacketsSoFar
 pub mod Due
 pub mod Stands
 pub mod Profile
+pub mod FewPackets
 pub mod Stepping
+pub mod SourceAt
+pub mod SourceFields

@@ -10,6 +10,7 @@ use Rattle.payload.specs.Difference.{difference}
 use Rattle.payload.specs.declared.packet.Packet.{Packet}
 use Rattle.payload.specs.declared.packet.Packet.TheVariants as packet
 use Rattle.payload.specs.declared.packet.Report.TheVariants.{Plain, Updiscon, Notify}
+use Rattle.payload.specs.declared.packet.Support.{Support}
 use Rattle.payload.specs.declared.packet.Support.TheVariants.{EndedNtr}
 use Rattle.encoder.specs.Packets.{trap_packet, reported_by, closing}
 use Rattle.encoder.specs.declared.due.Due.{Due}
@@ -171,6 +172,16 @@ after_with words e event due =
     if is_quiet words e e.held event due then hold e e.pending e.reported event due else
     hold e [] (reported_before words e e.held event due) event due
 
+-- The next event gives nothing, and nothing is due of it, behind an event of which nothing is due, with
+-- so many retirements left, and these outcomes.
+abbrev pub passes : Words → Event → ℕ → List Bool → Event → Bool
+passes words (Retire at type level) left pending (Retire addr itype priv) =
+    (priv == level) && (not (left == 0)) && (not (leaves_by_type type)) && nat_lt (length pending) 31
+    && not (jumps_back_to words (Retire at type level) (Retire addr itype priv))
+passes words (Retire at type level) left pending (Trap epc priv interrupt cause tval) = false
+passes words (Trap at level irq code value) left pending (Retire addr itype priv) = false
+passes words (Trap at level irq code value) left pending (Trap epc priv interrupt cause tval) = false
+
 -- What is due of an event that an encoder is given.
 abbrev pub due_next : Encoder → Event → Due
 due_next e event = next_due e.held e.due e.left event
@@ -183,8 +194,16 @@ given words e event = given_with words e event (due_next e event)
 abbrev pub after : Words → Encoder → Event → Encoder
 after words e event = after_with words e event (due_next e event)
 
+-- The packet of the last event of a log, where none told of it yet.
+abbrev pub last_given : Encoder → Option Event → List Packet
+last_given e None = []
+last_given e (Some held) = packets_by (rule_at_end e.due) held e.pending e.reported
+
+-- How tracing ends after it.
+abbrev pub ends_by : Encoder → Option Event → Support
+ends_by e None = EndedNtr
+ends_by e (Some held) = closing (rule_at_end e.due)
+
 -- The packets that are left at the end of a log.
 abbrev pub given_at_end : Encoder → Option Event → List Packet
-given_at_end e None = packet.Support EndedNtr ∷ []
-given_at_end e (Some held) =
-    packets_by (rule_at_end e.due) held e.pending e.reported ++ packet.Support (closing (rule_at_end e.due)) ∷ []
+given_at_end e held = last_given e held ++ packet.Support (ends_by e held) ∷ []

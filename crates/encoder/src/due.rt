@@ -87,7 +87,7 @@ pub fn due_behind(held: &Option<Event>, due: Due, left: u16, event: &Event) -> D
 
 /// Whether a retirement of this type is an uninferable discontinuity.
 #[inline]
-fn leaves(itype: u8) -> bool
+pub fn leaves(itype: u8) -> bool
     ensures { result ≡ leaves_by_type itype }
 {
     itype == 3 || itype == 6

@@ -1,6 +1,7 @@
 //! From events to packets, one event at a time.
 
-ghost use Rattle.std.specs.Prelude.{◌≡◌, ◌≤◌, ◌<◌, ℕ, All, List, [], ◌∷◌, ◌++◌, length};
+ghost use Rattle.std.specs.Prelude.{◌≡◌, ◌+◌, ◌≤◌, ◌<◌, ℕ, All, List, [], ◌∷◌, ◌++◌, length, take};
+ghost use Rattle.std.specs.Option.{option_to_list};
 ghost use Rattle.retire.specs.declared.event.Event.{Event};
 ghost use Rattle.rvclass.specs.Fetch.{words_of};
 ghost use Rattle.rvclass.specs.Words.{Words};
@@ -12,8 +13,8 @@ ghost use Rattle.encoder.specs.Stands.{Is64Bit, Stands};
 ghost use Rattle.encoder.specs.Stepping as stepping;
 
 use crate::due::{Due, due_behind};
-use crate::event::{is_branch, is_taken, place_of};
 use crate::packet::{handler_packet, packet_by, reported_by};
+use crate::passing::passes;
 use crate::rule::{Rule, rule_at_end, rule_before};
 use arrayvec::ArrayVec;
 use payload::{Outcomes, Packet, Support};
@@ -83,12 +84,7 @@ impl Encoder {
             Legal (words_of program.now) (log ++ event ∷ []) →
             All InProfile result.items }
     {
-        let due = due_behind(&self.held, self.due, self.left, &event);
-        if self.is_quiet(program, &event, due) {
-            self.hold(event, due);
-            return Burst::new();
-        }
-        self.report(program, event, due)
+        burst_of(self.step(program, &event))
     }
 
     /// Ends the log, and gives the packets that are left.
@@ -102,7 +98,76 @@ impl Encoder {
             Legal (words_of program.now) log →
             All InProfile result.items }
     {
-        self.end()
+        let mut burst = burst_of(self.last());
+        burst.push(Packet::Support(self.closing()));
+        burst
+    }
+
+    /// Takes the next event, and gives the packet that is due by it.
+    #[inline]
+    pub(crate) fn step(&mut self, program: &Program, event: &Event) -> Option<Packet>
+        ensures after { self.new ≡ stepping.after (words_of program.now) self.old event.now }
+        ensures given { option_to_list result ≡ stepping.given (words_of program.now) self.old event.now }
+        ensures numbers { Is64Bit event.now }
+    {
+        let due = due_behind(&self.held, self.due, self.left, event);
+        if self.is_quiet(program, event, due) {
+            self.hold(*event, due);
+            return None;
+        }
+        self.report(program, event, due)
+    }
+
+    /// Takes those of the events from `taken` on that follow a retirement of which nothing is due, and give nothing;
+    /// answers how many events are taken then.
+    pub(crate) fn pass(&mut self, program: &Program, events: &[Event], taken: usize) -> usize
+        requires within { taken ≤ length events.now }
+        requires legal { Legal (words_of program.now) events.now }
+        requires stands { Stands (words_of program.now) (self.old.between + 1) (take taken events.now) self.old }
+        ensures from { taken ≤ result }
+        ensures within { result ≤ length events.now }
+        ensures stands { Stands (words_of program.now) (self.old.between + 1) (take result events.now) self.new }
+        ensures packets { packets_so_far (words_of program.now) (self.old.between + 1) (take result events.now)
+            ≡ packets_so_far (words_of program.now) (self.old.between + 1) (take taken events.now) }
+    {
+        if taken == 0 || !matches!(self.due, Due::Nothing) {
+            return taken;
+        }
+        let mut left = self.left;
+        let mut pending = self.pending;
+        let mut next = taken;
+        for at in taken..events.len() {
+            if !passes(program, &events[at - 1], left, &pending, events[at]) {
+                break;
+            }
+            left -= 1;
+            add_outcome(&mut pending, &events[at]);
+            next = at + 1;
+        }
+        self.left = left;
+        self.pending = pending;
+        self.held = Some(events[next - 1]);
+        next
+    }
+
+    /// The packet of the last event, where none told of it yet.
+    pub(crate) fn last(&self) -> Option<Packet>
+        ensures { option_to_list result ≡ stepping.last_given self.now self.now.held }
+    {
+        match &self.held {
+            Some(held) => packet_by(rule_at_end(self.due), held, &self.pending, self.reported),
+            None => None,
+        }
+    }
+
+    /// How tracing ends after the last event.
+    pub(crate) fn closing(&self) -> Support
+        ensures { result ≡ stepping.ends_by self.now self.now.held }
+    {
+        match self.held {
+            Some(_) => closing(rule_at_end(self.due)),
+            None => Support::EndedNtr,
+        }
     }
 
     /// Whether the next event, of which `due` is, leaves the held one without a packet.
@@ -121,30 +186,29 @@ impl Encoder {
         }
     }
 
-    /// Gives the packets that the next event, of which `due` is, makes due, and holds it.
+    /// Gives the packet that the next event, of which `due` is, makes due, and holds it.
     #[inline(never)]
-    fn report(&mut self, program: &Program, event: Event, due: Due) -> Burst
+    fn report(&mut self, program: &Program, event: &Event, due: Due) -> Option<Packet>
         ensures after { self.new
-            ≡ stepping.hold self.old [] (stepping.reported_before (words_of program.now) self.old self.old.held event due) event due }
-        ensures given { result.items ≡ stepping.packets_before (words_of program.now) self.old self.old.held event due }
-        ensures numbers { Is64Bit event }
+            ≡ stepping.hold self.old [] (stepping.reported_before (words_of program.now) self.old self.old.held event.now due) event.now due }
+        ensures given { option_to_list result
+            ≡ stepping.packets_before (words_of program.now) self.old self.old.held event.now due }
+        ensures numbers { Is64Bit event.now }
     {
-        let mut burst = Burst::new();
+        let mut packet = None;
         if let Some(held) = self.held {
             if due.is_handler() {
-                burst.push(handler_packet(&held, &event));
-                self.reported = place_of(&event);
+                packet = Some(handler_packet(&held, event));
+                self.reported = event.place();
             } else {
-                let rule = rule_before(program, &held, self.due, &event, due);
-                if let Some(packet) = packet_by(rule, &held, &self.pending, self.reported) {
-                    burst.push(packet);
-                }
+                let rule = rule_before(program, &held, self.due, event, due);
+                packet = packet_by(rule, &held, &self.pending, self.reported);
                 self.reported = reported_by(rule, self.reported, &held);
             }
         }
         self.pending = Outcomes::new();
-        self.hold(event, due);
-        burst
+        self.hold(*event, due);
+        packet
     }
 
     /// Holds an event, of which `due` is.
@@ -161,28 +225,35 @@ impl Encoder {
                 self.left - 1
             };
         }
-        if !due.is_handler() && is_branch(&event) {
-            self.pending.push(is_taken(&event));
+        if !due.is_handler() {
+            add_outcome(&mut self.pending, &event);
         }
         self.held = Some(event);
         self.due = due;
     }
+}
 
-    fn end(&self) -> Burst
-        ensures { result.items ≡ stepping.given_at_end self.now self.now.held }
-    {
-        let mut burst = Burst::new();
-        let Some(held) = self.held else {
-            burst.push(Packet::Support(Support::EndedNtr));
-            return burst;
-        };
-        let rule = rule_at_end(self.due);
-        if let Some(packet) = packet_by(rule, &held, &self.pending, self.reported) {
-            burst.push(packet);
-        }
-        burst.push(Packet::Support(closing(rule)));
-        burst
+/// Adds the outcome of an event, if it is a branch.
+#[inline(always)]
+fn add_outcome(pending: &mut Outcomes, event: &Event)
+    requires { length pending.old < 31 }
+    ensures { pending.new ≡ stepping.pending_with Due.Nothing event.now pending.old }
+{
+    if event.is_branch() {
+        pending.push(event.is_taken());
     }
+}
+
+/// The packets of a burst: this one, if there is one.
+#[inline]
+fn burst_of(packet: Option<Packet>) -> Burst
+    ensures { result.items ≡ option_to_list packet }
+{
+    let mut burst = Burst::new();
+    if let Some(packet) = packet {
+        burst.push(packet);
+    }
+    burst
 }
 
 /// How tracing ends after an event with this rule.

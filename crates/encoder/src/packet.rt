@@ -7,7 +7,6 @@ ghost use Rattle.payload.specs.Difference.{difference};
 ghost use Rattle.encoder.specs.Packets.{reported_by, trap_packet};
 ghost use Rattle.encoder.specs.Stepping.{packets_by, handler_packet};
 
-use crate::event::{is_taken, place_of, privilege_of};
 use crate::rule::Rule;
 use payload::{Outcomes, Packet, Report};
 use retire::Event;
@@ -18,18 +17,12 @@ pub fn packet_by(rule: Rule, held: &Event, outcomes: &Outcomes, reported: u64) -
     ensures { option_to_list result ≡ packets_by rule held.now outcomes.now reported }
 {
     match rule {
-        Rule::Trap { .. } => Some(trap_packet(
-            held,
-            false,
-            privilege_of(held),
-            false,
-            place_of(held),
-        )),
+        Rule::Trap { .. } => Some(trap_packet(held, false, held.privilege(), false, held.place())),
         Rule::Handler => None,
         Rule::Sync => Some(Packet::Sync {
-            taken: is_taken(held),
-            privilege: privilege_of(held),
-            address: place_of(held),
+            taken: held.is_taken(),
+            privilege: held.privilege(),
+            address: held.place(),
         }),
         Rule::Target { cut_off: true } => Some(address(held, outcomes, reported, Report::Updiscon)),
         Rule::Target { cut_off: false } | Rule::Explicit => {
@@ -46,10 +39,10 @@ pub fn handler_packet(trap: &Event, handler: &Event) -> Packet
 {
     trap_packet(
         trap,
-        is_taken(handler),
-        privilege_of(handler),
+        handler.is_taken(),
+        handler.privilege(),
         true,
-        place_of(handler),
+        handler.place(),
     )
 }
 
@@ -59,7 +52,7 @@ pub fn reported_by(rule: Rule, reported: u64, held: &Event) -> u64
 {
     match rule {
         Rule::Unreported => reported,
-        _ => place_of(held),
+        _ => held.place(),
     }
 }
 
@@ -69,7 +62,7 @@ fn address(held: &Event, outcomes: &Outcomes, reported: u64, report: Report) -> 
 {
     Packet::Address {
         outcomes: *outcomes,
-        delta: place_of(held).wrapping_sub(reported),
+        delta: held.place().wrapping_sub(reported),
         report,
     }
 }

@@ -6,7 +6,6 @@ ghost use Rattle.legalpath.specs.Backward.{jumps_back};
 ghost use Rattle.encoder.specs.Stepping.{rule_before, rule_at_end, jumps_back_to};
 
 use crate::due::Due;
-use crate::event::place_of;
 use retire::Event;
 use rvclass::{Class, Program};
 
@@ -75,19 +74,20 @@ pub fn rule_at_end(due: Due) -> Rule
 
 /// Whether a retirement is a backward jump, where this event comes next. Only what does not stand
 /// above a retirement of type 0 can be the target of one, so few words are looked at.
-#[inline]
-fn jumps_back(program: &Program, event: &Event, next: &Event) -> bool
+#[inline(always)]
+pub fn jumps_back(program: &Program, event: &Event, next: &Event) -> bool
     ensures { result ≡ jumps_back_to (words_of program.now) event.now next.now }
 {
     match event {
         Event::Retire { addr, itype, .. } => {
-            *itype == 0 && place_of(next) <= *addr && is_backward(program, *addr)
+            *itype == 0 && next.place() <= *addr && is_backward(program, *addr)
         }
         Event::Trap { .. } => false,
     }
 }
 
 /// Whether the word at this address, if there is one, jumps to an address that is not greater.
+#[inline(never)]
 fn is_backward(program: &Program, addr: u64) -> bool
     ensures { result ≡ jumps_back addr (words_of program.now addr) }
 {

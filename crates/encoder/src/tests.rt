@@ -1,10 +1,13 @@
 // Small programs, logs of them, and what the encoder gives of them.
 
+mod drawn;
+mod reading;
 mod rows;
 
 ghost use Rattle.std.specs.Prelude.{◌<◌};
 
-use crate::Encoder;
+use crate::{Encoder, Source};
+use legalpath::LegalLog;
 use payload::{Packet, Payload, pack};
 use retire::Event;
 use rvclass::Program;
@@ -12,6 +15,24 @@ use std::alloc::Global;
 use std::test::Fail;
 
 const BASE: u64 = 0x8000_0000;
+
+// Words, as the RISC-V Unprivileged ISA and the Privileged Architecture encode them.
+const NOP: u32 = 0x0000_0013;
+
+const ECALL: u32 = 0x0000_0073;
+
+const MRET: u32 = 0x3020_0073;
+
+// A return to the address in ra.
+const RET: u32 = 0x0000_8067;
+
+// A jump to itself.
+const JAL: u32 = 0x0000_006f;
+
+// A branch to itself, and one to 8 bytes on.
+const BEQ: u32 = 0x0000_0063;
+
+const BEQ_8: u32 = 0x0000_0463;
 
 // The program of these words, from the base on.
 fn program_of(alloc: Global, words: &[u32]) -> Result<Program, Fail> {
@@ -72,6 +93,39 @@ fn payloads_of(alloc: Global, packets: &[Packet]) -> Result<Vec<Payload>, Fail> 
             return Err(Fail::from("a packet is not of the profile"));
         }
         payloads.push(pack(packet))?;
+    }
+    Ok(payloads)
+}
+
+// The legal log of these events.
+fn legal_log<'p>(
+    alloc: Global,
+    program: &'p Program,
+    events: &[Event],
+) -> Result<LegalLog<'p>, Fail> {
+    if events.len() > 1 << 24 {
+        return Err(Fail::from("a log is too long"));
+    }
+    match LegalLog::new(program, events.to_vec(alloc)?) {
+        Ok(log) => Ok(log),
+        Err(_) => Err(Fail::from("a log is not legal")),
+    }
+}
+
+// The payloads that a source gives, which gives none behind them.
+fn sourced(alloc: Global, log: &LegalLog<'_>, period: u16) -> Result<Vec<Payload>, Fail> {
+    if period == 0 {
+        return Err(Fail::from("a period is 0"));
+    }
+    let mut source = Source::new(log, period);
+    let mut payloads = Vec::new(alloc);
+    for _ in 0..log.events().len() + 2 {
+        if let Some(payload) = source.next() {
+            payloads.push(payload)?;
+        }
+    }
+    if source.next().is_some() || source.next().is_some() {
+        return Err(Fail::from("a source goes on"));
     }
     Ok(payloads)
 }

@@ -1,26 +1,11 @@
 // Logs whose payloads were worked by hand.
 
-use super::{BASE, at, packets_of, payloads_of, program_of, trap};
+use super::{
+    BASE, BEQ, BEQ_8, ECALL, JAL, MRET, NOP, RET, at, legal_log, packets_of, payloads_of,
+    program_of, sourced, trap,
+};
 use retire::Event;
 use std::test::Fail;
-
-// Words, as the RISC-V Unprivileged ISA and the Privileged Architecture encode them.
-const NOP: u32 = 0x0000_0013;
-
-const ECALL: u32 = 0x0000_0073;
-
-const MRET: u32 = 0x3020_0073;
-
-// A return to the address in ra.
-const RET: u32 = 0x0000_8067;
-
-// A jump to itself.
-const JAL: u32 = 0x0000_006f;
-
-// A branch to itself, and one to 8 bytes on.
-const BEQ: u32 = 0x0000_0063;
-
-const BEQ_8: u32 = 0x0000_0463;
 
 // The packets that begin and end most logs.
 const OPEN: &[u8] = &[0x1f];
@@ -169,9 +154,14 @@ fn payloads_of_worked_logs(rt: HostRuntime) -> Result<(), Fail> {
     for (i, (words, period, log, want)) in table.iter().enumerate() {
         let program = program_of(rt.alloc(), words)?;
         let packets = packets_of(rt.alloc(), &program, *period, log)?;
-        let payloads = payloads_of(rt.alloc(), packets.as_slice())?;
-        assert_eq!(rt; payloads.len(), want.len(), "log {i}");
-        for (payload, bytes) in payloads.iter().zip(want.iter()) {
+        let pushed = payloads_of(rt.alloc(), packets.as_slice())?;
+        let pulled = sourced(rt.alloc(), &legal_log(rt.alloc(), &program, log)?, *period)?;
+        assert_eq!(rt; pushed.len(), want.len(), "log {i}");
+        assert_eq!(rt; pulled.len(), want.len(), "log {i}");
+        for (payload, bytes) in pushed.iter().zip(want.iter()) {
+            assert_eq!(rt; payload.bytes(), *bytes, "log {i}");
+        }
+        for (payload, bytes) in pulled.iter().zip(want.iter()) {
             assert_eq!(rt; payload.bytes(), *bytes, "log {i}");
         }
     }

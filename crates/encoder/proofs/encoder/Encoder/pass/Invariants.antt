@@ -1,0 +1,23 @@
+use Rattle.std.proofs.Common.{◌≡◌, ◌+◌, take, None}
+use Rattle.std.specs.List.{last_or}
+use Rattle.rvclass.specs.Fetch.{words_of}
+use Rattle.encoder.specs.PacketsSoFar.{packets_so_far}
+use Rattle.encoder.specs.Stands.{Stands}
+use Rattle.encoder.specs.declared.due.Due.TheVariants as due
+use Rattle.encoder.proofs.encoder.Encoder.pass.Given as goal
+
+-- The encoder would stand for the events that were passed over, and these gave nothing.
+abbrev pub invariant-loop-at : goal.invariant-loop-at
+invariant-loop-at l =
+    let words = words_of l.program in
+    let period = l.fn.self.between + 1 in
+    (l.next ≡ l.at)
+    × Stands words period (take l.at l.events) (record {
+      between = l.self.between;
+      left = l.left;
+      held = last_or None (take l.at l.events);
+      due = due.Nothing;
+      pending = l.pending;
+      reported = l.self.reported;
+    })
+    × (packets_so_far words period (take l.at l.events) ≡ packets_so_far words period (take l.fn.taken l.events))

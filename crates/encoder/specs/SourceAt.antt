@@ -1,0 +1,18 @@
+-- Where a source of payloads stands.
+use Rattle.std.specs.Prelude.{ℕ, ◌≡◌, ◌+◌, Option, Some, None}
+use Rattle.legalpath.specs.ProgramLog.{ProgramLog}
+
+-- A log, a period, and how many of the log's payloads at that period come before the next one.
+pub record SourceAt : Type 0 where
+  pub log : ProgramLog
+  pub period : ℕ
+  pub number : ℕ
+
+-- A source stands before the payload of this number of a log at a period; the first is of number 0.
+abbrev pub IsAt : ℕ → ProgramLog → ℕ → SourceAt → Type 0
+IsAt period log number source = source ≡ record { log = log; period = period; number = number }
+
+-- The number behind the payload of this number, if there is one.
+abbrev pub number_behind : {A : Type 0} → ℕ → Option A → ℕ
+number_behind number (Some payload) = number + 1
+number_behind number None = number

@@ -1,0 +1,38 @@
+//! Which events are passed over.
+
+ghost use Rattle.std.specs.Prelude.{◌≡◌};
+ghost use Rattle.rvclass.specs.Fetch.{words_of};
+ghost use Rattle.encoder.specs.Stands.{Is64Bit};
+ghost use Rattle.encoder.specs.Stepping.{passes};
+
+use crate::due::leaves;
+use crate::rule::jumps_back;
+use payload::Outcomes;
+use retire::Event;
+use rvclass::Program;
+
+/// Whether the next event gives nothing, and nothing is due of it, behind an event of which nothing is due, with so many
+/// retirements before the next periodic sync, and these outcomes.
+#[inline(always)]
+pub fn passes(program: &Program, held: &Event, left: u16, pending: &Outcomes, next: Event) -> bool
+    ensures value { result ≡ passes (words_of program.now) held.now left pending.now next }
+    ensures numbers { Is64Bit next }
+{
+    match next {
+        Event::Retire { privilege, .. } => match held {
+            Event::Retire {
+                itype,
+                privilege: level,
+                ..
+            } => {
+                privilege == *level
+                    && left != 0
+                    && !leaves(*itype)
+                    && pending.len() < 31
+                    && !jumps_back(program, held, &next)
+            }
+            Event::Trap { .. } => false,
+        },
+        Event::Trap { .. } => false,
+    }
+}

@@ -1,0 +1,152 @@
+//! The payloads of a log, one at a time.
+
+ghost use Rattle.std.specs.Prelude.{◌≡◌, ◌+◌, ◌≤◌, ℕ, All, ◌++◌, length, take, slice_get};
+ghost use Rattle.std.specs.Option.{option_to_list};
+ghost use Rattle.rvclass.specs.Fetch.{words_of};
+ghost use Rattle.legalpath.specs.Legal.{Legal};
+ghost use Rattle.legalpath.specs.ProgramLog.{ProgramLog};
+ghost use Rattle.payload.specs.Profile.{InProfile};
+ghost use Rattle.encoder.specs.PacketsSoFar.{packets_so_far};
+ghost use Rattle.encoder.specs.Payloads.{payloads};
+ghost use Rattle.encoder.specs.SourceAt.{SourceAt, IsAt, number_behind};
+ghost use Rattle.encoder.specs.SourceFields.{packets_of_log, stands_at, IsSource};
+ghost use Rattle.encoder.specs.Stands.{Stands};
+
+use crate::encoder::Encoder;
+use legalpath::LegalLog;
+use payload::{Packet, Payload, Support, pack};
+use retire::Event;
+use rvclass::Program;
+use std::alloc::{Allocator, Global};
+use std::marker::Model;
+
+/// Which payloads of a log are still to come.
+#[derive(Clone, Copy)]
+pub(crate) enum Stage {
+    /// All of them.
+    Opening,
+    /// Those of events, and the closing one.
+    Running,
+    /// The closing one.
+    Closing,
+    /// None.
+    Ended,
+}
+
+/// Gives the payloads of a legal log, one at a time: the shortest of each of its packets, in their order. No call takes
+/// memory.
+#[derive(Drop)]
+pub struct Source<'l, 'p, A: Allocator = Global> {
+    log: &'l LegalLog<'p, A>,
+    encoder: Encoder,
+    /// Which payloads are still to come.
+    stage: Stage,
+    /// How many events the encoder was given.
+    taken: usize,
+}
+
+impl<'l, 'p, A: Allocator> Model for Source<'l, 'p, A> {
+    ghost Value = { SourceAt };
+
+    ghost view = { λ s. stands_at s.log.now s.encoder s.stage s.taken };
+
+    ghost invariant = { λ s. IsSource s.log.now s.encoder s.stage s.taken };
+}
+
+impl<'l, 'p, A: Allocator> Source<'l, 'p, A> {
+    /// A source that stands before the first payload of this log, with a sync at each retirement whose number, from 0,
+    /// the period divides.
+    pub fn new(log: &'l LegalLog<'p, A>, period: u16) -> Source<'l, 'p, A>
+        requires { 1 ≤ period }
+        ensures { IsAt period log.now 0 result }
+    {
+        Source {
+            log,
+            encoder: Encoder::new(period),
+            stage: Stage::Opening,
+            taken: 0,
+        }
+    }
+
+    /// The payload that comes next; `None` behind the closing one, and from then on.
+    pub fn next(&mut self) -> Option<Payload>
+        ensures given { (period number : ℕ) (log : ProgramLog) →
+            IsAt period log number self.old →
+            result ≡ slice_get (payloads period log) number }
+        ensures goes_on { (period number : ℕ) (log : ProgramLog) →
+            IsAt period log number self.old →
+            IsAt period log (number_behind number result) self.new }
+    {
+        match self.packet() {
+            Some(packet) => Some(pack(&packet)),
+            None => None,
+        }
+    }
+
+    /// The packet that comes next.
+    fn packet(&mut self) -> Option<Packet>
+        ensures given { result ≡ slice_get (packets_of_log self.old.period self.old.log) self.old.number }
+        ensures goes_on { self.new ≡ record self.old { number = number_behind self.old.number result } }
+        ensures profile { All InProfile (option_to_list result) }
+    {
+        match self.stage {
+            Stage::Opening => {
+                self.stage = Stage::Running;
+                Some(Packet::Support(Support::Open))
+            }
+            Stage::Running => {
+                let log = self.log;
+                let next = run(
+                    &mut self.encoder,
+                    log.program(),
+                    log.events(),
+                    &mut self.taken,
+                );
+                if let Some(packet) = next {
+                    return Some(packet);
+                }
+                if let Some(packet) = self.encoder.last() {
+                    self.stage = Stage::Closing;
+                    return Some(packet);
+                }
+                self.stage = Stage::Ended;
+                Some(Packet::Support(self.encoder.closing()))
+            }
+            Stage::Closing => {
+                self.stage = Stage::Ended;
+                Some(Packet::Support(self.encoder.closing()))
+            }
+            Stage::Ended => None,
+        }
+    }
+}
+
+/// Gives an encoder the events that it was not given yet, until one of them gives a packet.
+fn run(
+    encoder: &mut Encoder,
+    program: &Program,
+    events: &[Event],
+    taken: &mut usize,
+) -> Option<Packet>
+    requires within { taken.old ≤ length events.now }
+    requires legal { Legal (words_of program.now) events.now }
+    requires stands { Stands (words_of program.now) (encoder.old.between + 1) (take taken.old events.now) encoder.old }
+    ensures within { taken.new ≤ length events.now }
+    ensures stands { Stands (words_of program.now) (encoder.old.between + 1) (take taken.new events.now) encoder.new }
+    ensures packets { packets_so_far (words_of program.now) (encoder.old.between + 1) (take taken.new events.now)
+        ≡ packets_so_far (words_of program.now) (encoder.old.between + 1) (take taken.old events.now) ++ option_to_list result }
+    ensures all { result ≡ None → taken.new ≡ length events.now }
+{
+    for _ in *taken..events.len() {
+        let next = encoder.pass(program, events, *taken);
+        *taken = next;
+        if next == events.len() {
+            return None;
+        }
+        *taken = next + 1;
+        if let Some(packet) = encoder.step(program, &events[next]) {
+            return Some(packet);
+        }
+    }
+    None
+}
