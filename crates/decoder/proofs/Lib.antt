@@ -2,6 +2,7 @@ pub mod WalkLaws
 pub mod OutcomesLeft
 pub mod WalkFinding
 pub mod WalkPasses
+pub mod Retraces
 pub mod WalkBound
 pub mod WalkAnswers
 pub mod UniqueLemmas

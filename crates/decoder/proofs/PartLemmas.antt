@@ -30,7 +30,7 @@ part_last-gives words before (One event) events gives = ap (last_or before) (sym
 part_last-gives words before (Two trap event) events gives = ap (last_or before) (sym gives)
 part_last-gives words before (Walk walk) events gives =
     let fits = gives.1.fits in
-    let same = walk_last (event_of walk.from) fits.last (event_of walk.walked.last) fits.front events fits.whole gives.3 in
+    let same = walk_last (event_of walk.from) fits.last walk.walked.last fits.front events fits.whole gives.3 in
     ap Some (sym same) ∙ sym (ap (last_or before) fits.whole ∙ last_or-last before fits.front fits.last)
 
 pub part_place-gives : (words : Words) (at : ℕ) (part : Part) (events : List Event) → Gives words part events → part_place at part ≡ last_place at events
@@ -39,7 +39,7 @@ part_place-gives words at (One event) events gives = ap (last_place at) (sym giv
 part_place-gives words at (Two trap event) events gives = ap (last_place at) (sym gives)
 part_place-gives words at (Walk walk) events gives =
     let fits = gives.1.fits in
-    let same = walk_last (event_of walk.from) fits.last (event_of walk.walked.last) fits.front events fits.whole gives.3 in
+    let same = walk_last (event_of walk.from) fits.last walk.walked.last fits.front events fits.whole gives.3 in
     ap place (sym same) ∙ sym (ap (last_place at) fits.whole ∙ last_place-last at fits.front fits.last)
 
 -- What runs after a right event ends with a right one.

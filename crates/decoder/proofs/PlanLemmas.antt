@@ -1,6 +1,6 @@
 -- The plan of a decoder has the events that can follow, or there are none.
 use Rattle.std.proofs.Common.{◌≡◌, ℕ, List, Option, Some, None, sym, ap, subst, ◌∙◌}
-use Rattle.std.specs.Prelude.{Ok}
+use Rattle.std.specs.Prelude.{Result, Ok, Err, OnOk, IfErr}
 use Rattle.std.specs.List.{last_or}
 use Rattle.retire.specs.declared.event.Event.{Event}
 use Rattle.rvclass.specs.Words.{Words, IsProgram}
@@ -12,10 +12,9 @@ use Rattle.decoder.proofs.PartLemmas.{part_last-gives, part_place-gives, right_a
 use Rattle.decoder.proofs.UniqueLemmas.{address_same}
 use Rattle.decoder.specs.Fits.{Fits}
 use Rattle.decoder.specs.Parts.{part_last, part_place, Suits, SuitsNone, RightBefore}
-use Rattle.decoder.specs.Planning.{MayCome, FitsWaiting, Plans, PlansNone, admitted, decoder_after, IsNamed}
+use Rattle.decoder.specs.Planning.{MayCome, FitsWaiting, Plans, PlansNone, admitted, IsNamed}
 use Rattle.decoder.specs.Settling.{settled_by}
 use Rattle.decoder.specs.declared.decoding.Decoder.{Decoder}
-use Rattle.decoder.specs.declared.decoding.Plan.{Plan}
 use Rattle.decoder.specs.declared.fault.DecodeFault.{DecodeFault}
 use Rattle.decoder.specs.declared.part.Part.{Part}
 use Rattle.decoder.specs.declared.settling.Waiting.{Waiting}
@@ -30,32 +29,33 @@ module _ (words : Words) (d : Decoder) (p : Packet) where
   FitsOwn : Option Event → ℕ → List Event → Type 0
   FitsOwn before reported = Fits words before reported p None
 
-  pub plans : (plan : Plan) → plan.next ≡ decoder_after d p plan.settled plan.own → admitted d.phase p ≡ Ok tt → MayCome d.phase d.waiting p → Suits words d.last (FitsWaiting words d.last d.reported d.waiting p) plan.settled → Suits words (part_last d.last plan.settled) (Fits words (part_last d.last plan.settled) (part_place d.reported plan.settled) p None) plan.own → Plans words d p plan
-  plans plan next admits comes first own =
-      let last = part_last-gives words d.last plan.settled first.events first.gives in
-      let at = part_place-gives words d.reported plan.settled first.events first.gives in
+  pub plans : (settled own : Part) (r : Result Unit DecodeFault) → admitted d.phase p ≡ Ok tt → MayCome d.phase d.waiting p → Suits words d.last (FitsWaiting words d.last d.reported d.waiting p) settled → OnOk r (Suits words (part_last d.last settled) (Fits words (part_last d.last settled) (part_place d.reported settled) p None) own) → OnOk r (Plans words d p settled own)
+  plans settled own (Err fault) admits comes first second = tt
+  plans settled own (Ok done) admits comes first second =
+      let last = part_last-gives words d.last settled first.events first.gives in
+      let at = part_place-gives words d.reported settled first.events first.gives in
       record {
         settled = first.events;
-        own = own.events;
+        own = second.events;
         gives_settled = first.gives;
-        gives_own = own.gives;
-        next = next;
+        gives_own = second.gives;
         can = λ right.
             let one = first.fits right in
-            let two = own.fits (subst (RightBefore words) (sym last) (right_after words d.last first.events right one.1)) in
-            let fits = subst (λ l. Fits words l (part_place d.reported plan.settled) p None own.events) last two.0 in
+            let two = second.fits (subst (RightBefore words) (sym last) (right_after words d.last first.events right one.1)) in
+            let fits = subst (λ l. Fits words l (part_place d.reported settled) p None second.events) last two.0 in
             record {
               admits = admits;
               comes = comes;
               settles = one.0;
               settled_runs = one.1;
-              fits = subst (λ r. Fits words (last_or d.last first.events) r p None own.events) at fits;
-              runs = subst (λ l. Runs words l own.events) last two.1;
+              fits = subst (λ r. Fits words (last_or d.last first.events) r p None second.events) at fits;
+              runs = subst (λ l. Runs words l second.events) last two.1;
             };
       }
 
-  pub plans_none : IsProgram words → (settled : Part) (fault : DecodeFault) → admitted d.phase p ≡ Ok tt → Suits words d.last (FitsWaiting words d.last d.reported d.waiting p) settled → SuitsNone words (part_last d.last settled) (Fits words (part_last d.last settled) (part_place d.reported settled) p None) fault → PlansNone words d p fault
-  plans_none program settled fault admits first none =
+  pub plans_none : IsProgram words → (settled : Part) (r : Result Unit DecodeFault) → admitted d.phase p ≡ Ok tt → Suits words d.last (FitsWaiting words d.last d.reported d.waiting p) settled → IfErr r (SuitsNone words (part_last d.last settled) (Fits words (part_last d.last settled) (part_place d.reported settled) p None)) → IfErr r (PlansNone words d p)
+  plans_none program settled (Ok done) admits first none = tt
+  plans_none program settled (Err fault) admits first none =
       let last = part_last-gives words d.last settled first.events first.gives in
       let at = part_place-gives words d.reported settled first.events first.gives in
       record {

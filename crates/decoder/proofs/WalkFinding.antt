@@ -20,8 +20,9 @@ use Rattle.legalpath.specs.WordOf.{word_of}
 use Rattle.legalpath.specs.declared.next.Next.{Next}
 use Rattle.legalpath.specs.declared.next.Next.TheVariants.{One, Any, NoneInside}
 use Rattle.decoder.proofs.WalkLaws.{Side, no_longer, side, straight, further}
+use Rattle.decoder.specs.Leads.{may_stay_on}
 use Rattle.decoder.specs.Walk.{End, AtBranch, AtAddress, AtTarget, EndsAt, RetiresAt}
-use Rattle.decoder.specs.WalkSteps.{retire_on, is_empty, stops, may_stay_on, Move, Stop, Last, On, next_move, last_move, target_move, move_to, advance, behind, follow, walk_within}
+use Rattle.decoder.specs.WalkSteps.{retire_on, is_empty, stops, Move, Stop, Last, On, next_move, last_move, target_move, move_to, advance, behind, follow, walk_within}
 use Rattle.decoder.specs.Walks.{WalksOn}
 
 -- What may retire on a word is found there.

@@ -1,10 +1,13 @@
 -- The two passes over a walk, one step at a time.
-use Rattle.std.proofs.Common.{◌≡◌, ℕ, zero, suc, ◌+◌, ◌-◌, ◌<◌, ◌≤◌, Bool, List, [], ◌∷◌, ◌++◌, length, Option, Some, None, refl, sym, ap, ◌∙◌, arith, append_assoc}
+use Rattle.std.proofs.Common.{◌≡◌, ℕ, zero, suc, ◌+◌, ◌-◌, ◌<◌, ◌≤◌, Bool, true, false, List, [], ◌∷◌, ◌++◌, drop, length, Option, Some, None, refl, sym, ap, subst, ◌∙◌, arith, append_assoc, append-nil}
 use Rattle.std.specs.List.{last_or}
 use Rattle.retire.specs.declared.event.Event.{Event}
 use Rattle.rvclass.specs.Words.{Words}
 use Rattle.decoder.specs.Walk.{End}
-use Rattle.decoder.specs.WalkSteps.{Move, Stop, Last, On, advance, follow, behind, walk_within, summary, plus, HasRoomWithin, AddsWithin, Adding}
+use Rattle.decoder.specs.Retracing.{Retraces, HasRoomWithin, AddsWithin, IsAhead, Adding}
+use Rattle.decoder.specs.WalkSteps.{Move, Stop, Last, On, advance, follow, behind, walk_within, summary, plus}
+use Rattle.decoder.specs.Walks.{event_of, Carries}
+use Rattle.decoder.specs.declared.stepping.Here.{Here}
 
 one_move : (words : Words) (n : ℕ) (e : Event) (taken : List Bool) (end : End) (mv : Move) → mv ≡ advance words e taken end → walk_within words (suc n) e taken end ≡ follow mv (λ f left. walk_within words n f left end)
 unfolding walk_within
@@ -33,8 +36,8 @@ module _ (words : Words) (end : End) (from : Event) (taken : List Bool) (limit d
   pub measure_stops : done < limit → Stop ≡ advance words here left end → None ≡ summary from (walk_within words limit from taken end)
   measure_stops lt h = sym (opened Stop lt h)
 
-  pub measure_ends : (f : Event) → done < limit → Last f ≡ advance words here left end → Some (done + 1, Some f) ≡ summary from (walk_within words limit from taken end)
-  measure_ends f lt h = sym (opened (Last f) lt h)
+  pub measure_ends : (f e : Event) → done < limit → Last f ≡ advance words here left end → e ≡ f → Some (done + 1, Some e) ≡ summary from (walk_within words limit from taken end)
+  measure_ends f e lt h is = ap (λ l. Some (done + 1, Some l)) is ∙ sym (opened (Last f) lt h)
 
   pub measure_goes : (f : Event) (rest : List Bool) → done < limit → On f rest ≡ advance words here left end → summary from (walk_within words limit from taken end) ≡ plus (done + 1) (summary f (walk_within words (limit - (done + 1)) f rest end))
   measure_goes f rest lt h = opened (On f rest) lt h ∙ plus_one done here f _
@@ -52,51 +55,88 @@ cut_of : (rest : Option (List Event)) (f : Event) (back : List Event) → behind
 cut_of None f back h = cc
 cut_of (Some w) f back h = record { tail = w; is = cc; later = refl }
 
--- Nothing is added yet.
-pub write_starts : (words : Words) (end : End) (from : Event) (taken : List Bool) (limit : ℕ) (old : List Event) (len capacity : ℕ) → HasRoomWithin words limit from taken end len capacity → Adding words limit from taken end old (limit - 0) from taken old len capacity
-write_starts words end from taken limit old len capacity room =
-    let all : limit ≡ limit - 0 = omega arith in
-    record { whole = room.0; back = room.0; found = room.1; later = sym (ap (λ n. walk_within words n from taken end) all) ∙ room.1; joined = refl; room = room.2 }
+module _ (words : Words) (end : End) where
+  -- The first retirement of what is left of a walk was reached, and this is left behind it.
+  record Reached (here : Here) (left : List Bool) (back : List Event) : Type 0 where
+    tail : List Event
+    is : back ≡ event_of here ∷ tail
+    later : IsAhead words here left end tail
 
-module _ (words : Words) (end : End) (from : Event) (taken : List Bool) (limit : ℕ) (old : List Event) (done : ℕ) (here : Event) (left : List Bool) (new : List Event) (len capacity : ℕ) (inv : Adding words limit from taken end old (limit - done) here left new len capacity) where
-  moved : (mv : Move) → done < limit → mv ≡ advance words here left end → follow mv (λ f rest. walk_within words (limit - (done + 1)) f rest end) ≡ Some inv.back
-  moved mv lt h =
-      sym (ap (λ n. walk_within words n here left end) (one_less done limit lt) ∙ one_move words (limit - (done + 1)) here left end mv h) ∙ inv.later
+  module _ (taken : List Bool) (here : Here) (used : ℕ) where
+    ahead_of : (n : ℕ) (f : Event) (left : List Bool) → (event_of here ≡ f) × (drop used taken ≡ left) × Carries words here → (tail : List Event) → walk_within words n f left end ≡ Some tail → IsAhead words here (drop used taken) end tail
+    ahead_of n f left there [] h = tt
+    ahead_of n f left there (g ∷ tail) h =
+        (there.2, n, ap (λ e. walk_within words n e (drop used taken) end) there.0 ∙ ap (λ l. walk_within words n f l end) there.1 ∙ h)
 
-  pub write_stops : done < limit → Stop ≡ advance words here left end → AddsWithin words limit from taken end old new
-  write_stops lt h = let k = moved Stop lt h in cc
+    reached_by : (n : ℕ) (mv : Move) (f : Event) (tail : List Event) → follow mv (λ g l. walk_within words n g l end) ≡ Some (f ∷ tail) → Retraces words taken here used true mv → Reached here (drop used taken) (f ∷ tail)
+    reached_by n Stop f tail h there = cc
+    reached_by n (Last g) f tail h there =
+        let last : g ∷ [] ≡ f ∷ tail = cc in record { tail = []; is = sym last ∙ ap (λ e. e ∷ []) (sym there); later = tt }
+    reached_by n (On g left) f tail h there =
+        let cut = cut_of (walk_within words n g left end) g (f ∷ tail) h in
+        record { tail = cut.tail; is = cut.is ∙ ap (λ e. e ∷ cut.tail) (sym there.0); later = ahead_of n g left there cut.tail cut.later }
 
-  pub write_over : limit ≤ done → AddsWithin words limit from taken end old new
-  write_over le =
-      let over : limit - done ≡ 0 = omega arith in
-      let k : None ≡ Some inv.back = sym (none_within words (limit - done) here left end over) ∙ inv.later in
-      cc
+    reached : (from : Here) (left : List Bool) (back : List Event) → IsAhead words from left end back → 0 < length back → Retraces words taken here used true (advance words (event_of from) left end) → Reached here (drop used taken) back
+    unfolding walk_within
+    reached from left [] ahead some there = absurd (omega (arith, some))
+    reached from left (f ∷ tail) (carries, zero, h) some there = cc
+    reached from left (f ∷ tail) (carries, suc n, h) some there = reached_by n (advance words (event_of from) left end) f tail h there
 
-  pub room_last : (f : Event) → done < limit → Last f ≡ advance words here left end → len < capacity
-  room_last f lt h =
-      let k : Some (f ∷ []) ≡ Some inv.back = moved (Last f) lt h in
-      let b : f ∷ [] ≡ inv.back = cc in
-      let r = inv.room in
-      omega (arith, ap length b)
+    -- A step that reaches nothing is none of a walk.
+    not_stopped : (n : ℕ) (mv : Move) (f : Event) (tail : List Event) → follow mv (λ g l. walk_within words n g l end) ≡ Some (f ∷ tail) → Retraces words taken here used false mv → ⊥
+    not_stopped n Stop f tail h there = cc
+    not_stopped n (Last g) f tail h there = there
+    not_stopped n (On g left) f tail h there = there
 
-  pub room_on : (f : Event) (rest : List Bool) → done < limit → On f rest ≡ advance words here left end → len < capacity
-  room_on f rest lt h = let c = cut_of _ f inv.back (moved (On f rest) lt h) in let r = inv.room in omega (arith, ap length c.is)
+    not_lost : (from : Here) (left : List Bool) (back : List Event) → IsAhead words from left end back → 0 < length back → Retraces words taken here used false (advance words (event_of from) left end) → ⊥
+    unfolding walk_within
+    not_lost from left [] ahead some there = omega (arith, some)
+    not_lost from left (f ∷ tail) (carries, zero, h) some there = cc
+    not_lost from left (f ∷ tail) (carries, suc n, h) some there = not_stopped n (advance words (event_of from) left end) f tail h there
 
-  pub write_ends : (f e : Event) (after : List Event) → done < limit → Last f ≡ advance words here left end → e ≡ f → after ≡ new ++ e ∷ [] → AddsWithin words limit from taken end old after
-  write_ends f e after lt h is added =
-      let k : Some (f ∷ []) ≡ Some inv.back = moved (Last f) lt h in
-      let b : f ∷ [] ≡ inv.back = cc in
-      (inv.whole, inv.found, added ∙ ap (λ x. new ++ x ∷ []) is ∙ ap (λ l. new ++ l) b ∙ sym inv.joined)
+  on_ahead : (here : Here) (left : List Bool) (back : List Event) → IsAhead words here left end back → 0 < length back → Carries words here
+  on_ahead here left [] ahead some = absurd (omega (arith, some))
+  on_ahead here left (f ∷ tail) ahead some = ahead.0
 
-  pub write_goes : (f e : Event) (rest : List Bool) (after : List Event) (len_after capacity_after : ℕ) → done < limit → On f rest ≡ advance words here left end → e ≡ f → after ≡ new ++ e ∷ [] → len_after ≡ len + 1 → capacity_after ≡ capacity → Adding words limit from taken end old (limit - (done + 1)) f rest after len_after capacity_after
-  write_goes f e rest after len_after capacity_after lt h is added m q =
-      let c = cut_of _ f inv.back (moved (On f rest) lt h) in
-      let r = inv.room in
-      record {
-        whole = inv.whole;
-        back = c.tail;
-        found = inv.found;
-        later = c.later;
-        joined = inv.joined ∙ ap (λ x. new ++ x) c.is ∙ sym (append_assoc new (f ∷ []) c.tail) ∙ ap (λ x. (new ++ x ∷ []) ++ c.tail) (sym is) ∙ ap (λ x. x ++ c.tail) (sym added);
-        room = omega (arith, ap length c.is);
-      }
+  -- Nothing is added yet.
+  pub write_starts : (from : Here) (taken : List Bool) (limit count : ℕ) (old : List Event) (len capacity : ℕ) → Carries words from → HasRoomWithin words limit (event_of from) taken end count len capacity → Adding words limit (event_of from) taken end old (count - 0) from taken old len capacity
+  write_starts from taken limit count old len capacity carries room =
+      record { whole = room.0; back = room.0; found = room.1; later = all room.0 room.1; counted = omega (arith, room.2); joined = refl; room = room.3 }
+    where
+      all : (walk : List Event) → walk_within words limit (event_of from) taken end ≡ Some walk → IsAhead words from taken end walk
+      all [] h = tt
+      all (f ∷ walk) h = (carries, limit, h)
+
+  module _ (from : Event) (taken : List Bool) (limit : ℕ) (old : List Event) (count done : ℕ) (here : Here) (left : List Bool) (new : List Event) (len capacity : ℕ) (inv : Adding words limit from taken end old (count - done) here left new len capacity) where
+    some_left : done < count → 0 < length inv.back
+    some_left lt = omega (arith, lt, inv.counted)
+
+    pub write_carries : done < count → Carries words here
+    write_carries lt = on_ahead here left inv.back inv.later (some_left lt)
+
+    pub write_has_room : done < count → len < capacity
+    write_has_room lt = let more = some_left lt in omega (arith, more, inv.room)
+
+    pub write_lost : (outcomes : List Bool) (there : Here) (used : ℕ) (told : Bool) → done < count → Retraces words outcomes there used told (advance words (event_of here) left end) → told ≡ false → AddsWithin words limit from taken end old new
+    write_lost outcomes there used told lt retraces lost = absurd (not_lost outcomes there used here left inv.back inv.later (some_left lt) (subst (λ t. Retraces words outcomes there used t (advance words (event_of here) left end)) lost retraces))
+
+    pub write_over : count ≤ done → AddsWithin words limit from taken end old new
+    write_over le = (inv.whole, inv.found, sym (inv.joined ∙ rest inv.back (omega (arith, le, inv.counted))))
+      where
+        rest : (back : List Event) → length back ≡ 0 → new ++ back ≡ new
+        rest [] h = append-nil new
+        rest (f ∷ back) h = absurd (omega (arith, h))
+
+    pub write_goes : (outcomes : List Bool) (there : Here) (used : ℕ) (told : Bool) (e : Event) (after : List Event) (len_after capacity_after : ℕ) → done < count → Retraces words outcomes there used told (advance words (event_of here) left end) → told ≡ true → e ≡ event_of there → after ≡ new ++ e ∷ [] → len_after ≡ len + 1 → capacity_after ≡ capacity → Adding words limit from taken end old (count - (done + 1)) there (drop used outcomes) after len_after capacity_after
+    write_goes outcomes there used told e after len_after capacity_after lt retraces found is added m q =
+        let next = reached outcomes there used here left inv.back inv.later (some_left lt) (subst (λ t. Retraces words outcomes there used t (advance words (event_of here) left end)) found retraces) in
+        let one = ap length next.is in
+        record {
+          whole = inv.whole;
+          back = next.tail;
+          found = inv.found;
+          later = next.later;
+          counted = omega (arith, one, lt, inv.counted);
+          joined = inv.joined ∙ ap (λ x. new ++ x) next.is ∙ sym (append_assoc new (event_of there ∷ []) next.tail) ∙ ap (λ x. (new ++ x ∷ []) ++ next.tail) (sym is) ∙ ap (λ x. x ++ next.tail) (sym added);
+          room = omega (arith, one, inv.room, m, q);
+        }

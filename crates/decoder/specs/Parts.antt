@@ -24,14 +24,14 @@ abbrev pub part_last : Option Event → Part → Option Event
 part_last before Nothing = before
 part_last before (One event) = Some event
 part_last before (Two trap event) = Some event
-part_last before (Walk walk) = Some (event_of walk.walked.last)
+part_last before (Walk walk) = Some walk.walked.last
 
 -- The place of the last event of the part, or this one where it has none.
 abbrev pub part_place : ℕ → Part → ℕ
 part_place at Nothing = at
 part_place at (One event) = place event
 part_place at (Two trap event) = place event
-part_place at (Walk walk) = walk.walked.last.addr
+part_place at (Walk walk) = place walk.walked.last
 
 -- These are the events of the part.
 abbrev pub Gives : Words → Part → List Event → Type 0
@@ -41,7 +41,7 @@ Gives words (Two trap event) events = events ≡ trap ∷ event ∷ []
 Gives words (Walk walk) events =
     IsHere words walk.from × WalksOn words (event_of walk.from) walk.outcomes (end_of walk.goal) events ×
     (walk.walked.count ≡ length events) ×
-    (last_or (Some (event_of walk.from)) events ≡ Some (event_of walk.walked.last))
+    (last_or (Some (event_of walk.from)) events ≡ Some walk.walked.last)
 
 -- The event before, if there is one, is right.
 abbrev pub RightBefore : Words → Option Event → Type 0

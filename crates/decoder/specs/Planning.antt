@@ -17,7 +17,6 @@ use Rattle.decoder.specs.Stands.{phase_after, waiting_after}
 use Rattle.decoder.specs.declared.decoding.Decoder.{Decoder}
 use Rattle.decoder.specs.declared.decoding.Phase.{Phase}
 use Rattle.decoder.specs.declared.decoding.Phase.TheVariants.{Unopened, Running, Closed}
-use Rattle.decoder.specs.declared.decoding.Plan.{Plan}
 use Rattle.decoder.specs.declared.fault.DecodeFault.{DecodeFault}
 use Rattle.decoder.specs.declared.fault.DecodeFault.TheVariants.{NotOpened, AfterClose}
 use Rattle.decoder.specs.declared.part.Part.{Part}
@@ -88,13 +87,12 @@ decoder_after decoder packet settled own = record {
       reported_past packet (part_place decoder.reported settled) (part_place (part_place decoder.reported settled) own);
 }
 
--- The plan has the events that can follow, and the decoder after them.
-pub record Plans (words : Words) (decoder : Decoder) (packet : Packet) (plan : Plan) : Type 0 where
+-- The parts have the events that can follow.
+pub record Plans (words : Words) (decoder : Decoder) (packet : Packet) (first second : Part) : Type 0 where
   pub settled : List Event
   pub own : List Event
-  pub gives_settled : Gives words plan.settled settled
-  pub gives_own : Gives words plan.own own
-  pub next : plan.next ≡ decoder_after decoder packet plan.settled plan.own
+  pub gives_settled : Gives words first settled
+  pub gives_own : Gives words second own
   pub can : RightBefore words decoder.last → CanFollowAt words decoder packet settled own
 
 -- A fault that is told at once, or else one of those that are found on the way.

@@ -1,6 +1,6 @@
 -- How this crate's code finds a walk, one retirement after the other. What a walk is is said in the
 -- file on walks.
-use Rattle.std.specs.Prelude.{ℕ, zero, suc, ◌+◌, ◌≡◌, ◌≤◌, ◌==◌, ◌&&◌, nat_le, if◌then◌else◌, Bool, true, false, List, [], ◌∷◌, ◌++◌, length, drop, Option, Some, None, Result, Ok, Err}
+use Rattle.std.specs.Prelude.{ℕ, zero, suc, ◌+◌, ◌≡◌, ◌≤◌, ◌==◌, ◌&&◌, nat_le, if◌then◌else◌, Bool, true, false, List, [], ◌∷◌, length, drop, Option, Some, None, Result, Ok, Err}
 use Rattle.std.specs.List.{last_or}
 use Rattle.retire.specs.Events.{place, privilege, is_branch}
 use Rattle.retire.specs.declared.event.Event.{Event}
@@ -15,6 +15,7 @@ use Rattle.legalpath.specs.WordOf.{word_of}
 use Rattle.legalpath.specs.declared.next.Next.{Next}
 use Rattle.legalpath.specs.declared.next.Next.TheVariants.{One, Any, NoneInside}
 use Rattle.decoder.specs.Faults.{IsOnTheWay}
+use Rattle.decoder.specs.Leads.{may_stay_on}
 use Rattle.decoder.specs.Walk.{End, AtBranch, AtAddress, AtTarget}
 use Rattle.decoder.specs.Walks.{event_of, Carries}
 use Rattle.decoder.specs.declared.fault.DecodeFault.{DecodeFault}
@@ -65,20 +66,6 @@ abbrev pub stops : End → Event → List Bool → Bool
 stops AtBranch event taken = is_branch event && is_empty taken
 stops (AtAddress addr) event taken = (place event == addr) && is_empty taken
 stops (AtTarget addr) event taken = false
-
--- The privilege may stay after a retirement of this class: an SRET leaves 3.
-abbrev pub may_stay : Class → ℕ → Bool
-may_stay Plain priv = true
-may_stay (Jump to) priv = true
-may_stay (Branch to) priv = true
-may_stay Uninferable priv = true
-may_stay (TrapReturn Mret) priv = true
-may_stay (TrapReturn Sret) priv = nat_le priv 1
-may_stay NotRetirable priv = true
-
-abbrev pub may_stay_on : Option Word → ℕ → Bool
-may_stay_on None priv = true
-may_stay_on (Some word) priv = may_stay word.0 priv
 
 -- One step: no walk goes on from here, or this retirement is its last, or it goes on from this one
 -- with these outcomes.
@@ -139,10 +126,10 @@ move_of taken here used Goes = On (event_of here) (drop used taken)
 move_of taken here used Ends = Last (event_of here)
 move_of taken here used (Fails fault) = Stop
 
--- Where a step leads to a retirement, its word is kept with it; else the fault is one of its kind.
+-- Where a step goes on from a retirement, it is kept where that leads; else a fault is one of its kind.
 abbrev pub StepCarries : Words → Here → Step → Type 0
 StepCarries words here Goes = Carries words here
-StepCarries words here Ends = Carries words here
+StepCarries words here Ends = Unit {0}
 StepCarries words here (Fails fault) = IsOnTheWay fault
 
 -- The number of the outcomes is kept with them, and they are no more than a packet has.
@@ -161,29 +148,10 @@ summary from (Some walk) = Some (length walk, last_or (Some from) walk)
 
 -- The length and the last event that the code answers.
 abbrev pub summary_of : Result Walked DecodeFault → Option (ℕ × Option Event)
-summary_of (Ok walked) = Some (walked.count, Some (event_of walked.last))
+summary_of (Ok walked) = Some (walked.count, Some walked.last)
 summary_of (Err fault) = None
 
 -- So many steps more.
 abbrev pub plus : ℕ → Option (ℕ × Option Event) → Option (ℕ × Option Event)
 plus steps None = None
 plus steps (Some told) = Some (steps + told.0, told.1)
-
--- There is a walk of at most so many steps, and room for it behind so many events.
-abbrev pub HasRoomWithin : Words → ℕ → Event → List Bool → End → ℕ → ℕ → Type 0
-HasRoomWithin words steps from taken end len capacity =
-    (walk : List Event) × (walk_within words steps from taken end ≡ Some walk) × (len + length walk ≤ capacity)
-
--- That walk was added.
-abbrev pub AddsWithin : Words → ℕ → Event → List Bool → End → List Event → List Event → Type 0
-AddsWithin words steps from taken end old new =
-    (walk : List Event) × (walk_within words steps from taken end ≡ Some walk) × (new ≡ old ++ walk)
-
--- A part of it was added, and there is room for the rest.
-pub record Adding (words : Words) (steps : ℕ) (from : Event) (taken : List Bool) (end : End) (old : List Event) (ahead : ℕ) (here : Event) (left : List Bool) (new : List Event) (len capacity : ℕ) : Type 0 where
-  pub whole : List Event
-  pub back : List Event
-  pub found : walk_within words steps from taken end ≡ Some whole
-  pub later : walk_within words ahead here left end ≡ Some back
-  pub joined : old ++ whole ≡ new ++ back
-  pub room : len + length back ≤ capacity

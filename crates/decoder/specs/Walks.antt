@@ -1,11 +1,12 @@
 -- The walks that this crate's code looks for, and what it says of them.
 use Rattle.std.specs.Prelude.{ℕ, ◌≡◌, ◌+◌, ◌≤◌, Bool, List, ◌++◌, length, Some}
 use Rattle.std.specs.List.{last_or}
+use Rattle.retire.specs.InRange.{IsPrivilege}
 use Rattle.retire.specs.declared.event.Event.{Event}
 use Rattle.retire.specs.declared.event.Event.TheVariants.{Retire}
 use Rattle.rvclass.specs.Words.{Words}
 use Rattle.legalpath.specs.Legal.{Runs}
-use Rattle.legalpath.specs.Right.{Right}
+use Rattle.decoder.specs.Leads.{LeadsOn}
 use Rattle.decoder.specs.Walk.{End, AtBranch, AtAddress, AtTarget, IsWalk}
 use Rattle.decoder.specs.declared.stepping.Goal.{Goal}
 use Rattle.decoder.specs.declared.stepping.Goal.TheVariants as goal
@@ -22,13 +23,13 @@ end_of goal.Branch = AtBranch
 end_of (goal.Address addr) = AtAddress addr
 end_of (goal.Target addr) = AtTarget addr
 
--- The word that is kept with the retirement is the one that stands at its address.
+-- The retirement leads where it is kept that it leads.
 abbrev pub Carries : Words → Here → Type 0
-Carries words here = words here.addr ≡ Some (here.class, here.length)
+Carries words here = LeadsOn (words here.addr) here.addr here.itype here.privilege here.lead
 
--- The retirement is right by itself, and its word is kept with it.
+-- The retirement is kept with where it leads, and its privilege is one of the three.
 abbrev pub IsHere : Words → Here → Type 0
-IsHere words here = Carries words here × Right words (event_of here)
+IsHere words here = Carries words here × IsPrivilege here.privilege
 
 -- A walk from this event that runs after it.
 pub record WalksOn (words : Words) (from : Event) (taken : List Bool) (end : End) (walk : List Event) : Type 0 where
@@ -40,17 +41,17 @@ pub record Finds (words : Words) (from : Here) (taken : List Bool) (end : End) (
   pub walk : List Event
   pub walks : WalksOn words (event_of from) taken end walk
   pub counted : walked.count ≡ length walk
-  pub last : last_or (Some (event_of from)) walk ≡ Some (event_of walked.last)
-  pub here : IsHere words walked.last
+  pub last : last_or (Some (event_of from)) walk ≡ Some walked.last
 
 -- There is no such walk.
 abbrev pub FindsNone : Words → Here → List Bool → End → Type 0
 FindsNone words from taken end = (walk : List Event) → WalksOn words (event_of from) taken end walk → ⊥
 
--- There is such a walk, and behind so many events there is room for it.
-abbrev pub HasRoom : Words → Here → List Bool → End → ℕ → ℕ → Type 0
-HasRoom words from taken end len capacity =
-    (walk : List Event) × WalksOn words (event_of from) taken end walk × (len + length walk ≤ capacity)
+-- There is such a walk of this many retirements, and behind so many events there is room for it.
+abbrev pub HasRoom : Words → Here → List Bool → End → ℕ → ℕ → ℕ → Type 0
+HasRoom words from taken end count len capacity =
+    (walk : List Event) × WalksOn words (event_of from) taken end walk × (count ≡ length walk) ×
+    (len + length walk ≤ capacity)
 
 -- Such a walk, of which there is one at most, was added.
 abbrev pub Adds : Words → Here → List Bool → End → List Event → List Event → Type 0

@@ -1,6 +1,6 @@
 //! The decoder.
 
-ghost use Rattle.std.specs.Prelude.{◌≡◌, ◌↔◌, ◌⊎◌, ◌+◌, ◌*◌, ◌/◌, ◌^◌, ◌≤◌, List, [], ◌∷◌, ◌++◌, true, Some, Ok, Err, length, vec_len, IfOk, IfErr, OnOk, IsTrue};
+ghost use Rattle.std.specs.Prelude.{◌≡◌, ◌↔◌, ◌⊎◌, ◌+◌, ◌*◌, ◌/◌, ◌^◌, ◌≤◌, List, [], ◌∷◌, ◌++◌, true, Some, Ok, Err, length, vec_len, IfErr, OnOk, IsTrue};
 ghost use Rattle.retire.specs.declared.event.Event.{Event};
 ghost use Rattle.rvclass.specs.Fetch.{words_of};
 ghost use Rattle.rvclass.specs.Words.{Words, IsProgram};
@@ -45,21 +45,14 @@ pub struct Decoder {
     reported: u64,
 }
 
-/// What a packet adds to a log: the events of the packet that waited, then its own; and the decoder after them.
-#[derive(Clone, Copy)]
-struct Plan {
-    settled: Part,
-    own: Part,
-    next: Decoder,
-}
-
 /// The phase after a packet.
 fn phase_after(packet: &Packet) -> Phase
     ensures { result ≡ phase_after (Some packet.now) }
 {
-    match packet {
-        Packet::Support(Support::EndedRep | Support::EndedNtr) => Phase::Closed,
-        _ => Phase::Running,
+    if packet.is_closing() {
+        Phase::Closed
+    } else {
+        Phase::Running
     }
 }
 
@@ -146,28 +139,33 @@ impl Decoder {
             → (result ≡ Err NotOpened) ↔ ((packets ≡ []) × ¬ IsOpen packet.now) }
         ensures short { vec_len log.new ≤ vec_len log.old + 2 * (32 * (length program.now.bytes / 2)) + 2 }
     {
-        let plan = match self.plan(program, packet) {
-            Ok(plan) => plan,
-            Err(fault) => return Err(fault),
-        };
-        if log
-            .reserve(plan.settled.count() + plan.own.count())
-            .is_err()
-        {
+        let mut settled = Part::Nothing;
+        let mut own = Part::Nothing;
+        if let Err(fault) = self.plan(program, packet, &mut settled, &mut own) {
+            return Err(fault);
+        }
+        if log.reserve(settled.count() + own.count()).is_err() {
             return Err(DecodeFault::Memory);
         }
-        plan.settled.write(program, log);
-        plan.own.write(program, log);
-        *self = plan.next;
+        settled.write(program, log);
+        own.write(program, log);
+        *self = self.after(packet, &settled, &own);
         Ok(())
     }
 
-    /// What the next packet adds, and the decoder after it.
-    fn plan(&self, program: &Program, packet: &Packet) -> Result<Plan, DecodeFault>
-        ensures found { IfOk result (λ plan. Plans (words_of program.now) self.now packet.now plan) }
+    /// Finds what the next packet adds to a log: first the events of the packet that waited, then its own.
+    #[inline]
+    fn plan(
+        &self,
+        program: &Program,
+        packet: &Packet,
+        first: &mut Part,
+        second: &mut Part,
+    ) -> Result<(), DecodeFault>
+        ensures found { OnOk result (Plans (words_of program.now) self.now packet.now first.new second.new) }
         ensures none { IfErr result (λ fault. PlansNone (words_of program.now) self.now packet.now fault) }
-        ensures admitted { IfOk result (λ plan. admitted self.now.phase packet.now ≡ Ok tt) }
-        ensures short { IfOk result (λ plan. part_count plan.settled + part_count plan.own
+        ensures admitted { OnOk result (admitted self.now.phase packet.now ≡ Ok tt) }
+        ensures short { OnOk result (part_count first.new + part_count second.new
             ≤ 2 * (32 * (length program.now.bytes / 2)) + 2) }
         ensures words { IsProgram (words_of program.now) }
         ensures small { length program.now.bytes ≤ 2 ^ 24 }
@@ -176,26 +174,19 @@ impl Decoder {
         if let Err(fault) = self.admit(packet) {
             return Err(fault);
         }
-        let settled = match self.settled(program, packet) {
-            Ok(part) => part,
-            Err(fault) => return Err(fault),
-        };
+        if let Err(fault) = self.settled(program, packet, first) {
+            return Err(fault);
+        }
         if !self.may_come(packet) {
             return Err(DecodeFault::WrongPlace);
         }
-        let last = settled.last(self.last);
-        let reported = settled.place(self.reported);
-        match own(program, last, reported, packet) {
-            Ok(own) => Ok(Plan {
-                settled,
-                own,
-                next: self.after(packet, &settled, &own),
-            }),
-            Err(fault) => Err(fault),
-        }
+        let last = first.last(&self.last);
+        let reported = first.place(self.reported);
+        own(program, &last, reported, packet, second)
     }
 
     /// Tests that the packet comes neither before the one that opens the trace nor after the one that closes it.
+    #[inline]
     fn admit(&self, packet: &Packet) -> Result<(), DecodeFault>
         ensures { result ≡ admitted self.now.phase packet.now }
     {
@@ -214,6 +205,7 @@ impl Decoder {
 
     /// Whether the packet may come next by its kind: the packet that opens the trace comes first alone, and the one that
     /// tells that the last instruction was reported follows an address packet that waits.
+    #[inline]
     fn may_come(&self, packet: &Packet) -> bool
         ensures { IsTrue result ↔ MayCome self.now.phase self.now.waiting packet.now }
     {
@@ -225,21 +217,31 @@ impl Decoder {
     }
 
     /// The events of the packet that waits, if one does, before this packet.
-    fn settled(&self, program: &Program, packet: &Packet) -> Result<Part, DecodeFault>
-        ensures found { IfOk result (λ part. Suits (words_of program.now) self.now.last
-            (FitsWaiting (words_of program.now) self.now.last self.now.reported self.now.waiting packet.now) part) }
+    #[inline]
+    fn settled(
+        &self,
+        program: &Program,
+        packet: &Packet,
+        part: &mut Part,
+    ) -> Result<(), DecodeFault>
+        ensures found { OnOk result (Suits (words_of program.now) self.now.last
+            (FitsWaiting (words_of program.now) self.now.last self.now.reported self.now.waiting packet.now) part.new) }
         ensures none { IfErr result (λ fault. SuitsNone (words_of program.now) self.now.last
             (FitsWaiting (words_of program.now) self.now.last self.now.reported self.now.waiting packet.now)
             fault) }
-        ensures short { IfOk result (λ part. part_count part ≤ 32 * (length program.now.bytes / 2)) }
+        ensures short { OnOk result (part_count part.new ≤ 32 * (length program.now.bytes / 2)) }
     {
         match &self.waiting {
-            Some(waiting) => settle(program, self.last, self.reported, waiting, packet),
-            None => Ok(Part::Nothing),
+            Some(waiting) => settle(program, &self.last, self.reported, waiting, packet, part),
+            None => {
+                *part = Part::Nothing;
+                Ok(())
+            }
         }
     }
 
     /// The decoder after the packet, with the events that it adds.
+    #[inline]
     fn after(&self, packet: &Packet, settled: &Part, own: &Part) -> Decoder
         ensures { result ≡ decoder_after self.now packet.now settled.now own.now }
     {
@@ -247,7 +249,7 @@ impl Decoder {
         Decoder {
             phase: phase_after(packet),
             waiting: waiting_after(packet),
-            last: own.last(settled.last(self.last)),
+            last: own.last(&settled.last(&self.last)),
             reported: reported_past(packet, reported, own.place(reported)),
         }
     }

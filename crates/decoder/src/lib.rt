@@ -7,6 +7,7 @@ mod fault;
 mod laws;
 mod part;
 mod reporting;
+mod retracing;
 mod settling;
 mod stepping;
 mod walking;

@@ -2,11 +2,11 @@
 
 ghost use Rattle.std.specs.Prelude.{◌≡◌, vec_len, vec_capacity};
 ghost use Rattle.rvclass.specs.Fetch.{words_of};
-ghost use Rattle.retire.specs.Events.{place};
+ghost use Rattle.rvclass.specs.Words.{IsProgram};
 ghost use Rattle.decoder.specs.Parts.{part_count, part_last, part_place, HasRoomFor, AddsPart};
 
 use crate::stepping::{Goal, Here};
-use crate::walking::{Walked, event, write};
+use crate::walking::{Walked, write};
 use payload::Outcomes;
 use retire::Event;
 use rvclass::Program;
@@ -21,7 +21,7 @@ pub struct MeasuredWalk {
     pub walked: Walked,
 }
 
-/// Events that a packet adds to a log.
+/// Events that a packet adds to a log. What finds a part writes it in place, since it is large to hand back.
 #[derive(Clone, Copy)]
 pub enum Part {
     /// None.
@@ -34,18 +34,9 @@ pub enum Part {
     Walk(MeasuredWalk),
 }
 
-/// The address of a retirement, the exception program counter of a trap.
-fn place_of(event: &Event) -> u64
-    ensures { result ≡ place event.now }
-{
-    match event {
-        Event::Retire { addr, .. } => *addr,
-        Event::Trap { epc, .. } => *epc,
-    }
-}
-
 impl Part {
     /// How many events there are.
+    #[inline]
     pub fn count(&self) -> usize
         ensures { result ≡ part_count self.now }
     {
@@ -58,30 +49,33 @@ impl Part {
     }
 
     /// The last event after them, where this was the last before.
-    pub fn last(&self, before: Option<Event>) -> Option<Event>
-        ensures { result ≡ part_last before self.now }
+    #[inline]
+    pub fn last(&self, before: &Option<Event>) -> Option<Event>
+        ensures { result ≡ part_last before.now self.now }
     {
         match self {
-            Part::Nothing => before,
+            Part::Nothing => *before,
             Part::One(event) | Part::Two(_, event) => Some(*event),
-            Part::Walk(walk) => Some(event(walk.walked.last)),
+            Part::Walk(walk) => Some(walk.walked.last),
         }
     }
 
     /// The place of the last of them, or this one where there is none.
+    #[inline]
     pub fn place(&self, at: u64) -> u64
         ensures { result ≡ part_place at self.now }
     {
         match self {
             Part::Nothing => at,
-            Part::One(event) | Part::Two(_, event) => place_of(event),
-            Part::Walk(walk) => walk.walked.last.addr,
+            Part::One(event) | Part::Two(_, event) => event.place(),
+            Part::Walk(walk) => walk.walked.last.place(),
         }
     }
 
     /// Writes them into room that was reserved.
     pub fn write<A: Allocator>(&self, program: &Program, log: &mut Vec<Event, A>)
-        requires { HasRoomFor (words_of program.now) self.now (vec_len log.old) (vec_capacity log.old) }
+        requires program { IsProgram (words_of program.now) }
+        requires room { HasRoomFor (words_of program.now) self.now (vec_len log.old) (vec_capacity log.old) }
         ensures adds { AddsPart (words_of program.now) self.now log.old.items log.new.items }
         ensures room { vec_capacity log.new ≡ vec_capacity log.old }
     {
@@ -92,7 +86,10 @@ impl Part {
                 log.push_reserved(*trap);
                 log.push_reserved(*event);
             }
-            Part::Walk(walk) => write(program, walk.from, &walk.outcomes, walk.goal, log),
+            Part::Walk(walk) => {
+                let count = walk.walked.count;
+                write(program, walk.from, &walk.outcomes, walk.goal, count, log);
+            }
         }
     }
 }

@@ -1,6 +1,7 @@
 //! The events that a packet reports by itself: the retirement of a synchronisation, and a trap.
 
 ghost use Rattle.std.specs.Prelude.{◌≡◌, ◌↔◌, ◌≤◌, true, false, [], ◌∷◌, Some, IsTrue, IfOk, IfErr, OnOk};
+ghost use Rattle.retire.specs.InRange.{IsPrivilege};
 ghost use Rattle.retire.specs.declared.event.Event.TheVariants.{Trap};
 ghost use Rattle.rvclass.specs.Fetch.{words_of};
 ghost use Rattle.legalpath.specs.Legal.{Runs};
@@ -13,7 +14,7 @@ ghost use Rattle.decoder.specs.Walks.{event_of, IsHere};
 
 use crate::fault::DecodeFault;
 use crate::part::Part;
-use crate::stepping::Here;
+use crate::stepping::{Here, lead_of};
 use legalpath::{Next, Why, check, successor};
 use retire::Event;
 use rvclass::{Class, Program};
@@ -46,11 +47,19 @@ fn follows(program: &Program, before: Option<Event>, event: Event) -> Result<(),
     }
 }
 
+/// Whether a privilege is one of the three.
+fn is_privilege(privilege: u8) -> bool
+    ensures { IsTrue result ↔ IsPrivilege privilege }
+{
+    privilege <= 3 && privilege != 2
+}
+
 /// The retirement that a walk starts from: the event before it.
-pub fn start(program: &Program, before: Option<Event>) -> Result<Here, DecodeFault>
-    ensures here { IfOk result (λ here. IsHere (words_of program.now) here × (before ≡ Some (event_of here))) }
+#[inline]
+pub fn start(program: &Program, before: &Option<Event>) -> Result<Here, DecodeFault>
+    ensures here { IfOk result (λ here. IsHere (words_of program.now) here × (before.now ≡ Some (event_of here))) }
     ensures none { IfErr result (λ fault. IsOnTheWay fault
-        × (RightBefore (words_of program.now) before → AfterRetirement before → ⊥)) }
+        × (RightBefore (words_of program.now) before.now → AfterRetirement before.now → ⊥)) }
 {
     let Some(event) = before else {
         return Err(DecodeFault::WrongPlace);
@@ -59,12 +68,12 @@ pub fn start(program: &Program, before: Option<Event>) -> Result<Here, DecodeFau
         addr,
         itype,
         privilege,
-    } = event
+    } = *event
     else {
         return Err(DecodeFault::WrongPlace);
     };
-    if let Err(fault) = follows(program, None, event) {
-        return Err(fault);
+    if !is_privilege(privilege) {
+        return Err(DecodeFault::WrongPrivilege);
     }
     let Some((class, length)) = program.at(addr) else {
         return Err(DecodeFault::OffProgram);
@@ -73,8 +82,7 @@ pub fn start(program: &Program, before: Option<Event>) -> Result<Here, DecodeFau
         addr,
         itype,
         privilege,
-        class,
-        length,
+        lead: lead_of(addr, itype, privilege, class, length),
     })
 }
 
@@ -278,20 +286,28 @@ fn trap_and_handler(
 /// The events of a trap that a packet reports with its handler's address, or without, after the event before.
 pub fn trap(
     program: &Program,
-    before: Option<Event>,
+    before: &Option<Event>,
     told: Told,
     cause: Cause,
     handler: bool,
-) -> Result<Part, DecodeFault>
-    ensures found { IfOk result (λ part. Suits (words_of program.now) before
-        (reporting.FitsTold (words_of program.now) before told cause handler) part) }
-    ensures none { IfErr result (λ fault. SuitsNone (words_of program.now) before
-        (reporting.FitsTold (words_of program.now) before told cause handler) fault) }
-    ensures short { IfOk result (λ part. part_count part ≤ 2) }
+    part: &mut Part,
+) -> Result<(), DecodeFault>
+    ensures found { OnOk result (Suits (words_of program.now) before.now
+        (reporting.FitsTold (words_of program.now) before.now told cause handler) part.new) }
+    ensures none { IfErr result (λ fault. SuitsNone (words_of program.now) before.now
+        (reporting.FitsTold (words_of program.now) before.now told cause handler) fault) }
+    ensures short { OnOk result (part_count part.new ≤ 2) }
 {
-    if handler {
-        trap_and_handler(program, before, told, cause)
+    let found = if handler {
+        trap_and_handler(program, *before, told, cause)
     } else {
-        trap_alone(program, before, told, cause)
+        trap_alone(program, *before, told, cause)
+    };
+    match found {
+        Ok(found) => {
+            *part = found;
+            Ok(())
+        }
+        Err(fault) => Err(fault),
     }
 }

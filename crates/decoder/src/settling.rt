@@ -1,6 +1,6 @@
 //! The events that each packet adds, after the event before and the last reported address.
 
-ghost use Rattle.std.specs.Prelude.{◌≡◌, ◌+◌, ◌*◌, ◌/◌, ◌≤◌, None, Some, length, IfOk, IfErr};
+ghost use Rattle.std.specs.Prelude.{◌≡◌, ◌+◌, ◌*◌, ◌/◌, ◌≤◌, None, Some, length, IfErr, OnOk};
 ghost use Rattle.rvclass.specs.Fetch.{words_of};
 ghost use Rattle.decoder.specs.Fits.{Fits, FitsAddress, FitsSync};
 ghost use Rattle.decoder.specs.Parts.{Suits, SuitsNone, part_count};
@@ -26,29 +26,34 @@ pub struct Waiting {
 }
 
 /// The walk of these outcomes to this goal, after the event before.
+#[inline(never)]
 fn walk(
     program: &Program,
-    before: Option<Event>,
+    before: &Option<Event>,
     outcomes: &Outcomes,
     goal: Goal,
-) -> Result<Part, DecodeFault>
-    ensures found { IfOk result (λ part. Suits (words_of program.now) before
-        (IsWalkFrom (words_of program.now) before outcomes.now (end_of goal)) part) }
-    ensures none { IfErr result (λ fault. SuitsNone (words_of program.now) before
-        (IsWalkFrom (words_of program.now) before outcomes.now (end_of goal)) fault) }
-    ensures short { IfOk result (λ part. part_count part ≤ 32 * (length program.now.bytes / 2)) }
+    part: &mut Part,
+) -> Result<(), DecodeFault>
+    ensures found { OnOk result (Suits (words_of program.now) before.now
+        (IsWalkFrom (words_of program.now) before.now outcomes.now (end_of goal)) part.new) }
+    ensures none { IfErr result (λ fault. SuitsNone (words_of program.now) before.now
+        (IsWalkFrom (words_of program.now) before.now outcomes.now (end_of goal)) fault) }
+    ensures short { OnOk result (part_count part.new ≤ 32 * (length program.now.bytes / 2)) }
 {
     let from = match start(program, before) {
         Ok(from) => from,
         Err(fault) => return Err(fault),
     };
     match measure(program, from, outcomes, goal) {
-        Ok(walked) => Ok(Part::Walk(MeasuredWalk {
-            from,
-            outcomes: *outcomes,
-            goal,
-            walked,
-        })),
+        Ok(walked) => {
+            *part = Part::Walk(MeasuredWalk {
+                from,
+                outcomes: *outcomes,
+                goal,
+                walked,
+            });
+            Ok(())
+        }
         Err(fault) => Err(fault),
     }
 }
@@ -64,18 +69,20 @@ fn makes_explicit(packet: &Packet) -> bool
 }
 
 /// The events of a packet that waits, before the packet that settles it.
+#[inline(always)]
 pub fn settle(
     program: &Program,
-    before: Option<Event>,
+    before: &Option<Event>,
     reported: u64,
     waiting: &Waiting,
     packet: &Packet,
-) -> Result<Part, DecodeFault>
-    ensures found { IfOk result (λ part. Suits (words_of program.now) before
-        (FitsWaiting (words_of program.now) before reported (Some waiting.now) packet.now) part) }
-    ensures none { IfErr result (λ fault. SuitsNone (words_of program.now) before
-        (FitsWaiting (words_of program.now) before reported (Some waiting.now) packet.now) fault) }
-    ensures short { IfOk result (λ part. part_count part ≤ 32 * (length program.now.bytes / 2)) }
+    part: &mut Part,
+) -> Result<(), DecodeFault>
+    ensures found { OnOk result (Suits (words_of program.now) before.now
+        (FitsWaiting (words_of program.now) before.now reported (Some waiting.now) packet.now) part.new) }
+    ensures none { IfErr result (λ fault. SuitsNone (words_of program.now) before.now
+        (FitsWaiting (words_of program.now) before.now reported (Some waiting.now) packet.now) fault) }
+    ensures short { OnOk result (part_count part.new ≤ 32 * (length program.now.bytes / 2)) }
 {
     let addr = reported.wrapping_add(waiting.delta);
     let goal = if makes_explicit(packet) {
@@ -83,66 +90,86 @@ pub fn settle(
     } else {
         Goal::Target(addr)
     };
-    walk(program, before, &waiting.outcomes, goal)
+    walk(program, before, &waiting.outcomes, goal, part)
 }
 
 /// The events of an address packet at its address, as long as no other follows.
+#[inline]
 fn address(
     program: &Program,
-    before: Option<Event>,
+    before: &Option<Event>,
     outcomes: &Outcomes,
     addr: u64,
     report: Report,
-) -> Result<Part, DecodeFault>
-    ensures found { IfOk result (λ part. Suits (words_of program.now) before
-        (FitsAddress (words_of program.now) before outcomes.now addr (settled report None)) part) }
-    ensures none { IfErr result (λ fault. SuitsNone (words_of program.now) before
-        (FitsAddress (words_of program.now) before outcomes.now addr (settled report None)) fault) }
-    ensures short { IfOk result (λ part. part_count part ≤ 32 * (length program.now.bytes / 2)) }
+    part: &mut Part,
+) -> Result<(), DecodeFault>
+    ensures found { OnOk result (Suits (words_of program.now) before.now
+        (FitsAddress (words_of program.now) before.now outcomes.now addr (settled report None)) part.new) }
+    ensures none { IfErr result (λ fault. SuitsNone (words_of program.now) before.now
+        (FitsAddress (words_of program.now) before.now outcomes.now addr (settled report None)) fault) }
+    ensures short { OnOk result (part_count part.new ≤ 32 * (length program.now.bytes / 2)) }
 {
     match report {
         Report::Plain => match before {
-            Some(Event::Retire { .. }) => Ok(Part::Nothing),
+            Some(Event::Retire { .. }) => {
+                *part = Part::Nothing;
+                Ok(())
+            }
             _ => Err(DecodeFault::WrongPlace),
         },
-        Report::Updiscon => walk(program, before, outcomes, Goal::Target(addr)),
-        Report::Notify => walk(program, before, outcomes, Goal::Address(addr)),
+        Report::Updiscon => walk(program, before, outcomes, Goal::Target(addr), part),
+        Report::Notify => walk(program, before, outcomes, Goal::Address(addr), part),
     }
 }
 
 /// The events of a synchronisation.
-fn sync(program: &Program, before: Option<Event>, told: Told) -> Result<Part, DecodeFault>
-    ensures found { IfOk result (λ part. Suits (words_of program.now) before
-        (FitsSync told.taken told.privilege told.addr) part) }
-    ensures none { IfErr result (λ fault. SuitsNone (words_of program.now) before
+fn sync(
+    program: &Program,
+    before: &Option<Event>,
+    told: Told,
+    part: &mut Part,
+) -> Result<(), DecodeFault>
+    ensures found { OnOk result (Suits (words_of program.now) before.now
+        (FitsSync told.taken told.privilege told.addr) part.new) }
+    ensures none { IfErr result (λ fault. SuitsNone (words_of program.now) before.now
         (FitsSync told.taken told.privilege told.addr) fault) }
-    ensures short { IfOk result (λ part. part_count part ≤ 2) }
+    ensures short { OnOk result (part_count part.new ≤ 2) }
 {
-    match reported(program, before, told) {
-        Ok(event) => Ok(Part::One(event)),
+    match reported(program, *before, told) {
+        Ok(event) => {
+            *part = Part::One(event);
+            Ok(())
+        }
         Err(fault) => Err(fault),
     }
 }
 
 /// The events of a packet, as long as no other follows.
+#[inline(always)]
 pub fn own(
     program: &Program,
-    before: Option<Event>,
+    before: &Option<Event>,
     last_reported: u64,
     packet: &Packet,
-) -> Result<Part, DecodeFault>
-    ensures found { IfOk result (λ part. Suits (words_of program.now) before
-        (Fits (words_of program.now) before last_reported packet.now None) part) }
-    ensures none { IfErr result (λ fault. SuitsNone (words_of program.now) before
-        (Fits (words_of program.now) before last_reported packet.now None) fault) }
-    ensures short { IfOk result (λ part. part_count part ≤ 32 * (length program.now.bytes / 2) + 2) }
+    part: &mut Part,
+) -> Result<(), DecodeFault>
+    ensures found { OnOk result (Suits (words_of program.now) before.now
+        (Fits (words_of program.now) before.now last_reported packet.now None) part.new) }
+    ensures none { IfErr result (λ fault. SuitsNone (words_of program.now) before.now
+        (Fits (words_of program.now) before.now last_reported packet.now None) fault) }
+    ensures short { OnOk result (part_count part.new ≤ 32 * (length program.now.bytes / 2) + 2) }
 {
     match packet {
         Packet::Sync {
             taken,
             privilege,
             address,
-        } => sync(program, before, Told::new(*taken, *privilege, *address)),
+        } => sync(
+            program,
+            before,
+            Told::new(*taken, *privilege, *address),
+            part,
+        ),
         Packet::Trap {
             taken,
             privilege,
@@ -154,17 +181,20 @@ pub fn own(
         } => {
             let told = Told::new(*taken, *privilege, *address);
             let cause = Cause::new(*interrupt, *cause, *tval);
-            trap(program, before, told, cause, *handler)
+            trap(program, before, told, cause, *handler, part)
         }
-        Packet::Support(_) => Ok(Part::Nothing),
+        Packet::Support(_) => {
+            *part = Part::Nothing;
+            Ok(())
+        }
         Packet::Address {
             outcomes,
             delta,
             report,
         } => {
             let addr = last_reported.wrapping_add(*delta);
-            address(program, before, outcomes, addr, *report)
+            address(program, before, outcomes, addr, *report, part)
         }
-        Packet::Map(outcomes) => walk(program, before, outcomes, Goal::Branch),
+        Packet::Map(outcomes) => walk(program, before, outcomes, Goal::Branch, part),
     }
 }

@@ -1,11 +1,13 @@
 //! One step of a walk: the retirement after another, and where it ends.
 
-ghost use Rattle.std.specs.Prelude.{ℕ, ◌≡◌, ◌+◌, ◌^◌, ◌<◌, ◌≤◌, drop, length, Some, IfErr};
+ghost use Rattle.std.specs.Prelude.{ℕ, ◌≡◌, ◌+◌, ◌^◌, ◌<◌, ◌≤◌, drop, length, Option, Some, IfErr};
 ghost use Rattle.retire.specs.declared.event.Event.TheVariants.{Retire};
 ghost use Rattle.legalpath.specs.Backward.{jumps_back};
 ghost use Rattle.rvclass.specs.Fetch.{words_of};
-ghost use Rattle.rvclass.specs.Words.{IsProgram};
+ghost use Rattle.rvclass.specs.Words.{IsProgram, Word, Words};
+ghost use Rattle.rvclass.specs.declared.class.Class.TheVariants.{Plain};
 ghost use Rattle.decoder.specs.Faults.{IsOnTheWay};
+ghost use Rattle.decoder.specs.Leads.{LeadsOn, may_stay, may_stay_on};
 ghost use Rattle.decoder.specs.WalkSteps as steps;
 ghost use Rattle.decoder.specs.Walks.{event_of, end_of, Carries};
 
@@ -13,7 +15,21 @@ use crate::fault::DecodeFault;
 use payload::Outcomes;
 use rvclass::{Class, Program, Return};
 
-/// A retirement, with the word that it stands on.
+/// Where a walk goes on from a retirement.
+#[derive(Clone, Copy)]
+pub enum Lead {
+    /// At this address.
+    To(u64),
+    /// Anywhere, from an uninferable discontinuity.
+    Anywhere {
+        /// Whether the privilege may stay.
+        stays: bool,
+    },
+    /// Nowhere, since the word does not retire.
+    Nowhere,
+}
+
+/// A retirement, and where it leads.
 #[derive(Clone, Copy)]
 pub struct Here {
     /// The instruction's address.
@@ -22,10 +38,8 @@ pub struct Here {
     pub itype: u8,
     /// The privilege that it retired at.
     pub privilege: u8,
-    /// The length of the word there, in bytes.
-    pub length: u8,
-    /// The class of that word.
-    pub class: Class,
+    /// Where it leads.
+    pub lead: Lead,
 }
 
 /// Where a walk ends.
@@ -83,22 +97,11 @@ pub fn step_from(program: &Program, here: &mut Here, used: &mut usize, course: &
         ≡ steps.advance (words_of program.now) (event_of here.old) (drop used.old course.now.outcomes) (end_of course.now.goal) }
     ensures carries { steps.StepCarries (words_of program.now) here.new result }
 {
-    let to = match here.class {
-        Class::Plain => here.addr + u64::from(here.length),
-        Class::Jump(to) => to,
-        Class::Branch(to) => {
-            if here.itype == 5 {
-                to
-            } else {
-                here.addr + u64::from(here.length)
-            }
-        }
-        Class::Uninferable | Class::TrapReturn(_) => {
-            return step_last(program, here, used, course);
-        }
-        Class::NotRetirable => return Step::Fails(DecodeFault::OffProgram),
-    };
-    step_on(program, to, here, used, course)
+    match here.lead {
+        Lead::To(addr) => step_on(program, addr, here, used, course),
+        Lead::Anywhere { stays } => step_last(program, stays, here, used, course),
+        Lead::Nowhere => Step::Fails(DecodeFault::OffProgram),
+    }
 }
 
 /// The step to an address.
@@ -110,8 +113,10 @@ fn step_on(program: &Program, addr: u64, here: &mut Here, used: &mut usize, cour
         (steps.retire_on addr here.old.privilege (words_of program.now addr) (drop used.old course.now.outcomes)) }
     ensures carries { steps.StepCarries (words_of program.now) here.new result }
 {
-    let Some((class, length)) = program.at(addr) else {
-        return Step::Fails(DecodeFault::OffProgram);
+    let (class, length) = match program.at(addr) {
+        None => return Step::Fails(DecodeFault::OffProgram),
+        Some((Class::Plain, length)) => return step_plain(addr, length, here, *used, course),
+        Some(word) => word,
     };
     let itype = match type_of(class, used, course) {
         Ok(itype) => itype,
@@ -122,8 +127,7 @@ fn step_on(program: &Program, addr: u64, here: &mut Here, used: &mut usize, cour
     }
     here.addr = addr;
     here.itype = itype;
-    here.length = length;
-    here.class = class;
+    here.lead = lead_of(addr, itype, here.privilege, class, length);
     if ends(addr, itype, *used, course) {
         Step::Ends
     } else if jumps_back(addr, class) {
@@ -133,20 +137,47 @@ fn step_on(program: &Program, addr: u64, here: &mut Here, used: &mut usize, cour
     }
 }
 
-/// The step from a discontinuity.
-#[inline(never)]
-fn step_last(program: &Program, here: &mut Here, used: &mut usize, course: &Course) -> Step
-    requires here { Carries (words_of program.now) here.old }
+/// The step to a plain word, which most words are.
+#[inline(always)]
+fn step_plain(addr: u64, length: u8, here: &mut Here, used: usize, course: &Course) -> Step
     requires course { steps.IsCourse course.now }
-    ensures step { steps.move_of course.now.outcomes here.new used.new result
-        ≡ steps.target_move (words_of program.now) (words_of program.now here.old.addr) here.old.privilege
+    requires below { addr + length < 2 ^ 64 }
+    ensures step { (words : Words) → words addr ≡ Some (Plain, length)
+        → steps.move_of course.now.outcomes here.new used result
+        ≡ steps.next_move words (end_of course.now.goal)
+        (steps.retire_on addr here.old.privilege (words addr) (drop used course.now.outcomes)) }
+    ensures carries { (words : Words) → words addr ≡ Some (Plain, length) → steps.StepCarries words here.new result }
+{
+    here.addr = addr;
+    here.itype = 0;
+    here.lead = Lead::To(addr + u64::from(length));
+    if ends(addr, 0, used, course) {
+        Step::Ends
+    } else {
+        Step::Goes
+    }
+}
+
+/// The step from a discontinuity, whose privilege may stay or not.
+#[inline(always)]
+fn step_last(
+    program: &Program,
+    stays: bool,
+    here: &mut Here,
+    used: &mut usize,
+    course: &Course,
+) -> Step
+    requires { steps.IsCourse course.now }
+    ensures step { (word : Option Word) → may_stay_on word here.old.privilege ≡ stays
+        → steps.move_of course.now.outcomes here.new used.new result
+        ≡ steps.target_move (words_of program.now) word here.old.privilege
         (drop used.old course.now.outcomes) (end_of course.now.goal) }
     ensures carries { steps.StepCarries (words_of program.now) here.new result }
 {
     let Goal::Target(addr) = course.goal else {
         return Step::Fails(DecodeFault::WrongPlace);
     };
-    let Some((class, length)) = program.at(addr) else {
+    let Some((class, _)) = program.at(addr) else {
         return Step::Fails(DecodeFault::OffProgram);
     };
     let itype = match type_of(class, used, course) {
@@ -156,19 +187,17 @@ fn step_last(program: &Program, here: &mut Here, used: &mut usize, course: &Cour
     if !are_used(*used, course) {
         return Step::Fails(DecodeFault::Branches);
     }
-    if !may_retire(class, here.privilege) || !may_stay(here.class, here.privilege) {
+    if !may_retire(class, here.privilege) || !stays {
         return Step::Fails(DecodeFault::WrongPrivilege);
     }
     here.addr = addr;
     here.itype = itype;
-    here.length = length;
-    here.class = class;
     Step::Ends
 }
 
 /// The type of a retirement of a class, where a branch uses one outcome more.
 #[inline]
-fn type_of(class: Class, used: &mut usize, course: &Course) -> Result<u8, DecodeFault>
+pub fn type_of(class: Class, used: &mut usize, course: &Course) -> Result<u8, DecodeFault>
     requires { steps.IsCourse course.now }
     ensures told { steps.type_told course.now.outcomes used.new result ≡ steps.type_on class (drop used.old course.now.outcomes) }
     ensures named { IfErr result IsOnTheWay }
@@ -192,6 +221,27 @@ fn type_of(class: Class, used: &mut usize, course: &Course) -> Result<u8, Decode
     }
 }
 
+/// Where a retirement of an address, type and privilege leads, by the class and the length of the word there.
+#[inline(always)]
+pub fn lead_of(addr: u64, itype: u8, privilege: u8, class: Class, length: u8) -> Lead
+    requires { addr + length < 2 ^ 64 }
+    ensures { LeadsOn (Some (class, length)) addr itype privilege result }
+{
+    match class {
+        Class::Plain => Lead::To(addr + u64::from(length)),
+        Class::Jump(to) => Lead::To(to),
+        Class::Branch(to) => Lead::To(if itype == 5 {
+            to
+        } else {
+            addr + u64::from(length)
+        }),
+        Class::Uninferable | Class::TrapReturn(_) => Lead::Anywhere {
+            stays: may_stay(class, privilege),
+        },
+        Class::NotRetirable => Lead::Nowhere,
+    }
+}
+
 /// Whether a word of a class may retire at a privilege.
 #[inline]
 fn may_retire(class: Class, privilege: u8) -> bool
@@ -207,7 +257,7 @@ fn may_retire(class: Class, privilege: u8) -> bool
 /// Whether the privilege may stay after a retirement of a class.
 #[inline]
 fn may_stay(class: Class, privilege: u8) -> bool
-    ensures { result ≡ steps.may_stay class privilege }
+    ensures { result ≡ may_stay class privilege }
 {
     match class {
         Class::TrapReturn(Return::Sret) => privilege <= 1,

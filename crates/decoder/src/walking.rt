@@ -4,10 +4,12 @@ ghost use Rattle.std.specs.Prelude.{◌≡◌, ◌+◌, ◌*◌, ◌/◌, ◌^�
 ghost use Rattle.rvclass.specs.Fetch.{words_of};
 ghost use Rattle.rvclass.specs.Words.{IsProgram, LiesIn};
 ghost use Rattle.decoder.specs.Faults.{IsOnTheWay};
+ghost use Rattle.decoder.specs.Retracing.{HasRoomWithin, AddsWithin};
 ghost use Rattle.decoder.specs.WalkSteps as steps;
 ghost use Rattle.decoder.specs.Walks.{event_of, end_of, Carries, IsHere, Finds, FindsNone, HasRoom, Adds};
 
 use crate::fault::DecodeFault;
+use crate::retracing::retrace;
 use crate::stepping::{Course, Goal, Here, Step, step_from};
 use payload::Outcomes;
 use retire::Event;
@@ -18,10 +20,11 @@ use std::alloc::Allocator;
 #[derive(Clone, Copy)]
 pub struct Walked {
     pub count: usize,
-    pub last: Here,
+    pub last: Event,
 }
 
 /// The walk from a retirement, measured; or the first thing on the way that no walk has.
+#[inline]
 pub fn measure(
     program: &Program,
     from: Here,
@@ -44,27 +47,24 @@ pub fn measure(
     )
 }
 
-/// Writes a walk that was measured, into room that was reserved.
+/// Writes a walk of so many retirements, which was measured, into room that was reserved.
+#[inline]
 pub fn write<A: Allocator>(
     program: &Program,
     from: Here,
     outcomes: &Outcomes,
     goal: Goal,
+    count: usize,
     log: &mut Vec<Event, A>,
 )
+    requires program { IsProgram (words_of program.now) }
     requires from { IsHere (words_of program.now) from }
-    requires room { HasRoom (words_of program.now) from outcomes.now (end_of goal)
+    requires room { HasRoom (words_of program.now) from outcomes.now (end_of goal) count
         (vec_len log.old) (vec_capacity log.old) }
     ensures walk { Adds (words_of program.now) from outcomes.now (end_of goal) log.old.items log.new.items }
     ensures room { vec_capacity log.new ≡ vec_capacity log.old }
 {
-    write_within(
-        program,
-        longest(program),
-        from,
-        &Course::new(outcomes, goal),
-        log,
-    );
+    write_within(program, count, from, &Course::new(outcomes, goal), log);
 }
 
 /// How many retirements a walk has at most.
@@ -85,6 +85,7 @@ pub fn program_kept(program: &Program)
 }
 
 /// Measures a walk of at most so many steps.
+#[inline]
 fn measure_within(
     program: &Program,
     limit: usize,
@@ -96,7 +97,6 @@ fn measure_within(
     requires course { steps.IsCourse course.now }
     ensures told { steps.summary_of result ≡ steps.summary (event_of from)
         (steps.walk_within (words_of program.now) limit (event_of from) course.now.outcomes (end_of course.now.goal)) }
-    ensures carries { IfOk result (λ walked. Carries (words_of program.now) walked.last) }
     ensures named { IfErr result IsOnTheWay }
 {
     let mut here = from;
@@ -107,7 +107,7 @@ fn measure_within(
             Step::Ends => {
                 return Ok(Walked {
                     count: done + 1,
-                    last: here,
+                    last: event(here),
                 });
             }
             Step::Fails(fault) => return Err(fault),
@@ -116,34 +116,30 @@ fn measure_within(
     Err(DecodeFault::WrongPlace)
 }
 
-/// Writes a walk of at most so many steps.
+/// Writes so many retirements of a walk that has no more.
+#[inline]
 fn write_within<A: Allocator>(
     program: &Program,
-    limit: usize,
+    count: usize,
     from: Here,
     course: &Course,
     log: &mut Vec<Event, A>,
 )
-    requires program { IsProgram (words_of program.now) }
     requires from { Carries (words_of program.now) from }
     requires course { steps.IsCourse course.now }
-    requires room { steps.HasRoomWithin (words_of program.now) limit (event_of from) course.now.outcomes (end_of course.now.goal)
-        (vec_len log.old) (vec_capacity log.old) }
-    ensures walk { steps.AddsWithin (words_of program.now) limit (event_of from) course.now.outcomes (end_of course.now.goal)
-        log.old.items log.new.items }
+    requires room { HasRoomWithin (words_of program.now) (32 * (length program.now.bytes / 2)) (event_of from) course.now.outcomes
+        (end_of course.now.goal) count (vec_len log.old) (vec_capacity log.old) }
+    ensures walk { AddsWithin (words_of program.now) (32 * (length program.now.bytes / 2)) (event_of from) course.now.outcomes
+        (end_of course.now.goal) log.old.items log.new.items }
     ensures room { vec_capacity log.new ≡ vec_capacity log.old }
 {
     let mut here = from;
     let mut used = 0;
-    for _ in 0..limit {
-        match step_from(program, &mut here, &mut used, course) {
-            Step::Goes => log.push_reserved(event(here)),
-            Step::Ends => {
-                log.push_reserved(event(here));
-                return;
-            }
-            Step::Fails(_) => return,
+    for _ in 0..count {
+        if !retrace(program, &mut here, &mut used, course) {
+            return;
         }
+        log.push_reserved(event(here));
     }
 }
 

@@ -6,6 +6,7 @@ ghost use Rattle.decoder.specs.Walks.{IsHere};
 
 use super::{BASE, BEQ, BRANCH_LOOP, ECALL, JUMP_LOOP, MRET, NOP, RET, SRET, program_of};
 use crate::DecodeFault::{self, Branches, MissedNotify, OffProgram, WrongPlace, WrongPrivilege};
+use crate::reporting::start;
 use crate::stepping::{Goal, Here};
 use crate::walking::measure;
 use legalpath::check;
@@ -28,28 +29,22 @@ type Row<'t> = (
     Result<usize, DecodeFault>,
 );
 
-// The retirement, with its word, where it is right.
+// The retirement, with where it leads, where it is right.
 fn here(program: &Program, addr: u64, itype: u8, privilege: u8) -> Option<Here>
     ensures { IfSome result (λ here. IsHere (words_of program.now) here) }
 {
-    let log = [Event::Retire {
+    let event = Event::Retire {
         addr,
         itype,
         privilege,
-    }];
-    if check(program, &log).is_err() {
+    };
+    if check(program, &[event]).is_err() {
         return None;
     }
-    let Some((class, length)) = program.at(addr) else {
-        return None;
-    };
-    Some(Here {
-        addr,
-        itype,
-        privilege,
-        class,
-        length,
-    })
+    match start(program, &Some(event)) {
+        Ok(here) => Some(here),
+        Err(_) => None,
+    }
 }
 
 // These outcomes, the oldest first.

@@ -8,7 +8,7 @@ use Rattle.decoder.proofs.walking.measure.Goals as goal
 pub returns-clause-found : goal.returns-clause-found
 returns-clause-found c =
     let told = c.measure_within.ensures.told ∙ ap (summary (event_of c.args.from)) (same_walk (words_of c.args.program.now) (event_of c.args.from) _ _ _ _ _ _ c.longest.ensures.value c.new.ensures.outcomes c.new.ensures.goal) in
-    measure_finds (words_of c.args.program.now) c.longest.ensures.program c.args.from c.requires c.args.outcomes.now (end_of c.args.goal) _ _ told c.measure_within.ensures.carries
+    measure_finds (words_of c.args.program.now) c.longest.ensures.program c.args.from c.requires c.args.outcomes.now (end_of c.args.goal) _ _ told
 
 pub returns-clause-short : goal.returns-clause-short
 returns-clause-short c =

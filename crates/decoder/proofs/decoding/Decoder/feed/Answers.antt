@@ -25,14 +25,15 @@ returns-clause-stands g c = λ packets s.
     let log = c.args.log.now.items in
     let d = c.args.self.now in
     let p = c.args.packet.now in
-    let plan = c.in-Ok.plan in
-    let found = c.in-Ok.ensures.found in
+    let first = c.plan.new.first in
+    let second = c.plan.new.second in
+    let found = c.in_default.ensures.found in
     let can = found.can (stands_right w packets log d s) in
-    let new = stands_more w packets log d p plan.settled plan.own found.settled found.own s found.gives_settled found.gives_own can in
+    let new = stands_more w packets log d p first second found.settled found.own s found.gives_settled found.gives_own can in
     let one = c.write.ensures.adds found.settled found.gives_settled ∙ ap (λ l. l ++ found.settled) c.reserve.ensures.items in
     let two = c.write-2.ensures.adds found.own found.gives_own ∙ ap (λ l. l ++ found.own) one ∙ append_assoc log found.settled found.own in
-    let logs = subst (λ l. Stands w (packets ++ p ∷ []) l (decoder_after d p plan.settled plan.own)) (sym two) new in
-    subst (λ x. Stands w (packets ++ p ∷ []) c.write-2.new.log.items x) (sym found.next) logs
+    let logs = subst (λ l. Stands w (packets ++ p ∷ []) l (decoder_after d p first second)) (sym two) new in
+    subst (λ x. Stands w (packets ++ p ∷ []) c.write-2.new.log.items x) (sym c.after.ensures) logs
 
 pub returns-clause-only : goal.returns-clause-only
 returns-clause-only g c = λ packets s other all.

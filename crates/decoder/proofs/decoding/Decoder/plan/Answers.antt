@@ -1,5 +1,5 @@
 use Rattle.std.proofs.Common.{◌≡◌, None, sym, subst}
-use Rattle.std.specs.Prelude.{Ok}
+use Rattle.std.specs.Prelude.{Ok, OnOk, IfErr}
 use Rattle.rvclass.specs.Fetch.{words_of}
 use Rattle.decoder.proofs.PlanLemmas.{plans, plans_none}
 use Rattle.decoder.specs.Fits.{Fits}
@@ -7,22 +7,25 @@ use Rattle.decoder.specs.Parts.{part_last, Suits, SuitsNone}
 use Rattle.decoder.specs.Planning.{admitted}
 use Rattle.decoder.proofs.decoding.Decoder.plan.Goals as goal
 
-pub returns-in-Ok-own-clause-found : goal.returns-in-Ok-own-clause-found
-returns-in-Ok-own-clause-found c =
+pub returns-clause-found : goal.returns-clause-found
+returns-clause-found c =
     let w = words_of c.args.program.now in
     let d = c.args.self.now in
     let p = c.args.packet.now in
-    let own = subst (λ l. Suits w l (Fits w l c.place-reported.result p None) c.in-Ok-own.own) c.last-last.ensures c.in-Ok-own.ensures.found in
-    let own' = subst (λ r. Suits w (part_last d.last c.in-Ok.part) (Fits w (part_last d.last c.in-Ok.part) r p None) c.in-Ok-own.own) c.place-reported.ensures own in
+    let first = c.settled.new.part in
+    let second = c.own.new.part in
+    let own = subst (λ l. OnOk c.own.result (Suits w l (Fits w l c.place-reported.result p None) second)) c.last-last.ensures c.own.ensures.found in
+    let own' = subst (λ r. OnOk c.own.result (Suits w (part_last d.last first) (Fits w (part_last d.last first) r p None) second)) c.place-reported.ensures own in
     let admits : admitted d.phase p ≡ Ok tt = sym c.in_default.ensures in
-    plans w d p _ c.after.ensures admits (c.if-not-may_come.ensures.0 cc) c.in-Ok.ensures.found own'
+    plans w d p first second c.own.result admits (c.if-not-may_come.ensures.0 cc) c.in_default-settled.ensures.found own'
 
-pub returns-in-Err-own-clause-none : goal.returns-in-Err-own-clause-none
-returns-in-Err-own-clause-none c =
+pub returns-clause-none : goal.returns-clause-none
+returns-clause-none c =
     let w = words_of c.args.program.now in
     let d = c.args.self.now in
     let p = c.args.packet.now in
-    let none = subst (λ l. SuitsNone w l (Fits w l c.place-reported.result p None) c.in-Err-own.fault) c.last-last.ensures c.in-Err-own.ensures.none in
-    let none' = subst (λ r. SuitsNone w (part_last d.last c.in-Ok.part) (Fits w (part_last d.last c.in-Ok.part) r p None) c.in-Err-own.fault) c.place-reported.ensures none in
+    let first = c.settled.new.part in
+    let none = subst (λ l. IfErr c.own.result (SuitsNone w l (Fits w l c.place-reported.result p None))) c.last-last.ensures c.own.ensures.none in
+    let none' = subst (λ r. IfErr c.own.result (SuitsNone w (part_last d.last first) (Fits w (part_last d.last first) r p None))) c.place-reported.ensures none in
     let admits : admitted d.phase p ≡ Ok tt = sym c.in_default.ensures in
-    plans_none w d p c.program_kept.ensures.words c.in-Ok.part c.in-Err-own.fault admits c.in-Ok.ensures.found none'
+    plans_none w d p c.program_kept.ensures.words first c.own.result admits c.in_default-settled.ensures.found none'

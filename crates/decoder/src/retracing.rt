@@ -1,0 +1,48 @@
+//! One step of a walk that was measured, which does not fail.
+
+ghost use Rattle.std.specs.Prelude.{drop};
+ghost use Rattle.rvclass.specs.Fetch.{words_of};
+ghost use Rattle.decoder.specs.WalkSteps as steps;
+ghost use Rattle.decoder.specs.Retracing.{Reaches, Retraces};
+ghost use Rattle.decoder.specs.Walks.{event_of, end_of, Carries};
+
+use crate::stepping::{Course, Goal, Here, Lead, lead_of, type_of};
+use rvclass::Program;
+
+/// A step from a retirement, where so many outcomes are used, to the next one of a walk that was measured. It answers
+/// whether there is one.
+#[inline(always)]
+pub fn retrace(program: &Program, here: &mut Here, used: &mut usize, course: &Course) -> bool
+    requires here { Carries (words_of program.now) here.old }
+    requires course { steps.IsCourse course.now }
+    ensures { Retraces (words_of program.now) course.now.outcomes here.new used.new result
+        (steps.advance (words_of program.now) (event_of here.old) (drop used.old course.now.outcomes) (end_of course.now.goal)) }
+{
+    match here.lead {
+        Lead::To(addr) => reach(program, addr, here, used, course),
+        Lead::Anywhere { .. } => match course.goal {
+            Goal::Target(addr) => reach(program, addr, here, used, course),
+            _ => false,
+        },
+        Lead::Nowhere => false,
+    }
+}
+
+/// Goes to the retirement at an address, if there is one.
+#[inline(always)]
+fn reach(program: &Program, addr: u64, here: &mut Here, used: &mut usize, course: &Course) -> bool
+    requires { steps.IsCourse course.now }
+    ensures { Reaches (words_of program.now) course.now.outcomes here.new used.new result
+        (steps.retire_on addr here.old.privilege (words_of program.now addr) (drop used.old course.now.outcomes)) }
+{
+    let Some((class, length)) = program.at(addr) else {
+        return false;
+    };
+    let Ok(itype) = type_of(class, used, course) else {
+        return false;
+    };
+    here.addr = addr;
+    here.itype = itype;
+    here.lead = lead_of(addr, itype, here.privilege, class, length);
+    true
+}
