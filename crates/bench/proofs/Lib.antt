@@ -1,5 +1,4 @@
-pub mod HexTexts
-pub mod LogLines
+pub mod MessageTexts
 pub mod QuietLemmas
 pub mod RuleFacts
 pub mod PacketOrder
@@ -7,3 +6,14 @@ pub mod Telling
 pub mod QuietTelling
 pub mod EventTelling
 pub mod FirstPackets
+pub mod Elements
+pub mod HartMessages
+pub mod CapturesSplit
+pub mod SoundLogs
+pub mod LogMessages
+pub mod NextMessages
+pub mod CapturesReturn
+pub mod CollectLemmas
+pub mod Reaching
+pub mod Outcomes
+pub mod ToldMessages

@@ -1,3 +1,11 @@
-pub mod Payloads
 pub mod HexLines
 pub mod Reach
+pub mod Messages
+pub mod OfHart
+pub mod NoMessage
+pub mod Decoded
+pub mod Returned
+pub mod Collected
+pub mod Collecting
+pub mod PacketText
+pub mod Dump

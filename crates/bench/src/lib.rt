@@ -1,13 +1,24 @@
 //! The bench: everything that stands between a hart's log and what is decoded again, and is no command line.
 //!
-//! [`encode_hex`] writes the messages of logs as lines of hexadecimal.
+//! [`encode_capture`] writes the messages of logs as a capture, and [`encode_hex`] as lines of hexadecimal.
+//! [`decode_capture`] gives the events of each hart of a capture, and [`dump_capture`] writes what its messages tell, a
+//! line each.
 #![tactic(auto)]
 
+mod capture_decoding;
+mod collector;
+mod dumping;
 mod encoding;
+mod form;
 mod laws;
 mod lines;
+mod outcome;
+mod packet_text;
 #[cfg(test)]
 mod tests;
 
-pub use encoding::encode_hex;
+pub use capture_decoding::decode_capture;
+pub use dumping::{Dumped, dump_capture};
+pub use encoding::{encode_capture, encode_hex};
 pub use laws::first_packets_tell_the_first_events;
+pub use outcome::{CaptureFault, CaptureOutcome};

@@ -1,8 +1,11 @@
 //! Logs through the bench.
 
+mod captures;
 mod decoding;
+mod dumping;
 mod encoding;
 mod made;
+mod returning;
 
 use legalpath::LegalLog;
 use retire::Event;

@@ -5,7 +5,7 @@ use Rattle.clap.specs.declared.builder.arg.Arg.{Arg}
 use Rattle.clap.specs.declared.builder.command.Command.{Command}
 use Rattle.cli.specs.Grammar.{HasGrammar, IsReadBy}
 
--- one more argument
+-- One more argument.
 pub adds_rule : (old : Command) (a : Arg) (new : Command) (app : App) (rule : Rule)
     → HasGrammar app old → IsReadBy rule a → AddsArg old a new → HasGrammar (with_rule app rule) new
 adds_rule old a new app rule has reads adds = (
@@ -13,7 +13,7 @@ adds_rule old a new app rule has reads adds = (
   adds.globals ∙ ap₂ (λ x y. x || y) has.1 reads.1,
 )
 
--- one more subcommand
+-- One more subcommand.
 pub adds_subcommand : (old sub new : Command) (app inner : App)
     → HasGrammar app old → HasGrammar inner sub → AddsSubcommand old sub new
     → HasGrammar (with_subcommand app inner.top) new

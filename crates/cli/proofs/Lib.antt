@@ -1,3 +1,3 @@
 mod GrammarLemmas
-mod PeriodLemmas
+mod NumberLemmas
 mod SubcommandLemmas

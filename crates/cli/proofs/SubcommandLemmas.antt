@@ -27,7 +27,7 @@ use Rattle.clap.specs.Walk.{subcommand_met, subcommand_or_other, to_positional, 
 abbrev help : Text
 help = codes "help"
 
--- the walk has not stopped at `help`
+-- The walk has not stopped at `help`.
 abbrev AvoidsHelp : Option (Text × List Text) → Type 0
 AvoidsHelp None = Unit {0}
 AvoidsHelp (Some stop) = stop.0 ≡ help → ⊥
@@ -83,7 +83,7 @@ second_none : (a b : Kinds) → or_else a b ≡ [] → b ≡ []
 second_none [] b none = none
 second_none (k ∷ ks) b none = cc
 
--- the word is no call for help, where the test of it gives no kind
+-- The word is no call for help, where the test of it gives no kind.
 avoids : (name : Text) (kinds : Kinds) (k : ErrorKind) (disabled : Bool) → disabled ≡ false
     → (if bytes_eq name help && not disabled then k ∷ kinds else []) ≡ [] → name ≡ help → ⊥
 avoids name kinds k disabled enabled none same =
@@ -92,7 +92,7 @@ avoids name kinds k disabled enabled none same =
     let kept : (if bytes_eq name help && not disabled then k ∷ kinds else []) ≡ k ∷ kinds = rw both refl in
     let bad : k ∷ kinds ≡ [] = sym kept ∙ none in cc
 
--- the walk after a word that is no call for help, as its parts find it
+-- The walk after a word that is no call for help, as its parts find it.
 word_avoids : (s : Shape) (names : Names) (w : Walk) (word : Text) → s.disable_help_subcommand ≡ false
     → w.stopped ≡ None → (is_trailing : Bool) (name : Option Text)
     → or_else (if is_trailing then [] else other_fault s name word w.held)
@@ -142,7 +142,7 @@ none_wanted true wants_subcommand wants_argument none = cc
 none_wanted false true wants_argument none = cc
 none_wanted false false wants_argument none = refl
 
--- the last check passes only where a subcommand that is required was entered
+-- The last check passes only where a subcommand that is required was entered.
 entered_required : (s : Shape) (rows : List Row) (has : Bool) → s.subcommand_required ≡ true → check_fault s rows has ≡ [] → has ≡ true
 entered_required s rows true required none = refl
 entered_required s rows false required none =
@@ -157,7 +157,7 @@ first_and_last a b c d e none = (
   second_none d e (second_none c _ (second_none b _ (second_none a _ none))),
 )
 
--- where a subcommand is required, one that is not `help` was entered
+-- Where a subcommand is required, one that is not `help` was entered.
 level_enters : (a : App) (words : List Text) → a.top.disable_help_subcommand ≡ false → a.top.subcommand_required ≡ true
     → built_fault a nothing_held words ≡ []
     → (is_some (entered a (walk a.top.rules (names_of a) nothing_held words).stopped) ≡ true)
@@ -173,17 +173,17 @@ level_enters a words enabled required none =
       walk_avoids a.top (names_of a) (walk_from nothing_held) words enabled parts.0 tt,
     )
 
--- each is one of the program's subcommands, or `help`
+-- Each is one of the program's subcommands, or `help`.
 abbrev AreKnown : List Shape → Type 0
 AreKnown [] = Unit {0}
 AreKnown (s ∷ ss) = (IsSubcommand s.name ⊎ ((s.name ≡ help) × (s.aliases ≡ []))) × AreKnown ss
 
--- a subcommand of the program's own was found, with its rows
+-- A subcommand of the program's own was found, with its rows.
 abbrev pub FindsOwn : Option (Text × List Row) → Type 0
 FindsOwn None = ⊥
 FindsOwn (Some found) = IsSubcommand found.0
 
--- what is entered of these subcommands by this name
+-- What is entered of these subcommands by this name.
 abbrev entered_of : List Shape → Text → List Text → Option (Text × List Row)
 entered_of subs name words = option_map (λ s. rows_at s words) (find (λ s. answers_to name (label_of s)) subs)
 
@@ -213,7 +213,13 @@ enters_known a (Some stop) known other some = finds a.subs stop.0 stop.1 known o
 finds_own : (words : List Text) → fault_of program_app words ≡ [] → FindsOwn (subcommand_of program_app words)
 finds_own words none =
     let met = level_enters (built program_app) (argument_words program_app words) refl refl none in
-    enters_known (built program_app) _ (inl (inl refl), (inl (inr refl), (inr (refl, refl), tt))) met.1 met.0
+    enters_known (built program_app) _ (
+      inl (inl refl),
+      (
+        inl (inr (inl refl)),
+        (inl (inr (inr (inl refl))), (inl (inr (inr (inr refl))), (inr (refl, refl), tt))),
+      ),
+    ) met.1 met.0
 
 -- ---- the same of a command with the program's grammar
 

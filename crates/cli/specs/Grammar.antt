@@ -12,7 +12,7 @@ use Rattle.clap.specs.declared.builder.range.ValueRange.{ValueRange}
 use Rattle.clap.specs.declared.builder.value_parser.ValueParser.{ValueParser}
 use Rattle.clap.specs.declared.builder.value_parser.ValueParser.TheVariants.{Signed}
 
--- `--base B`, which has to be there
+-- `--base B`, which has to be there.
 abbrev pub base_rule : Rule
 base_rule = record (new_rule (codes "base")) {
   long = Some (codes "base");
@@ -21,20 +21,20 @@ base_rule = record (new_rule (codes "base")) {
   required = true;
 }
 
--- `--hex`
+-- `--hex`.
 abbrev pub hex_rule : Rule
 hex_rule =
     record (new_rule (codes "hex")) { long = Some (codes "hex"); action = Some SetTrue }
 
--- IMAGE, a word of its own that has to be there
+-- IMAGE, a word of its own that has to be there.
 abbrev pub image_rule : Rule
 image_rule = record (new_rule (codes "IMAGE")) { action = Some Set; required = true }
 
--- a number from 1 to 65535
+-- A number from 1 to 65535.
 abbrev pub period_parser : ValueParser
 period_parser = Signed (pos 1) (pos 65535)
 
--- `--period N`, which is 1024 where it is not there
+-- `--period N`, which is 1024 where it is not there.
 abbrev pub period_rule : Rule
 period_rule = record (new_rule (codes "period")) {
   long = Some (codes "period");
@@ -44,11 +44,11 @@ period_rule = record (new_rule (codes "period")) {
   parser = Some period_parser;
 }
 
--- as many values as there are words, and one at least
+-- As many values as there are words, and one at least.
 abbrev pub one_or_more : ValueRange
 one_or_more = record { start_inclusive = 1; end_inclusive = usize_max }
 
--- LOG..., words of their own of which one has to be there
+-- LOG..., words of their own of which one has to be there.
 abbrev pub logs_rule : Rule
 logs_rule = record (new_rule (codes "LOG")) {
   action = Some Append;
@@ -56,32 +56,61 @@ logs_rule = record (new_rule (codes "LOG")) {
   required = true;
 }
 
--- `check --base B IMAGE LOG...`
+-- A number from 1 to 64.
+abbrev pub harts_parser : ValueParser
+harts_parser = Signed (pos 1) (pos 64)
+
+-- `--harts N`, which is 1 where it is not there.
+abbrev pub harts_rule : Rule
+harts_rule = record (new_rule (codes "harts")) {
+  long = Some (codes "harts");
+  action = Some Set;
+  value_names = 1;
+  defaults = codes "1" ∷ [];
+  parser = Some harts_parser;
+}
+
+-- CAPTURE, a word of its own that has to be there.
+abbrev pub capture_rule : Rule
+capture_rule = record (new_rule (codes "CAPTURE")) { action = Some Set; required = true }
+
+-- `check --base B IMAGE LOG...`.
 abbrev pub check_app : App
 check_app = with_rule (with_rule (with_rule (new_app (codes "check")) base_rule) image_rule) logs_rule
 
--- `encode --base B [--period N] [--hex] IMAGE LOG...`
+-- `encode --base B [--period N] [--hex] IMAGE LOG...`.
 abbrev pub encode_app : App
 encode_app = with_rule (with_rule (with_rule (with_rule (with_rule (new_app (codes "encode")) base_rule)
     period_rule) hex_rule) image_rule) logs_rule
 
--- the program by itself, which wants a subcommand
+-- `dump CAPTURE`.
+abbrev pub dump_app : App
+dump_app = with_rule (new_app (codes "dump")) capture_rule
+
+-- `decode --base B [--harts N] IMAGE CAPTURE`.
+abbrev pub decode_app : App
+decode_app = with_rule (with_rule (with_rule (with_rule (new_app (codes "decode")) base_rule) harts_rule)
+    image_rule) capture_rule
+
+-- The program by itself, which wants a subcommand.
 abbrev pub bare_program : App
 bare_program =
     on_top (λ s. record s { subcommand_required = true }) (new_app (codes "tracebench"))
 
--- the program with its subcommands
+-- The program with its subcommands.
 abbrev pub program_app : App
-program_app = with_subcommand (with_subcommand bare_program check_app.top) encode_app.top
+program_app = with_subcommand (with_subcommand (with_subcommand (with_subcommand bare_program check_app.top)
+    encode_app.top) dump_app.top) decode_app.top
 
--- the names of the program's subcommands
+-- The names of the program's subcommands.
 abbrev pub IsSubcommand : Text → Type 0
-IsSubcommand name = (name ≡ codes "check") ⊎ (name ≡ codes "encode")
+IsSubcommand name = (name ≡ codes "check")
+    ⊎ ((name ≡ codes "encode") ⊎ ((name ≡ codes "dump") ⊎ (name ≡ codes "decode")))
 
--- the argument is read by this rule, and at its own subcommand alone
+-- The argument is read by this rule, and at its own subcommand alone.
 abbrev pub IsReadBy : Rule → Arg → Type 0
 IsReadBy rule a = (rule_of a ≡ rule) × (a.global ≡ false)
 
--- the command takes these words, with no argument that its subcommands share
+-- The command takes these words, with no argument that its subcommands share.
 abbrev pub HasGrammar : App → Command → Type 0
 HasGrammar app c = (app_of c ≡ app) × ((fields_of c).has_globals ≡ false)

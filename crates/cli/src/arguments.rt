@@ -1,6 +1,7 @@
 //! The arguments that subcommands take, one function each.
 
-ghost use Rattle.cli.specs.Grammar.{IsReadBy, base_rule, hex_rule, image_rule, logs_rule, period_rule};
+ghost use Rattle.cli.specs.Grammar.{IsReadBy, base_rule, capture_rule, harts_rule, hex_rule, image_rule};
+ghost use Rattle.cli.specs.Grammar.{logs_rule, period_rule};
 
 use clap::{Arg, ArgAction, value_parser};
 use std::alloc::Global;
@@ -14,6 +15,27 @@ pub(crate) fn base<'a>(alloc: Global) -> Arg<'a>
         .required(true)
         .action(ArgAction::Set)
         .help("Address of the image's first byte, in hexadecimal")
+}
+
+pub(crate) fn capture<'a>(alloc: Global) -> Arg<'a>
+    ensures { IsReadBy capture_rule result }
+{
+    Arg::new(alloc, "CAPTURE")
+        .required(true)
+        .action(ArgAction::Set)
+        .help("File of trace messages")
+}
+
+pub(crate) fn harts<'a>(alloc: Global) -> Arg<'a>
+    ensures { IsReadBy harts_rule result }
+{
+    Arg::new(alloc, "harts")
+        .long("harts")
+        .value_name("N")
+        .value_parser(value_parser!(u16).range(1..=64))
+        .default_value("1")
+        .action(ArgAction::Set)
+        .help("How many harts the capture may have messages of, 1 to 64")
 }
 
 pub(crate) fn hex<'a>(alloc: Global) -> Arg<'a>

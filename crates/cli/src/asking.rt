@@ -2,7 +2,7 @@
 
 ghost use Rattle.std.specs.Prelude.{◌≡◌, IfOk, [], codes, map, string_bytes, unwrap_or};
 ghost use Rattle.clap.specs.Words.{FailsBy, fault_of, first_value, found_of, one_of, rows_of};
-ghost use Rattle.cli.specs.Asking.{Asks, IsPeriod, WordsAsk, texts_of};
+ghost use Rattle.cli.specs.Asking.{Asks, IsHarts, IsPeriod, WordsAsk, texts_of};
 ghost use Rattle.cli.specs.Limits.{IsWithinLimits};
 ghost use Rattle.cli.specs.Grammar.{IsSubcommand, program_app};
 
@@ -13,6 +13,12 @@ use std::alloc::{AllocError, Global};
 
 /// The period where the words give none.
 const DEFAULT_PERIOD: u16 = 1024;
+
+/// The count of harts where the words give none.
+const DEFAULT_HARTS: u16 = 1;
+
+/// The most harts of a capture.
+const MOST_HARTS: u16 = 64;
 
 // The value of an argument, which a parse that succeeds has where the argument is required.
 fn text<'a>(given: &ArgMatches<'a>, id: &str) -> &'a str
@@ -42,7 +48,7 @@ fn check_asked<'a>(alloc: Global, given: &ArgMatches<'a>) -> Result<Asked<'a>, A
     })
 }
 
-// The period, 1 or more by the range that `clap` keeps.
+// The period, 1 to 65535 by the range that `clap` keeps.
 fn period<'a>(given: &ArgMatches<'a>) -> u16
     ensures { IsPeriod (one_of (codes "period") (rows_of (found_of given.now))) result }
 {
@@ -64,6 +70,35 @@ fn encode_asked<'a>(alloc: Global, given: &ArgMatches<'a>) -> Result<Asked<'a>, 
     })
 }
 
+fn dump_asked<'a>(given: &ArgMatches<'a>) -> Asked<'a>
+    ensures { Asks (codes "dump") (rows_of (found_of given.now)) result }
+{
+    Asked::Dump {
+        capture: text(given, "CAPTURE"),
+    }
+}
+
+// The count of harts, 1 to 64 by the range that `clap` keeps.
+fn harts<'a>(given: &ArgMatches<'a>) -> u16
+    ensures { IsHarts (one_of (codes "harts") (rows_of (found_of given.now))) result }
+{
+    given
+        .get_one::<u16>("harts")
+        .unwrap_or(DEFAULT_HARTS)
+        .clamp(1, MOST_HARTS)
+}
+
+fn decode_asked<'a>(given: &ArgMatches<'a>) -> Asked<'a>
+    ensures { Asks (codes "decode") (rows_of (found_of given.now)) result }
+{
+    Asked::Decode {
+        base: text(given, "base"),
+        harts: harts(given),
+        image: text(given, "IMAGE"),
+        capture: text(given, "CAPTURE"),
+    }
+}
+
 fn asked_of<'a>(alloc: Global, name: &str, given: &ArgMatches<'a>) -> Result<Asked<'a>, AllocError>
     requires { IsSubcommand name.now }
     ensures { IfOk result (Asks name.now (rows_of (found_of given.now))) }
@@ -71,6 +106,8 @@ fn asked_of<'a>(alloc: Global, name: &str, given: &ArgMatches<'a>) -> Result<Ask
     match name {
         "check" => check_asked(alloc, given),
         "encode" => encode_asked(alloc, given),
+        "dump" => Ok(dump_asked(given)),
+        "decode" => Ok(decode_asked(given)),
         _ => unreachable!("clap knows no other subcommand"),
     }
 }
@@ -79,8 +116,10 @@ fn asked_of<'a>(alloc: Global, name: &str, given: &ArgMatches<'a>) -> Result<Ask
 ///
 /// `Ok` comes where `clap` finds no fault in the words by the program's grammar, and holds the texts of
 /// the subcommand's arguments as the words give them: a base is not yet a number, and no file was
-/// looked at. A period is a number, within its limits. An error is `clap`'s own, calls for help among them: its `Display` is the text for the
-/// user, and its kind is `ErrorKind::OutOfMemory` where memory ran out.
+/// looked at. A period is a number from 1 to 65535, and a count of harts one from 1 to 64; the number
+/// is the one in the words, or 1024 and 1 where they give none. An error is `clap`'s own, calls for
+/// help among them: its `Display` is the text for the user, and its kind is `ErrorKind::OutOfMemory`
+/// where memory ran out.
 pub fn asked<'a>(alloc: Global, words: &'a [String]) -> Result<Asked<'a>, Error>
     ensures found { IfOk result (WordsAsk (map string_bytes words.now)) }
     ensures limits { IfOk result IsWithinLimits }

@@ -1,9 +1,9 @@
 //! The program's subcommands, one function each.
 
 ghost use Rattle.std.specs.Prelude.{IfOk};
-ghost use Rattle.cli.specs.Grammar.{HasGrammar, check_app, encode_app, program_app};
+ghost use Rattle.cli.specs.Grammar.{HasGrammar, check_app, decode_app, dump_app, encode_app, program_app};
 
-use crate::arguments::{base, hex, image, logs, period};
+use crate::arguments::{base, capture, harts, hex, image, logs, period};
 use clap::Command;
 use std::alloc::{AllocError, Global};
 
@@ -31,6 +31,27 @@ fn encode<'a>(alloc: Global) -> Result<Command<'a>, AllocError>
     Ok(command)
 }
 
+fn dump<'a>(alloc: Global) -> Result<Command<'a>, AllocError>
+    ensures { IfOk result (HasGrammar dump_app) }
+{
+    let command = Command::new(alloc, "dump")
+        .about("Write the messages of a capture as text")
+        .arg(capture(alloc))?;
+    Ok(command)
+}
+
+fn decode<'a>(alloc: Global) -> Result<Command<'a>, AllocError>
+    ensures { IfOk result (HasGrammar decode_app) }
+{
+    let command = Command::new(alloc, "decode")
+        .about("Write the logs that the messages of a capture describe")
+        .arg(base(alloc))?
+        .arg(harts(alloc))?
+        .arg(image(alloc))?
+        .arg(capture(alloc))?;
+    Ok(command)
+}
+
 /// The program with all its subcommands.
 pub(crate) fn program<'a>(alloc: Global) -> Result<Command<'a>, AllocError>
     ensures { IfOk result (HasGrammar program_app) }
@@ -39,6 +60,8 @@ pub(crate) fn program<'a>(alloc: Global) -> Result<Command<'a>, AllocError>
         .about("A bench for RISC-V instruction trace (E-Trace)")
         .subcommand_required(true)
         .subcommand(check(alloc)?)?
-        .subcommand(encode(alloc)?)?;
+        .subcommand(encode(alloc)?)?
+        .subcommand(dump(alloc)?)?
+        .subcommand(decode(alloc)?)?;
     Ok(command)
 }

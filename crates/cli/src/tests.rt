@@ -59,7 +59,7 @@ fn reads_words(rt: HostRuntime) -> Result<(), Fail> {
         (
             "tracebench",
             "error: 'tracebench' requires a subcommand but one was not provided\n  \
-             [subcommands: check, encode, help]\n\n\
+             [subcommands: check, encode, dump, decode, help]\n\n\
              Usage: tracebench <COMMAND>\n\n\
              For more information, try '--help'.\n",
         ),
@@ -88,6 +88,62 @@ fn reads_words(rt: HostRuntime) -> Result<(), Fail> {
              [default: 1024]\n      \
              --hex         Write a line of hexadecimal for each message\n  \
              -h, --help        Print help\n",
+        ),
+        (
+            "tracebench dump run.capture",
+            "Dump { capture: \"run.capture\" }",
+        ),
+        (
+            "tracebench dump",
+            "error: the following required arguments were not provided:\n  <CAPTURE>\n\n\
+             Usage: tracebench dump <CAPTURE>\n\n\
+             For more information, try '--help'.\n",
+        ),
+        (
+            "tracebench dump a.capture b.capture",
+            "error: unexpected argument 'b.capture' found\n\n\
+             Usage: tracebench dump <CAPTURE>\n\n\
+             For more information, try '--help'.\n",
+        ),
+        (
+            "tracebench decode --base 80000000 image.bin run.capture",
+            "Decode { base: \"80000000\", harts: 1, image: \"image.bin\", capture: \"run.capture\" }",
+        ),
+        (
+            "tracebench decode image.bin --harts 1 run.capture --base 0",
+            "Decode { base: \"0\", harts: 1, image: \"image.bin\", capture: \"run.capture\" }",
+        ),
+        (
+            "tracebench decode --base 0 --harts=64 image.bin run.capture",
+            "Decode { base: \"0\", harts: 64, image: \"image.bin\", capture: \"run.capture\" }",
+        ),
+        (
+            "tracebench decode --base 0 --harts 0 image.bin run.capture",
+            "error: invalid value '0' for '--harts <N>': 0 is not in 1..=64\n\n\
+             For more information, try '--help'.\n",
+        ),
+        (
+            "tracebench decode --base 0 --harts 65 image.bin run.capture",
+            "error: invalid value '65' for '--harts <N>': 65 is not in 1..=64\n\n\
+             For more information, try '--help'.\n",
+        ),
+        (
+            "tracebench decode --base 80000000 image.bin",
+            "error: the following required arguments were not provided:\n  <CAPTURE>\n\n\
+             Usage: tracebench decode --base <B> <IMAGE> <CAPTURE>\n\n\
+             For more information, try '--help'.\n",
+        ),
+        (
+            "tracebench decode --help",
+            "Write the logs that the messages of a capture describe\n\n\
+             Usage: tracebench decode [OPTIONS] --base <B> <IMAGE> <CAPTURE>\n\n\
+             Arguments:\n  \
+             <IMAGE>    File of the program's bytes\n  \
+             <CAPTURE>  File of trace messages\n\n\
+             Options:\n      \
+             --base <B>   Address of the image's first byte, in hexadecimal\n      \
+             --harts <N>  How many harts the capture may have messages of, 1 to 64 [default: 1]\n  \
+             -h, --help       Print help\n",
         ),
     ];
     for (line, text) in cases {

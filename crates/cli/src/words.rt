@@ -25,4 +25,20 @@ pub enum Asked<'a> {
         /// The paths of the logs, at least one, in the order of the words.
         logs: Vec<&'a str>,
     },
+    /// `dump CAPTURE`: the messages of a capture, as text.
+    Dump {
+        /// The path of the capture.
+        capture: &'a str,
+    },
+    /// `decode --base B [--harts N] IMAGE CAPTURE`: the logs that the messages of a capture describe.
+    Decode {
+        /// The address of the image's first byte, not yet read as a number.
+        base: &'a str,
+        /// How many harts the capture may have messages of, 1 to 64.
+        harts: u16,
+        /// The path of the image.
+        image: &'a str,
+        /// The path of the capture.
+        capture: &'a str,
+    },
 }

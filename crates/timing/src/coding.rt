@@ -2,32 +2,30 @@
 
 use crate::fault::Fault;
 use crate::least::Phase;
-use crate::packets::{PERIOD, byte_count};
+use crate::packets::PERIOD;
 use decoder::Decoder;
-use encoder::Encoder;
+use encoder::Source;
+use legalpath::LegalLog;
 use payload::{Payload, unpack};
-use retire::Event;
 use rvclass::Program;
 use std::alloc::Global;
 
 /// From the events of a log to the payloads of its packets.
 #[derive(Drop)]
 pub(crate) struct Encoding<'a> {
-    pub(crate) program: &'a Program,
-    pub(crate) events: &'a [Event],
+    pub(crate) log: &'a LegalLog<'a>,
 }
 
 impl Phase for Encoding<'_> {
     fn run(&mut self) -> Result<u64, Fault> {
-        let mut encoder = Encoder::new(PERIOD);
-        let mut bytes = byte_count(&encoder.open());
-        for event in self.events {
-            for packet in encoder.push(self.program, *event).as_slice() {
-                bytes = bytes.wrapping_add(byte_count(packet));
-            }
-        }
-        for packet in encoder.finish(self.program).as_slice() {
-            bytes = bytes.wrapping_add(byte_count(packet));
+        let log = self.log;
+        let mut source = Source::new(log, PERIOD);
+        let mut bytes = 0u64;
+        for _ in 0..log.events().len() + 2 {
+            let Some(payload) = source.next() else {
+                break;
+            };
+            bytes = bytes.wrapping_add(payload.bytes().len() as u64);
         }
         Ok(bytes)
     }

@@ -2,7 +2,7 @@
 
 use crate::fault::Fault;
 use crate::least::Phase;
-use legalpath::check;
+use legalpath::{LegalLog, check};
 use retire::{Event, read_log, write_log};
 use rvclass::Program;
 use std::alloc::Global;
@@ -57,4 +57,12 @@ impl Phase for Judging<'_> {
             Err(fault) => Ok(u64::from(fault.row)),
         }
     }
+}
+
+/// A log that is legal, of these events.
+pub(crate) fn legal(program: &Program, events: Vec<Event>) -> Result<LegalLog<'_>, Fault> {
+    if events.len() > MOST {
+        return Err(Fault::Log);
+    }
+    LegalLog::new(program, events).map_err(|_| Fault::Log)
 }

@@ -5,6 +5,7 @@
 //! to standard output. The status is 0, or 1 where the words, a file or a log is refused.
 #![tactic(auto)]
 
+mod captures;
 mod coding;
 mod fault;
 mod input;

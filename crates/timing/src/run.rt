@@ -1,11 +1,14 @@
 //! All phases, one after the other.
 
+use crate::captures::{CaptureDecoding, CaptureWriting};
 use crate::coding::{Decoding, Encoding};
 use crate::fault::Fault;
 use crate::input::Input;
 use crate::least::measure;
-use crate::logs::{Judging, Reading, Writing};
-use crate::packets::{Packing, Unpacking, packets_of, payloads_of};
+use crate::logs::{self, Judging, Reading, Writing};
+use crate::packets::{PERIOD, Packing, Unpacking, packets_of, payloads_of};
+use bench::encode_capture;
+use legalpath::LegalLog;
 use retire::read_log;
 use std::env::Env;
 use std::io::Write;
@@ -22,53 +25,80 @@ pub(crate) fn run<R: Env + Files + Clock + AllocGlobal, E: Write>(
     for text in &input.texts {
         let text = text.as_slice();
         let events = read_log(alloc, alloc, text).map_err(|_| Fault::Log)?;
-        let packets = packets_of(alloc, &input.program, events.as_slice())?;
-        let payloads = payloads_of(alloc, packets.as_slice())?;
-        let count = events.len();
-        measure(rt, err, "log reading", count, Reading { alloc, text })?;
-        let events = events.as_slice();
-        let room = Vec::with_capacity(alloc, text.len())?;
-        measure(
-            rt,
-            err,
-            "log writing",
-            count,
-            Writing {
-                alloc,
-                events,
-                text: room,
-            },
-        )?;
-        let program = &input.program;
-        measure(
-            rt,
-            err,
-            "legality check",
-            count,
-            Judging { program, events },
-        )?;
-        measure(
-            rt,
-            err,
-            "encode and pack",
-            count,
-            Encoding { program, events },
-        )?;
-        let payloads = payloads.as_slice();
-        measure(
-            rt,
-            err,
-            "unpack and decode",
-            count,
-            Decoding {
-                alloc,
-                program,
-                payloads,
-            },
-        )?;
-        let packets = packets.as_slice();
-        measure(rt, err, "pack", packets.len(), Packing { packets })?;
-        measure(rt, err, "unpack", payloads.len(), Unpacking { payloads })?;
+        let logs = [logs::legal(&input.program, events)?];
+        measure_log(rt, err, text, &logs[0])?;
+        measure_packets(rt, err, &logs[0])?;
+        measure_captures(rt, err, &logs)?;
     }
     Ok(())
+}
+
+/// Measures the phases over a log's text and its events.
+fn measure_log<R: Clock + AllocGlobal, E: Write>(
+    rt: &R,
+    err: &mut E,
+    text: &[u8],
+    log: &LegalLog<'_>,
+) -> Result<(), Fault> {
+    let alloc = rt.alloc();
+    let program = log.program();
+    let events = log.events();
+    let count = events.len();
+    measure(rt, err, "log reading", count, Reading { alloc, text })?;
+    let writing = Writing {
+        alloc,
+        events,
+        text: Vec::with_capacity(alloc, text.len())?,
+    };
+    measure(rt, err, "log writing", count, writing)?;
+    let judging = Judging { program, events };
+    measure(rt, err, "legality check", count, judging)
+}
+
+/// Measures the phases over a log's packets and payloads.
+fn measure_packets<'a, R: Clock + AllocGlobal, E: Write>(
+    rt: &R,
+    err: &mut E,
+    log: &'a LegalLog<'a>,
+) -> Result<(), Fault> {
+    let alloc = rt.alloc();
+    let program = log.program();
+    let count = log.events().len();
+    let packets = packets_of(alloc, program, log.events())?;
+    let packets = packets.as_slice();
+    let payloads = payloads_of(alloc, packets)?;
+    let payloads = payloads.as_slice();
+    measure(rt, err, "encode and pack", count, Encoding { log })?;
+    let decoding = Decoding {
+        alloc,
+        program,
+        payloads,
+    };
+    measure(rt, err, "unpack and decode", count, decoding)?;
+    measure(rt, err, "pack", packets.len(), Packing { packets })?;
+    measure(rt, err, "unpack", payloads.len(), Unpacking { payloads })
+}
+
+/// Measures the phases over a log's capture.
+fn measure_captures<'a, 'p, R: Clock + AllocGlobal, E: Write>(
+    rt: &R,
+    err: &mut E,
+    logs: &'a [LegalLog<'p>; 1],
+) -> Result<(), Fault> {
+    let alloc = rt.alloc();
+    let program = logs[0].program();
+    let count = logs[0].events().len();
+    let mut capture = Vec::new(alloc);
+    encode_capture(logs, PERIOD, &mut capture).map_err(|_| Fault::Log)?;
+    let writing = CaptureWriting {
+        logs,
+        capture: Vec::with_capacity(alloc, capture.len())?,
+    };
+    measure(rt, err, "capture writing", count, writing)?;
+    let decoding = CaptureDecoding {
+        alloc,
+        program,
+        capture: capture.as_slice(),
+    };
+    measure(rt, err, "capture decoding", count, decoding)
 }

@@ -1,3 +1,4 @@
 pub mod Status
 pub mod Faults
+pub mod Decoding
 pub mod Order

@@ -2,9 +2,11 @@
 
 ghost use Rattle.std.specs.Prelude.{◌≡◌, ◌≤◌, ◌<◌, ◌^◌, IfErr, IfOk, length, vec_len};
 ghost use Rattle.retire.specs.Number.{number_of};
+ghost use Rattle.tracebench.specs.Faults.{status_of};
 
 use crate::fault::Fault;
 use crate::files::Files;
+use crate::status::Status;
 use legalpath::LegalLog;
 use retire::{Event, number, read_log};
 use rvclass::Program;
@@ -32,7 +34,10 @@ pub(crate) fn base_of<'a>(text: &str) -> Result<u64, Fault<'a>>
     number(text.as_bytes()).ok_or(Fault::Base)
 }
 
-fn content_of<'a, F: Files>(files: &mut F, path: &'a str) -> Result<Vec<u8>, Fault<'a>> {
+/// The content of the file at a path.
+pub(crate) fn content_of<'a, F: Files>(files: &mut F, path: &'a str) -> Result<Vec<u8>, Fault<'a>>
+    ensures { IfErr result (λ fault. status_of fault ≡ Status.Machine) }
+{
     files
         .read(path)
         .map_err(|fault| Fault::of_file(path, fault))

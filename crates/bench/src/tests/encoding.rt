@@ -1,12 +1,13 @@
-//! Logs and the lines of their messages.
+//! Logs and their messages, as captures and as lines.
 
 use super::made::{BASE, WORDS, image_of, log_of};
 use super::{PERIODS, legal_log};
-use crate::encode_hex;
+use crate::{encode_capture, encode_hex};
 use encoder::Encoder;
 use legalpath::LegalLog;
+use message::MessageFault;
 use payload::Packet;
-use retire::{Event, WriteFault};
+use retire::Event;
 use rvclass::{Class, Program};
 use std::alloc::Global;
 use std::io;
@@ -18,9 +19,9 @@ const NOPS: [u32; 2] = [0x0000_0013; 2];
 
 /// A writer that keeps what it takes, a byte a call, and fails once its calls are used up.
 #[derive(Drop)]
-struct FailingWriter {
-    held: Vec<u8>,
-    calls: usize,
+pub(super) struct FailingWriter {
+    pub(super) held: Vec<u8>,
+    pub(super) calls: usize,
 }
 
 impl Write for FailingWriter {
@@ -49,35 +50,89 @@ fn retired(offset: u64) -> Event {
 }
 
 /// The logs of a hart that retires both words and of one that retires the first.
-fn logs_of<'p>(alloc: Global, program: &'p Program) -> Result<Vec<LegalLog<'p>>, Fail> {
-    let mut logs = Vec::new(alloc);
-    logs.push(legal_log(program, vec![in alloc; retired(0), retired(4)]?)?)?;
-    logs.push(legal_log(program, vec![in alloc; retired(0)]?)?)?;
-    Ok(logs)
+fn logs_of<'p>(alloc: Global, program: &'p Program) -> Result<[LegalLog<'p>; 2], Fail> {
+    Ok([
+        legal_log(program, vec![in alloc; retired(0), retired(4)]?)?,
+        legal_log(program, vec![in alloc; retired(0)]?)?,
+    ])
 }
+
+/// The capture of the first log alone, of 52 bytes, and then what the second log adds.
+const FIRST_CAPTURE: [u8; 52] = [
+    0, 0, 0, 0, 0, 0, 0, 0, 0, 0, 1, 0x1f, //
+    0, 0, 1, 0, 0, 0, 0, 0, 0, 0, 5, 0x73, 0, 0, 0, 0x20, //
+    0, 0, 2, 0, 0, 0, 0, 0, 0, 0, 1, 0x0a, //
+    0, 0, 3, 0, 0, 0, 0, 0, 0, 0, 1, 0x4f,
+];
+
+const SECOND_CAPTURE: [u8; 41] = [
+    1, 0, 0, 0, 0, 0, 0, 0, 0, 0, 1, 0x1f, //
+    1, 0, 1, 0, 0, 0, 0, 0, 0, 0, 5, 0x73, 0, 0, 0, 0x20, //
+    1, 0, 2, 0, 0, 0, 0, 0, 0, 0, 2, 0xcf, 0,
+];
 
 const LINES: &[u8] = b"0 0 1f\n0 1 7300000020\n0 2 0a\n0 3 4f\n1 0 1f\n1 1 7300000020\n1 2 cf00\n";
 
 #[test]
-fn lines_of_two_harts(rt: HostRuntime) -> Result<(), Fail> {
+fn capture_of_one_hart(rt: HostRuntime) -> Result<(), Fail> {
     let program = Program::new(BASE, image_of(rt.alloc(), &NOPS)?)?;
     let logs = logs_of(rt.alloc(), &program)?;
-    if logs.len() != 2 {
-        return Err(Fail::new("not two logs"));
-    }
-    for calls in 0..LINES.len() + 1 {
+    let mut bytes = Vec::new(rt.alloc());
+    encode_capture(&logs[..1], 1024, &mut bytes)?;
+    assert_eq!(rt; bytes.as_slice(), FIRST_CAPTURE.as_slice());
+    Ok(())
+}
+
+#[test]
+fn no_logs_are_no_bytes(rt: HostRuntime) -> Result<(), Fail> {
+    let program = Program::new(BASE, image_of(rt.alloc(), &NOPS)?)?;
+    let logs = logs_of(rt.alloc(), &program)?;
+    let mut bytes = Vec::new(rt.alloc());
+    encode_capture(&logs[..0], 1024, &mut bytes)?;
+    encode_hex(&logs[..0], 1024, &mut bytes)?;
+    assert!(rt; bytes.is_empty());
+    Ok(())
+}
+
+/// Whether a writer of so many calls holds a beginning of the whole, and was told to fail just where that is not all.
+fn is_cut(told: Result<(), MessageFault>, held: &[u8], calls: usize, whole: &[u8]) -> bool {
+    let expected = if calls < whole.len() {
+        Err(MessageFault::Write)
+    } else {
+        Ok(())
+    };
+    told == expected && held.len() == calls.min(whole.len()) && whole.starts_with(held)
+}
+
+#[test]
+fn capture_of_two_harts_to_writers_that_fail(rt: HostRuntime) -> Result<(), Fail> {
+    let program = Program::new(BASE, image_of(rt.alloc(), &NOPS)?)?;
+    let logs = logs_of(rt.alloc(), &program)?;
+    let mut whole = Vec::new(rt.alloc());
+    whole.extend_from_slice(&FIRST_CAPTURE)?;
+    whole.extend_from_slice(&SECOND_CAPTURE)?;
+    for calls in 0..95 {
         let mut sink = FailingWriter {
             held: Vec::new(rt.alloc()),
             calls,
         };
-        match encode_hex(logs.as_slice(), 1024, &mut sink) {
-            Ok(()) => assert_eq!(rt; calls, LINES.len()),
-            Err(fault) => {
-                assert!(rt; fault == WriteFault::Write);
-                assert!(rt; calls < LINES.len());
-            }
-        }
-        assert!(rt; sink.held.as_slice() == &LINES[..calls]);
+        let told = encode_capture(&logs, 1024, &mut sink);
+        assert!(rt; is_cut(told, &sink.held, calls, &whole), "{calls}");
+    }
+    Ok(())
+}
+
+#[test]
+fn lines_of_two_harts_to_writers_that_fail(rt: HostRuntime) -> Result<(), Fail> {
+    let program = Program::new(BASE, image_of(rt.alloc(), &NOPS)?)?;
+    let logs = logs_of(rt.alloc(), &program)?;
+    for calls in 0..LINES.len() + 2 {
+        let mut sink = FailingWriter {
+            held: Vec::new(rt.alloc()),
+            calls,
+        };
+        let told = encode_hex(&logs, 1024, &mut sink);
+        assert!(rt; is_cut(told, &sink.held, calls, LINES), "{calls}");
     }
     Ok(())
 }

@@ -59,14 +59,26 @@ pub(super) fn ends<R: Abort + AllocGlobal>(
     line: &str,
     (status, written, told): (u8, &str, &str),
 ) -> Result<(), AllocError> {
+    let out = writes(rt, files, line, status, told)?;
+    assert!(rt; out.as_slice() == written.as_bytes(), "{line}");
+    Ok(())
+}
+
+/// Runs a line over the files: it ends with the status and tells the text. The answer is what it writes.
+pub(super) fn writes<R: Abort + AllocGlobal>(
+    rt: &R,
+    files: &mut Table,
+    line: &str,
+    status: u8,
+    told: &str,
+) -> Result<Vec<u8>, AllocError> {
     let words = words_of(rt.alloc(), line)?;
     let mut out = Vec::new(rt.alloc());
     let mut err = Vec::new(rt.alloc());
     let ended = command(rt.alloc(), files, words.as_slice(), &mut out, &mut err);
     assert!(rt; err.as_slice() == told.as_bytes(), "{line}");
-    assert!(rt; out.as_slice() == written.as_bytes(), "{line}");
     assert_eq!(rt; ended, status, "{line}");
-    Ok(())
+    Ok(out)
 }
 
 /// Runs each line over the files: it writes nothing, ends with the status and tells the text.
@@ -84,5 +96,36 @@ pub(super) fn tells<R: Abort + AllocGlobal>(
 /// The first line of a log.
 pub(super) const HEADER: &str = "addr,itype,priv,cause,tval\n";
 
+/// A capture of two messages, Open and EndedRep; the second byte for a payload's length is at place 22.
+pub(super) const PAIR: [u8; 24] = [
+    0x00, 0x00, 0x00, 0x00, 0x00, 0x00, 0x00, 0x00, 0x00, 0x00, 0x01, 0x1f, //
+    0x00, 0x00, 0x01, 0x00, 0x00, 0x00, 0x00, 0x00, 0x00, 0x00, 0x01, 0x4f,
+];
+
 /// The instruction `nop`, as a little-endian word.
 pub(super) const NOP: [u8; 4] = [0x13, 0, 0, 0];
+
+/// Appends a message to a capture.
+pub(super) fn add_message(
+    capture: &mut Vec<u8>,
+    hart: u16,
+    number: u64,
+    payload: &[u8],
+) -> Result<(), AllocError> {
+    capture.extend_from_slice(&hart.to_le_bytes())?;
+    capture.extend_from_slice(&number.to_le_bytes())?;
+    capture.push(payload.len().min(255) as u8)?;
+    capture.extend_from_slice(payload)
+}
+
+/// The capture of messages: of each its hart, its number and its payload.
+pub(super) fn capture_of(
+    alloc: Global,
+    messages: &[(u16, u64, &[u8])],
+) -> Result<Vec<u8>, AllocError> {
+    let mut capture = Vec::new(alloc);
+    for (hart, number, payload) in messages {
+        add_message(&mut capture, *hart, *number, payload)?;
+    }
+    Ok(capture)
+}

@@ -1,17 +1,20 @@
-use Rattle.std.proofs.Common.{◌∙◌, ap, sym, subst, codes, max, ◌≤◌, ◌≡◌, arith}
+use Rattle.std.proofs.Common.{◌∙◌, codes, arith}
 use Rattle.std.specs.Str.Parse.{ExplainsUnsignedError, HasUnsignedDigitsIfOk}
 use Rattle.clap.proofs.WalkLemmas.{one_text-rows}
 use Rattle.clap.specs.Words.{found_of}
-use Rattle.cli.proofs.PeriodLemmas.{read_as_told}
+use Rattle.cli.proofs.NumberLemmas.{read_as_told}
 use Rattle.cli.proofs.asking.period.Goals as goal
 
 pub returns : goal.returns
 returns c =
     let given = found_of c.args.given.now in
-    let is : c.max.result ≡ max c.unwrap_or.result 1 = c.max.ensures in (
+    let is = c.max.ensures in (
+      omega (arith, is),
       omega arith,
       (λ text value tells.
           let reads = c.get_one.ensures.value text (one_text-rows given (codes "period") ∙ value) in
-          is ∙ ap (λ n. max n 1) c.unwrap_or.ensures
-          ∙ read_as_told (λ t r. ExplainsUnsignedError 10 t r) (λ t r. HasUnsignedDigitsIfOk t r) text c.get_one.result 1024 reads tells),
+          let told = c.unwrap_or.ensures
+          ∙ read_as_told (λ t r. ExplainsUnsignedError 10 t r) (λ t r. HasUnsignedDigitsIfOk t r) 65535 text c.get_one.result 1024
+          (omega arith) reads tells in
+          omega (arith, is, told, tells.1)),
     )

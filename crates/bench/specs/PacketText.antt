@@ -1,0 +1,60 @@
+-- The texts of packets.
+use Rattle.std.specs.Prelude.{ℕ, ◌==◌, Bool, true, false, if◌then◌else◌, List, ◌++◌, codes, length}
+use Rattle.std.specs.List.{flat_map}
+use Rattle.std.specs.Fmt.{digits}
+use Rattle.payload.specs.declared.packet.Packet.{Packet}
+use Rattle.payload.specs.declared.packet.Packet.TheVariants as packet
+use Rattle.payload.specs.declared.packet.Support.{Support}
+use Rattle.payload.specs.declared.packet.Support.TheVariants as support
+use Rattle.payload.specs.declared.packet.Report.{Report}
+use Rattle.payload.specs.declared.packet.Report.TheVariants as report
+
+-- A number in lower-case hexadecimal.
+abbrev pub hex : ℕ → List ℕ
+hex n = digits 16 false n
+
+-- A branch's bit of a branch map: 0 where it was taken.
+abbrev pub branch_text : Bool → List ℕ
+branch_text true = codes "0"
+branch_text false = codes "1"
+
+-- The bits of outcomes, the oldest first, or - where there are none.
+abbrev pub map_text : List Bool → List ℕ
+map_text outcomes = if length outcomes == 0 then codes "-" else flat_map branch_text outcomes
+
+-- What a support packet tells.
+abbrev pub support_text : Support → List ℕ
+support_text support.Open = codes "open"
+support_text support.EndedRep = codes "close ended_rep"
+support_text support.EndedNtr = codes "close ended_ntr"
+
+-- Why an address is reported.
+abbrev pub report_text : Report → List ℕ
+report_text report.Plain = codes "plain"
+report_text report.Updiscon = codes "updiscon"
+report_text report.Notify = codes "notify"
+
+-- The cause of a trap, and of an exception its value.
+abbrev pub cause_text : Bool → ℕ → ℕ → List ℕ
+cause_text true cause tval = codes "interrupt cause=" ++ hex cause
+cause_text false cause tval = codes "exception cause=" ++ (hex cause ++ (codes " tval=" ++ hex tval))
+
+-- Whether an address is the handler's or the trap's.
+abbrev pub place_text : Bool → List ℕ
+place_text true = codes "handler"
+place_text false = codes "epc"
+
+-- The privilege and the bit of the branch that the address holds.
+abbrev pub where_text : ℕ → ℕ → Bool → List ℕ
+where_text address privilege taken =
+    codes "=" ++ (hex address ++ (codes " priv=" ++ (hex privilege ++ (codes " branch=" ++ branch_text taken))))
+
+-- The kind of a packet, and its fields by name.
+abbrev pub packet_text : Packet → List ℕ
+packet_text (packet.Sync taken privilege address) = codes "sync addr" ++ where_text address privilege taken
+packet_text (packet.Trap taken privilege cause interrupt handler address tval) =
+    codes "trap " ++ (cause_text interrupt cause tval ++ (codes " " ++ (place_text handler ++ where_text address privilege taken)))
+packet_text (packet.Support kind) = support_text kind
+packet_text (packet.Address outcomes delta why) =
+    codes "address diff=" ++ (hex delta ++ (codes " map=" ++ (map_text outcomes ++ (codes " " ++ report_text why))))
+packet_text (packet.Map outcomes) = codes "map " ++ map_text outcomes

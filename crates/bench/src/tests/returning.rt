@@ -1,0 +1,148 @@
+//! Logs that come back from their captures.
+
+use super::legal_log;
+use super::made::{BASE, WORDS, image_of, log_of};
+use crate::{CaptureFault, CaptureOutcome, decode_capture, encode_capture};
+use decoder::DecodeFault;
+use legalpath::LegalLog;
+use linked_list_allocator::LocalHeap;
+use message::{message_at, write_message};
+use rvclass::Program;
+use std::alloc::{Allocator, Global};
+use std::test::Fail;
+
+/// Logs of so many harts, each of so many events.
+fn logs_of<'p>(
+    alloc: Global,
+    program: &'p Program,
+    harts: u64,
+    count: usize,
+) -> Result<Vec<LegalLog<'p>>, Fail> {
+    let mut logs = Vec::new(alloc);
+    for seed in 0..harts {
+        logs.push(legal_log(program, log_of(alloc, seed, count)?)?)?;
+    }
+    Ok(logs)
+}
+
+/// The capture of these logs.
+fn capture_of(alloc: Global, logs: &[LegalLog<'_>], period: u16) -> Result<Vec<u8>, Fail> {
+    if logs.len() > 1 << 16 {
+        return Err(Fail::new("too many logs"));
+    }
+    let mut bytes = Vec::new(alloc);
+    encode_capture(logs, period.max(1), &mut bytes)?;
+    Ok(bytes)
+}
+
+/// What decoding gave where memory may be refused.
+#[derive(Clone, Copy, PartialEq, Eq)]
+enum Came {
+    Nothing,
+    Beginnings,
+    All,
+}
+
+/// Whether the lists are the logs, or for want of memory beginnings of them.
+fn compared<A: Allocator>(
+    outcome: &CaptureOutcome<A>,
+    logs: &[LegalLog<'_>],
+) -> Result<Came, Fail> {
+    if outcome.harts.len() != logs.len() || outcome.closed.len() != logs.len() {
+        return Err(Fail::new("another number of harts"));
+    }
+    for (list, log) in outcome.harts.iter().zip(logs) {
+        if !log.events().starts_with(list) {
+            return Err(Fail::new("no beginning"));
+        }
+    }
+    match outcome.fault {
+        Some((_, CaptureFault::Decode(DecodeFault::Memory))) => Ok(Came::Beginnings),
+        Some((_, why)) => Err(Fail::new(why)),
+        None => {
+            for (list, log) in outcome.harts.iter().zip(logs) {
+                if list.len() != log.events().len() {
+                    return Err(Fail::new("not whole"));
+                }
+            }
+            if outcome.closed.iter().all(|closed| *closed) {
+                Ok(Came::All)
+            } else {
+                Err(Fail::new("not closed"))
+            }
+        }
+    }
+}
+
+#[test]
+fn memory_is_refused(rt: HostRuntime) -> Result<(), Fail> {
+    let program = Program::new(BASE, image_of(rt.alloc(), &WORDS)?)?;
+    let logs = logs_of(rt.alloc(), &program, 2, 100)?;
+    let bytes = capture_of(rt.alloc(), &logs, 31)?;
+    let mut nothing = 0usize;
+    let mut beginnings = 0usize;
+    let mut all = 0usize;
+    for step in 0..640usize {
+        let heap = LocalHeap::new(rt.alloc(), step.saturating_mul(32))?;
+        let told = match decode_capture(&heap, &program, 2, &bytes) {
+            Ok(outcome) => compared(&outcome, &logs)?,
+            Err(_) => Came::Nothing,
+        };
+        match told {
+            Came::Nothing => nothing = nothing.saturating_add(1),
+            Came::Beginnings => beginnings = beginnings.saturating_add(1),
+            Came::All => all = all.saturating_add(1),
+        }
+        assert!(rt;
+            told != Came::Nothing || nothing == step.saturating_add(1),
+            "{step}"
+        );
+        assert_eq!(rt; heap.used(), 0, "{step}");
+    }
+    assert!(rt; 1 < nothing && 1 < beginnings && 1 < all);
+    Ok(())
+}
+
+/// Sixty-four logs of ten thousand events each come back whole.
+#[test]
+fn sixty_four_logs(rt: HostRuntime) -> Result<(), Fail> {
+    let program = Program::new(BASE, image_of(rt.alloc(), &WORDS)?)?;
+    let logs = logs_of(rt.alloc(), &program, 64, 10_000)?;
+    let bytes = capture_of(rt.alloc(), &logs, 1024)?;
+    let outcome = decode_capture(rt.alloc(), &program, 64, &bytes)?;
+    assert!(rt; compared(&outcome, &logs)? == Came::All);
+    Ok(())
+}
+
+/// Copies the message at a place to a capture, if one stands there, and answers the place behind it.
+fn copy_message(capture: &[u8], place: usize, copy: &mut Vec<u8>) -> Result<usize, Fail> {
+    match message_at(capture, place)? {
+        Some(message) => {
+            write_message(copy, &message)?;
+            Ok(place.saturating_add(message.size()))
+        }
+        None => Ok(place),
+    }
+}
+
+/// The messages of two harts in turn give the same as those of one after the other.
+#[test]
+fn harts_in_turn(rt: HostRuntime) -> Result<(), Fail> {
+    let program = Program::new(BASE, image_of(rt.alloc(), &WORDS)?)?;
+    let logs = logs_of(rt.alloc(), &program, 2, 1_000)?;
+    let alone = logs_of(rt.alloc(), &program, 1, 1_000)?;
+    let first = capture_of(rt.alloc(), &alone, 31)?;
+    let both = capture_of(rt.alloc(), &logs, 31)?;
+    let mut in_turn = Vec::new(rt.alloc());
+    let mut of_first = 0;
+    let mut of_second = first.len();
+    for _ in 0..both.len() {
+        of_first = copy_message(&first, of_first, &mut in_turn)?;
+        of_second = copy_message(&both, of_second, &mut in_turn)?;
+    }
+    assert_eq!(rt; in_turn.len(), both.len());
+    assert!(rt; in_turn.as_slice() != both.as_slice());
+    let outcome = decode_capture(rt.alloc(), &program, 2, &in_turn)?;
+    assert!(rt; compared(&outcome, &logs)? == Came::All);
+    Ok(())
+}
