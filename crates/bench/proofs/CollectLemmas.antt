@@ -21,7 +21,8 @@ use Rattle.bench.proofs.HartMessages.{packets_of-next, packets_of-other, expecte
 use Rattle.bench.specs.Collected.{events_in}
 use Rattle.bench.specs.Collecting.{AreStanding, HasTaken}
 use Rattle.bench.specs.Decoded.{HasAccepted}
-use Rattle.bench.specs.OfHart.{of_hart, packets_of, expected_after}
+use Rattle.message.specs.OfHart.{of_hart}
+use Rattle.bench.specs.OfHart.{packets_of, expected_after}
 
 -- An element after one was written is that one, or another that stood there before.
 pub slice_get-set : {X : Type 0} (xs : List X) (i : ℕ) (y : X) (j : ℕ) (x : X) → slice_get (set xs i y) j ≡ Some x → ((i ≡ j) × (x ≡ y)) ⊎ ((i ≢ j) × (slice_get xs j ≡ Some x))

@@ -1,42 +1,16 @@
 -- What messages tell of one hart, where more messages stand behind them.
-use Rattle.std.proofs.Common.{◌≡◌, ◌≢◌, ℕ, List, [], ◌∷◌, ◌++◌, None, Ok, cond, eqb, length, refl, sym, ap, ◌∙◌}
-use Rattle.std.proofs.lemmas.Bool.{eq-eqb, ne_eqb}
-use Rattle.std.proofs.lemmas.List.{append_assoc, append-nil, length_push}
-use Rattle.std.proofs.lemmas.List.Elements.{filter-append}
+use Rattle.std.proofs.Common.{◌≡◌, ◌≢◌, ℕ, List, [], ◌∷◌, ◌++◌, None, Ok, length, refl, sym, ap, ◌∙◌}
+use Rattle.std.proofs.lemmas.List.{append_assoc, length_push}
 use Rattle.payload.specs.Closing.{is_closing_packet}
 use Rattle.payload.specs.Reading.{reading}
 use Rattle.payload.specs.declared.packet.Packet.{Packet}
 use Rattle.encoder.proofs.SpotLemmas.{last_or-snoc}
 use Rattle.decoder.specs.Ended.{closes, has_ended}
+use Rattle.message.proofs.OfHartLemmas.{of_hart-append, of_hart-next, of_hart-other}
+use Rattle.message.specs.OfHart.{of_hart}
 use Rattle.message.specs.Accepting.{next_of}
 use Rattle.message.specs.declared.message.Message.{Message}
-use Rattle.bench.specs.OfHart.{of_hart, packet_or_none, packets_in, packets_of, expected_after}
-
--- The messages of a hart among first ones and more behind them.
-pub of_hart-append : (hart : ℕ) (front more : List Message) → of_hart hart (front ++ more) ≡ of_hart hart front ++ of_hart hart more
-of_hart-append hart front more = filter-append (λ (message : Message). eqb message.hart hart) front more
-
--- A message of the hart before others is one of its messages.
-pub of_hart-own : (message : Message) (later : List Message) → of_hart message.hart (message ∷ later) ≡ message ∷ of_hart message.hart later
-of_hart-own message later =
-    ap (λ same. cond same (message ∷ of_hart message.hart later) (of_hart message.hart later)) (eq-eqb message.hart message.hart refl)
-
--- A message of another hart is none.
-pub of_hart-others : (hart : ℕ) (message : Message) (later : List Message) → message.hart ≢ hart → of_hart hart (message ∷ later) ≡ of_hart hart later
-of_hart-others hart message later other =
-    ap (λ same. cond same (message ∷ of_hart hart later) (of_hart hart later)) (ne_eqb message.hart hart other)
-
--- With a message of the hart behind them there is one more.
-pub of_hart-next : (messages : List Message) (message : Message) → of_hart message.hart (messages ++ message ∷ []) ≡ of_hart message.hart messages ++ message ∷ []
-of_hart-next messages message =
-    of_hart-append message.hart messages (message ∷ []) ∙ ap (λ one. of_hart message.hart messages ++ one) (of_hart-own message [])
-
--- With one of another hart they stay.
-pub of_hart-other : (hart : ℕ) (messages : List Message) (message : Message) → message.hart ≢ hart → of_hart hart (messages ++ message ∷ []) ≡ of_hart hart messages
-of_hart-other hart messages message other =
-    of_hart-append hart messages (message ∷ [])
-    ∙ ap (λ none. of_hart hart messages ++ none) (of_hart-others hart message [] other)
-    ∙ append-nil (of_hart hart messages)
+use Rattle.bench.specs.OfHart.{packet_or_none, packets_in, packets_of, expected_after}
 
 -- The packets of first messages and of more behind them.
 pub packets_in-append : (front more : List Message) → packets_in (front ++ more) ≡ packets_in front ++ packets_in more

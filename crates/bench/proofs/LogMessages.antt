@@ -13,10 +13,12 @@ use Rattle.payload.specs.declared.packet.Packet.{Packet}
 use Rattle.encoder.specs.Packets.{packets}
 use Rattle.message.specs.Cut.{IsMessage}
 use Rattle.message.specs.declared.message.Message.{Message}
-use Rattle.bench.proofs.HartMessages.{of_hart-append, of_hart-own, of_hart-others, packets_in-cons}
+use Rattle.message.proofs.OfHartLemmas.{of_hart-append, of_hart-own, of_hart-others}
+use Rattle.message.specs.OfHart.{of_hart}
+use Rattle.bench.proofs.HartMessages.{packets_in-cons}
 use Rattle.bench.proofs.SoundLogs.{IsSound}
 use Rattle.bench.specs.Messages.{messages_from, messages_of_harts}
-use Rattle.bench.specs.OfHart.{of_hart, packets_in, packets_of}
+use Rattle.bench.specs.OfHart.{packets_in, packets_of}
 use Rattle.encoder.specs.Payloads.{payloads}
 
 -- A message as harts of this number send it: it is within its ranges, its number below what a demultiplexer takes, and

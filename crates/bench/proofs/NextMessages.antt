@@ -25,12 +25,14 @@ use Rattle.message.specs.Harts.{Harts}
 use Rattle.message.specs.declared.message.Message.{Message}
 use Rattle.bench.proofs.Elements.{All_at, All-middle}
 use Rattle.bench.proofs.FirstPackets.{packets_describe}
-use Rattle.bench.proofs.HartMessages.{of_hart-append, of_hart-own, packets_in-cons, packets_of-append}
+use Rattle.message.proofs.OfHartLemmas.{of_hart-append, of_hart-own}
+use Rattle.message.specs.OfHart.{of_hart}
+use Rattle.bench.proofs.HartMessages.{packets_in-cons, packets_of-append}
 use Rattle.bench.proofs.LogMessages.{IsSent, all_sent, of_hart-log, packets_of-log, number-front}
 use Rattle.bench.proofs.SoundLogs.{IsSound, sound_logs, packets_end}
 use Rattle.bench.specs.Decoded.{HasAccepted}
 use Rattle.bench.specs.Messages.{messages_of_harts}
-use Rattle.bench.specs.OfHart.{of_hart, packets_in, packets_of, expected_after}
+use Rattle.bench.specs.OfHart.{packets_in, packets_of, expected_after}
 use Rattle.encoder.specs.Payloads.{payloads}
 use Rattle.bench.specs.Returned.{IsCaptureOf}
 

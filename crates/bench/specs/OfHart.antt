@@ -1,16 +1,12 @@
 -- What messages tell of one hart.
-use Rattle.std.specs.Prelude.{ℕ, ◌==◌, List, [], ◌∷◌, ◌++◌, Result, Ok, Err, length}
-use Rattle.std.specs.List.{filter}
+use Rattle.std.specs.Prelude.{ℕ, List, [], ◌∷◌, ◌++◌, Result, Ok, Err, length}
 use Rattle.payload.specs.Reading.{reading}
 use Rattle.payload.specs.declared.fault.PackFault.{PackFault}
 use Rattle.payload.specs.declared.packet.Packet.{Packet}
 use Rattle.decoder.specs.Ended.{has_ended}
+use Rattle.message.specs.OfHart.{of_hart}
 use Rattle.message.specs.declared.hart.Hart.{Hart}
 use Rattle.message.specs.declared.message.Message.{Message}
-
--- The messages of a hart.
-abbrev pub of_hart : ℕ → List Message → List Message
-of_hart hart messages = filter (λ (message : Message). message.hart == hart) messages
 
 -- The packet that bytes unpack to, or none.
 abbrev pub packet_or_none : Result Packet PackFault → List Packet

@@ -1,3 +1,4 @@
+pub mod OfHartLemmas
 pub mod Answering
 pub mod Cuts
 pub mod Fronts

@@ -1,3 +1,4 @@
+pub mod OfHart
 pub mod Capture
 pub mod Cut
 pub mod Filling
