@@ -1,0 +1,44 @@
+"""Packets and messages as bytes, worked out from docs/FORMATS.md for the scripts of this folder."""
+
+
+def spell(fields):
+    """The shortest bytes of a packet's fields, each a pair of width and value."""
+    number = width = 0
+    for bits, value in fields:
+        number |= value << width
+        width += bits
+    signed = number - (number >> (width - 1) << width)
+    count = 1
+    while not -(1 << (8 * count - 1)) <= signed < 1 << (8 * count - 1):
+        count += 1
+    return signed.to_bytes(count, "little", signed=True)
+
+
+def support(enabled, status):
+    return spell([(2, 3), (2, 3), (1, enabled), (1, 0), (2, status), (5, 0)])
+
+
+OPEN = support(1, 0)
+ENDED_REP = support(0, 1)
+ENDED_NTR = support(0, 3)
+
+
+def sync(address, branch=1):
+    """A sync packet at machine level; `branch` is 0 where a branch stands there that was taken."""
+    return spell([(2, 3), (2, 0), (1, branch), (2, 3), (63, address >> 1)])
+
+
+def plain_address(difference, taken=0):
+    """An address packet with plain bits, behind so many taken branches; the difference's top bit is 0."""
+    tail = [(63, difference >> 1), (1, 0), (1, 0), (1, 0)]
+    if not taken:
+        return spell([(2, 2)] + tail)
+    width = next(w for w in (1, 3, 7, 15, 31) if taken <= w)
+    return spell([(2, 1), (5, taken), (width, 0)] + tail)
+
+
+FULL_MAP = spell([(2, 1), (5, 0), (31, 0)])  # 31 taken branches
+
+
+def message(hart, number, payload):
+    return hart.to_bytes(2, "little") + number.to_bytes(8, "little") + bytes([len(payload)]) + payload
