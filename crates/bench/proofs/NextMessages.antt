@@ -16,7 +16,7 @@ use Rattle.payload.specs.declared.packet.Packet.{Packet}
 use Rattle.encoder.specs.Packets.{packets}
 use Rattle.decoder.proofs.ExtendingLemmas.{front_describes}
 use Rattle.decoder.specs.Describes.{Describes}
-use Rattle.decoder.specs.Ended.{has_ended}
+use Rattle.payload.specs.Ended.{has_ended}
 use Rattle.decoder.specs.Pieces.{reported_after, Pieces}
 use Rattle.message.proofs.Answering.{answer-next}
 use Rattle.message.specs.Accepting.{answer_of, accepting}

@@ -18,7 +18,7 @@ use Rattle.encoder.specs.Piece.{pieces_of}
 use Rattle.encoder.specs.declared.rule.Rule.{Rule}
 use Rattle.encoder.specs.declared.rule.Rule.TheVariants as by
 use Rattle.encoder.specs.Stands.{Is64Bit}
-use Rattle.decoder.specs.Ended.{closes, has_ended}
+use Rattle.payload.specs.Ended.{closes, has_ended}
 use Rattle.encoder.proofs.CountLemmas.{few_packets}
 use Rattle.bench.specs.Returned.{IsCaptureOf}
 
