@@ -4,9 +4,9 @@ ghost use Rattle.std.specs.Prelude.{◌≡◌, ◌↔◌, ◌⊎◌, ◌+◌, �
 ghost use Rattle.retire.specs.declared.event.Event.{Event};
 ghost use Rattle.rvclass.specs.Fetch.{words_of};
 ghost use Rattle.rvclass.specs.Words.{Words, IsProgram};
+ghost use Rattle.payload.specs.Ended.{has_ended};
 ghost use Rattle.payload.specs.declared.packet.Packet.{Packet};
 ghost use Rattle.decoder.specs.Describes.{Describes};
-ghost use Rattle.decoder.specs.Ended.{has_ended};
 ghost use Rattle.decoder.specs.Order.{IsOpen};
 ghost use Rattle.decoder.specs.Parts.{part_count, Suits, SuitsNone};
 ghost use Rattle.decoder.specs.Planning.{MayCome, FitsWaiting, Plans, PlansNone, admitted, decoder_after, reported_past};
