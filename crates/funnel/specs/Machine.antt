@@ -1,0 +1,61 @@
+-- The funnel machine: harts send messages into a queue of bounded length, from which they are taken in order.
+use Rattle.std.specs.Prelude.{ℕ, ◌++◌, nat_lt, if◌then◌else◌, List, [], ◌∷◌, Option, Some, None, length, replicate, slice_get, slice_index_or, slice_set}
+use Rattle.message.specs.declared.message.Message.{Message}
+use Rattle.funnel.specs.Payloads.{payloads_of}
+use Rattle.funnel.specs.declared.turn.Turn.{Turn}
+use Rattle.funnel.specs.declared.turn.Turn.TheVariants as turn
+
+-- What each hart sent, at its place, what waits, and what was taken.
+pub record Funnel : Type 0 where
+  pub sent : List (List Message)
+  pub queue : List Message
+  pub taken : List Message
+
+-- What a hart sent.
+abbrev pub sent_by : ℕ → Funnel → List Message
+sent_by hart state = slice_index_or state.sent hart []
+
+-- The message goes last in what its hart sent and last in the queue.
+abbrev pub add : Message → Funnel → Funnel
+add message state = record state {
+  sent = slice_set state.sent message.hart (sent_by message.hart state ++ message ∷ []);
+  queue = state.queue ++ message ∷ [];
+}
+
+-- A hart sends a message, where fewer wait than there is room for.
+abbrev pub send : ℕ → Message → Funnel → Funnel
+send capacity message state = if nat_lt (length state.queue) capacity then add message state else state
+
+-- The front of this queue goes to the end of what was taken.
+abbrev pub take_of : List Message → Funnel → Funnel
+take_of [] state = state
+take_of (front ∷ rest) state = record state { queue = rest; taken = state.taken ++ front ∷ [] }
+
+-- The front message is taken, where one waits.
+abbrev pub take_front : Funnel → Funnel
+take_front state = take_of state.queue state
+
+-- The message with which a hart sends a payload: its number is the count of those that the hart sent before.
+abbrev pub message_of : ℕ → Funnel → List ℕ → Message
+message_of hart state payload = record { hart = hart; number = length (sent_by hart state); payload = payload }
+
+-- A hart sends a payload, where it has one.
+abbrev pub send_next : ℕ → ℕ → Option (List ℕ) → Funnel → Funnel
+send_next capacity hart None state = state
+send_next capacity hart (Some payload) state = send capacity (message_of hart state payload) state
+
+-- What one turn does, with these payloads of each hart; where it cannot act it changes nothing.
+abbrev pub after_turn : ℕ → List (List (List ℕ)) → Turn → Funnel → Funnel
+after_turn capacity payloads (turn.Hart hart) state =
+    send_next capacity hart (slice_get (payloads_of hart payloads) (length (sent_by hart state))) state
+after_turn capacity payloads turn.Collect state = take_front state
+
+-- What turns do, one after the other.
+abbrev pub after_turns : ℕ → List (List (List ℕ)) → List Turn → Funnel → Funnel
+after_turns capacity payloads [] state = state
+after_turns capacity payloads (turn ∷ turns) state =
+    after_turns capacity payloads turns (after_turn capacity payloads turn state)
+
+-- The opening: none of the harts with these payloads sent anything.
+abbrev pub opening : List (List (List ℕ)) → Funnel
+opening payloads = record { sent = replicate (length payloads) []; queue = []; taken = [] }
