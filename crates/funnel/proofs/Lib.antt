@@ -1,0 +1,5 @@
+pub mod ListPlaces
+pub mod OrderLemmas
+pub mod RuleSteps
+pub mod PassSteps
+pub mod NewPorts

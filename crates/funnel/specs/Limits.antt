@@ -1,0 +1,20 @@
+-- How many harts a funnel serves, and how many messages it holds.
+use Rattle.std.specs.Prelude.{ℕ, ◌==◌, ◌||◌, nat_lt, if◌then◌else◌, Option, Some, None}
+use Rattle.funnel.specs.declared.fault.OpenFault.{OpenFault}
+use Rattle.funnel.specs.declared.fault.OpenFault.TheVariants as fault
+
+-- The most harts.
+abbrev pub most_harts : ℕ
+most_harts = 64
+
+-- The most messages that are held.
+abbrev pub most_capacity : ℕ
+most_capacity = 65_536
+
+-- The first fault of these numbers of harts and of messages that are held.
+abbrev pub limit_fault : ℕ → ℕ → Option OpenFault
+limit_fault harts capacity =
+    if harts == 0 then Some fault.NoHarts else
+    if nat_lt most_harts harts then Some fault.TooManyHarts else
+    if capacity == 0 || nat_lt most_capacity capacity then Some fault.Capacity else
+    None

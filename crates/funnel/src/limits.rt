@@ -1,0 +1,28 @@
+//! How many harts a funnel serves, and how many messages it holds.
+
+ghost use Rattle.std.specs.Prelude.{◌≡◌};
+ghost use Rattle.funnel.specs.Limits.{limit_fault};
+
+use crate::fault::OpenFault;
+
+/// The most harts of a funnel.
+pub const MOST_HARTS: u16 = 64;
+
+/// The most messages that a funnel holds.
+pub const MOST_CAPACITY: u32 = 65_536;
+
+/// The first fault of these numbers of harts and of messages that a funnel is to hold, where there is one.
+pub(crate) fn fault_of(harts: u16, capacity: u32) -> Option<OpenFault>
+    ensures { result ≡ limit_fault harts capacity }
+{
+    if harts == 0 {
+        return Some(OpenFault::NoHarts);
+    }
+    if harts > MOST_HARTS {
+        return Some(OpenFault::TooManyHarts);
+    }
+    if capacity == 0 || capacity > MOST_CAPACITY {
+        return Some(OpenFault::Capacity);
+    }
+    None
+}
