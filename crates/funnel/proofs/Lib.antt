@@ -3,3 +3,4 @@ pub mod OrderLemmas
 pub mod RuleSteps
 pub mod PassSteps
 pub mod NewPorts
+pub mod FirstByte

@@ -59,7 +59,7 @@ impl<A: Allocator> Port<A> {
         if self.closed || self.count >= MOST {
             return Err(SendFault::Closed(payload));
         }
-        let closing = payload.is_closing();
+        let closing = closes(&payload);
         let message = Message {
             hart: self.hart,
             number: self.count,
@@ -93,6 +93,13 @@ impl<A: Allocator> Port<A> {
             count,
         }
     }
+}
+
+/// Whether a payload is closing. The first byte tells of most payloads that they are not, at the cost of one test.
+fn closes(payload: &Payload) -> bool
+    ensures { result ≡ is_closing payload.now }
+{
+    payload.bytes()[0] % 16 == 15 && payload.is_closing()
 }
 
 /// Sends a message by a pass that knows all that its hart sent, and tells whether its payload is closing.

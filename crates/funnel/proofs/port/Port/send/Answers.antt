@@ -10,5 +10,5 @@ invariant_of-self g c =
       c.in-Ok.ensures.seat,
       now.0,
       count_next _ _ _ _ now.1 before.2,
-      closed_next _ _ _ _ now.1 (sym before.3 ∙ c.if-self.false) c.is_closing-closing.ensures,
+      closed_next _ _ _ _ now.1 (sym before.3 ∙ c.if-self.false) c.closes-closing.ensures,
     )
