@@ -4,3 +4,9 @@ pub mod KeptSending
 pub mod KeptTaking
 pub mod EveryState
 mod WorkedTurns
+pub mod ListPlaces
+pub mod OrderLemmas
+pub mod RuleSteps
+pub mod PassSteps
+pub mod NewPorts
+pub mod FirstByte

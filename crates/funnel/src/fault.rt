@@ -1,5 +1,6 @@
-//! Why there is no funnel.
+//! Why there is no funnel, why a payload is not sent, and why no message comes.
 
+use payload::Payload;
 use thiserror::Error;
 
 /// Why a funnel is not opened. Where several apply, the first of them is told.
@@ -18,3 +19,19 @@ pub enum OpenFault {
     #[error("out of memory")]
     Memory,
 }
+
+/// Why a payload is not sent. It is given back.
+#[derive(Debug, PartialEq, Eq, Drop, Error)]
+pub enum SendFault {
+    /// The port sent a closing payload, or 2^32 messages.
+    #[error("the port is closed")]
+    Closed(Payload),
+    /// The channel handed the message back, as it does once the outlet was dropped.
+    #[error("the channel handed the message back")]
+    HandedBack(Payload),
+}
+
+/// No message comes any more: the channel was empty and had no sending end.
+#[derive(Clone, Copy, Debug, PartialEq, Eq, Error)]
+#[error("the channel ended")]
+pub struct Ended;

@@ -3,18 +3,30 @@
 //! [`Core`] is that queue in one thread: [`Core::offer`] puts a hart's message at its back, [`Core::take`] takes the
 //! front one. A list of [`Turn`]s says in which order harts send and messages are taken;
 //! [`every_state_is_lawful`] tells what each hart's messages keep, whatever the turns are.
+//!
+//! [`open`] makes a channel with a [`Port`] for each hart, which sends, and an [`Outlet`], which takes; each may be in a
+//! thread of its own. A finished port leaves a [`Receipt`], which the outlet settles.
 #![tactic(auto)]
 
 mod fault;
 mod laws;
 mod limits;
+mod opening;
+mod outlet;
+mod port;
 mod queue;
+mod receipt;
+mod rule;
 #[cfg(test)]
 mod tests;
 mod turn;
 
-pub use fault::OpenFault;
+pub use fault::{Ended, OpenFault, SendFault};
 pub use laws::every_state_is_lawful;
 pub use limits::{MOST_CAPACITY, MOST_HARTS};
+pub use opening::open;
+pub use outlet::Outlet;
+pub use port::Port;
 pub use queue::Core;
+pub use receipt::{Receipt, Settled};
 pub use turn::Turn;

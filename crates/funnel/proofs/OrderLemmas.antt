@@ -1,0 +1,64 @@
+-- The order of one hart's messages, with one more and of the first of them.
+use Rattle.std.proofs.Common.{◌≡◌, ◌+◌, ◌||◌, ℕ, zero, suc, Bool, true, false, List, [], ◌∷◌, ◌++◌, length, Some, slice_get, sym, refl, ap, ◌∙◌, ⊎_elim, arith, length-append, append-nil}
+use Rattle.std.proofs.lemmas.Bool.{true≢false}
+use Rattle.payload.specs.Closing.{is_closing}
+use Rattle.message.specs.declared.message.Message.{Message}
+use Rattle.funnel.specs.Order.{AreInOrder}
+use Rattle.funnel.specs.Ends.{has_closing, EndsClosing}
+use Rattle.funnel.proofs.ListPlaces.{get_end, get_longer}
+
+-- None of the messages is closing.
+abbrev pub NoneCloses : List Message → Type 0
+NoneCloses messages = (n : ℕ) (m : Message) → slice_get messages n ≡ Some m → is_closing m.payload ≡ false
+
+pub or_false : (a b : Bool) → (a || b) ≡ false → (a ≡ false) × (b ≡ false)
+or_false true b e = cc
+or_false false b e = (refl, e)
+
+pub none_closes : (messages : List Message) → has_closing messages ≡ false → NoneCloses messages
+none_closes [] e n m at = cc
+none_closes (x ∷ xs) e zero m at =
+    let same : x ≡ m = cc in
+    ap (λ (z : Message). is_closing z.payload) (sym same) ∙ (or_false (is_closing x.payload) (has_closing xs) e).0
+none_closes (x ∷ xs) e (suc n) m at =
+    none_closes xs (or_false (is_closing x.payload) (has_closing xs) e).1 n m at
+
+-- The next message of a hart that is not finished keeps the order.
+pub in_order-next : (messages : List Message) (x : Message) → AreInOrder x.hart messages → NoneCloses messages
+    → x.number ≡ length messages → AreInOrder x.hart (messages ++ x ∷ [])
+in_order-next messages x order none number = record {
+  numbered = λ n m e. ⊎_elim (λ t. order.numbered n m t)
+      (λ (t : (n ≡ length messages) × (x ≡ m)).
+      (ap (λ (y : Message). y.hart) (sym t.1), ap (λ (y : Message). y.number) (sym t.1) ∙ number ∙ sym t.0))
+      (get_end messages x m n e);
+  closes_last = λ n m e c. ⊎_elim (λ t. absurd (true≢false (sym c ∙ none n m t)))
+      (λ (t : (n ≡ length messages) × (x ≡ m)). let k = t.0 in omega (arith, length-append messages (x ∷ [])))
+      (get_end messages x m n e);
+}
+
+empty : {A : Type 0} (l : List A) → length l ≡ 0 → l ≡ []
+empty [] z = refl
+empty (x ∷ xs) z = absurd (omega arith)
+
+-- Messages in order that begin with some whose last is closing are no more than these.
+pub ends_whole : (hart : ℕ) (whole front rest : List Message) → whole ≡ front ++ rest → AreInOrder hart whole
+    → EndsClosing front → front ≡ whole
+ends_whole hart whole front rest e order ends =
+    let at : slice_get whole ends.0 ≡ Some ends.1 =
+    ap (λ l. slice_get l ends.0) e ∙ get_longer front rest ends.0 ends.1 ends.3 in
+    let long : length whole ≡ ends.0 + 1 = order.closes_last ends.0 ends.1 at ends.4 in
+    let some : length front ≡ ends.0 + 1 = ends.2 in
+    let none : length rest ≡ 0 = let k = ap length e in omega (arith, length-append front rest) in
+    sym (append-nil front) ∙ ap (λ l. front ++ l) (sym (empty rest none)) ∙ sym e
+
+-- Where no payload before is closing, the last one tells.
+pub has_closing-next : (messages : List Message) (x : Message) → has_closing messages ≡ false
+    → has_closing (messages ++ x ∷ []) ≡ is_closing x.payload
+has_closing-next [] x e = or_no (is_closing x.payload)
+  where
+    or_no : (b : Bool) → (b || false) ≡ b
+    or_no true = refl
+    or_no false = refl
+has_closing-next (m ∷ ms) x e =
+    let tests = or_false (is_closing m.payload) (has_closing ms) e in
+    ap (λ (b : Bool). b || has_closing (ms ++ x ∷ [])) tests.0 ∙ has_closing-next ms x tests.1

@@ -1,0 +1,102 @@
+-- The steps at the views that ports and the outlet know.
+use Rattle.std.proofs.Common.{◌≡◌, ◌+◌, ◌<◌, ◌^◌, nat_le, ℕ, Bool, true, false, List, [], ◌∷◌, ◌++◌, length, Option, Some, sym, refl, ap, ◌∙◌, subst, arith, length-append}
+use Rattle.std.proofs.lemmas.Bool.Decides.{nat_tests}
+use Rattle.crossbeam_channel.specs.Fifo.{Pushes, Pops, Forks, Merges, Learns}
+use Rattle.payload.specs.Closing.{is_closing}
+use Rattle.message.specs.OfHart.{of_hart}
+use Rattle.message.specs.declared.message.Message.{Message}
+use Rattle.funnel.specs.declared.rule.View.{View}
+use Rattle.funnel.specs.declared.rule.View.TheVariants as V
+use Rattle.funnel.specs.Order.{AreInOrder}
+use Rattle.funnel.specs.Rule.{Kept, handed_out, next_port, told_of, TakesOne, Compares, SendsOn, SendsLast}
+use Rattle.funnel.specs.Ends.{has_closing, is_finished}
+use Rattle.funnel.specs.Passes.{IsPort, IsOutlet, sent_of, taken_of}
+use Rattle.funnel.proofs.OrderLemmas.{or_false, none_closes, has_closing-next}
+use Rattle.funnel.proofs.RuleSteps.{sends_on, sends_last, takes, forks, merges, learns}
+
+-- Nothing is learned.
+abbrev Nothing : List Message → Type 0
+Nothing queue = Unit {0}
+
+few_sent : (sent : List Message) → is_finished sent ≡ false → length sent < 2 ^ 32
+few_sent sent unfinished =
+    let t = (or_false (has_closing sent) (nat_le (2 ^ 32) (length sent)) unfinished).1 in grind (arith, nat_tests)
+
+none_sent : (sent : List Message) → is_finished sent ≡ false → has_closing sent ≡ false
+none_sent sent unfinished = (or_false (has_closing sent) (nat_le (2 ^ 32) (length sent)) unfinished).0
+
+pub may_send : (n pass : ℕ) (v : View) (x : Message) → IsPort x.hart v → x.number ≡ length (sent_of v)
+    → is_finished (sent_of v) ≡ false → is_closing x.payload ≡ false
+    → Pushes Kept n pass v x (SendsOn v x) × Learns Kept pass v Nothing
+may_send n pass v x is number unfinished closing =
+    let sent = sent_of v in
+    let P : View → Type 0 = λ u. Pushes Kept n pass u x (SendsOn u x) in (
+      subst P (sym is)
+          (sends_on n pass sent x number (none_closes sent (none_sent sent unfinished)) (few_sent sent unfinished) closing),
+      λ items views k at. tt,
+    )
+
+pub may_send_last : (n pass : ℕ) (v : View) (x : Message) → IsPort x.hart v → x.number ≡ length (sent_of v)
+    → is_finished (sent_of v) ≡ false → is_closing x.payload ≡ true
+    → Pushes Kept n pass v x (SendsLast v x) × Learns Kept pass v Nothing
+may_send_last n pass v x is number unfinished closing =
+    let sent = sent_of v in
+    let P : View → Type 0 = λ u. Pushes Kept n pass u x (SendsLast u x) in (
+      subst P (sym is)
+          (sends_last n pass sent x number (none_closes sent (none_sent sent unfinished)) (few_sent sent unfinished) closing),
+      λ items views k at. tt,
+    )
+
+pub may_take : (pass made : ℕ) (v : View) → IsOutlet made v
+    → Pops Kept pass v (TakesOne v) × Learns Kept pass v Nothing
+may_take pass made v is =
+    let P : View → Type 0 = λ u. Pops Kept pass u (TakesOne u) in
+    (subst P (sym is.is) (takes pass made (taken_of v) is.told is.list), λ items views k at. tt)
+
+pub may_hand_out : (pass made : ℕ) (v : View) → IsOutlet made v → Forks Kept pass v (handed_out v) (next_port v)
+may_hand_out pass made v is =
+    let P : View → Type 0 = λ u. Forks Kept pass u (handed_out u) (next_port u) in
+    subst P (sym is.is) (forks pass made (taken_of v) is.told is.list)
+
+pub may_take_in : (pass made : ℕ) (v : View) (other h : ℕ) (w : View) → IsOutlet made v → IsPort h w
+    → Merges Kept pass v other w (told_of v w) V.Spent
+may_take_in pass made v other h w is port =
+    let P : View → View → Type 0 = λ u t. Merges Kept pass u other t (told_of u t) V.Spent in
+    let Q : View → Type 0 = λ u. P u (V.Port h (sent_of w)) in
+    let R : View → Type 0 = λ t. P v t in
+    subst R (sym port) (subst Q (sym is.is) (merges pass made (taken_of v) is.told is.list other h (sent_of w)))
+
+pub may_compare : (pass : ℕ) (v : View) (made : ℕ) → IsOutlet made v → Learns Kept pass v (Compares v)
+may_compare pass v made is =
+    let P : View → Type 0 = λ u. Learns Kept pass u (Compares u) in
+    subst P (sym is.is) (learns pass made (taken_of v) is.told is.list)
+
+-- The outlet's view once it took in a port.
+pub told_is : (made : ℕ) (v : View) (h : ℕ) (w : View) → IsOutlet made v → IsPort h w
+    → told_of v w ≡ V.Outlet made (taken_of v) (Some h) (sent_of w)
+told_is made v h w is port = λ i. told_of (is.is i) (port i)
+
+-- What the outlet learns of the port that it took in.
+pub compared : (u : View) (made : ℕ) (t : List Message) (h : ℕ) (s : List Message) (items : List Message)
+    → u ≡ V.Outlet made t (Some h) s → Compares u items
+    → (s ≡ of_hart h t ++ of_hart h items) × AreInOrder h s × (h < made)
+compared u made t h s items e c = let P : View → Type 0 = λ v. Compares v items in subst P e c h refl
+
+pub outlet_is : (v : View) (made : ℕ) (t : List Message) (u : Option ℕ) (l : List Message) → v ≡ V.Outlet made t u l
+    → IsOutlet made v × (taken_of v ≡ t)
+outlet_is v made t u l e =
+    let P : View → Type 0 = λ x. IsOutlet made x × (taken_of x ≡ t) in
+    subst P (sym e) (record { told = u; list = l; is = refl }, refl)
+
+pub port_is : (v : View) (h : ℕ) (s : List Message) → v ≡ V.Port h s → IsPort h v × (sent_of v ≡ s)
+port_is v h s e = let P : View → Type 0 = λ x. IsPort h x × (sent_of x ≡ s) in subst P (sym e) (refl, refl)
+
+-- A port's count of what it sent, with one more.
+pub count_next : (after before : List Message) (x : Message) (n : ℕ) → after ≡ before ++ x ∷ [] → n ≡ length before
+    → n + 1 ≡ length after
+count_next after before x n e count = let k = ap length e in omega (arith, length-append before (x ∷ []))
+
+-- Whether a port is closed, with one more.
+pub closed_next : (after before : List Message) (x : Message) (closing : Bool) → after ≡ before ++ x ∷ []
+    → has_closing before ≡ false → closing ≡ is_closing x.payload → closing ≡ has_closing after
+closed_next after before x closing e unfinished is = is ∙ sym (ap has_closing e ∙ has_closing-next before x unfinished)

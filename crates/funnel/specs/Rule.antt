@@ -1,0 +1,93 @@
+-- The rule of the channel: of each hart, what was taken and then what the channel holds is in order, and a live port knows just that list.
+use Rattle.std.specs.Prelude.{◌≡◌, ◌+◌, ◌<◌, ◌≤◌, ◌^◌, ℕ, false, true, List, [], ◌∷◌, ◌++◌, length, Option, Some, None, slice_get}
+use mathlib.Core.Option.{some}
+use lib.ListN.{get_elem?}
+use Rattle.payload.specs.Closing.{is_closing}
+use Rattle.message.specs.OfHart.{of_hart}
+use Rattle.message.specs.declared.message.Message.{Message}
+use Rattle.funnel.specs.Order.{AreInOrder}
+use Rattle.funnel.specs.declared.rule.View.{View}
+use Rattle.funnel.specs.declared.rule.View.TheVariants as V
+
+-- The outlet's view of a new channel: no port was handed out, and nothing was taken.
+abbrev pub newborn : View
+newborn = V.Outlet 0 [] None []
+
+-- The view of a pass that was taken in.
+abbrev pub spent : View
+spent = V.Spent
+
+-- Handing out a port: the outlet counts one more.
+abbrev pub handed_out : View → View
+handed_out (V.Outlet made taken told list) = V.Outlet (made + 1) taken told list
+handed_out (V.Port hart sent) = V.Port hart sent
+handed_out V.Spent = V.Spent
+
+-- The port that is handed out has the next number, and sent nothing.
+abbrev pub next_port : View → View
+next_port (V.Outlet made taken told list) = V.Port made []
+next_port (V.Port hart sent) = V.Spent
+next_port V.Spent = V.Spent
+
+-- Taking in a port: the outlet notes its number and its list, and keeps what it took itself.
+abbrev pub told_of : View → View → View
+told_of (V.Outlet made taken told list) (V.Port hart sent) = V.Outlet made taken (Some hart) sent
+told_of (V.Outlet made taken told list) (V.Outlet _ _ _ _) = V.Outlet made taken told list
+told_of (V.Outlet made taken told list) V.Spent = V.Outlet made taken told list
+told_of (V.Port hart sent) _ = V.Port hart sent
+told_of V.Spent _ = V.Spent
+
+-- An ordinary send: the message goes last in what the port has sent.
+abbrev pub SendsOn : View → Message → View → Type 0
+SendsOn (V.Port hart sent) message after =
+    (after ≡ V.Port hart (sent ++ message ∷ [])) × (is_closing message.payload ≡ false)
+SendsOn (V.Outlet _ _ _ _) message after = ⊥
+SendsOn V.Spent message after = ⊥
+
+-- The closing send: the message goes last, and its payload is closing.
+abbrev pub SendsLast : View → Message → View → Type 0
+SendsLast (V.Port hart sent) message after =
+    (after ≡ V.Port hart (sent ++ message ∷ [])) × (is_closing message.payload ≡ true)
+SendsLast (V.Outlet _ _ _ _) message after = ⊥
+SendsLast V.Spent message after = ⊥
+
+-- A take: the front goes last in what the outlet took. It is the next of its hart, whose port was handed out.
+abbrev pub TakesOne : View → Message → View → Type 0
+TakesOne (V.Outlet made taken told list) message after =
+    (after ≡ V.Outlet made (taken ++ message ∷ []) told list)
+    × (message.number ≡ length (of_hart message.hart taken))
+    × (message.hart < made)
+    × (message.number < 2 ^ 32)
+TakesOne (V.Port _ _) message after = ⊥
+TakesOne V.Spent message after = ⊥
+
+-- Of the port that was taken in, what was taken and then what the channel holds is just what it sent.
+abbrev pub Compares : View → List Message → Type 0
+Compares (V.Outlet made taken told list) queue =
+    (hart : ℕ) → told ≡ Some hart
+    → (list ≡ of_hart hart taken ++ of_hart hart queue) × AreInOrder hart list × (hart < made)
+Compares (V.Port _ _) queue = Unit {0}
+Compares V.Spent queue = Unit {0}
+
+-- What a pass may know: the outlet's pass knows what was taken, a hart's one live pass all that the hart sent, and any other nothing.
+abbrev pub Fits : ℕ → List ℕ → List Message → Option ℕ → List Message → List Message → ℕ → View → Type 0
+Fits outlet seats taken told list queue pass (V.Outlet m t u l) =
+    (pass ≡ outlet) × (m ≡ length seats) × (t ≡ taken) × (u ≡ told) × (l ≡ list)
+Fits outlet seats taken told list queue pass (V.Port h s) =
+    (slice_get seats h ≡ Some pass) × (s ≡ of_hart h (taken ++ queue))
+Fits outlet seats taken told list queue pass V.Spent = Unit {0}
+
+-- The channel holds the queue, and each pass knows its view. Place h of the seats is the pass of hart h.
+pub record Kept (queue : List Message) (views : List View) : Type 0 where
+  pub outlet : ℕ
+  pub seats : List ℕ
+  pub taken : List Message
+  pub told : Option ℕ
+  pub list : List Message
+  pub fits : (pass : ℕ) (v : View) → get_elem? views pass ≡ some v → Fits outlet seats taken told list queue pass v
+  pub in_order : (hart : ℕ) → AreInOrder hart (of_hart hart (taken ++ queue))
+  pub few : (hart : ℕ) → length (of_hart hart (taken ++ queue)) ≤ 2 ^ 32
+  pub strangers : (hart : ℕ) → length seats ≤ hart → of_hart hart (taken ++ queue) ≡ []
+  pub settled : (hart pass : ℕ) → told ≡ Some hart → slice_get seats hart ≡ Some pass
+      → (get_elem? views pass ≡ some V.Spent) × (list ≡ of_hart hart (taken ++ queue))
+  pub told_made : (hart : ℕ) → told ≡ Some hart → hart < length seats

@@ -1,0 +1,87 @@
+//! A new funnel.
+ghost use Rattle.std.specs.Prelude.{◌≡◌, ◌+◌, ◌<◌, [], Some, None, Err, IfOk, IfErr, All};
+ghost use Rattle.crossbeam_channel.specs.Claims.{IsSeatAt};
+ghost use Rattle.crossbeam_channel.specs.Ends.{sends_on};
+ghost use Rattle.funnel.specs.Limits.{limit_fault};
+ghost use Rattle.funnel.specs.declared.fault.OpenFault.{OpenFault as AnyFault};
+ghost use Rattle.funnel.specs.Ends.{new_port, AreNewPorts};
+ghost use Rattle.funnel.specs.Passes.{id_of, knows, taken_of, IsOutlet};
+
+use crate::limits::fault_of;
+use crate::rule::{HandOut, Law, Sender, Ticket, View};
+use crate::{OpenFault, Outlet, Port};
+use crossbeam_channel::bounded_with;
+use message::Message;
+use std::alloc::{AllocError, Allocator};
+
+/// Opens a funnel over a channel that holds so many messages, with a port for each hart at the hart's place.
+#[tactic(auto, using(crate::proofs::NewPorts::new_ports_each))]
+pub fn open<A: Allocator + Clone>(
+    alloc: A,
+    harts: u16,
+    capacity: u32,
+) -> Result<(Vec<Port<A>, A>, Outlet<A>), OpenFault>
+    ensures ports { IfOk result (λ opened. AreNewPorts opened.1.funnel harts opened.0.items) }
+    ensures made { IfOk result (λ opened. opened.1.made ≡ harts) }
+    ensures room { IfOk result (λ opened. opened.1.room ≡ capacity) }
+    ensures nothing_taken { IfOk result (λ opened. opened.1.taken ≡ []) }
+    ensures each { IfOk result (λ opened. All (λ port. (port.funnel ≡ opened.1.funnel) × (port.sent ≡ [])) opened.0.items) }
+    ensures refused { (fault : AnyFault) → limit_fault harts capacity ≡ Some fault → result ≡ Err fault }
+    ensures memory { limit_fault harts capacity ≡ None → IfErr result (λ fault. fault ≡ OpenFault.Memory) }
+{
+    if let Some(fault) = fault_of(harts, capacity) {
+        return Err(fault);
+    }
+    match opened(alloc, harts, capacity) {
+        Ok(funnel) => Ok(funnel),
+        Err(_) => Err(OpenFault::Memory),
+    }
+}
+
+/// Makes a channel, and hands out a port for each hart.
+fn opened<A: Allocator + Clone>(
+    alloc: A,
+    harts: u16,
+    capacity: u32,
+) -> Result<(Vec<Port<A>, A>, Outlet<A>), AllocError>
+    requires { 0 < capacity }
+    ensures ports { IfOk result (λ opened. AreNewPorts opened.1.funnel harts opened.0.items) }
+    ensures made { IfOk result (λ opened. opened.1.made ≡ harts) }
+    ensures room { IfOk result (λ opened. opened.1.room ≡ capacity) }
+    ensures nothing_taken { IfOk result (λ opened. opened.1.taken ≡ []) }
+{
+    let (sender, receiver, mut pass) = bounded_with::<Message, View, Law, A>(
+        alloc.clone()?,
+        capacity as usize,
+    )?;
+    let counts = Vec::from_elem(alloc.clone()?, 0u64, usize::from(harts))?;
+    let mut ports = Vec::with_capacity(alloc, usize::from(harts))?;
+    for hart in 0..harts {
+        let port = port_of(sender.try_clone()?, &mut pass, hart);
+        ports.push_reserved(port);
+    }
+    let outlet = Outlet {
+        receiver,
+        pass,
+        counts,
+    };
+    Ok((ports, outlet))
+}
+
+/// Hands out the next port, which sends by this end.
+fn port_of<A: Allocator>(sender: Sender<A>, pass: &mut Ticket, hart: u16) -> Port<A>
+    requires seat { IsSeatAt (sends_on sender) pass.old }
+    requires next { IsOutlet hart (knows pass.old) }
+    ensures seat { IsSeatAt (sends_on sender) pass.new × (id_of pass.new ≡ id_of pass.old) }
+    ensures next { IsOutlet (hart + 1) (knows pass.new) × (taken_of (knows pass.new) ≡ taken_of (knows pass.old)) }
+    ensures port { result ≡ new_port (id_of pass.old) hart }
+{
+    let theirs = sender.another::<HandOut>(pass);
+    Port {
+        sender,
+        pass: theirs,
+        hart,
+        count: 0,
+        closed: false,
+    }
+}

@@ -1,0 +1,111 @@
+//! The end that takes.
+ghost use Rattle.std.specs.Prelude.{◌≡◌, ◌+◌, ◌<◌, ◌++◌, ◌∷◌, [], length, ℕ, IfOk, OnErr, vec_len, slice_index};
+ghost use Rattle.crossbeam_channel.specs.Claims.{IsSeatAt};
+ghost use Rattle.crossbeam_channel.specs.Ends.{sends_on, receives_on, ruled_capacity};
+ghost use Rattle.message.specs.OfHart.{of_hart};
+ghost use Rattle.funnel.specs.Ends.{OutletView, IsBeginning, EndsClosing};
+ghost use Rattle.funnel.specs.Passes.{id_of, knows, sent_of, taken_of, IsPort, IsOutlet};
+
+use crate::Ended;
+use crate::receipt::{Receipt, Settled};
+use crate::rule::{Compares, Receiver, Sender, Takes, TakesIn, Ticket};
+use message::Message;
+use std::alloc::{Allocator, Global};
+use std::marker::Model;
+use std::sync::Wait;
+
+/// The end that takes the messages of all harts.
+///
+/// Contracts see its funnel, how many messages the channel holds at most, how many ports there are, and the messages that
+/// it took.
+#[derive(Drop)]
+pub struct Outlet<A: Allocator = Global> {
+    pub(crate) receiver: Receiver<A>,
+    pub(crate) pass: Ticket,
+    /// Of each hart, how many messages were taken.
+    pub(crate) counts: Vec<u64, A>,
+}
+
+impl<A: Allocator> Model for Outlet<A> {
+    ghost Value = { OutletView };
+
+    ghost view = { λ o. record {
+      funnel = id_of o.pass;
+      room = ruled_capacity (receives_on o.receiver);
+      made = vec_len o.counts;
+      taken = taken_of (knows o.pass);
+    } };
+
+    ghost invariant = { λ o. IsSeatAt (receives_on o.receiver) o.pass × IsOutlet (vec_len o.counts) (knows o.pass)
+        × ((h : ℕ) → h < vec_len o.counts → slice_index o.counts.items h ≡ length (of_hart h (taken_of (knows o.pass)))) };
+}
+
+impl<A: Allocator> Outlet<A> {
+    /// Takes the oldest message. It waits while there is none and some port or receipt is left.
+    ///
+    /// Ended comes where the channel is empty and has no sending end, and changes nothing.
+    pub fn take<R: Wait>(&mut self, rt: &R) -> Result<Message, Ended>
+        ensures taken { IfOk result (λ message. self.new ≡ record self.old { taken = self.old.taken ++ message ∷ [] }) }
+        ensures number { IfOk result (λ message. message.number ≡ length (of_hart message.hart self.old.taken)) }
+        ensures hart { IfOk result (λ message. message.hart < self.old.made) }
+        ensures ended { OnErr result (self.new ≡ self.old) }
+        ensures funnel { self.new.funnel ≡ self.old.funnel }
+        ensures room { self.new.room ≡ self.old.room }
+        ensures made { self.new.made ≡ self.old.made }
+    {
+        match self.receiver.recv_as::<Takes, R>(rt, &mut self.pass) {
+            Ok(message) => {
+                self.counts[usize::from(message.hart)] += 1;
+                Ok(message)
+            }
+            Err(_) => Err(Ended),
+        }
+    }
+
+    /// Settles a receipt of this funnel: how many messages its port sent, and how many of them were taken so far.
+    pub fn settle(&mut self, receipt: Receipt<A>) -> Settled
+        requires { receipt.funnel ≡ self.old.funnel }
+        ensures outlet { self.new ≡ self.old }
+        ensures hart { result.hart ≡ receipt.hart }
+        ensures sent { result.sent ≡ length receipt.sent }
+        ensures taken { result.taken ≡ length (of_hart receipt.hart self.old.taken) }
+        // What was taken is a beginning of what was sent, and all of it where its last payload is closing.
+        ensures beginning { IsBeginning (of_hart receipt.hart self.old.taken) receipt.sent }
+        ensures whole { EndsClosing (of_hart receipt.hart self.old.taken) → of_hart receipt.hart self.old.taken ≡ receipt.sent }
+    {
+        let Receipt {
+            sender,
+            pass,
+            hart,
+            count,
+        } = receipt;
+        take_in(&sender, &mut self.pass, self.counts.len(), pass, hart);
+        Settled {
+            hart,
+            sent: count,
+            taken: self.counts[usize::from(hart)],
+        }
+    }
+}
+
+/// Takes in the pass of a finished port, and compares what it sent with what was taken.
+fn take_in<A: Allocator>(
+    sender: &Sender<A>,
+    outlet: &mut Ticket,
+    made: usize,
+    port: Ticket,
+    hart: u16,
+)
+    requires seat { IsSeatAt (sends_on sender.now) outlet.old × IsSeatAt (sends_on sender.now) port }
+    requires outlet { IsOutlet made (knows outlet.old) }
+    requires port { IsPort hart (knows port) }
+    ensures seat { IsSeatAt (sends_on sender.now) outlet.new × (id_of outlet.new ≡ id_of outlet.old) }
+    ensures outlet { IsOutlet made (knows outlet.new) × (taken_of (knows outlet.new) ≡ taken_of (knows outlet.old)) }
+    ensures hart { hart < made }
+    ensures beginning { IsBeginning (of_hart hart (taken_of (knows outlet.old))) (sent_of (knows port)) }
+    ensures whole { EndsClosing (of_hart hart (taken_of (knows outlet.old)))
+        → of_hart hart (taken_of (knows outlet.old)) ≡ sent_of (knows port) }
+{
+    sender.absorb::<TakesIn>(outlet, port);
+    sender.learn_as::<Compares>(outlet);
+}

@@ -1,0 +1,132 @@
+//! The end of a hart, which sends.
+ghost use Rattle.std.specs.Prelude.{◌≡◌, ◌+◌, ◌++◌, ◌∷◌, ◌↔◌, [], length, true, false, IfOk, IfErr, OnOk, OnErr, Err};
+ghost use Rattle.crossbeam_channel.specs.Claims.{IsSeatAt};
+ghost use Rattle.crossbeam_channel.specs.Ends.{sends_on};
+ghost use Rattle.payload.specs.Closing.{is_closing};
+ghost use Rattle.funnel.specs.declared.rule.View.TheVariants as V;
+ghost use Rattle.funnel.specs.Ends.{PortView, has_closing, is_finished, after_sending};
+ghost use Rattle.funnel.specs.Passes.{id_of, knows, sent_of, IsPort};
+ghost use Rattle.funnel.specs.Refusals.{payload_of};
+
+use crate::SendFault;
+use crate::receipt::Receipt;
+use crate::rule::{Sender, Sends, SendsLast, Ticket};
+use message::Message;
+use payload::Payload;
+use std::alloc::{Allocator, Global};
+use std::marker::Model;
+use std::sync::Wait;
+
+/// How many messages a port may send.
+const MOST: u64 = 1 << 32;
+
+/// The end of one hart, which sends its payloads.
+///
+/// Contracts see the funnel that it is of, its hart, and the messages that it sent.
+#[derive(Drop)]
+pub struct Port<A: Allocator = Global> {
+    pub(crate) sender: Sender<A>,
+    pub(crate) pass: Ticket,
+    pub(crate) hart: u16,
+    /// How many messages were sent.
+    pub(crate) count: u64,
+    /// A closing payload was sent.
+    pub(crate) closed: bool,
+}
+
+impl<A: Allocator> Model for Port<A> {
+    ghost Value = { PortView };
+
+    ghost view = { λ p. record { funnel = id_of p.pass; hart = p.hart; sent = sent_of (knows p.pass) } };
+
+    ghost invariant = { λ p. IsSeatAt (sends_on p.sender) p.pass × IsPort p.hart (knows p.pass)
+        × (p.count ≡ length (sent_of (knows p.pass))) × (p.closed ≡ has_closing (sent_of (knows p.pass))) };
+}
+
+impl<A: Allocator> Port<A> {
+    /// Sends a payload, which is numbered by how many were sent before. It waits while the channel is full.
+    ///
+    /// A fault gives the payload back and changes nothing. HandedBack comes where the channel hands the message back, as
+    /// it does once the outlet was dropped.
+    pub fn send<R: Wait>(&mut self, rt: &R, payload: Payload) -> Result<(), SendFault>
+        ensures sent { OnOk result (self.new ≡ after_sending self.old payload) }
+        ensures refused { OnErr result (self.new ≡ self.old) }
+        ensures given_back { IfErr result (λ fault. payload_of fault ≡ payload) }
+        ensures closed { (result ≡ Err (SendFault.Closed payload)) ↔ (is_finished self.old.sent ≡ true) }
+        ensures funnel { self.new.funnel ≡ self.old.funnel }
+        ensures hart { self.new.hart ≡ self.old.hart }
+    {
+        if self.closed || self.count >= MOST {
+            return Err(SendFault::Closed(payload));
+        }
+        let closing = closes(&payload);
+        let message = Message {
+            hart: self.hart,
+            number: self.count,
+            payload,
+        };
+        match pass_on(rt, &self.sender, &mut self.pass, message, closing) {
+            Ok(()) => {
+                self.count += 1;
+                self.closed = closing;
+                Ok(())
+            }
+            Err(payload) => Err(SendFault::HandedBack(payload)),
+        }
+    }
+
+    /// Ends the port, and leaves the receipt for all that it sent.
+    pub fn finish(self) -> Receipt<A>
+        ensures { result ≡ self }
+    {
+        let Port {
+            sender,
+            pass,
+            hart,
+            count,
+            closed: _,
+        } = self;
+        Receipt {
+            sender,
+            pass,
+            hart,
+            count,
+        }
+    }
+}
+
+/// Whether a payload is closing. The first byte tells of most payloads that they are not, at the cost of one test.
+fn closes(payload: &Payload) -> bool
+    ensures { result ≡ is_closing payload.now }
+{
+    payload.bytes()[0] % 16 == 15 && payload.is_closing()
+}
+
+/// Sends a message by a pass that knows all that its hart sent, and tells whether its payload is closing.
+fn pass_on<A: Allocator, R: Wait>(
+    rt: &R,
+    sender: &Sender<A>,
+    pass: &mut Ticket,
+    message: Message,
+    closing: bool,
+) -> Result<(), Payload>
+    requires closing { closing ≡ is_closing message.payload }
+    requires seat { IsSeatAt (sends_on sender.now) pass.old }
+    requires port { IsPort message.hart (knows pass.old) }
+    requires number { message.number ≡ length (sent_of (knows pass.old)) }
+    requires unfinished { is_finished (sent_of (knows pass.old)) ≡ false }
+    ensures seat { IsSeatAt (sends_on sender.now) pass.new }
+    ensures funnel { id_of pass.new ≡ id_of pass.old }
+    ensures sent { OnOk result (knows pass.new ≡ V.Port message.hart (sent_of (knows pass.old) ++ message ∷ [])) }
+    ensures refused { IfErr result (λ payload. (payload ≡ message.payload) × (knows pass.new ≡ knows pass.old)) }
+{
+    let sent = if closing {
+        sender.send_as::<SendsLast, R>(rt, pass, message)
+    } else {
+        sender.send_as::<Sends, R>(rt, pass, message)
+    };
+    match sent {
+        Ok(()) => Ok(()),
+        Err(e) => Err(e.into_inner().payload),
+    }
+}
