@@ -14,8 +14,8 @@ ghost use Rattle.decoder.specs.Walks.{event_of, IsHere};
 
 use crate::fault::DecodeFault;
 use crate::part::Part;
-use crate::stepping::{Here, lead_of};
-use legalpath::{Next, Why, check, successor};
+use crate::stepping::{Here, may_stay};
+use legalpath::{Next, Why, check, leads, may_stand_at, successor};
 use retire::Event;
 use rvclass::{Class, Program};
 
@@ -82,7 +82,8 @@ pub fn start(program: &Program, before: &Option<Event>) -> Result<Here, DecodeFa
         addr,
         itype,
         privilege,
-        lead: lead_of(addr, itype, privilege, class, length),
+        next: leads(addr, itype, class, length),
+        stays: may_stay(class, privilege),
     })
 }
 
@@ -197,13 +198,9 @@ pub fn reported(program: &Program, before: Option<Event>, told: Told) -> Result<
 fn may_stand(program: &Program, before: Option<Event>, at: u64) -> bool
     ensures { IsTrue result ↔ MayStandAfter (words_of program.now) before at }
 {
-    let Some(event) = before else {
-        return true;
-    };
-    match successor(program, &event) {
-        Next::One(to) => at == to,
-        Next::Any => true,
-        Next::NoneInside => false,
+    match before {
+        None => true,
+        Some(event) => may_stand_at(successor(program, &event), at),
     }
 }
 
