@@ -8,3 +8,7 @@ pub mod WriteLemmas
 pub mod RoundTrip
 pub mod RangeLemmas
 pub mod OutcomesLemmas
+pub mod PlainLemmas
+pub mod FieldLemmas
+pub mod PlainRowLemmas
+pub mod PlainLogLemmas

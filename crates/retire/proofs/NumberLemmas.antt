@@ -21,7 +21,7 @@ one_digit_more value i d h n =
     let e : 16 ^ (i + 1) ≡ 16 ^ i * 16 = rw add-one (pow-suc 16 i) in
     rw e (omega (arith, h, n))
 
-digit_below_16 : (byte : ℕ) → is_hex_digit byte ≡ true → digit_value byte < 16
+pub digit_below_16 : (byte : ℕ) → is_hex_digit byte ≡ true → digit_value byte < 16
 digit_below_16 byte e = search (rules, arith)
 
 digit_not_16 : (byte : ℕ) → is_hex_digit byte ≡ true → digit_value byte ≡ 16 → ⊥
@@ -30,13 +30,13 @@ digit_not_16 byte digit e =
     omega (arith, below, e)
 
 -- A byte of any other value than 16 is a digit of that value.
-is_hex_digit-value : (byte : ℕ) → (hex_value byte ≡ 16 → ⊥) → is_hex_digit byte ≡ true
+pub is_hex_digit-value : (byte : ℕ) → (hex_value byte ≡ 16 → ⊥) → is_hex_digit byte ≡ true
 is_hex_digit-value byte other = elim (cases_Bool (is_hex_digit byte)) [
   | inl digit ↦ digit
   | inr none ↦ absurd (other (rw none refl))
 ]
 
-is_hex_digit-no_value : (byte : ℕ) → hex_value byte ≡ 16 → is_hex_digit byte ≡ false
+pub is_hex_digit-no_value : (byte : ℕ) → hex_value byte ≡ 16 → is_hex_digit byte ≡ false
 is_hex_digit-no_value byte e = elim (cases_Bool (is_hex_digit byte)) [
   | inl digit ↦ let e2 : digit_value byte ≡ 16 = rw digit at e in absurd (digit_not_16 byte digit e2)
   | inr none ↦ none

@@ -15,7 +15,7 @@ use Rattle.retire.specs.Number.{number_of}
 use Rattle.retire.specs.InRange.{IsAddress, IsInRange, IsPrivilege, IsRetirementType}
 use Rattle.retire.specs.ReadBack.{ReadsBack}
 use Rattle.retire.specs.Row.{is_garbled, is_privilege, numbers_event, row_event}
-use Rattle.retire.specs.RowsLeft.{records_left}
+use Rattle.retire.specs.steps.RowsLeft.{records_left}
 use Rattle.retire.specs.declared.event.Event.{Event}
 use Rattle.retire.specs.declared.event.Event.TheVariants.{Retire, Trap}
 use Rattle.retire.proofs.HexLemmas.{list_any-hex, number_of-hex}
@@ -134,7 +134,7 @@ row_event-fields row (Trap epc priv false cause tval) (address, privilege, below
       is_low_cause cause below,
     ) refl
 
-events_from-fields : (row : ℕ) (events : List Event) → All IsInRange events → row + length events ≤ limit + 1 → events_from row (map event_fields events) ≡ Ok events
+pub events_from-fields : (row : ℕ) (events : List Event) → All IsInRange events → row + length events ≤ limit + 1 → events_from row (map event_fields events) ≡ Ok events
 unfolding events_from
 events_from-fields row [] h n = refl
 events_from-fields row (event ∷ rest) h n =

@@ -3,7 +3,9 @@ pub mod Is64Bit
 pub mod Number
 pub mod Row
 pub mod Log
-pub mod RowsLeft
 pub mod LogText
 pub mod InRange
 pub mod ReadBack
+pub mod PlainText
+pub mod PlainLog
+pub mod steps

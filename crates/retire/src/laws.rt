@@ -2,6 +2,8 @@
 
 ghost use Rattle.retire.specs.InRange.{ReadsInRange};
 ghost use Rattle.retire.specs.ReadBack.{ReadsBack};
+ghost use Rattle.retire.specs.PlainText.{PlainIsParted};
+ghost use Rattle.retire.specs.PlainLog.{WrittenIsPlain};
 
 /// What is read is in range: the events of any records are at most 16777216, each with an even
 /// address, a known type and privilege, a cause below 64, and no value where it is an interrupt.
@@ -13,4 +15,14 @@ pub fn read_is_in_range()
 /// events.
 pub fn written_is_read_back()
     ensures { ReadsBack }
+{}
+
+/// The records of a text with no quote are its lines that are not empty, each parted at its commas.
+pub fn plain_is_parted()
+    ensures { PlainIsParted }
+{}
+
+/// The text of a log in range is a plain log: it is read straight from its bytes where it lies in memory.
+pub fn written_is_plain()
+    ensures { WrittenIsPlain }
 {}

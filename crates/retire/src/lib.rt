@@ -4,9 +4,12 @@
 
 mod event;
 mod fault;
+mod field;
 mod hex;
+mod in_memory;
 mod laws;
 mod line;
+mod plain;
 mod read;
 mod row;
 mod write;
@@ -14,7 +17,8 @@ mod write;
 pub use event::Event;
 pub use fault::{LogFault, WriteFault};
 pub use hex::number;
-pub use laws::{read_is_in_range, written_is_read_back};
+pub use in_memory::read_log_from_slice;
+pub use laws::{plain_is_parted, read_is_in_range, written_is_plain, written_is_read_back};
 pub use read::read_log;
 pub use write::write_log;
 

@@ -1,11 +1,11 @@
 //! Reading a log.
 
-ghost use Rattle.std.specs.Prelude.{◌≡◌, ◌⊎◌, ◌≤◌, ℕ, List, IfOk, OnOk, IfErr, IfSome, Some, vec_len};
+ghost use Rattle.std.specs.Prelude.{◌≡◌, ◌⊎◌, ◌≤◌, ℕ, List, [], IfOk, OnOk, IfErr, IfSome, Some, vec_len};
 ghost use Rattle.csv.specs.Reading.{ReadRecord, Ready, default_config, reader_config, reader_state, reader_trim, source_of};
 ghost use Rattle.csv.specs.Records.{fields_of};
 ghost use Rattle.csv.specs.declared.reader.Trim.TheVariants as trim;
 ghost use Rattle.retire.specs.Log.{IsDenied, events_from, limit, log_of, records_of};
-ghost use Rattle.retire.specs.RowsLeft.{Answers, IsStart, fault_of_error, records_left};
+ghost use Rattle.retire.specs.steps.RowsLeft.{Answers, IsStart, fault_of_error, records_left};
 
 use crate::event::Event;
 use crate::fault::LogFault;
@@ -15,7 +15,7 @@ use std::alloc::{Allocator, Global};
 use std::io::Read;
 
 // The most rows of a log.
-const ROWS: u32 = 16_777_216;
+pub(crate) const ROWS: u32 = 16_777_216;
 
 // What an error of the reader tells.
 fn fault_of(error: csv::Error) -> LogFault
@@ -49,18 +49,19 @@ fn next_record<R: Read + Drop>(
 
 // The events of the rows that the reader has left.
 fn read_rows<A: Allocator, R: Read + Drop>(
-    alloc: A,
+    mut events: Vec<Event, A>,
     reader: &mut Reader<R>,
     line: &mut ByteRecord,
 ) -> Result<Vec<Event, A>, LogFault>
     requires plain { reader_trim reader.old ≡ trim.None }
     requires ready { Ready reader.old }
     requires config { reader_config reader.old ≡ default_config }
+    requires empty { events.items ≡ [] }
+    requires none { vec_len events ≡ 0 }
     ensures told { (text : List ℕ) → source_of R.remaining reader.old ≡ Some text → IsStart (reader_state reader.old)
         → Answers result (events_from 1 (records_left (reader_state reader.old) text)) }
     ensures short { IfOk result (λ events. vec_len events ≤ limit) }
 {
-    let mut events = Vec::new(alloc);
     for row in 1..ROWS + 1 {
         if !next_record(reader, line)? {
             return Ok(events);
@@ -81,13 +82,15 @@ fn read_rows<A: Allocator, R: Read + Drop>(
 
 // The events of the log that the reader stands before.
 fn read_records<A: Allocator, R: Read + Drop>(
-    alloc: A,
+    events: Vec<Event, A>,
     global: Global,
     reader: &mut Reader<R>,
 ) -> Result<Vec<Event, A>, LogFault>
     requires plain { reader_trim reader.old ≡ trim.None }
     requires ready { Ready reader.old }
     requires config { reader_config reader.old ≡ default_config }
+    requires empty { events.items ≡ [] }
+    requires none { vec_len events ≡ 0 }
     ensures told { (text : List ℕ) → source_of R.remaining reader.old ≡ Some text → IsStart (reader_state reader.old)
         → Answers result (log_of (records_left (reader_state reader.old) text)) }
     ensures short { IfOk result (λ events. vec_len events ≤ limit) }
@@ -96,7 +99,26 @@ fn read_records<A: Allocator, R: Read + Drop>(
     if !next_record(reader, &mut line)? || !is_header(&line) {
         return Err(LogFault::Header);
     }
-    read_rows(alloc, reader, &mut line)
+    read_rows(events, reader, &mut line)
+}
+
+/// The events of the log that a source gives, in a list that is empty.
+pub(crate) fn read_from<A: Allocator, R: Read + Drop>(
+    events: Vec<Event, A>,
+    global: Global,
+    source: R,
+) -> Result<Vec<Event, A>, LogFault>
+    requires empty { events.items ≡ [] }
+    requires none { vec_len events ≡ 0 }
+    ensures events { IfSome (R.remaining source) (λ text. IfOk result (λ events. log_of (records_of text) ≡ Ok events.items)) }
+    ensures faults { IfSome (R.remaining source) (λ text. IfErr result (λ fault. IsDenied fault ⊎ (log_of (records_of text) ≡ Err fault))) }
+    ensures short { IfOk result (λ events. vec_len events ≤ limit) }
+{
+    let mut reader = ReaderBuilder::new()
+        .has_headers(false)
+        .flexible(true)
+        .from_reader(global, source);
+    read_records(events, global, &mut reader)
 }
 
 /// Reads the events of a log: CSV whose first record is the header
@@ -115,7 +137,8 @@ fn read_records<A: Allocator, R: Read + Drop>(
 /// [`LogFault::TooLong`] comes at row 16777217 even where that row is faulty itself.
 /// [`LogFault::Read`] comes only where the reader failed, and [`LogFault::Memory`] only where
 /// memory was refused; neither claims anything of the log. The list takes its memory from
-/// `alloc`, and `csv` its own from `global`.
+/// `alloc`, and `csv` its own from `global`. A log that lies in memory is read faster by
+/// [`read_log_from_slice`](crate::read_log_from_slice).
 pub fn read_log<A: Allocator, R: Read + Drop>(
     alloc: A,
     global: Global,
@@ -125,9 +148,5 @@ pub fn read_log<A: Allocator, R: Read + Drop>(
     ensures faults { IfSome (R.remaining source) (λ text. IfErr result (λ fault. IsDenied fault ⊎ (log_of (records_of text) ≡ Err fault))) }
     ensures short { IfOk result (λ events. vec_len events ≤ limit) }
 {
-    let mut reader = ReaderBuilder::new()
-        .has_headers(false)
-        .flexible(true)
-        .from_reader(global, source);
-    read_records(alloc, global, &mut reader)
+    read_from(Vec::new(alloc), global, source)
 }

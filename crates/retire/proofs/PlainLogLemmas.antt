@@ -1,0 +1,164 @@
+-- The rows of a plain log, one at a time, and that a log is written plain.
+use Rattle.std.proofs.Common.{◌≡◌, ◌≤◌, ◌<◌, ◌&&◌, ◌||◌, ◌==◌, ◌++◌, ◌∙◌, ◌+◌, Bool, ℕ, List, [], ◌∷◌, Option, Some, None, Result, Ok, Err, map, nat_eq, nat_lt, IfOk, take, drop, length, true, false, arith, refl, subst, sym, ap, inl, inr, rules, append_assoc}
+use Rattle.std.specs.Cmp.Lexicographic.{pointwise}
+use Rattle.std.specs.List.{flat_map, join_with_byte, list_all, list_any}
+use Rattle.std.proofs.lemmas.Bool.{cases_Bool}
+use Rattle.csv.specs.Quoting.{needs_byte}
+use Rattle.csv.specs.Writing.{default_writer}
+use Rattle.retire.specs.Log.{events_from, header, limit}
+use Rattle.retire.specs.LogText.{event_fields, event_line}
+use Rattle.retire.specs.Number.{is_hex_digit, is_numeral, is_prefix, number_of, without_prefix}
+use Rattle.retire.specs.PlainLog.{ArePlainRows, AreLines, EndsLine, IsLine, IsPlainLog, WrittenIsPlain}
+use Rattle.retire.specs.Row.{is_garbled, known_event, row_event}
+use Rattle.retire.specs.declared.event.Event.{Event}
+use Rattle.retire.specs.declared.fault.LogFault.{LogFault}
+use Rattle.retire.specs.steps.PlainRow.{IsPlainRow, Spells}
+use Rattle.retire.proofs.HexLemmas.{list_any-AllDigits}
+use Rattle.retire.proofs.PlainRowLemmas.{all-AllDigits, needs_prefix, no_garbled}
+use Rattle.retire.proofs.RangeLemmas.{with_event-ok}
+use Rattle.retire.proofs.RoundTrip.{events_from-fields}
+
+and-both : (a b : Bool) → (a && b) ≡ true → (a ≡ true) × (b ≡ true)
+and-both true b e = (refl, e)
+and-both false b e = cc e
+
+or-both : (a b : Bool) → (a || b) ≡ false → (a ≡ false) × (b ≡ false)
+or-both false b e = (refl, e)
+or-both true b e = cc e
+
+numeral-plain : (text : List ℕ) → is_numeral text ≡ true → list_any (needs_byte default_writer) text ≡ false
+numeral-plain text e = list_any-AllDigits text (all-AllDigits text (and-both _ (list_all is_hex_digit text) e).1)
+
+spelling-plain : (field : List ℕ) → is_numeral (without_prefix field) ≡ true → list_any (needs_byte default_writer) field ≡ false
+spelling-plain [] e = refl
+spelling-plain (a ∷ []) e = numeral-plain (a ∷ []) e
+spelling-plain (a ∷ b ∷ rest) e = elim (cases_Bool (is_prefix a b)) [
+  | inl y ↦
+      let needs = needs_prefix a b y in
+      let numeral : is_numeral rest ≡ true = rw y at e in
+      rw (needs.0, needs.1) (numeral-plain rest numeral)
+  | inr n ↦ numeral-plain (a ∷ b ∷ rest) (rw n at e)
+]
+
+-- A field that spells a number calls for no quotes.
+number-spells : (field : List ℕ) (n : ℕ) → number_of field ≡ Some n → Spells field (Some n)
+number-spells field n e = (
+  e,
+  no_garbled field n,
+  elim (cases_Bool (is_numeral (without_prefix field))) [
+    | inl numeral ↦ spelling-plain field numeral
+    | inr none ↦ cc (rw none at e)
+  ],
+)
+
+-- Nor does one that is empty or spells one.
+clean-spells : (field : List ℕ) (number : Option ℕ) → number_of field ≡ number → is_garbled field number ≡ false → Spells field number
+clean-spells field (Some n) e clean = number-spells field n e
+clean-spells [] None e clean = (e, clean, refl)
+clean-spells (c ∷ field) None e clean = let some : nat_lt 0 (length (c ∷ field)) ≡ true = search (rules, arith) in cc (rw some at clean)
+
+-- The numbers of a row that has an event.
+known-numbers : (row : ℕ) (a b c d e : Option ℕ) (event : Event) → known_event row a b c d e ≡ Ok event
+    → (x : ℕ) × (y : ℕ) × (z : ℕ) × (a ≡ Some x) × (b ≡ Some y) × (c ≡ Some z)
+known-numbers row (Some x) (Some y) (Some z) d e event known = (x, y, z, refl, refl, refl)
+known-numbers row None b c d e event known = cc known
+known-numbers row (Some x) None c d e event known = cc known
+known-numbers row (Some x) (Some y) None d e event known = cc known
+
+joined : (a b c d e end : List ℕ) → join_with_byte 44 (a ∷ b ∷ c ∷ d ∷ e ∷ []) ++ end ≡ a ++ 44 ∷ (b ++ 44 ∷ (c ++ 44 ∷ (d ++ 44 ∷ (e ++ end))))
+joined a b c d e end = append_assoc a (44 ∷ (b ++ 44 ∷ (c ++ 44 ∷ (d ++ 44 ∷ e)))) end
+    ∙ ap (λ t. a ++ 44 ∷ t) (append_assoc b (44 ∷ (c ++ 44 ∷ (d ++ 44 ∷ e))) end)
+    ∙ ap (λ t. a ++ 44 ∷ (b ++ 44 ∷ t)) (append_assoc c (44 ∷ (d ++ 44 ∷ e)) end)
+    ∙ ap (λ t. a ++ 44 ∷ (b ++ 44 ∷ (c ++ 44 ∷ t))) (append_assoc d (44 ∷ e) end)
+
+-- A line whose row has an event is five numbers, of which two may be missing.
+five-numbers : (row x y z : ℕ) (a b c d e text end rest : List ℕ) (event : Event) → text ≡ join_with_byte 44 (a ∷ b ∷ c ∷ d ∷ e ∷ []) ++ end → EndsLine end rest
+    → number_of a ≡ Some x → number_of b ≡ Some y → number_of c ≡ Some z → is_garbled d (number_of d) ≡ false → is_garbled e (number_of e) ≡ false
+    → known_event row (number_of a) (number_of b) (number_of c) (number_of d) (number_of e) ≡ Ok event → IsPlainRow row text rest
+five-numbers row x y z a b c d e text end rest event whole ends is_x is_y is_z clean_d clean_e known = record {
+  addr = x;
+  itype = y;
+  privilege = z;
+  cause = number_of d;
+  tval = number_of e;
+  event = event;
+  after_addr = b ++ 44 ∷ (c ++ 44 ∷ (d ++ 44 ∷ (e ++ end)));
+  after_itype = c ++ 44 ∷ (d ++ 44 ∷ (e ++ end));
+  after_privilege = d ++ 44 ∷ (e ++ end);
+  after_cause = e ++ end;
+  after_tval = end;
+  first = (a, whole ∙ joined a b c d e end, number-spells a x is_x);
+  second = (b, refl, number-spells b y is_y);
+  third = (c, refl, number-spells c z is_z);
+  fourth = (d, refl, clean-spells d (number_of d) refl clean_d);
+  fifth = (e, refl, clean-spells e (number_of e) refl clean_e);
+  ends = ends;
+  known = rw (is_x, is_y, is_z) at known;
+}
+
+five-fields : (row : ℕ) (a b c d e text end rest : List ℕ) (event : Event) → text ≡ join_with_byte 44 (a ∷ b ∷ c ∷ d ∷ e ∷ []) ++ end → EndsLine end rest
+    → row_event row (a ∷ b ∷ c ∷ d ∷ e ∷ []) ≡ Ok event → IsPlainRow row text rest
+five-fields row a b c d e text end rest event whole ends known = elim (cases_Bool (is_garbled d (number_of d) || is_garbled e (number_of e))) [
+  | inl garbled ↦ cc (rw garbled at known)
+  | inr clean ↦
+      let good : known_event row (number_of a) (number_of b) (number_of c) (number_of d) (number_of e) ≡ Ok event = rw clean at known in
+      let (x, y, z, is_x, is_y, is_z) = known-numbers row (number_of a) (number_of b) (number_of c) (number_of d) (number_of e) event good in
+      let cleans = or-both (is_garbled d (number_of d)) (is_garbled e (number_of e)) clean in
+      five-numbers row x y z a b c d e text end rest event whole ends is_x is_y is_z cleans.0 cleans.1 good
+]
+
+plain-row : (row : ℕ) (fields : List (List ℕ)) (text rest : List ℕ) (event : Event) → IsLine fields text rest → row_event row fields ≡ Ok event → IsPlainRow row text rest
+plain-row row (a ∷ b ∷ c ∷ d ∷ e ∷ []) text rest event (end, whole, ends) known = five-fields row a b c d e text end rest event whole ends known
+plain-row row [] text rest event line known = cc known
+plain-row row (a ∷ []) text rest event line known = cc known
+plain-row row (a ∷ b ∷ []) text rest event line known = cc known
+plain-row row (a ∷ b ∷ c ∷ []) text rest event line known = cc known
+plain-row row (a ∷ b ∷ c ∷ d ∷ []) text rest event line known = cc known
+plain-row row (a ∷ b ∷ c ∷ d ∷ f ∷ g ∷ more) text rest event line known = cc known
+
+-- Where a text of plain rows goes on, a plain row stands in front, of a number within the limit, and plain rows follow.
+pub plain-next : (row : ℕ) (text : List ℕ) → ArePlainRows row text → 0 < length text
+    → (row ≤ limit) × ((rest : List ℕ) × IsPlainRow row text rest × ArePlainRows (row + 1) rest)
+unfolding events_from AreLines
+plain-next row text ([], events, empty, all) some = let none = ap length empty in absurd (omega (arith, none, some))
+plain-next row text (fields ∷ rows, events, (rest, line, lines), all) some = elim (cases_Bool (nat_lt limit row)) [
+  | inl long ↦ cc (rw long at all)
+  | inr short ↦
+      let (event, more, first, others, whole) = with_event-ok (row_event row fields) (events_from (row + 1) rows) events (rw short at all) in
+      (search (rules, arith), (rest, plain-row row fields text rest event line first, (rows, more, lines, others)))
+]
+
+lines-written : (events : List Event) → AreLines (map event_fields events) (flat_map event_line events)
+unfolding AreLines
+lines-written [] = refl
+lines-written (event ∷ events) =
+    let rest = flat_map event_line events in
+    (rest, (10 ∷ rest, append_assoc (join_with_byte 44 (event_fields event)) (10 ∷ []) rest, inl refl), lines-written events)
+
+pub written_is_plain : WrittenIsPlain
+written_is_plain events ranged few =
+    let rest = flat_map event_line events in
+    (rest, (10 ∷ rest, refl, inl refl), (map event_fields events, events, lines-written events, events_from-fields 1 events ranged (omega arith)))
+
+-- A plain log begins with the header's fields, and its lines go on behind them.
+pub header-front : (text line : List ℕ) → line ≡ join_with_byte 44 header → IsPlainLog text → pointwise nat_eq (take (length line) text) line ≡ true
+header-front text line l (rest, (end, whole, ends), rows) = rw (l, whole) refl
+
+pub header-ends : (text line : List ℕ) → line ≡ join_with_byte 44 header → IsPlainLog text → (rest : List ℕ) × EndsLine (drop (length line) text) rest × ArePlainRows 1 rest
+header-ends text line l (rest, (end, whole, ends), rows) =
+    let behind : drop (length line) text ≡ end = rw (l, whole) refl in
+    (rest, subst (λ t. EndsLine t rest) (sym behind) ends, rows)
+
+-- A list that is not empty, by its test.
+pub not_empty : (text : List ℕ) (empty : Bool) → empty ≡ (length text == 0) → empty ≡ false → 0 < length text
+not_empty text empty e none = search (rules, arith)
+
+-- Behind the last row of the greatest log nothing is left of plain rows.
+pub plain-all : (row : ℕ) (text : List ℕ) (empty : Bool) → limit < row → empty ≡ (length text == 0) → ArePlainRows row text → empty ≡ true
+plain-all row [] empty past e plain = e
+plain-all row (c ∷ text) empty past e plain = let next = plain-next row (c ∷ text) plain (omega arith) in absurd (let within = next.0 in omega (arith, within, past))
+
+-- What is read of rows is read of their log.
+pub reads-log : (answer : Result Bool LogFault) (P Q : Type 0) → (Q → P) → IfOk answer (λ all. P → all ≡ true) → IfOk answer (λ all. Q → all ≡ true)
+reads-log (Ok all) P Q f h = λ q. h (f q)
+reads-log (Err why) P Q f h = tt

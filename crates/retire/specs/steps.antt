@@ -1,0 +1,2 @@
+pub mod RowsLeft
+pub mod PlainRow

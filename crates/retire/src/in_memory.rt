@@ -1,0 +1,53 @@
+//! Reading a log that lies in memory.
+
+ghost use Rattle.std.specs.Prelude.{◌≡◌, ◌⊎◌, ◌≤◌, [], IfOk, IfErr, vec_len};
+ghost use Rattle.retire.specs.Log.{limit, log_of, records_of};
+ghost use Rattle.retire.specs.PlainLog.{IsPlainLog};
+
+use crate::event::Event;
+use crate::fault::LogFault;
+use crate::plain::plain_log;
+use crate::read::read_from;
+use std::alloc::{Allocator, Global};
+
+/// The events of a log that is not plain, in a list that is empty.
+fn read_by_csv<A: Allocator>(
+    events: Vec<Event, A>,
+    global: Global,
+    text: &[u8],
+) -> Result<Vec<Event, A>, LogFault>
+    requires empty { events.items ≡ [] }
+    requires none { vec_len events ≡ 0 }
+    requires not_plain { IsPlainLog text.now → ⊥ }
+    ensures events { IfOk result (λ events. log_of (records_of text.now) ≡ Ok events.items) }
+    ensures faults { IfErr result (λ fault. (fault ≡ LogFault.Memory) ⊎ (log_of (records_of text.now) ≡ Err fault)) }
+    ensures short { IfOk result (λ events. vec_len events ≤ limit) }
+{
+    match read_from(events, global, text) {
+        // No reader fails here: where nothing is wrong with the text, memory was refused.
+        Err(LogFault::Read) => Err(LogFault::Memory),
+        answer => answer,
+    }
+}
+
+/// Reads the events of a log that lies in memory, as [`read_log`](crate::read_log) does of any reader.
+///
+/// Where no line has a quote or is empty, each ends at a line feed, with a carriage return before it or none, and no row
+/// has a fault, as in a log that [`write_log`](crate::write_log) writes, the rows are read straight from their bytes.
+/// `csv` reads any other text from its beginning, and names the fault.
+pub fn read_log_from_slice<A: Allocator>(
+    alloc: A,
+    global: Global,
+    text: &[u8],
+) -> Result<Vec<Event, A>, LogFault>
+    ensures events { IfOk result (λ events. log_of (records_of text.now) ≡ Ok events.items) }
+    ensures faults { IfErr result (λ fault. (fault ≡ LogFault.Memory) ⊎ (log_of (records_of text.now) ≡ Err fault)) }
+    ensures short { IfOk result (λ events. vec_len events ≤ limit) }
+{
+    let mut events = Vec::new(alloc);
+    if plain_log(&mut events, text)? {
+        return Ok(events);
+    }
+    events.clear();
+    read_by_csv(events, global, text)
+}
