@@ -1,6 +1,6 @@
 -- How the decoding of a capture ends.
 use Rattle.std.specs.Prelude.{ℕ, ◌+◌, Bool, true, false, List, [], ◌∷◌, Option, Some, None, Result, Ok, Err}
-use Rattle.bench.specs.declared.outcome.CaptureFault.{CaptureFault}
+use Rattle.captures.specs.declared.outcome.CaptureFault.{CaptureFault}
 use Rattle.commands.specs.Faults.{capture_fault}
 use Rattle.commands.specs.declared.fault.Fault.{Fault}
 use Rattle.commands.specs.declared.fault.Fault.TheVariants as fault

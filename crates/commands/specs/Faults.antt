@@ -1,8 +1,8 @@
 -- What is told at each fault, and how a command ends there.
 use Rattle.std.specs.Prelude.{ℕ, List, Result, Ok, Err}
 use Rattle.std.specs.Borrow.{Bor}
-use Rattle.bench.specs.declared.outcome.CaptureFault.{CaptureFault}
-use Rattle.bench.specs.declared.outcome.CaptureFault.TheVariants as capture
+use Rattle.captures.specs.declared.outcome.CaptureFault.{CaptureFault}
+use Rattle.captures.specs.declared.outcome.CaptureFault.TheVariants as capture
 use Rattle.decoder.specs.declared.fault.DecodeFault.TheVariants as decode
 use Rattle.retire.specs.declared.fault.LogFault.{LogFault}
 use Rattle.retire.specs.declared.fault.LogFault.TheVariants as log

@@ -10,7 +10,7 @@ use crate::fault::Fault;
 use crate::files::Files;
 use crate::inputs::{base_of, content_of, program_of};
 use crate::status::Status;
-use bench::{CaptureOutcome, decode_capture};
+use captures::{CaptureOutcome, decode_capture};
 use retire::{Event, write_log};
 use std::alloc::Global;
 use std::io::Write;

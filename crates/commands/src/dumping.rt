@@ -7,7 +7,7 @@ use crate::fault::Fault;
 use crate::files::Files;
 use crate::inputs::content_of;
 use crate::status::Status;
-use bench::{CaptureFault, dump_capture};
+use captures::{CaptureFault, dump_capture};
 use std::io::Write;
 use subcommands::Dump;
 

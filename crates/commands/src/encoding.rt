@@ -9,7 +9,7 @@ use crate::fault::Fault;
 use crate::files::Files;
 use crate::inputs::{base_of, counted, legal_logs_of, program_of};
 use crate::status::Status;
-use bench::{encode_capture, encode_hex};
+use captures::{encode_capture, encode_hex};
 use legalpath::LegalLog;
 use std::alloc::Global;
 use std::io::Write;

@@ -6,7 +6,7 @@ ghost use Rattle.commands.specs.Faults.{capture_fault, file_fault, log_fault, st
 
 use crate::files::FileFault;
 use crate::status::Status;
-use bench::CaptureFault;
+use captures::CaptureFault;
 use decoder::DecodeFault;
 use legalpath::PathFault;
 use retire::{LogFault, WriteFault};

@@ -1,6 +1,6 @@
 //! Runs of the subcommands over files in memory.
 
-mod captures;
+mod whole_captures;
 mod checks;
 mod dumps;
 mod logs;

@@ -5,7 +5,6 @@
 //! to standard output. The status is 0, or 1 where the words, a file or a log is refused.
 #![tactic(auto)]
 
-mod captures;
 mod coding;
 mod fault;
 mod input;
@@ -13,6 +12,7 @@ mod least;
 mod logs;
 mod packets;
 mod run;
+mod whole_captures;
 
 use std::io::Write;
 use std::process::ExitCode;

@@ -1,13 +1,13 @@
 //! All phases, one after the other.
 
-use crate::captures::{CaptureDecoding, CaptureWriting};
 use crate::coding::{Decoding, Encoding};
 use crate::fault::Fault;
 use crate::input::Input;
 use crate::least::measure;
 use crate::logs::{self, Judging, Reading, Writing};
 use crate::packets::{PERIOD, Packing, Unpacking, packets_of, payloads_of};
-use bench::encode_capture;
+use crate::whole_captures::{CaptureDecoding, CaptureWriting};
+use captures::encode_capture;
 use legalpath::LegalLog;
 use retire::read_log;
 use std::env::Env;

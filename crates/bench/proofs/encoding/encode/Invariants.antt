@@ -1,8 +1,0 @@
-use Rattle.std.proofs.Common.{take}
-use Rattle.std.specs.Io.KnownBytes.{Appends}
-use Rattle.std.specs.List.{flat_map}
-use Rattle.bench.specs.Messages.{messages_of_harts}
-use Rattle.bench.proofs.encoding.encode.Given as goal
-
-abbrev pub invariant-loop-hart : goal.invariant-loop-hart
-invariant-loop-hart g l = Appends (g.W.Write.contents l.fn.sink) (g.W.Write.contents l.sink) (flat_map g.F.Form.text (messages_of_harts l.period 0 (take l.hart l.logs)))

@@ -1,6 +1,0 @@
-use Rattle.bench.specs.Messages.{messages_of_harts}
-use Rattle.bench.proofs.MessageTexts.{capture_is}
-use Rattle.bench.proofs.encoding.encode_capture.Goals as goal
-
-pub returns-clause-capture : goal.returns-clause-capture
-returns-clause-capture g c = rw (capture_is (messages_of_harts c.args.period 0 c.args.logs.now)) c.encode.ensures.text

@@ -1,0 +1,13 @@
+use Rattle.std.proofs.Common.{take}
+use Rattle.std.specs.Io.KnownBytes.{Appends}
+use Rattle.std.specs.List.{flat_map}
+use Rattle.captures.specs.Messages.{messages_from}
+use Rattle.encoder.specs.Payloads.{payloads}
+use Rattle.encoder.specs.SourceAt.{IsAt}
+use Rattle.captures.proofs.encoding.encode_log.Given as goal
+
+-- The messages below this number are written, and the source stands before the next one's payload.
+abbrev pub invariant-loop-number : goal.invariant-loop-number
+invariant-loop-number g l =
+    IsAt l.period l.log l.number l.source
+    × Appends (g.W.Write.contents l.fn.sink) (g.W.Write.contents l.sink) (flat_map g.F.Form.text (messages_from l.hart 0 (take l.number (payloads l.period l.log))))

@@ -1,0 +1,95 @@
+//! From logs to their messages, as captures and as lines.
+
+ghost use Rattle.std.specs.Prelude.{◌≡◌, ◌+◌, ◌^◌, ◌≤◌, IfErr, OnOk, length};
+ghost use Rattle.std.specs.Io.KnownBytes.{Appends};
+ghost use Rattle.std.specs.List.{flat_map};
+ghost use Rattle.message.specs.Capture.{capture};
+ghost use Rattle.captures.specs.HexLines.{hex_text};
+ghost use Rattle.captures.specs.Messages.{messages_from, messages_of_harts};
+ghost use Rattle.encoder.specs.Payloads.{payloads};
+
+use crate::form::{Capture, Form, Lines};
+use encoder::Source;
+use legalpath::LegalLog;
+use message::{Message, MessageFault};
+use std::alloc::Allocator;
+use std::io::Write;
+
+/// Writes the capture of the messages of each hart's log, hart 0 first, numbered from 0 on.
+///
+/// The payloads are the shortest of the packets of the log, with a synchronisation at each retirement whose number the
+/// period divides. The only fault is [`MessageFault::Write`], where the writer failed; a beginning of the capture may
+/// have been written then. No memory is taken, and the writer is not flushed.
+pub fn encode_capture<W: Write, A: Allocator>(
+    logs: &[LegalLog<'_, A>],
+    period: u16,
+    sink: &mut W,
+) -> Result<(), MessageFault>
+    requires period { 1 ≤ period }
+    requires few { length logs.now ≤ 2 ^ 16 }
+    ensures capture { OnOk result (Appends (W.contents sink.old) (W.contents sink.new) (capture (messages_of_harts period 0 logs.now))) }
+    ensures fault { IfErr result (λ fault. fault ≡ MessageFault.Write) }
+{
+    encode::<Capture, W, A>(logs, period, sink)
+}
+
+/// Writes the same messages as [`encode_capture`], a line each: the hart's number and the message's, both decimal, and
+/// the payload's bytes in lower-case hexadecimal, parted by spaces.
+///
+/// The only fault is [`MessageFault::Write`], where the writer failed; a beginning of the text may have been written
+/// then. No memory is taken, and the writer is not flushed.
+pub fn encode_hex<W: Write, A: Allocator>(
+    logs: &[LegalLog<'_, A>],
+    period: u16,
+    sink: &mut W,
+) -> Result<(), MessageFault>
+    requires period { 1 ≤ period }
+    requires few { length logs.now ≤ 2 ^ 16 }
+    ensures text { OnOk result (Appends (W.contents sink.old) (W.contents sink.new) (hex_text (messages_of_harts period 0 logs.now))) }
+    ensures fault { IfErr result (λ fault. fault ≡ MessageFault.Write) }
+{
+    encode::<Lines, W, A>(logs, period, sink)
+}
+
+/// Writes the messages of each hart's log in a form.
+fn encode<F: Form, W: Write, A: Allocator>(
+    logs: &[LegalLog<'_, A>],
+    period: u16,
+    sink: &mut W,
+) -> Result<(), MessageFault>
+    requires period { 1 ≤ period }
+    requires few { length logs.now ≤ 2 ^ 16 }
+    ensures text { OnOk result (Appends (W.contents sink.old) (W.contents sink.new) (flat_map F.text (messages_of_harts period 0 logs.now))) }
+    ensures fault { IfErr result (λ fault. fault ≡ MessageFault.Write) }
+{
+    for (hart, log) in logs.iter().enumerate() {
+        encode_log::<F, W, A>(hart as u16, log, period, sink)?;
+    }
+    Ok(())
+}
+
+/// Writes the messages of a hart's log in a form.
+fn encode_log<F: Form, W: Write, A: Allocator>(
+    hart: u16,
+    log: &LegalLog<'_, A>,
+    period: u16,
+    sink: &mut W,
+) -> Result<(), MessageFault>
+    requires { 1 ≤ period }
+    ensures text { OnOk result (Appends (W.contents sink.old) (W.contents sink.new) (flat_map F.text (messages_from hart 0 (payloads period log.now)))) }
+    ensures fault { IfErr result (λ fault. fault ≡ MessageFault.Write) }
+{
+    let mut source = Source::new(log, period);
+    for number in 0..log.events().len() as u64 + 2 {
+        let Some(payload) = source.next() else {
+            return Ok(());
+        };
+        let message = Message {
+            hart,
+            number,
+            payload,
+        };
+        F::write(sink, &message)?;
+    }
+    Ok(())
+}

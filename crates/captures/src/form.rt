@@ -1,0 +1,44 @@
+//! The forms in which messages are written.
+
+ghost use Rattle.std.specs.Prelude.{◌≡◌, ℕ, List, IfErr, OnOk};
+ghost use Rattle.std.specs.Io.KnownBytes.{Appends};
+ghost use Rattle.message.specs.Capture.{message_bytes};
+ghost use Rattle.message.specs.declared.message.Message.{Message as AnyMessage};
+ghost use Rattle.captures.specs.HexLines.{hex_line};
+
+use crate::lines::write_line;
+use message::{Message, MessageFault, write_message};
+use std::io::Write;
+
+/// A form in which messages are written.
+pub(crate) trait Form {
+    // What a message is written as.
+    ghost text: { AnyMessage → List ℕ };
+
+    /// Writes a message.
+    fn write<W: Write>(sink: &mut W, message: &Message) -> Result<(), MessageFault>
+        ensures text { OnOk result (Appends (W.contents sink.old) (W.contents sink.new) (text message.now)) }
+        ensures fault { IfErr result (λ fault. fault ≡ MessageFault.Write) };
+}
+
+/// Lines of hexadecimal.
+pub(crate) struct Lines;
+
+impl Form for Lines {
+    ghost text = { hex_line };
+
+    fn write<W: Write>(sink: &mut W, message: &Message) -> Result<(), MessageFault> {
+        write_line(sink, message)
+    }
+}
+
+/// The bytes of a capture.
+pub(crate) struct Capture;
+
+impl Form for Capture {
+    ghost text = { message_bytes };
+
+    fn write<W: Write>(sink: &mut W, message: &Message) -> Result<(), MessageFault> {
+        write_message(sink, message)
+    }
+}

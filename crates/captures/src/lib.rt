@@ -1,0 +1,22 @@
+//! Whole captures: from the logs of harts to the bytes of a capture, and from such bytes to text and to logs.
+//!
+//! [`encode_capture`] writes the messages of logs as a capture, and [`encode_hex`] as lines of hexadecimal.
+//! [`decode_capture`] gives the events of each hart of a capture, and [`dump_capture`] writes what its messages tell, a
+//! line each.
+#![tactic(auto)]
+
+mod capture_decoding;
+mod collector;
+mod dumping;
+mod encoding;
+mod form;
+mod lines;
+mod outcome;
+mod packet_text;
+#[cfg(test)]
+mod tests;
+
+pub use capture_decoding::decode_capture;
+pub use dumping::{Dumped, dump_capture};
+pub use encoding::{encode_capture, encode_hex};
+pub use outcome::{CaptureFault, CaptureOutcome};

@@ -1,0 +1,139 @@
+//! Packets as text.
+
+ghost use Rattle.std.specs.Prelude.{◌≡◌, Some, codes};
+ghost use Rattle.captures.specs.PacketText.{branch_text, cause_text, map_text, packet_text, place_text, report_text, support_text};
+
+use payload::{Outcomes, Packet, Report, Support};
+use std::fmt;
+
+/// The text of a packet: its kind and its fields by name, their numbers in lower-case hexadecimal.
+#[derive(Clone, Copy)]
+pub(crate) struct PacketText<'a>(pub(crate) &'a Packet);
+
+impl fmt::Display for PacketText<'_> {
+    ghost output = { λ text. Some (packet_text text.0.now) };
+
+    fn fmt<W: fmt::Write>(&self, f: &mut fmt::Formatter<W>) -> fmt::Result {
+        match *self.0 {
+            Packet::Sync {
+                taken,
+                privilege,
+                address,
+            } => {
+                let branch = branch_text(taken);
+                write!(
+                    f,
+                    "sync addr={address:x} priv={privilege:x} branch={branch}"
+                )
+            }
+            Packet::Trap {
+                taken,
+                privilege,
+                cause,
+                interrupt,
+                handler,
+                address,
+                tval,
+            } => {
+                let cause = CauseText {
+                    interrupt,
+                    cause,
+                    tval,
+                };
+                let place = place_text(handler);
+                let branch = branch_text(taken);
+                write!(
+                    f,
+                    "trap {cause} {place}={address:x} priv={privilege:x} branch={branch}"
+                )
+            }
+            Packet::Support(support) => f.write_str(support_text(support)),
+            Packet::Address {
+                ref outcomes,
+                delta,
+                report,
+            } => {
+                let map = MapText(outcomes);
+                let report = report_text(report);
+                write!(f, "address diff={delta:x} map={map} {report}")
+            }
+            Packet::Map(ref outcomes) => write!(f, "map {}", MapText(outcomes)),
+        }
+    }
+}
+
+/// The cause of a trap, and of an exception its value.
+#[derive(Clone, Copy)]
+struct CauseText {
+    interrupt: bool,
+    cause: u8,
+    tval: u64,
+}
+
+impl fmt::Display for CauseText {
+    ghost output = { λ text. Some (cause_text text.interrupt text.cause text.tval) };
+
+    fn fmt<W: fmt::Write>(&self, f: &mut fmt::Formatter<W>) -> fmt::Result {
+        let cause = self.cause;
+        let tval = self.tval;
+        if self.interrupt {
+            write!(f, "interrupt cause={cause:x}")
+        } else {
+            write!(f, "exception cause={cause:x} tval={tval:x}")
+        }
+    }
+}
+
+/// The outcomes of branches, the oldest first, or `-` where there are none.
+#[derive(Clone, Copy)]
+struct MapText<'a>(&'a Outcomes);
+
+impl fmt::Display for MapText<'_> {
+    ghost output = { λ text. Some (map_text text.0.now) };
+
+    fn fmt<W: fmt::Write>(&self, f: &mut fmt::Formatter<W>) -> fmt::Result {
+        if self.0.is_empty() {
+            return f.write_str("-");
+        }
+        for place in 0..self.0.len() {
+            if let Some(taken) = self.0.get(place) {
+                f.write_str(branch_text(taken))?;
+            }
+        }
+        Ok(())
+    }
+}
+
+/// A branch's bit of a branch map: 0 where it was taken.
+fn branch_text(taken: bool) -> &'static str
+    ensures { result.now ≡ branch_text taken }
+{
+    if taken { "0" } else { "1" }
+}
+
+/// Whose address a trap packet has.
+fn place_text(handler: bool) -> &'static str
+    ensures { result.now ≡ place_text handler }
+{
+    if handler { "handler" } else { "epc" }
+}
+
+fn support_text(support: Support) -> &'static str
+    ensures { result.now ≡ support_text support }
+{
+    match support {
+        Support::Open => "open",
+        Support::EndedRep => "close ended_rep",
+        Support::EndedNtr => "close ended_ntr",
+    }
+}
+
+fn report_text(report: Report) -> &'static str
+    ensures { result.now ≡ report_text report }
+{
+    match report {
+        Report::Plain => "plain",
+        Report::Updiscon => "updiscon",
+        Report::Notify => "notify",
+    }
+}

@@ -1,0 +1,27 @@
+//! Logs to captures and back.
+
+mod captures;
+mod decoding;
+mod dumping;
+mod encoding;
+mod made;
+mod returning;
+
+use legalpath::LegalLog;
+use retire::Event;
+use rvclass::Program;
+use std::test::Fail;
+
+/// The periods that logs are encoded at.
+const PERIODS: [u16; 5] = [1, 2, 31, 1024, 65535];
+
+/// The log of these events, which are legal for the program.
+fn legal_log<'p>(program: &'p Program, events: Vec<Event>) -> Result<LegalLog<'p>, Fail> {
+    if events.len() > 1 << 24 {
+        return Err(Fail::new("too many events"));
+    }
+    match LegalLog::new(program, events) {
+        Ok(log) => Ok(log),
+        Err((why, _)) => Err(Fail::new(why)),
+    }
+}

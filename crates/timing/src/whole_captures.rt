@@ -1,0 +1,44 @@
+//! The phases over whole captures.
+
+use crate::fault::Fault;
+use crate::least::Phase;
+use crate::packets::PERIOD;
+use captures::{decode_capture, encode_capture};
+use legalpath::LegalLog;
+use rvclass::Program;
+use std::alloc::Global;
+
+/// From the events of a log to its capture.
+#[derive(Drop)]
+pub(crate) struct CaptureWriting<'a, 'p> {
+    pub(crate) logs: &'a [LegalLog<'p>; 1],
+    pub(crate) capture: Vec<u8>,
+}
+
+impl Phase for CaptureWriting<'_, '_> {
+    fn run(&mut self) -> Result<u64, Fault> {
+        self.capture.clear();
+        let logs = self.logs;
+        encode_capture(logs, PERIOD, &mut self.capture).map_err(|_| Fault::Log)?;
+        Ok(self.capture.len() as u64)
+    }
+}
+
+/// From the capture of a log to its events, in a list that grows.
+#[derive(Drop)]
+pub(crate) struct CaptureDecoding<'a> {
+    pub(crate) alloc: Global,
+    pub(crate) program: &'a Program,
+    pub(crate) capture: &'a [u8],
+}
+
+impl Phase for CaptureDecoding<'_> {
+    fn run(&mut self) -> Result<u64, Fault> {
+        let outcome = decode_capture(self.alloc, self.program, 1, self.capture)?;
+        let mut events = 0u64;
+        for list in &outcome.harts {
+            events = events.wrapping_add(list.len() as u64);
+        }
+        Ok(events)
+    }
+}
