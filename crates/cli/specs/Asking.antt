@@ -4,8 +4,10 @@ use Rattle.std.specs.Str.Parse.{IsNumeral, digits_value, without_leading_plus}
 use Rattle.std.specs.Prelude.{Some, None, unwrap_or}
 use Rattle.clap.specs.Words.{Row, Text, all_of, fault_of, first_of, one_of, subcommand_of}
 use Rattle.cli.specs.Grammar.{program_app}
-use Rattle.cli.specs.declared.words.Asked.{Asked}
-use Rattle.cli.specs.declared.words.Asked.TheVariants.{Check, Decode, Dump, Encode}
+use Rattle.subcommands.specs.Kind.{IsCheck}
+use Rattle.subcommands.specs.Limits.{longest_period, most_harts}
+use Rattle.subcommands.specs.declared.words.Asked.{Asked}
+use Rattle.subcommands.specs.declared.words.Asked.TheVariants.{Check, Decode, Dump, Encode}
 
 -- The first value of an argument, or no text where it has none.
 abbrev pub text_of : Text → List Row → Text
@@ -35,25 +37,25 @@ IsUpTo most value number = (1 ≤ number) × (number ≤ most)
 
 -- A period is 1 to 65535 retirements.
 abbrev pub IsPeriod : Option Text → ℕ → Type 0
-IsPeriod = IsUpTo 65535
+IsPeriod = IsUpTo longest_period
 
 -- A capture is of 1 to 64 harts.
 abbrev pub IsHarts : Option Text → ℕ → Type 0
-IsHarts = IsUpTo 64
+IsHarts = IsUpTo most_harts
 
 -- A subcommand of this name with these rows is what is asked.
 abbrev pub Asks : Text → List Row → Asked → Type 0
-Asks name rows (Check base image logs) = (name ≡ codes "check")
-    × (base.now ≡ text_of (codes "base") rows) × (image.now ≡ text_of (codes "IMAGE") rows)
-    × (map (λ log. log.now) logs.items ≡ texts_of (codes "LOG") rows)
-Asks name rows (Encode base period hex image logs) = (name ≡ codes "encode")
-    × (base.now ≡ text_of (codes "base") rows) × IsPeriod (one_of (codes "period") rows) period
-    × IsFlag (one_of (codes "hex") rows) hex × (image.now ≡ text_of (codes "IMAGE") rows)
-    × (map (λ log. log.now) logs.items ≡ texts_of (codes "LOG") rows)
-Asks name rows (Dump capture) = (name ≡ codes "dump") × (capture.now ≡ text_of (codes "CAPTURE") rows)
-Asks name rows (Decode base harts image capture) = (name ≡ codes "decode")
-    × (base.now ≡ text_of (codes "base") rows) × IsHarts (one_of (codes "harts") rows) harts
-    × (image.now ≡ text_of (codes "IMAGE") rows) × (capture.now ≡ text_of (codes "CAPTURE") rows)
+Asks name rows (Check asked) = (name ≡ codes "check")
+    × (asked.base.now ≡ text_of (codes "base") rows) × (asked.image.now ≡ text_of (codes "IMAGE") rows)
+    × (map (λ log. log.now) asked.logs.items ≡ texts_of (codes "LOG") rows)
+Asks name rows (Encode asked) = (name ≡ codes "encode")
+    × (asked.base.now ≡ text_of (codes "base") rows) × IsPeriod (one_of (codes "period") rows) asked.period
+    × IsFlag (one_of (codes "hex") rows) asked.hex × (asked.image.now ≡ text_of (codes "IMAGE") rows)
+    × (map (λ log. log.now) asked.logs.items ≡ texts_of (codes "LOG") rows)
+Asks name rows (Dump asked) = (name ≡ codes "dump") × (asked.capture.now ≡ text_of (codes "CAPTURE") rows)
+Asks name rows (Decode asked) = (name ≡ codes "decode")
+    × (asked.base.now ≡ text_of (codes "base") rows) × IsHarts (one_of (codes "harts") rows) asked.harts
+    × (asked.image.now ≡ text_of (codes "IMAGE") rows) × (asked.capture.now ≡ text_of (codes "CAPTURE") rows)
 
 -- What was found of a subcommand is what is asked.
 abbrev pub AsksFound : Option (Text × List Row) → Asked → Type 0
@@ -63,13 +65,6 @@ AsksFound (Some found) asked = Asks found.0 found.1 asked
 -- The words ask for this.
 abbrev pub WordsAsk : List Text → Asked → Type 0
 WordsAsk words = AsksFound (subcommand_of program_app words)
-
--- What is asked is a run of `check`.
-abbrev pub IsCheck : Asked → Type 0
-IsCheck (Check base image logs) = Unit {0}
-IsCheck (Encode base period hex image logs) = ⊥
-IsCheck (Dump capture) = ⊥
-IsCheck (Decode base harts image capture) = ⊥
 
 -- The words ask for no run of `check`.
 abbrev pub AskNoCheck : List Text → Type 0

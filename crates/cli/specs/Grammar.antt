@@ -11,6 +11,7 @@ use Rattle.clap.specs.declared.builder.action.ArgAction.TheVariants.{Append, Set
 use Rattle.clap.specs.declared.builder.range.ValueRange.{ValueRange}
 use Rattle.clap.specs.declared.builder.value_parser.ValueParser.{ValueParser}
 use Rattle.clap.specs.declared.builder.value_parser.ValueParser.TheVariants.{Signed}
+use Rattle.subcommands.specs.Limits.{longest_period, most_harts}
 
 -- `--base B`, which has to be there.
 abbrev pub base_rule : Rule
@@ -32,7 +33,7 @@ image_rule = record (new_rule (codes "IMAGE")) { action = Some Set; required = t
 
 -- A number from 1 to 65535.
 abbrev pub period_parser : ValueParser
-period_parser = Signed (pos 1) (pos 65535)
+period_parser = Signed (pos 1) (pos longest_period)
 
 -- `--period N`, which is 1024 where it is not there.
 abbrev pub period_rule : Rule
@@ -58,7 +59,7 @@ logs_rule = record (new_rule (codes "LOG")) {
 
 -- A number from 1 to 64.
 abbrev pub harts_parser : ValueParser
-harts_parser = Signed (pos 1) (pos 64)
+harts_parser = Signed (pos 1) (pos most_harts)
 
 -- `--harts N`, which is 1 where it is not there.
 abbrev pub harts_rule : Rule

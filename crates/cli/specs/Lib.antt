@@ -1,4 +1,3 @@
 pub mod Grammar
 pub mod Asking
-pub mod Limits
 pub mod Errors

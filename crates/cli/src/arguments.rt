@@ -5,6 +5,7 @@ ghost use Rattle.cli.specs.Grammar.{logs_rule, period_rule};
 
 use clap::{Arg, ArgAction, value_parser};
 use std::alloc::Global;
+use subcommands::{LONGEST_PERIOD, MOST_HARTS, SHORTEST_PERIOD};
 
 pub(crate) fn base<'a>(alloc: Global) -> Arg<'a>
     ensures { IsReadBy base_rule result }
@@ -32,7 +33,7 @@ pub(crate) fn harts<'a>(alloc: Global) -> Arg<'a>
     Arg::new(alloc, "harts")
         .long("harts")
         .value_name("N")
-        .value_parser(value_parser!(u16).range(1..=64))
+        .value_parser(value_parser!(u16).range(1..=i64::from(MOST_HARTS)))
         .default_value("1")
         .action(ArgAction::Set)
         .help("How many harts the capture may have messages of, 1 to 64")
@@ -72,7 +73,9 @@ pub(crate) fn period<'a>(alloc: Global) -> Arg<'a>
     Arg::new(alloc, "period")
         .long("period")
         .value_name("N")
-        .value_parser(value_parser!(u16).range(1..=65535))
+        .value_parser(value_parser!(u16).range(
+            i64::from(SHORTEST_PERIOD)..=i64::from(LONGEST_PERIOD),
+        ))
         .default_value("1024")
         .action(ArgAction::Set)
         .help("Retirements from one periodic synchronisation to the next, 1 to 65535")

@@ -3,22 +3,19 @@
 ghost use Rattle.std.specs.Prelude.{◌≡◌, IfOk, [], codes, map, string_bytes, unwrap_or};
 ghost use Rattle.clap.specs.Words.{FailsBy, fault_of, first_value, found_of, one_of, rows_of};
 ghost use Rattle.cli.specs.Asking.{Asks, IsHarts, IsPeriod, WordsAsk, texts_of};
-ghost use Rattle.cli.specs.Limits.{IsWithinLimits};
 ghost use Rattle.cli.specs.Grammar.{IsSubcommand, program_app};
+ghost use Rattle.subcommands.specs.Limits.{IsWithinLimits};
 
-use crate::subcommands::program;
-use crate::words::Asked;
+use crate::grammar::program;
 use clap::{ArgMatches, Error};
 use std::alloc::{AllocError, Global};
+use subcommands::{Asked, Check, Decode, Dump, Encode, MOST_HARTS, SHORTEST_PERIOD};
 
 /// The period where the words give none.
 const DEFAULT_PERIOD: u16 = 1024;
 
 /// The count of harts where the words give none.
 const DEFAULT_HARTS: u16 = 1;
-
-/// The most harts of a capture.
-const MOST_HARTS: u16 = 64;
 
 // The value of an argument, which a parse that succeeds has where the argument is required.
 fn text<'a>(given: &ArgMatches<'a>, id: &str) -> &'a str
@@ -41,11 +38,11 @@ fn texts<'a>(alloc: Global, given: &ArgMatches<'a>, id: &str) -> Result<Vec<&'a 
 fn check_asked<'a>(alloc: Global, given: &ArgMatches<'a>) -> Result<Asked<'a>, AllocError>
     ensures { IfOk result (Asks (codes "check") (rows_of (found_of given.now))) }
 {
-    Ok(Asked::Check {
+    Ok(Asked::Check(Check {
         base: text(given, "base"),
         image: text(given, "IMAGE"),
         logs: texts(alloc, given, "LOG")?,
-    })
+    }))
 }
 
 // The period, 1 to 65535 by the range that `clap` keeps.
@@ -55,27 +52,27 @@ fn period<'a>(given: &ArgMatches<'a>) -> u16
     given
         .get_one::<u16>("period")
         .unwrap_or(DEFAULT_PERIOD)
-        .max(1)
+        .max(SHORTEST_PERIOD)
 }
 
 fn encode_asked<'a>(alloc: Global, given: &ArgMatches<'a>) -> Result<Asked<'a>, AllocError>
     ensures { IfOk result (Asks (codes "encode") (rows_of (found_of given.now))) }
 {
-    Ok(Asked::Encode {
+    Ok(Asked::Encode(Encode {
         base: text(given, "base"),
         period: period(given),
         hex: given.get_flag("hex"),
         image: text(given, "IMAGE"),
         logs: texts(alloc, given, "LOG")?,
-    })
+    }))
 }
 
 fn dump_asked<'a>(given: &ArgMatches<'a>) -> Asked<'a>
     ensures { Asks (codes "dump") (rows_of (found_of given.now)) result }
 {
-    Asked::Dump {
+    Asked::Dump(Dump {
         capture: text(given, "CAPTURE"),
-    }
+    })
 }
 
 // The count of harts, 1 to 64 by the range that `clap` keeps.
@@ -91,12 +88,12 @@ fn harts<'a>(given: &ArgMatches<'a>) -> u16
 fn decode_asked<'a>(given: &ArgMatches<'a>) -> Asked<'a>
     ensures { Asks (codes "decode") (rows_of (found_of given.now)) result }
 {
-    Asked::Decode {
+    Asked::Decode(Decode {
         base: text(given, "base"),
         harts: harts(given),
         image: text(given, "IMAGE"),
         capture: text(given, "CAPTURE"),
-    }
+    })
 }
 
 fn asked_of<'a>(alloc: Global, name: &str, given: &ArgMatches<'a>) -> Result<Asked<'a>, AllocError>

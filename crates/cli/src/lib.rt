@@ -4,13 +4,11 @@
 
 mod arguments;
 mod asking;
-mod subcommands;
-mod words;
+mod grammar;
 
 pub use asking::asked;
 pub use clap::Error;
 pub use clap::error::ErrorKind;
-pub use words::Asked;
 
 #[cfg(test)]
 mod tests;

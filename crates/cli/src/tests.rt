@@ -25,16 +25,16 @@ fn reads_words(rt: HostRuntime) -> Result<(), Fail> {
     let cases = [
         (
             "tracebench encode --base 80000000 --hex image.bin log.csv",
-            "Encode { base: \"80000000\", period: 1024, hex: true, image: \"image.bin\", logs: [\"log.csv\"] }",
+            "Encode(Encode { base: \"80000000\", period: 1024, hex: true, image: \"image.bin\", logs: [\"log.csv\"] })",
         ),
         (
             "tracebench encode image.bin --base=-1 --period 65535 a.csv b.csv",
-            "Encode { base: \"-1\", period: 65535, hex: false, image: \"image.bin\", \
-             logs: [\"a.csv\", \"b.csv\"] }",
+            "Encode(Encode { base: \"-1\", period: 65535, hex: false, image: \"image.bin\", \
+             logs: [\"a.csv\", \"b.csv\"] })",
         ),
         (
             "tracebench encode --base 0 --period 1 image.bin log.csv",
-            "Encode { base: \"0\", period: 1, hex: false, image: \"image.bin\", logs: [\"log.csv\"] }",
+            "Encode(Encode { base: \"0\", period: 1, hex: false, image: \"image.bin\", logs: [\"log.csv\"] })",
         ),
         (
             "tracebench encode --base 0 --period 0 image.bin log.csv",
@@ -48,7 +48,7 @@ fn reads_words(rt: HostRuntime) -> Result<(), Fail> {
         ),
         (
             "tracebench check --base 80000000 image.bin a.csv b.csv",
-            "Check { base: \"80000000\", image: \"image.bin\", logs: [\"a.csv\", \"b.csv\"] }",
+            "Check(Check { base: \"80000000\", image: \"image.bin\", logs: [\"a.csv\", \"b.csv\"] })",
         ),
         (
             "tracebench check --base 80000000 image.bin",
@@ -91,7 +91,7 @@ fn reads_words(rt: HostRuntime) -> Result<(), Fail> {
         ),
         (
             "tracebench dump run.capture",
-            "Dump { capture: \"run.capture\" }",
+            "Dump(Dump { capture: \"run.capture\" })",
         ),
         (
             "tracebench dump",
@@ -107,15 +107,15 @@ fn reads_words(rt: HostRuntime) -> Result<(), Fail> {
         ),
         (
             "tracebench decode --base 80000000 image.bin run.capture",
-            "Decode { base: \"80000000\", harts: 1, image: \"image.bin\", capture: \"run.capture\" }",
+            "Decode(Decode { base: \"80000000\", harts: 1, image: \"image.bin\", capture: \"run.capture\" })",
         ),
         (
             "tracebench decode image.bin --harts 1 run.capture --base 0",
-            "Decode { base: \"0\", harts: 1, image: \"image.bin\", capture: \"run.capture\" }",
+            "Decode(Decode { base: \"0\", harts: 1, image: \"image.bin\", capture: \"run.capture\" })",
         ),
         (
             "tracebench decode --base 0 --harts=64 image.bin run.capture",
-            "Decode { base: \"0\", harts: 64, image: \"image.bin\", capture: \"run.capture\" }",
+            "Decode(Decode { base: \"0\", harts: 64, image: \"image.bin\", capture: \"run.capture\" })",
         ),
         (
             "tracebench decode --base 0 --harts 0 image.bin run.capture",

@@ -1,58 +1,13 @@
 //! One run of the program.
 
-ghost use Rattle.std.specs.Prelude.{◌≡◌, ◌≢◌, ◌≤◌, IfSome, map, string_bytes};
-ghost use Rattle.cli.specs.Asking.{AreRefused, AskNoCheck, IsCheck};
-ghost use Rattle.cli.specs.Limits.{IsWithinLimits};
-ghost use Rattle.tracebench.specs.Faults.{end_of};
-ghost use Rattle.tracebench.specs.Order.{early_fault};
+ghost use Rattle.std.specs.Prelude.{◌≡◌, ◌≢◌, ◌≤◌, map, string_bytes};
+ghost use Rattle.cli.specs.Asking.{AreRefused, AskNoCheck};
 
-use crate::check::check;
-use crate::decode::decode;
-use crate::dump::dump;
-use crate::encode::{Manner, encode};
-use crate::fault::Fault;
-use crate::files::Files;
-use crate::status::Status;
-use crate::tell::{tell, tell_words};
-use cli::{Asked, asked};
+use crate::words_fault::tell_words;
+use cli::asked;
+use commands::{Files, carry_out, tell};
 use std::alloc::Global;
 use std::io::Write;
-
-// Does what is asked, and answers how it ended.
-fn done<'a, F: Files, O: Write>(
-    alloc: Global,
-    files: &mut F,
-    what: &Asked<'a>,
-    out: &mut O,
-) -> Result<Status, Fault<'a>>
-    requires { IsWithinLimits what.now }
-    ensures early { IfSome (early_fault what.now) (λ fault. result ≡ Err fault) }
-    ensures refused { ¬ IsCheck what.now → end_of result ≡ Status.Refused → out.new ≡ out.old }
-{
-    match what {
-        Asked::Check { base, image, logs } => check(alloc, files, base, image, logs, out),
-        Asked::Encode {
-            base,
-            period,
-            hex,
-            image,
-            logs,
-        } => {
-            let manner = Manner {
-                period: *period,
-                hex: *hex,
-            };
-            encode(alloc, files, base, image, logs, manner, out)
-        }
-        Asked::Dump { capture } => dump(files, capture, out),
-        Asked::Decode {
-            base,
-            harts,
-            image,
-            capture,
-        } => decode(alloc, files, base, *harts, image, capture, out),
-    }
-}
 
 /// Does what the words ask for, the program's name first among them, and answers the exit status: 0
 /// where all is done, 1 where a capture is not good, 2 where the words, the image or a log is refused or
@@ -74,7 +29,7 @@ pub fn command<F: Files, O: Write, E: Write>(
     ensures refused { AskNoCheck (map string_bytes words.now) → result ≡ 2 → out.new ≡ out.old }
 {
     let status = match asked(alloc, words) {
-        Ok(what) => match done(alloc, files, &what, out) {
+        Ok(asked) => match carry_out(alloc, files, &asked, out) {
             Ok(status) => status,
             Err(fault) => tell(err, &fault),
         },

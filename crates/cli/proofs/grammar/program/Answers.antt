@@ -1,0 +1,16 @@
+use Rattle.std.proofs.Common.{◌∙◌, ap, true}
+use Rattle.clap.specs.Simple.{Shape, app_of_fields, on_top}
+use Rattle.cli.specs.Grammar.{HasGrammar, bare_program}
+use Rattle.cli.proofs.GrammarLemmas.{adds_subcommand}
+use Rattle.cli.proofs.grammar.program.Goals as goal
+
+pub returns : goal.returns
+returns c =
+    let bare : HasGrammar bare_program c.subcommand_required.result = (
+      ap app_of_fields c.subcommand_required.ensures
+          ∙ ap (on_top (λ (s : Shape). record s { subcommand_required = true })) (ap app_of_fields c.about.ensures ∙ c.new.ensures.app),
+      ap (λ f. f.has_globals) c.subcommand_required.ensures ∙ ap (λ f. f.has_globals) c.about.ensures ∙ c.new.ensures.local,
+    ) in
+    adds_subcommand _ _ _ _ _ (adds_subcommand _ _ _ _ _ (adds_subcommand _ _ _ _ _ (adds_subcommand _ _ _ _ _ bare
+    c.in_ok-check.ensures c.in_ok-subcommand.ensures) c.in_ok-encode.ensures c.in_ok-subcommand-2.ensures)
+    c.in_ok-dump.ensures c.in_ok-subcommand-3.ensures) c.in_ok-decode.ensures c.in_ok-command.ensures

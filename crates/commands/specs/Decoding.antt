@@ -1,0 +1,19 @@
+-- How the decoding of a capture ends.
+use Rattle.std.specs.Prelude.{ℕ, ◌+◌, Bool, true, false, List, [], ◌∷◌, Option, Some, None, Result, Ok, Err}
+use Rattle.captures.specs.declared.outcome.CaptureFault.{CaptureFault}
+use Rattle.commands.specs.Faults.{capture_fault}
+use Rattle.commands.specs.declared.fault.Fault.{Fault}
+use Rattle.commands.specs.declared.fault.Fault.TheVariants as fault
+use Rattle.commands.specs.declared.status.Status.{Status}
+use Rattle.commands.specs.declared.status.Status.TheVariants.{Whole}
+
+-- Every hart is closed, from this one on, or the first one that is not is told.
+abbrev pub end_of_harts : ℕ → List Bool → Result Status Fault
+end_of_harts hart [] = Ok Whole
+end_of_harts hart (true ∷ closed) = end_of_harts (hart + 1) closed
+end_of_harts hart (false ∷ closed) = Err (fault.Unclosed hart)
+
+-- A fault of a message is told, and else the first hart that is not closed.
+abbrev pub end_of_capture : Option (ℕ × CaptureFault) → List Bool → Result Status Fault
+end_of_capture (Some stop) closed = Err (capture_fault stop.0 stop.1)
+end_of_capture None closed = end_of_harts 0 closed

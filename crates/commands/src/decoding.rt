@@ -1,0 +1,70 @@
+//! The subcommand `decode`.
+
+ghost use Rattle.std.specs.Prelude.{◌≡◌, ◌≢◌, IfErr, IfSome};
+ghost use Rattle.retire.specs.Number.{number_of};
+ghost use Rattle.commands.specs.Decoding.{end_of_capture};
+ghost use Rattle.commands.specs.Faults.{end_of, status_of};
+ghost use Rattle.commands.specs.Order.{base_fault};
+
+use crate::fault::Fault;
+use crate::files::Files;
+use crate::inputs::{base_of, content_of, program_of};
+use crate::status::Status;
+use captures::{CaptureOutcome, decode_capture};
+use retire::{Event, write_log};
+use std::alloc::Global;
+use std::io::Write;
+use subcommands::Decode;
+
+//// Writes the log of each hart, as far as the messages of a capture tell it, and answers that all is
+/// done where each hart's closing packet came and no message is refused.
+pub fn decode<'a, F: Files, O: Write>(
+    alloc: Global,
+    files: &mut F,
+    asked: &Decode<'a>,
+    out: &mut O,
+) -> Result<Status, Fault<'a>>
+    ensures early { IfSome (base_fault (number_of asked.now.base.now)) (λ fault. result ≡ Err fault) }
+    ensures refused { end_of result ≡ Status.Refused → out.new ≡ out.old }
+{
+    let base = base_of(asked.base)?;
+    let program = program_of(files, base, asked.image)?;
+    let bytes = content_of(files, asked.capture)?;
+    let outcome = decode_capture(alloc, &program, asked.harts, bytes.as_slice()).map_err(
+        |_| Fault::Memory,
+    )?;
+    write_logs(alloc, outcome.harts.as_slice(), out)?;
+    out.flush().map_err(|_| Fault::Output)?;
+    ended(&outcome)
+}
+
+/// Writes the log of each hart, after a line with the hart's number.
+fn write_logs<'a, O: Write>(
+    alloc: Global,
+    logs: &[Vec<Event>],
+    out: &mut O,
+) -> Result<(), Fault<'a>>
+    ensures { IfErr result (λ fault. status_of fault ≡ Status.Machine) }
+{
+    for (hart, log) in logs.iter().enumerate() {
+        writeln!(out, "hart {hart}").map_err(|_| Fault::Output)?;
+        write_log(alloc, out, log.as_slice())?;
+    }
+    Ok(())
+}
+
+/// How decoding ended: at its fault, or else at the first hart whose closing packet did not come.
+fn ended<'a>(outcome: &CaptureOutcome) -> Result<Status, Fault<'a>>
+    ensures value { result ≡ end_of_capture outcome.now.fault outcome.now.closed.items }
+    ensures never_refused { end_of result ≢ Status.Refused }
+{
+    if let Some((number, why)) = outcome.fault {
+        return Err(Fault::of_capture(number, why));
+    }
+    for (hart, closed) in outcome.closed.iter().enumerate() {
+        if !*closed {
+            return Err(Fault::Unclosed(hart));
+        }
+    }
+    Ok(Status::Whole)
+}

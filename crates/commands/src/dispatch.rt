@@ -1,0 +1,41 @@
+//! Whichever subcommand is asked for.
+
+ghost use Rattle.std.specs.Prelude.{◌≡◌, IfSome};
+ghost use Rattle.commands.specs.Faults.{end_of};
+ghost use Rattle.commands.specs.Order.{early_fault};
+ghost use Rattle.subcommands.specs.Kind.{IsCheck};
+ghost use Rattle.subcommands.specs.Limits.{IsWithinLimits};
+
+use crate::checking::check;
+use crate::decoding::decode;
+use crate::dumping::dump;
+use crate::encoding::encode;
+use crate::fault::Fault;
+use crate::files::Files;
+use crate::status::Status;
+use std::alloc::Global;
+use std::io::Write;
+use subcommands::Asked;
+
+/// Does what is asked, and answers how that ended: by a status, or at the first fault in the order base, count of logs,
+/// image, each log in turn, capture.
+///
+/// Illegal logs are no fault of `check`, which has a line for each log on `out`.
+pub fn carry_out<'a, F: Files, O: Write>(
+    alloc: Global,
+    files: &mut F,
+    asked: &Asked<'a>,
+    out: &mut O,
+) -> Result<Status, Fault<'a>>
+    requires { IsWithinLimits asked.now }
+    ensures early { IfSome (early_fault asked.now) (λ fault. result ≡ Err fault) }
+    // Where the input is refused, nothing is written, but for the lines of `check`.
+    ensures refused { ¬ IsCheck asked.now → end_of result ≡ Status.Refused → out.new ≡ out.old }
+{
+    match asked {
+        Asked::Check(asked) => check(alloc, files, asked, out),
+        Asked::Encode(asked) => encode(alloc, files, asked, out),
+        Asked::Dump(asked) => dump(files, asked, out),
+        Asked::Decode(asked) => decode(alloc, files, asked, out),
+    }
+}

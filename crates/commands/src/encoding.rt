@@ -1,0 +1,54 @@
+//! The subcommand `encode`.
+
+ghost use Rattle.std.specs.Prelude.{◌≡◌, ◌≤◌, ◌^◌, IfErr, IfSome, length};
+ghost use Rattle.retire.specs.Number.{number_of};
+ghost use Rattle.commands.specs.Faults.{end_of};
+ghost use Rattle.commands.specs.Order.{logs_fault};
+
+use crate::fault::Fault;
+use crate::files::Files;
+use crate::inputs::{base_of, counted, legal_logs_of, program_of};
+use crate::status::Status;
+use captures::{encode_capture, encode_hex};
+use legalpath::LegalLog;
+use std::alloc::Global;
+use std::io::Write;
+use subcommands::Encode;
+
+/// Writes the messages of each hart's log, once all logs are found legal.
+pub fn encode<'a, F: Files, O: Write>(
+    alloc: Global,
+    files: &mut F,
+    asked: &Encode<'a>,
+    out: &mut O,
+) -> Result<Status, Fault<'a>>
+    requires { 1 ≤ asked.now.period }
+    ensures early { IfSome (logs_fault (number_of asked.now.base.now) (length asked.now.logs.items))
+        (λ fault. result ≡ Err fault) }
+    ensures refused { end_of result ≡ Status.Refused → out.new ≡ out.old }
+{
+    let base = base_of(asked.base)?;
+    counted(asked.logs.as_slice())?;
+    let program = program_of(files, base, asked.image)?;
+    let legal = legal_logs_of(alloc, files, &program, asked.logs.as_slice())?;
+    write_messages(asked, legal.as_slice(), out)?;
+    out.flush().map_err(|_| Fault::Output)?;
+    Ok(Status::Whole)
+}
+
+/// Writes the messages of legal logs.
+fn write_messages<'a, O: Write>(
+    asked: &Encode<'a>,
+    logs: &[LegalLog<'_>],
+    out: &mut O,
+) -> Result<(), Fault<'a>>
+    requires period { 1 ≤ asked.now.period }
+    requires few { length logs.now ≤ 64 }
+    ensures { IfErr result (λ fault. fault ≡ Fault.Output) }
+{
+    if asked.hex {
+        encode_hex(logs, asked.period, out).map_err(|_| Fault::Output)
+    } else {
+        encode_capture(logs, asked.period, out).map_err(|_| Fault::Output)
+    }
+}

@@ -1,0 +1,28 @@
+//! The subcommands of `tracebench`, each over a place that files are read from, an output, and what is asked of it.
+//!
+//! [`carry_out`] does what is asked, whichever subcommand that is, and [`tell`] writes the line of the fault that ended
+//! it. How words ask for a subcommand is no matter of this crate.
+#![tactic(auto)]
+
+mod checking;
+mod decoding;
+mod dispatch;
+mod dumping;
+mod encoding;
+mod fault;
+mod files;
+mod inputs;
+mod status;
+mod telling;
+#[cfg(test)]
+mod tests;
+
+pub use checking::check;
+pub use decoding::decode;
+pub use dispatch::carry_out;
+pub use dumping::dump;
+pub use encoding::encode;
+pub use fault::Fault;
+pub use files::{FileFault, Files};
+pub use status::Status;
+pub use telling::tell;

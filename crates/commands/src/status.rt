@@ -1,0 +1,31 @@
+//! How a command ends.
+
+ghost use Rattle.std.specs.Prelude.{◌≡◌};
+ghost use Rattle.commands.specs.Status.{code_of};
+
+/// How a command ended, as its exit status tells.
+#[derive(Clone, Copy, Debug, PartialEq, Eq)]
+pub enum Status {
+    /// All that was asked for is done.
+    Whole,
+    /// A capture was read to its first fault, or not all of it is good.
+    NotWhole,
+    /// The words, the image or a log is refused.
+    Refused,
+    /// A file was not read or the output not written, or memory was refused.
+    Machine,
+}
+
+impl Status {
+    /// The exit status.
+    pub fn code(self) -> u8
+        ensures { result ≡ code_of self }
+    {
+        match self {
+            Status::Whole => 0,
+            Status::NotWhole => 1,
+            Status::Refused => 2,
+            Status::Machine => 3,
+        }
+    }
+}

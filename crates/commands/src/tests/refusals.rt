@@ -1,0 +1,87 @@
+//! Bases and images that are refused.
+
+use super::table::{NOP, Request, Table, tells};
+use std::test::Fail;
+
+#[test]
+fn bases(rt: HostRuntime) -> Result<(), Fail> {
+    let told = "tracebench: base is not a number\n";
+    let cases = [
+        (Request::Check("", "no.bin", "no.csv"), 2, told),
+        (Request::Encode("zz", 1024, "no.bin", "no.csv"), 2, told),
+        (Request::Decode("zz", 1, "no.bin", "no.capture"), 2, told),
+        (Request::Hex("zz", 1024, "no.bin", "no.csv"), 2, told),
+        (Request::Hex("-1", 1024, "no.bin", "no.csv"), 2, told),
+    ];
+    let mut files = Table::new(rt.alloc());
+    tells(&rt, &mut files, cases.as_slice())?;
+    Ok(())
+}
+
+#[test]
+fn images(rt: HostRuntime) -> Result<(), Fail> {
+    let mut files = Table::new(rt.alloc());
+    files.add("image.bin", &NOP)?;
+    let large: Vec<u8> = vec![in rt.alloc(); 0; 16_777_217]?;
+    files.add("large.bin", large.as_slice())?;
+    let cases = [
+        (
+            Request::Hex("80000001", 1024, "no.bin", "no.csv"),
+            3,
+            "tracebench: no.bin: cannot be read\n",
+        ),
+        (
+            Request::Hex("80000000", 1024, "full", "no.csv"),
+            3,
+            "tracebench: out of memory\n",
+        ),
+        (
+            Request::Hex("80000001", 1024, "large.bin", "no.csv"),
+            2,
+            "tracebench: base is odd\n",
+        ),
+        (
+            Request::Hex("80000000", 1024, "large.bin", "no.csv"),
+            2,
+            "tracebench: image is larger than 16777216 bytes\n",
+        ),
+        (
+            Request::Hex("fffffffffffffffc", 1024, "image.bin", "no.csv"),
+            2,
+            "tracebench: image runs past the last address\n",
+        ),
+        (
+            Request::Hex("fffffffffffffffa", 1024, "image.bin", "no.csv"),
+            3,
+            "tracebench: no.csv: cannot be read\n",
+        ),
+        (
+            Request::Decode("80000001", 1, "no.bin", "no.capture"),
+            3,
+            "tracebench: no.bin: cannot be read\n",
+        ),
+        (
+            Request::Decode("80000001", 1, "image.bin", "no.capture"),
+            2,
+            "tracebench: base is odd\n",
+        ),
+        (
+            Request::Decode("80000000", 1, "image.bin", "no.capture"),
+            3,
+            "tracebench: no.capture: cannot be read\n",
+        ),
+        (
+            Request::Decode("80000000", 1, "image.bin", "full"),
+            3,
+            "tracebench: out of memory\n",
+        ),
+        (
+            Request::Dump("no.capture"),
+            3,
+            "tracebench: no.capture: cannot be read\n",
+        ),
+        (Request::Dump("full"), 3, "tracebench: out of memory\n"),
+    ];
+    tells(&rt, &mut files, cases.as_slice())?;
+    Ok(())
+}

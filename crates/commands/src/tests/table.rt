@@ -1,0 +1,211 @@
+//! Files in memory, and what is asked for over them.
+
+ghost use Rattle.std.specs.Prelude.{IfOk};
+ghost use Rattle.subcommands.specs.Limits.{IsWithinLimits};
+
+use crate::{FileFault, Files, carry_out, tell};
+use std::alloc::{AllocError, Global};
+use std::io::Write;
+use std::process::Abort;
+use subcommands::{Asked, Check, Decode, Dump, Encode};
+
+/// A table of paths and contents.
+#[derive(Drop)]
+pub(super) struct Table {
+    alloc: Global,
+    rows: Vec<(&'static str, Vec<u8>)>,
+}
+
+impl Table {
+    pub(super) fn new(alloc: Global) -> Table {
+        Table {
+            alloc,
+            rows: Vec::new(alloc),
+        }
+    }
+
+    pub(super) fn add(&mut self, path: &'static str, content: &[u8]) -> Result<(), AllocError> {
+        let content = Vec::from_slice(self.alloc, content)?;
+        self.rows.push((path, content))?;
+        Ok(())
+    }
+}
+
+impl Files for Table {
+    // The path `full` is of a file that memory is refused for.
+    fn read(&mut self, path: &str) -> Result<Vec<u8>, FileFault> {
+        if path == "full" {
+            return Err(FileFault::Memory);
+        }
+        for (name, content) in &self.rows {
+            if *name == path {
+                return Vec::from_slice(self.alloc, content.as_slice()).map_err(
+                    |_| FileFault::Memory,
+                );
+            }
+        }
+        Err(FileFault::CannotRead)
+    }
+}
+
+/// What a test asks for: base, period or harts, image, and logs parted by spaces or a capture.
+#[derive(Clone, Copy, Debug)]
+pub(super) enum Request<'a> {
+    /// `check`.
+    Check(&'a str, &'a str, &'a str),
+    /// `encode` without `--hex`.
+    Encode(&'a str, u16, &'a str, &'a str),
+    /// `encode --hex`.
+    Hex(&'a str, u16, &'a str, &'a str),
+    /// `dump`.
+    Dump(&'a str),
+    /// `decode`.
+    Decode(&'a str, u16, &'a str, &'a str),
+}
+
+/// The texts that spaces part.
+fn parted(alloc: Global, text: &str) -> Result<Vec<&str>, AllocError> {
+    let mut parts = Vec::new(alloc);
+    for part in text.split_whitespace() {
+        parts.push(part)?;
+    }
+    Ok(parts)
+}
+
+/// The run of `encode` that is asked for.
+fn encode_asked<'a>(
+    alloc: Global,
+    base: &'a str,
+    period: u16,
+    hex: bool,
+    files: (&'a str, &'a str),
+) -> Result<Asked<'a>, AllocError>
+    ensures { IfOk result IsWithinLimits }
+{
+    Ok(Asked::Encode(Encode {
+        base,
+        period: period.max(1),
+        hex,
+        image: files.0,
+        logs: parted(alloc, files.1)?,
+    }))
+}
+
+/// What is asked for.
+fn asked_of<'a>(alloc: Global, request: Request<'a>) -> Result<Asked<'a>, AllocError>
+    ensures { IfOk result IsWithinLimits }
+{
+    match request {
+        Request::Check(base, image, logs) => Ok(Asked::Check(Check {
+            base,
+            image,
+            logs: parted(alloc, logs)?,
+        })),
+        Request::Encode(base, period, image, logs) => {
+            encode_asked(alloc, base, period, false, (image, logs))
+        }
+        Request::Hex(base, period, image, logs) => {
+            encode_asked(alloc, base, period, true, (image, logs))
+        }
+        Request::Dump(capture) => Ok(Asked::Dump(Dump { capture })),
+        Request::Decode(base, harts, image, capture) => Ok(Asked::Decode(Decode {
+            base,
+            harts: harts.clamp(1, 64),
+            image,
+            capture,
+        })),
+    }
+}
+
+/// Does what is asked for over the files, tells the fault that ends it, and answers the exit status.
+pub(super) fn run<O: Write, E: Write>(
+    alloc: Global,
+    files: &mut Table,
+    request: Request<'_>,
+    out: &mut O,
+    err: &mut E,
+) -> Result<u8, AllocError> {
+    let asked = asked_of(alloc, request)?;
+    let status = match carry_out(alloc, files, &asked, out) {
+        Ok(status) => status,
+        Err(fault) => tell(err, &fault),
+    };
+    Ok(status.code())
+}
+
+/// What is asked for ends with the status, writes the first text and tells the second.
+pub(super) fn ends<R: Abort + AllocGlobal>(
+    rt: &R,
+    files: &mut Table,
+    request: Request<'_>,
+    (status, written, told): (u8, &str, &str),
+) -> Result<(), AllocError> {
+    let out = writes(rt, files, request, status, told)?;
+    assert!(rt; out.as_slice() == written.as_bytes(), "{request:?}");
+    Ok(())
+}
+
+/// What is asked for ends with the status and tells the text. The answer is what it writes.
+pub(super) fn writes<R: Abort + AllocGlobal>(
+    rt: &R,
+    files: &mut Table,
+    request: Request<'_>,
+    status: u8,
+    told: &str,
+) -> Result<Vec<u8>, AllocError> {
+    let mut out = Vec::new(rt.alloc());
+    let mut err = Vec::new(rt.alloc());
+    let ended = run(rt.alloc(), files, request, &mut out, &mut err)?;
+    assert!(rt; err.as_slice() == told.as_bytes(), "{request:?}");
+    assert_eq!(rt; ended, status, "{request:?}");
+    Ok(out)
+}
+
+/// Each writes nothing, ends with the status and tells the text.
+pub(super) fn tells<R: Abort + AllocGlobal>(
+    rt: &R,
+    files: &mut Table,
+    cases: &[(Request<'_>, u8, &str)],
+) -> Result<(), AllocError> {
+    for (request, status, text) in cases {
+        ends(rt, files, *request, (*status, "", text))?;
+    }
+    Ok(())
+}
+
+/// The first line of a log.
+pub(super) const HEADER: &str = "addr,itype,priv,cause,tval\n";
+
+/// A capture of two messages, Open and EndedRep; the second byte for a payload's length is at place 22.
+pub(super) const PAIR: [u8; 24] = [
+    0x00, 0x00, 0x00, 0x00, 0x00, 0x00, 0x00, 0x00, 0x00, 0x00, 0x01, 0x1f, //
+    0x00, 0x00, 0x01, 0x00, 0x00, 0x00, 0x00, 0x00, 0x00, 0x00, 0x01, 0x4f,
+];
+
+/// The instruction `nop`, as a little-endian word.
+pub(super) const NOP: [u8; 4] = [0x13, 0, 0, 0];
+
+/// Appends a message to a capture.
+pub(super) fn add_message(
+    capture: &mut Vec<u8>,
+    hart: u16,
+    number: u64,
+    payload: &[u8],
+) -> Result<(), AllocError> {
+    capture.extend_from_slice(&hart.to_le_bytes())?;
+    capture.extend_from_slice(&number.to_le_bytes())?;
+    capture.push(payload.len().min(255) as u8)?;
+    capture.extend_from_slice(payload)
+}
+
+/// The capture of messages: of each its hart, its number and its payload.
+pub(super) fn capture_of(
+    alloc: Global,
+    messages: &[(u16, u64, &[u8])],
+) -> Result<Vec<u8>, AllocError> {
+    let mut capture = Vec::new(alloc);
+    for (hart, number, payload) in messages {
+        add_message(&mut capture, *hart, *number, payload)?;
+    }
+    Ok(capture)
+}

@@ -1,0 +1,18 @@
+-- Which numbers words may ask for.
+use Rattle.std.specs.Prelude.{ℕ, ◌≤◌}
+use Rattle.subcommands.specs.declared.words.Asked.{Asked}
+use Rattle.subcommands.specs.declared.words.Asked.TheVariants.{Decode, Encode}
+
+-- The most retirements from one periodic synchronisation to the next.
+abbrev pub longest_period : ℕ
+longest_period = 65535
+
+-- The most harts of one command.
+abbrev pub most_harts : ℕ
+most_harts = 64
+
+-- A period is 1 to 65535 retirements, and a count of harts 1 to 64.
+abbrev pub IsWithinLimits : Asked → Type 0
+IsWithinLimits (Encode asked) = (1 ≤ asked.period) × (asked.period ≤ longest_period)
+IsWithinLimits (Decode asked) = (1 ≤ asked.harts) × (asked.harts ≤ most_harts)
+IsWithinLimits _ = Unit {0}

@@ -1,0 +1,60 @@
+//! What a command line may ask for.
+
+/// `check --base B IMAGE LOG...`: whether the log of each hart is legal.
+#[derive(Debug, PartialEq, Eq, Drop)]
+pub struct Check<'a> {
+    /// The address of the image's first byte, not yet read as a number.
+    pub base: &'a str,
+    /// The path of the image.
+    pub image: &'a str,
+    /// The paths of the logs, at least one, in the order of the words.
+    pub logs: Vec<&'a str>,
+}
+
+/// `encode --base B [--period N] [--hex] IMAGE LOG...`: the messages of the log of each hart.
+#[derive(Debug, PartialEq, Eq, Drop)]
+pub struct Encode<'a> {
+    /// The address of the image's first byte, not yet read as a number.
+    pub base: &'a str,
+    /// How many retirements there are from one periodic synchronisation to the next, 1 to 65535.
+    pub period: u16,
+    /// Whether the messages are wanted as lines of hexadecimal.
+    pub hex: bool,
+    /// The path of the image.
+    pub image: &'a str,
+    /// The paths of the logs, at least one, in the order of the words.
+    pub logs: Vec<&'a str>,
+}
+
+/// `dump CAPTURE`: the messages of a capture, as text.
+#[derive(Debug, PartialEq, Eq, Drop)]
+pub struct Dump<'a> {
+    /// The path of the capture.
+    pub capture: &'a str,
+}
+
+/// `decode --base B [--harts N] IMAGE CAPTURE`: the logs that the messages of a capture describe.
+#[derive(Debug, PartialEq, Eq, Drop)]
+pub struct Decode<'a> {
+    /// The address of the image's first byte, not yet read as a number.
+    pub base: &'a str,
+    /// How many harts the capture may have messages of, 1 to 64.
+    pub harts: u16,
+    /// The path of the image.
+    pub image: &'a str,
+    /// The path of the capture.
+    pub capture: &'a str,
+}
+
+/// A subcommand with its files and options, as texts of the words.
+#[derive(Debug, PartialEq, Eq, Drop)]
+pub enum Asked<'a> {
+    /// A run of `check`.
+    Check(Check<'a>),
+    /// A run of `encode`.
+    Encode(Encode<'a>),
+    /// A run of `dump`.
+    Dump(Dump<'a>),
+    /// A run of `decode`.
+    Decode(Decode<'a>),
+}
