@@ -24,7 +24,7 @@ use Rattle.encoder.specs.Stands.{Is64Bit}
 use Rattle.encoder.specs.declared.rule.Rule.{Rule}
 use Rattle.encoder.specs.declared.rule.Rule.TheVariants as by
 use Rattle.encoder.proofs.CountLemmas.{IsTrapRule, trap_rule, room_left, one_at_most, length_outcomes-snoc}
-use Rattle.encoder.proofs.ViewLemmas.{both_true}
+use Rattle.encoder.proofs.LogsByLastEvent.{both_true}
 
 -- Words stand at even addresses.
 abbrev pub IsEven : Words → Type 0

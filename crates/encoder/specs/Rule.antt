@@ -29,7 +29,7 @@ is_handler words before_that before event = false
 
 -- A retirement of this number and privilege that is no handler is a new start: it is the first event,
 -- follows a trap, changes the privilege, or has a number that the period divides, which is this
--- project's profile of periodic synchronization.
+-- project's profile of periodic synchronisation.
 abbrev pub is_start : ℕ → ℕ → Option Event → ℕ → Bool
 is_start period number None priv = true
 is_start period number (Some (Trap epc level interrupt cause tval)) priv = true

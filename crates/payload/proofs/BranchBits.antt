@@ -17,7 +17,7 @@ use Rattle.payload.proofs.MapWidths.{map_sizes, map_parts, map_read, part-lt}
 use Rattle.payload.proofs.OutcomeMaps.{map_of-lt, outcomes_of_map}
 use Rattle.payload.proofs.PaddedBits.{IsRead, padded_found, padded_read}
 use Rattle.payload.proofs.Parts.{Holds}
-use Rattle.payload.proofs.Sound.{total-report_fields}
+use Rattle.payload.proofs.FieldsFit.{total-report_fields}
 
 pub plain_found : (n : ℕ) (p : Packet) → part n 0 2 ≡ 2 → address_reading n [] 2 ≡ Ok p → IsRead n p
 plain_found n p format e =

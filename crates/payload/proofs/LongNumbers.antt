@@ -7,7 +7,7 @@ use Rattle.payload.specs.Bytes.{low_bytes}
 use Rattle.payload.specs.Extension.{fewest_bytes}
 use Rattle.payload.specs.Spelling.{shortest_bytes}
 use Rattle.payload.proofs.ByteLists.{low_bytes-mod, power}
-use Rattle.payload.proofs.Counts.{IsFirst, first_is}
+use Rattle.payload.proofs.ByteCounts.{IsFirst, first_is}
 use Rattle.payload.proofs.Extending.{extended_low, extended_high, magnitude_low, magnitude_high}
 
 first_from_size : (m top : ℕ) → 1 ≤ top → m < 2 ^ top → 2 ^ (top - 1) ≤ m → IsFirst 1 m (top / 8 + 1)

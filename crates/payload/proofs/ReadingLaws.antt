@@ -22,7 +22,7 @@ use Rattle.payload.proofs.Extending.{extended-lt}
 use Rattle.payload.proofs.FirstFaults.{reading_by_kind-is}
 use Rattle.payload.proofs.PaddedBits.{IsRead}
 use Rattle.payload.proofs.Shortest.{same_from_extends, extends_from_same, is_shortest}
-use Rattle.payload.proofs.Sound.{fields_fit, fields_sound}
+use Rattle.payload.proofs.FieldsFit.{fields_fit, fields_sound}
 use Rattle.payload.proofs.Spells.{Spells, spells_from_fields, fields_from_spells}
 use Rattle.payload.proofs.SupportBits.{support_found, support_read}
 use Rattle.payload.proofs.SyncBits.{sync_found, sync_read}

@@ -7,7 +7,7 @@ use Rattle.payload.specs.Extension.{extended, magnitude, first_that_fits}
 use Rattle.payload.specs.Fields.{Field, total, joined}
 use Rattle.payload.specs.Spelling.{Extends, IsShortest, shortest_bytes}
 use Rattle.payload.proofs.ByteLists.{number-low_bytes, number-lt, each-low_bytes, length-low_bytes}
-use Rattle.payload.proofs.Counts.{finds}
+use Rattle.payload.proofs.ByteCounts.{finds}
 use Rattle.payload.proofs.Extending.{extended-lt, magnitude-lt, magnitude_extended, cut, same_number, same_bits}
 
 -- Fields that a payload can hold.

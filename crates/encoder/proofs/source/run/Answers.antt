@@ -6,7 +6,7 @@ use Rattle.retire.specs.declared.event.Event.TheVariants.{Retire}
 use Rattle.rvclass.specs.Fetch.{words_of}
 use Rattle.encoder.specs.PacketsSoFar.{packets_so_far}
 use Rattle.encoder.specs.Stands.{Stands}
-use Rattle.encoder.proofs.SourceLemmas.{steps_on}
+use Rattle.encoder.proofs.PacketsInTurn.{steps_on}
 use Rattle.encoder.proofs.source.run.Goals as goal
 
 module _ (c : goal.In-Some) where

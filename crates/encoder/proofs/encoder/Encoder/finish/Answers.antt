@@ -6,7 +6,7 @@ use Rattle.payload.specs.declared.packet.Packet.TheVariants as packet
 use Rattle.encoder.specs.Packets.{packets}
 use Rattle.encoder.specs.PacketsSoFar.{packets_so_far}
 use Rattle.encoder.specs.steps.Stepping.{last_given, given_at_end}
-use Rattle.encoder.proofs.EndLemmas.{ends_any}
+use Rattle.encoder.proofs.PacketsAtEnd.{ends_any}
 use Rattle.encoder.proofs.ProfileLemmas.{packets_in_profile, profile_behind}
 use Rattle.encoder.proofs.encoder.Encoder.finish.Goals as goal
 

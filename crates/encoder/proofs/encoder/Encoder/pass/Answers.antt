@@ -7,9 +7,9 @@ use Rattle.rvclass.specs.Fetch.{words_of}
 use Rattle.encoder.specs.Stands.{Stands}
 use Rattle.encoder.specs.declared.due.Due.TheVariants as due
 use Rattle.encoder.specs.declared.encoder.Encoder.{Encoder}
-use Rattle.encoder.proofs.PassLemmas.{last_of_first, passed, after_passed, given_passed}
+use Rattle.encoder.proofs.EventsPassed.{last_of_first, passed, after_passed, given_passed}
 use Rattle.encoder.proofs.SpotLemmas.{last_or-snoc}
-use Rattle.encoder.proofs.SourceLemmas.{steps}
+use Rattle.encoder.proofs.PacketsInTurn.{steps}
 use Rattle.encoder.proofs.encoder.Encoder.pass.Goals as goal
 use Rattle.encoder.proofs.encoder.Encoder.pass.Goals.{in-Nothing, in_default}
 

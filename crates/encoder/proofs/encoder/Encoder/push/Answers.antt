@@ -5,7 +5,7 @@ use Rattle.rvclass.specs.Fetch.{words_of}
 use Rattle.encoder.specs.PacketsSoFar.{packets_so_far}
 use Rattle.encoder.specs.Stands.{Stands}
 use Rattle.encoder.proofs.ProfileLemmas.{so_far_in_profile, profile_behind}
-use Rattle.encoder.proofs.StandsLemmas.{pushes_any, stands_after}
+use Rattle.encoder.proofs.StandsOn.{pushes_any, stands_after}
 use Rattle.encoder.proofs.encoder.Encoder.push.Goals as goal
 
 pub returns-clause-stands : goal.returns-clause-stands

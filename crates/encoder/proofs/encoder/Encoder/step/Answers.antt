@@ -1,7 +1,7 @@
 -- The search does not rewrite under the test by which an event is quiet.
 use Rattle.std.proofs.Common.{sym, ◌∙◌}
 use Rattle.rvclass.specs.Fetch.{words_of}
-use Rattle.encoder.proofs.CodeLemmas.{after_quiet, given_quiet, after_loud, given_loud}
+use Rattle.encoder.proofs.EventsTaken.{after_quiet, given_quiet, after_loud, given_loud}
 use Rattle.encoder.proofs.encoder.Encoder.step.Goals as goal
 
 pub returns-then-is_quiet-clause-after : goal.returns-then-is_quiet-clause-after

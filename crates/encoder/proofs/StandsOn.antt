@@ -15,12 +15,12 @@ use Rattle.encoder.specs.steps.Stepping.{next_due, is_handler_due, pending_with,
 use Rattle.encoder.specs.declared.due.Due.{Due}
 use Rattle.encoder.specs.declared.encoder.Encoder.{Encoder}
 use Rattle.encoder.proofs.SpotLemmas.{count_all-append, last_or-snoc}
-use Rattle.encoder.proofs.StepLemmas.{spot_after, Reaches}
-use Rattle.encoder.proofs.RuleLemmas.{is_known-due}
+use Rattle.encoder.proofs.PacketsReached.{spot_after, Reaches}
+use Rattle.encoder.proofs.RulesByDue.{is_known-due}
 use Rattle.encoder.proofs.CountLemmas.{left-next}
-use Rattle.encoder.proofs.ViewLemmas.{by_last, Views, view_open}
-use Rattle.encoder.proofs.CodeLemmas.{pending_with-outcomes, Does}
-use Rattle.encoder.proofs.PushLemmas.{Pushes, joined, pushes}
+use Rattle.encoder.proofs.LogsByLastEvent.{by_last, Views, view_open}
+use Rattle.encoder.proofs.EventsTaken.{pending_with-outcomes, Does}
+use Rattle.encoder.proofs.OneEventMore.{Pushes, joined, pushes}
 
 -- The first event gives nothing.
 does_first : (words : Words) (e : Encoder) (next : Event) (d' : Due) → e.held ≡ None

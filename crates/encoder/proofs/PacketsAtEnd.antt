@@ -22,10 +22,10 @@ use Rattle.encoder.specs.declared.due.Due.TheVariants as due
 use Rattle.encoder.specs.declared.encoder.Encoder.{Encoder}
 use Rattle.encoder.specs.declared.rule.Rule.TheVariants as by
 use Rattle.encoder.proofs.SpotLemmas.{last_or-snoc, last_rule-snoc}
-use Rattle.encoder.proofs.StepLemmas.{spot_after, spots-snoc, Reaches, reaches, reaches_cut, one_more}
-use Rattle.encoder.proofs.RuleLemmas.{is_known-due}
-use Rattle.encoder.proofs.ViewLemmas.{by_last, view_open, view_known}
-use Rattle.encoder.proofs.CodeLemmas.{IsOwn, packets_by-own}
+use Rattle.encoder.proofs.PacketsReached.{spot_after, spots-snoc, Reaches, reaches, reaches_cut, one_more}
+use Rattle.encoder.proofs.RulesByDue.{is_known-due}
+use Rattle.encoder.proofs.LogsByLastEvent.{by_last, view_open, view_known}
+use Rattle.encoder.proofs.EventsTaken.{IsOwn, packets_by-own}
 
 -- The rule of a log's last event is as the code says.
 rule-at_end : (words : Words) (period : ℕ) (n : ℕ) (b2 b : Option Event) (held : Event)

@@ -9,9 +9,9 @@ use Rattle.rvclass.specs.Words.{Words}
 use Rattle.encoder.specs.steps.Stepping.{next_due, is_discontinuity_by_type, jumps_back_to, rule_of_quiet, rule_before, is_unreported, is_quiet, pending_with, left_after, due_next, given, after, passes}
 use Rattle.encoder.specs.declared.due.Due.TheVariants as due
 use Rattle.encoder.specs.declared.encoder.Encoder.{Encoder}
-use Rattle.encoder.proofs.CodeLemmas.{after_quiet, given_quiet}
+use Rattle.encoder.proofs.EventsTaken.{after_quiet, given_quiet}
 use Rattle.encoder.proofs.SpotLemmas.{last_or-snoc}
-use Rattle.encoder.proofs.ViewLemmas.{both_true}
+use Rattle.encoder.proofs.LogsByLastEvent.{both_true}
 
 -- The last of the first events.
 pub last_of_first : (events : List Event) (at : ℕ) → 1 ≤ at → at ≤ length events

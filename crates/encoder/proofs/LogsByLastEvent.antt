@@ -22,8 +22,8 @@ use Rattle.encoder.specs.declared.due.Due.{Due}
 use Rattle.encoder.specs.declared.rule.Rule.{Rule}
 use Rattle.encoder.specs.declared.rule.Rule.TheVariants as by
 use Rattle.encoder.proofs.SpotLemmas.{before_last, count_all-append, last_or-snoc, before_last-snoc, decided-snoc, undecided-snoc, since_cut-append}
-use Rattle.encoder.proofs.StepLemmas.{spot_after, spots-snoc, Reaches}
-use Rattle.encoder.proofs.RuleLemmas.{following}
+use Rattle.encoder.proofs.PacketsReached.{spot_after, spots-snoc, Reaches}
+use Rattle.encoder.proofs.RulesByDue.{following}
 
 -- Every log is empty or has a last event.
 pub by_last : (log : List Event) → (log ≡ []) ⊎ ((front : List Event) × (last : Event) × (log ≡ front ++ last ∷ []))
@@ -36,30 +36,11 @@ by_last (event ∷ log) = elim (by_last log) [
 pub spot_after-following : (log : List Event) (held next : Event) (a after : Option Event)
     → spot_after (log ++ held ∷ []) next after ≡ following (spot_after log held a) next after
 spot_after-following log held next a after =
-    ap (λ n. record {
-      number = n;
-      before_that = before_last None None (log ++ held ∷ []);
-      before =
-          last_or None (log ++ held ∷ []);
-      event = next;
-      after = after;
-    }) (count_all-append 0 log (held ∷ []))
-    ∙ ap (λ b. record {
-      number = count_with (count_all 0 log) held;
-      before_that = b;
-      before =
-          last_or None (log ++ held ∷ []);
-      event = next;
-      after = after;
-    }) (before_last-snoc None None log held)
-    ∙ ap (λ b. record {
-      number = count_with (count_all 0 log) held;
-      before_that = last_or None log;
-      before = b;
-      event =
-          next;
-      after = after;
-    }) (last_or-snoc None log held)
+    let last = spot_after (log ++ held ∷ []) next after in
+    ap (λ n. record last { number = n }) (count_all-append 0 log (held ∷ []))
+    ∙ ap (λ b. record last { number = count_with (count_all 0 log) held; before_that = b })
+    (before_last-snoc None None log held)
+    ∙ ap (λ b. record (following (spot_after log held a) next after) { before = b }) (last_or-snoc None log held)
 
 pub both_true : (x y : Bool) → (x && y) ≡ true → (x ≡ true) × (y ≡ true)
 both_true true y h = (refl, h)

@@ -32,11 +32,11 @@ use Rattle.encoder.specs.declared.encoder.Encoder.{Encoder}
 use Rattle.encoder.specs.declared.rule.Rule.TheVariants as by
 use Rattle.encoder.specs.declared.source.Stage.{Stage}
 use Rattle.encoder.proofs.SpotLemmas.{before_last, spots-append, pieces-append, reports-append}
-use Rattle.encoder.proofs.StepLemmas.{spot_after, spots-snoc, reaches, reaches_cut}
-use Rattle.encoder.proofs.ViewLemmas.{by_last, decided_is, rule_known}
-use Rattle.encoder.proofs.StandsLemmas.{pushes_any, stands_after}
+use Rattle.encoder.proofs.PacketsReached.{spot_after, spots-snoc, reaches, reaches_cut}
+use Rattle.encoder.proofs.LogsByLastEvent.{by_last, decided_is, rule_known}
+use Rattle.encoder.proofs.StandsOn.{pushes_any, stands_after}
 use Rattle.encoder.proofs.ProfileLemmas.{IsEven, packets_in_profile, so_far_in_profile, profile_behind}
-use Rattle.encoder.proofs.EndLemmas.{ends_any}
+use Rattle.encoder.proofs.PacketsAtEnd.{ends_any}
 
 -- The first events of a legal log are one.
 pub legal-take : (words : Words) (count : ℕ) (log : List Event) → Legal words log → Legal words (take count log)
