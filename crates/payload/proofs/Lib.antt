@@ -2,7 +2,7 @@ pub mod AddressBits
 pub mod BranchBits
 pub mod ByteLists
 pub mod Choices
-pub mod Counts
+pub mod ByteCounts
 pub mod Differences
 pub mod Extending
 pub mod FirstFaults
@@ -14,7 +14,7 @@ pub mod PaddedBits
 pub mod Parts
 pub mod ReadingLaws
 pub mod Shortest
-pub mod Sound
+pub mod FieldsFit
 pub mod Spells
 pub mod SupportBits
 pub mod SyncBits

@@ -1,5 +1,6 @@
+-- The search does not relate leading zeros to the first count that fits.
 use Rattle.std.proofs.Common.{sym, arith}
-use Rattle.payload.proofs.Counts.{first_is, counted}
+use Rattle.payload.proofs.ByteCounts.{first_is, counted}
 use Rattle.payload.proofs.spelling.byte_count.Goals as goal
 
 pub returns-clause-value : goal.returns-clause-value
