@@ -1,21 +1,19 @@
 -- What a step along a measured walk reaches is where the step leads.
-use Rattle.std.proofs.Common.{◌≡◌, ℕ, Bool, true, false, cond, List, [], ◌∷◌, Option, Some, None, refl, sym, subst}
+use Rattle.std.proofs.Common.{◌≡◌, ℕ, Bool, true, false, cond, List, [], ◌∷◌, Option, Some, None, refl, sym, subst, ◌∙◌}
 use Rattle.retire.specs.declared.event.Event.{Event}
 use Rattle.rvclass.specs.Words.{Word, Words}
 use Rattle.legalpath.specs.Backward.{is_backward}
 use Rattle.legalpath.specs.Successor.{successor}
 use Rattle.legalpath.specs.declared.next.Next.{Next}
 use Rattle.legalpath.specs.declared.next.Next.TheVariants.{One, Any, NoneInside}
-use Rattle.decoder.specs.Leads.{LeadsOn, may_stay_on}
+use Rattle.decoder.specs.Leads.{may_stay_on}
 use Rattle.decoder.specs.Retracing.{Reaches, Retraces}
 use Rattle.decoder.specs.Walk.{End, AtTarget}
 use Rattle.decoder.specs.WalkSteps.{Stop, Last, On, retire_on, stops, next_move, last_move, target_move, move_to, advance}
-use Rattle.decoder.specs.Walks.{event_of, end_of}
+use Rattle.decoder.specs.Walks.{event_of, end_of, Carries}
 use Rattle.decoder.specs.declared.stepping.Goal.{Goal}
 use Rattle.decoder.specs.declared.stepping.Goal.TheVariants.{Address, Target, Branch as GoalBranch}
 use Rattle.decoder.specs.declared.stepping.Here.{Here}
-use Rattle.decoder.specs.declared.stepping.Lead.{Lead}
-use Rattle.decoder.specs.declared.stepping.Lead.TheVariants.{To, Anywhere, Nowhere}
 
 module _ (words : Words) (taken : List Bool) (here : Here) (used : ℕ) where
   retraces_next : (done : Bool) (end : End) (r : Option (Event × List Bool)) → Reaches words taken here used done r → Retraces words taken here used done (next_move words end r)
@@ -55,28 +53,30 @@ module _ (words : Words) (taken : List Bool) (here : Here) (used : ℕ) where
     unfolding advance
     stepped end next leads there = subst (λ n. Retraces words taken here used done (move_to words (event_of from) left end n)) (sym leads) there
 
-    pub retraces_to : (end : End) (lead : Lead) (addr : ℕ) → LeadsOn (words from.addr) from.addr from.itype from.privilege lead → lead ≡ To addr → Reaches words taken here used done (retire_on addr from.privilege (words addr) left) → Retraces words taken here used done (advance words (event_of from) left end)
-    retraces_to end lead addr leads is reached =
-        let one = subst (LeadsOn (words from.addr) from.addr from.itype from.privilege) is leads in
-        stepped end (One addr) one (retraces_next done end (retire_on addr from.privilege (words addr) left) reached)
+    pub retraces_to : (end : End) (addr : ℕ) → Carries words from → from.next ≡ One addr →
+        Reaches words taken here used done (retire_on addr from.privilege (words addr) left) →
+        Retraces words taken here used done (advance words (event_of from) left end)
+    retraces_to end addr carries is reached =
+        stepped end (One addr) (carries.0 ∙ is) (retraces_next done end (retire_on addr from.privilege (words addr) left) reached)
 
-    pub retraces_anywhere : (goal : Goal) (lead : Lead) (stays : Bool) (addr : ℕ) → LeadsOn (words from.addr) from.addr from.itype from.privilege lead → lead ≡ Anywhere stays → goal ≡ Target addr → Reaches words taken here used done (retire_on addr from.privilege (words addr) left) → Retraces words taken here used done (advance words (event_of from) left (end_of goal))
-    retraces_anywhere goal lead stays addr leads is aim reached =
-        let any = subst (LeadsOn (words from.addr) from.addr from.itype from.privilege) is leads in
+    pub retraces_any : (goal : Goal) (addr : ℕ) → Carries words from → from.next ≡ Any → goal ≡ Target addr →
+        Reaches words taken here used done (retire_on addr from.privilege (words addr) left) →
+        Retraces words taken here used done (advance words (event_of from) left (end_of goal))
+    retraces_any goal addr carries is aim reached =
         let there = retraces_target done (words from.addr) from.privilege addr left reached in
-        stepped (end_of goal) Any any.0 (subst (λ g. Retraces words taken here used done (target_move words (words from.addr) from.privilege left (end_of g))) (sym aim) there)
+        stepped (end_of goal) Any (carries.0 ∙ is) (subst (λ g. Retraces words taken here used done (target_move words (words from.addr) from.privilege left (end_of g))) (sym aim) there)
 
     -- No walk goes on elsewhere from a discontinuity, and none goes on from a word that does not retire.
-    pub retraces_nothing : (goal : Goal) (lead : Lead) (stays : Bool) → LeadsOn (words from.addr) from.addr from.itype from.privilege lead → lead ≡ Anywhere stays → ((addr : ℕ) → goal ≡ Target addr → ⊥) → Retraces words taken here used done (advance words (event_of from) left (end_of goal))
-    retraces_nothing goal lead stays leads is other =
-        let any = subst (LeadsOn (words from.addr) from.addr from.itype from.privilege) is leads in
-        stepped (end_of goal) Any any.0 (by_goal goal other)
+    pub retraces_nothing : (goal : Goal) → Carries words from → from.next ≡ Any →
+        ((addr : ℕ) → goal ≡ Target addr → ⊥) →
+        Retraces words taken here used done (advance words (event_of from) left (end_of goal))
+    retraces_nothing goal carries is other = stepped (end_of goal) Any (carries.0 ∙ is) (by_goal goal other)
       where
         by_goal : (goal : Goal) → ((addr : ℕ) → goal ≡ Target addr → ⊥) → Retraces words taken here used done (target_move words (words from.addr) from.privilege left (end_of goal))
         by_goal GoalBranch other = stopped done
         by_goal (Address to) other = stopped done
         by_goal (Target to) other = absurd (other to refl)
 
-    pub retraces_nowhere : (end : End) (lead : Lead) → LeadsOn (words from.addr) from.addr from.itype from.privilege lead → lead ≡ Nowhere → Retraces words taken here used done (advance words (event_of from) left end)
-    retraces_nowhere end lead leads is =
-        let none = subst (LeadsOn (words from.addr) from.addr from.itype from.privilege) is leads in stepped end NoneInside none (stopped done)
+    pub retraces_nowhere : (end : End) → Carries words from → from.next ≡ NoneInside →
+        Retraces words taken here used done (advance words (event_of from) left end)
+    retraces_nowhere end carries is = stepped end NoneInside (carries.0 ∙ is) (stopped done)

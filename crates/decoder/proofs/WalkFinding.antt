@@ -122,15 +122,15 @@ any_leaves (Some (Uninferable, n)) a t l = refl
 any_leaves (Some (TrapReturn y, n)) a t l = refl
 any_leaves (Some (NotRetirable, n)) a t l = cc
 
-stays : (word : Option Word) (p q : ℕ) → KeepsPrivilege word p q → q ≡ p → may_stay_on word p ≡ true
-stays None p q k e = refl
-stays (Some (Plain, n)) p q k e = refl
-stays (Some (Jump to, n)) p q k e = refl
-stays (Some (Branch to, n)) p q k e = refl
-stays (Some (Uninferable, n)) p q k e = refl
-stays (Some (TrapReturn Mret, n)) p q k e = refl
-stays (Some (TrapReturn Sret, n)) p q k e = grind (arith, nat_tests)
-stays (Some (NotRetirable, n)) p q k e = refl
+stays : (word : Option Word) (p q : ℕ) → IsPrivilege p → KeepsPrivilege word p q → q ≡ p → may_stay_on word p ≡ true
+stays None p q level k e = refl
+stays (Some (Plain, n)) p q level k e = grind (arith, nat_tests)
+stays (Some (Jump to, n)) p q level k e = grind (arith, nat_tests)
+stays (Some (Branch to, n)) p q level k e = grind (arith, nat_tests)
+stays (Some (Uninferable, n)) p q level k e = grind (arith, nat_tests)
+stays (Some (TrapReturn Mret, n)) p q level k e = grind (arith, nat_tests, level.0)
+stays (Some (TrapReturn Sret, n)) p q level k e = grind (arith, nat_tests)
+stays (Some (NotRetirable, n)) p q level k e = grind (arith, nat_tests)
 
 kept : (word : Option Word) (p : ℕ) → leaves word ≡ false → KeepsPrivilege word p p
 kept None p l = refl
@@ -183,7 +183,7 @@ module _ (words : Words) (good : IsProgram words) where
   target_finds p a (Retire y u z) (Trap x q i c v) h k d r s at = let z : false ≡ true = k.0 in cc
   target_finds p a (Retire y u z) (Retire x t q) h k d r s at =
       let level : q ≡ z = k.1 ∙ sym h.1 in
-      let stay = stays (words y) z q s.1 level in
+      let stay = stays (words y) z q (subst IsPrivilege level r.1) s.1 level in
       let there : retire_on a z (words a) (outcomes (Retire x t q ∷ [])) ≡ Some (Retire x t q, []) =
       ap (λ m. retire_on m z (words m) (outcomes (Retire x t q ∷ []))) (sym at) ∙ ap (λ m. retire_on x m (words x) (outcomes (Retire x t q ∷ []))) (sym level) ∙ retire_on-finds x q (words x) t [] r.0 in
       advance_any (Retire y u z) (outcomes (Retire x t q ∷ [])) (AtTarget a) (any_step (Retire y u z) h.0 d)

@@ -4,11 +4,10 @@ use Rattle.std.specs.Prelude.{◌≡◌, ℕ, Bool, true, false, List, [], ◌�
 use Rattle.retire.specs.declared.event.Event.{Event}
 use Rattle.retire.specs.declared.event.Event.TheVariants.{Retire, Trap}
 use Rattle.rvclass.specs.Words.{Word, Words}
-use Rattle.rvclass.specs.declared.class.Class.{Class}
-use Rattle.rvclass.specs.declared.class.Class.TheVariants as class
 use Rattle.legalpath.specs.declared.fault.Why.{Why}
 use Rattle.legalpath.specs.declared.fault.Why.TheVariants as why
 use Rattle.decoder.specs.Fits.{AfterInferable, FitsTrap}
+use Rattle.decoder.specs.WalkSteps.{type_on}
 use Rattle.decoder.specs.declared.fault.DecodeFault.{DecodeFault}
 use Rattle.decoder.specs.declared.fault.DecodeFault.TheVariants as fault
 use Rattle.decoder.specs.declared.reporting.Cause.{Cause}
@@ -23,25 +22,20 @@ fault_of why.WrongNext = fault.WrongPlace
 fault_of why.WrongPrivilege = fault.WrongPrivilege
 fault_of why.WrongEpc = fault.WrongPlace
 
--- The type of a retirement of this class, which is a taken branch or not.
-abbrev pub type_by : Class → Bool → Result ℕ DecodeFault
-type_by class.Plain true = Err fault.Branches
-type_by class.Plain false = Ok 0
-type_by (class.Jump to) true = Err fault.Branches
-type_by (class.Jump to) false = Ok 0
-type_by (class.Branch to) true = Ok 5
-type_by (class.Branch to) false = Ok 4
-type_by class.Uninferable true = Err fault.Branches
-type_by class.Uninferable false = Ok 6
-type_by (class.TrapReturn ret) true = Err fault.Branches
-type_by (class.TrapReturn ret) false = Ok 3
-type_by class.NotRetirable taken = Err fault.OffProgram
+-- The type of a retirement with one outcome, from the type and what it leaves of that: a taken branch
+-- leaves nothing.
+abbrev pub type_with : Option (ℕ × List Bool) → Result ℕ DecodeFault
+type_with None = Err fault.OffProgram
+type_with (Some (itype, [])) = Ok itype
+type_with (Some (itype, true ∷ left)) = Err fault.Branches
+type_with (Some (itype, false ∷ left)) = Ok itype
 
--- The type of a retirement on this word, if there is one.
+-- The type of a retirement on this word, if there is one, which is a taken branch or not.
 abbrev pub type_at : Option Word → Bool → Result ℕ DecodeFault
 type_at None taken = Err fault.OffProgram
-type_at (Some word) taken = type_by word.0 taken
+type_at (Some word) taken = type_with (type_on word.0 (taken ∷ []))
 
+-- The retirement of this type.
 abbrev pub retirement_of : ℕ → ℕ → Result ℕ DecodeFault → Result Event DecodeFault
 retirement_of addr priv (Ok itype) = Ok (Retire addr itype priv)
 retirement_of addr priv (Err fault) = Err fault

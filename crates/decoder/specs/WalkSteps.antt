@@ -8,8 +8,8 @@ use Rattle.retire.specs.declared.event.Event.TheVariants.{Retire}
 use Rattle.rvclass.specs.Words.{Word, Words}
 use Rattle.rvclass.specs.declared.class.Class.{Class}
 use Rattle.rvclass.specs.declared.class.Class.TheVariants.{Plain, Jump, Branch, Uninferable, TrapReturn, NotRetirable}
-use Rattle.rvclass.specs.declared.class.Return.TheVariants.{Mret, Sret}
 use Rattle.legalpath.specs.Backward.{is_backward}
+use Rattle.legalpath.specs.Judging.{may_retire_at}
 use Rattle.legalpath.specs.Successor.{successor}
 use Rattle.legalpath.specs.WordOf.{word_of}
 use Rattle.legalpath.specs.declared.next.Next.{Next}
@@ -37,16 +37,6 @@ type_on Uninferable taken = Some (6, taken)
 type_on (TrapReturn ret) taken = Some (3, taken)
 type_on NotRetirable taken = None
 
--- A word of this class may retire at this privilege.
-abbrev pub may_retire : Class → ℕ → Bool
-may_retire Plain priv = true
-may_retire (Jump to) priv = true
-may_retire (Branch to) priv = true
-may_retire Uninferable priv = true
-may_retire (TrapReturn Mret) priv = priv == 3
-may_retire (TrapReturn Sret) priv = nat_le 1 priv
-may_retire NotRetirable priv = true
-
 abbrev pub retirement : ℕ → ℕ → Option (ℕ × List Bool) → Option (Event × List Bool)
 retirement addr priv None = None
 retirement addr priv (Some (itype, taken)) = Some (Retire addr itype priv, taken)
@@ -55,7 +45,7 @@ retirement addr priv (Some (itype, taken)) = Some (Retire addr itype priv, taken
 abbrev pub retire_on : ℕ → ℕ → Option Word → List Bool → Option (Event × List Bool)
 retire_on addr priv None taken = None
 retire_on addr priv (Some word) taken =
-    if may_retire word.0 priv then retirement addr priv (type_on word.0 taken) else None
+    if may_retire_at word.0 priv then retirement addr priv (type_on word.0 taken) else None
 
 abbrev pub is_empty : List Bool → Bool
 is_empty [] = true

@@ -6,7 +6,8 @@ use Rattle.retire.specs.declared.event.Event.{Event}
 use Rattle.retire.specs.declared.event.Event.TheVariants.{Retire}
 use Rattle.rvclass.specs.Words.{Words}
 use Rattle.legalpath.specs.Legal.{Runs}
-use Rattle.decoder.specs.Leads.{LeadsOn}
+use Rattle.legalpath.specs.Successor.{leads_from}
+use Rattle.decoder.specs.Leads.{may_stay_on}
 use Rattle.decoder.specs.Walk.{End, AtBranch, AtAddress, AtTarget, IsWalk}
 use Rattle.decoder.specs.declared.stepping.Goal.{Goal}
 use Rattle.decoder.specs.declared.stepping.Goal.TheVariants as goal
@@ -23,9 +24,11 @@ end_of goal.Branch = AtBranch
 end_of (goal.Address addr) = AtAddress addr
 end_of (goal.Target addr) = AtTarget addr
 
--- The retirement leads where it is kept that it leads.
+-- The retirement leads where it is kept that it leads, and its privilege may stay where that is kept.
 abbrev pub Carries : Words → Here → Type 0
-Carries words here = LeadsOn (words here.addr) here.addr here.itype here.privilege here.lead
+Carries words here =
+    (leads_from here.addr here.itype (words here.addr) ≡ here.next) ×
+    (may_stay_on (words here.addr) here.privilege ≡ here.stays)
 
 -- The retirement is kept with where it leads, and its privilege is one of the three.
 abbrev pub IsHere : Words → Here → Type 0

@@ -14,10 +14,11 @@ ghost use Rattle.decoder.specs.Walks.{event_of, IsHere};
 
 use crate::fault::DecodeFault;
 use crate::part::Part;
-use crate::stepping::{Here, lead_of};
-use legalpath::{Next, Why, check, successor};
+use crate::stepping::{Course, Goal, Here, may_stay, type_of};
+use legalpath::{Next, Why, check, leads, may_stand_at, successor};
+use payload::Outcomes;
 use retire::Event;
-use rvclass::{Class, Program};
+use rvclass::Program;
 
 /// What a reason why an event is illegal says of the decoding.
 fn fault_of(why: Why) -> DecodeFault
@@ -82,22 +83,9 @@ pub fn start(program: &Program, before: &Option<Event>) -> Result<Here, DecodeFa
         addr,
         itype,
         privilege,
-        lead: lead_of(addr, itype, privilege, class, length),
+        next: leads(addr, itype, class, length),
+        stays: may_stay(class, privilege),
     })
-}
-
-/// The type of a retirement of a class, which is a taken branch or not.
-fn type_by(class: Class, taken: bool) -> Result<u8, DecodeFault>
-    ensures { result ≡ reporting.type_by class taken }
-{
-    match class {
-        Class::NotRetirable => Err(DecodeFault::OffProgram),
-        Class::Branch(_) => Ok(if taken { 5 } else { 4 }),
-        _ if taken => Err(DecodeFault::Branches),
-        Class::Plain | Class::Jump(_) => Ok(0),
-        Class::Uninferable => Ok(6),
-        Class::TrapReturn(_) => Ok(3),
-    }
 }
 
 /// What a packet tells of the event at the address that it reports.
@@ -158,7 +146,8 @@ impl Cause {
     }
 }
 
-/// The retirement that a packet reports, by the word at its address.
+/// The retirement that a packet reports, by the word at its address. What the packet tells of a branch is the one
+/// outcome that there is; where it tells of a taken one, a branch has to use it.
 fn retirement(program: &Program, told: Told) -> Result<Event, DecodeFault>
     ensures { result ≡ reporting.retirement_of told.addr told.privilege
         (reporting.type_at (words_of program.now told.addr) told.taken) }
@@ -166,14 +155,21 @@ fn retirement(program: &Program, told: Told) -> Result<Event, DecodeFault>
     let Some((class, _)) = program.at(told.addr) else {
         return Err(DecodeFault::OffProgram);
     };
-    match type_by(class, told.taken) {
-        Ok(itype) => Ok(Event::Retire {
-            addr: told.addr,
-            itype,
-            privilege: told.privilege,
-        }),
-        Err(fault) => Err(fault),
+    let mut outcomes = Outcomes::new();
+    outcomes.push(told.taken);
+    let mut used = 0;
+    let course = Course::new(&outcomes, Goal::Address(told.addr));
+    let Ok(itype) = type_of(class, &mut used, &course) else {
+        return Err(DecodeFault::OffProgram);
+    };
+    if told.taken && used == 0 {
+        return Err(DecodeFault::Branches);
     }
+    Ok(Event::Retire {
+        addr: told.addr,
+        itype,
+        privilege: told.privilege,
+    })
 }
 
 /// The retirement that a packet reports, after the event before.
@@ -197,13 +193,9 @@ pub fn reported(program: &Program, before: Option<Event>, told: Told) -> Result<
 fn may_stand(program: &Program, before: Option<Event>, at: u64) -> bool
     ensures { IsTrue result ↔ MayStandAfter (words_of program.now) before at }
 {
-    let Some(event) = before else {
-        return true;
-    };
-    match successor(program, &event) {
-        Next::One(to) => at == to,
-        Next::Any => true,
-        Next::NoneInside => false,
+    match before {
+        None => true,
+        Some(event) => may_stand_at(successor(program, &event), at),
     }
 }
 

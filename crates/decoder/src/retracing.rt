@@ -6,7 +6,8 @@ ghost use Rattle.decoder.specs.WalkSteps as steps;
 ghost use Rattle.decoder.specs.Retracing.{Reaches, Retraces};
 ghost use Rattle.decoder.specs.Walks.{event_of, end_of, Carries};
 
-use crate::stepping::{Course, Goal, Here, Lead, lead_of, type_of};
+use crate::stepping::{Course, Goal, Here, may_stay, type_of};
+use legalpath::{Next, leads};
 use rvclass::Program;
 
 /// A step from a retirement, where so many outcomes are used, to the next one of a walk that was measured. It answers
@@ -18,13 +19,13 @@ pub fn retrace(program: &Program, here: &mut Here, used: &mut usize, course: &Co
     ensures { Retraces (words_of program.now) course.now.outcomes here.new used.new result
         (steps.advance (words_of program.now) (event_of here.old) (drop used.old course.now.outcomes) (end_of course.now.goal)) }
 {
-    match here.lead {
-        Lead::To(addr) => reach(program, addr, here, used, course),
-        Lead::Anywhere { .. } => match course.goal {
+    match here.next {
+        Next::One(addr) => reach(program, addr, here, used, course),
+        Next::Any => match course.goal {
             Goal::Target(addr) => reach(program, addr, here, used, course),
             _ => false,
         },
-        Lead::Nowhere => false,
+        Next::NoneInside => false,
     }
 }
 
@@ -43,6 +44,7 @@ fn reach(program: &Program, addr: u64, here: &mut Here, used: &mut usize, course
     };
     here.addr = addr;
     here.itype = itype;
-    here.lead = lead_of(addr, itype, here.privilege, class, length);
+    here.next = leads(addr, itype, class, length);
+    here.stays = may_stay(class, here.privilege);
     true
 }

@@ -7,27 +7,14 @@ ghost use Rattle.rvclass.specs.Fetch.{words_of};
 ghost use Rattle.rvclass.specs.Words.{IsProgram, Word, Words};
 ghost use Rattle.rvclass.specs.declared.class.Class.TheVariants.{Plain};
 ghost use Rattle.decoder.specs.Faults.{IsOnTheWay};
-ghost use Rattle.decoder.specs.Leads.{LeadsOn, may_stay, may_stay_on};
+ghost use Rattle.decoder.specs.Leads.{may_stay, may_stay_on};
 ghost use Rattle.decoder.specs.WalkSteps as steps;
 ghost use Rattle.decoder.specs.Walks.{event_of, end_of, Carries};
 
 use crate::fault::DecodeFault;
+use legalpath::{Next, greatest_after, leads, may_retire_at};
 use payload::Outcomes;
-use rvclass::{Class, Program, Return};
-
-/// Where a walk goes on from a retirement.
-#[derive(Clone, Copy)]
-pub enum Lead {
-    /// At this address.
-    To(u64),
-    /// Anywhere, from an uninferable discontinuity.
-    Anywhere {
-        /// Whether the privilege may stay.
-        stays: bool,
-    },
-    /// Nowhere, since the word does not retire.
-    Nowhere,
-}
+use rvclass::{Class, Program};
 
 /// A retirement, and where it leads.
 #[derive(Clone, Copy)]
@@ -39,7 +26,9 @@ pub struct Here {
     /// The privilege that it retired at.
     pub privilege: u8,
     /// Where it leads.
-    pub lead: Lead,
+    pub next: Next,
+    /// Whether the privilege may stay after it.
+    pub stays: bool,
 }
 
 /// Where a walk ends.
@@ -97,10 +86,10 @@ pub fn step_from(program: &Program, here: &mut Here, used: &mut usize, course: &
         ≡ steps.advance (words_of program.now) (event_of here.old) (drop used.old course.now.outcomes) (end_of course.now.goal) }
     ensures carries { steps.StepCarries (words_of program.now) here.new result }
 {
-    match here.lead {
-        Lead::To(addr) => step_on(program, addr, here, used, course),
-        Lead::Anywhere { stays } => step_last(program, stays, here, used, course),
-        Lead::Nowhere => Step::Fails(DecodeFault::OffProgram),
+    match here.next {
+        Next::One(addr) => step_on(program, addr, here, used, course),
+        Next::Any => step_last(program, here, used, course),
+        Next::NoneInside => Step::Fails(DecodeFault::OffProgram),
     }
 }
 
@@ -122,12 +111,13 @@ fn step_on(program: &Program, addr: u64, here: &mut Here, used: &mut usize, cour
         Ok(itype) => itype,
         Err(fault) => return Step::Fails(fault),
     };
-    if !may_retire(class, here.privilege) {
+    if !may_retire_at(class, here.privilege) {
         return Step::Fails(DecodeFault::WrongPrivilege);
     }
     here.addr = addr;
     here.itype = itype;
-    here.lead = lead_of(addr, itype, here.privilege, class, length);
+    here.next = leads(addr, itype, class, length);
+    here.stays = may_stay(class, here.privilege);
     if ends(addr, itype, *used, course) {
         Step::Ends
     } else if jumps_back(addr, class) {
@@ -150,7 +140,8 @@ fn step_plain(addr: u64, length: u8, here: &mut Here, used: usize, course: &Cour
 {
     here.addr = addr;
     here.itype = 0;
-    here.lead = Lead::To(addr + u64::from(length));
+    here.next = Next::One(addr + u64::from(length));
+    here.stays = true;
     if ends(addr, 0, used, course) {
         Step::Ends
     } else {
@@ -158,17 +149,11 @@ fn step_plain(addr: u64, length: u8, here: &mut Here, used: usize, course: &Cour
     }
 }
 
-/// The step from a discontinuity, whose privilege may stay or not.
+/// The step from a discontinuity.
 #[inline(always)]
-fn step_last(
-    program: &Program,
-    stays: bool,
-    here: &mut Here,
-    used: &mut usize,
-    course: &Course,
-) -> Step
+fn step_last(program: &Program, here: &mut Here, used: &mut usize, course: &Course) -> Step
     requires { steps.IsCourse course.now }
-    ensures step { (word : Option Word) → may_stay_on word here.old.privilege ≡ stays
+    ensures step { (word : Option Word) → may_stay_on word here.old.privilege ≡ here.old.stays
         → steps.move_of course.now.outcomes here.new used.new result
         ≡ steps.target_move (words_of program.now) word here.old.privilege
         (drop used.old course.now.outcomes) (end_of course.now.goal) }
@@ -187,7 +172,7 @@ fn step_last(
     if !are_used(*used, course) {
         return Step::Fails(DecodeFault::Branches);
     }
-    if !may_retire(class, here.privilege) || !stays {
+    if !may_retire_at(class, here.privilege) || !here.stays {
         return Step::Fails(DecodeFault::WrongPrivilege);
     }
     here.addr = addr;
@@ -221,48 +206,12 @@ pub fn type_of(class: Class, used: &mut usize, course: &Course) -> Result<u8, De
     }
 }
 
-/// Where a retirement of an address, type and privilege leads, by the class and the length of the word there.
-#[inline(always)]
-pub fn lead_of(addr: u64, itype: u8, privilege: u8, class: Class, length: u8) -> Lead
-    requires { addr + length < 2 ^ 64 }
-    ensures { LeadsOn (Some (class, length)) addr itype privilege result }
-{
-    match class {
-        Class::Plain => Lead::To(addr + u64::from(length)),
-        Class::Jump(to) => Lead::To(to),
-        Class::Branch(to) => Lead::To(if itype == 5 {
-            to
-        } else {
-            addr + u64::from(length)
-        }),
-        Class::Uninferable | Class::TrapReturn(_) => Lead::Anywhere {
-            stays: may_stay(class, privilege),
-        },
-        Class::NotRetirable => Lead::Nowhere,
-    }
-}
-
-/// Whether a word of a class may retire at a privilege.
-#[inline]
-fn may_retire(class: Class, privilege: u8) -> bool
-    ensures { result ≡ steps.may_retire class privilege }
-{
-    match class {
-        Class::TrapReturn(Return::Mret) => privilege == 3,
-        Class::TrapReturn(Return::Sret) => privilege >= 1,
-        _ => true,
-    }
-}
-
 /// Whether the privilege may stay after a retirement of a class.
 #[inline]
-fn may_stay(class: Class, privilege: u8) -> bool
+pub fn may_stay(class: Class, privilege: u8) -> bool
     ensures { result ≡ may_stay class privilege }
 {
-    match class {
-        Class::TrapReturn(Return::Sret) => privilege <= 1,
-        _ => true,
-    }
+    privilege <= greatest_after(class, privilege)
 }
 
 /// Whether all outcomes are used.

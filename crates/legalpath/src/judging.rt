@@ -141,7 +141,7 @@ fn is_type_of(class: Class, itype: u8) -> bool
 
 /// Whether an event may stand at this place.
 #[inline]
-fn may_stand_at(next: Next, at: u64) -> bool
+pub fn may_stand_at(next: Next, at: u64) -> bool
     ensures { result ≡ judging.may_stand_at next at }
 {
     match next {
@@ -153,7 +153,7 @@ fn may_stand_at(next: Next, at: u64) -> bool
 
 /// Whether a word of this class may retire at this privilege.
 #[inline]
-fn may_retire_at(class: Class, privilege: u8) -> bool
+pub fn may_retire_at(class: Class, privilege: u8) -> bool
     ensures { result ≡ judging.may_retire_at class privilege }
 {
     match class {
@@ -185,7 +185,7 @@ fn least_after(class: Class, privilege: u8) -> u8
 
 /// The greatest privilege after a retirement of this class at this one.
 #[inline]
-fn greatest_after(class: Class, privilege: u8) -> u8
+pub fn greatest_after(class: Class, privilege: u8) -> u8
     ensures { result ≡ judging.greatest_after class privilege }
 {
     match class {

@@ -14,6 +14,7 @@ mod tests;
 
 pub use checking::check;
 pub use fault::{PathFault, Why};
+pub use judging::{greatest_after, may_retire_at, may_stand_at};
 pub use laws::{logs_split_and_join, reasons_tell_the_illegal, retirements_lead_to_one_place};
 pub use legal_log::LegalLog;
-pub use next::{Next, successor};
+pub use next::{Next, leads, successor};
