@@ -8,7 +8,7 @@ use Rattle.rvclass.specs.Words.{Words}
 use Rattle.payload.specs.declared.packet.Packet.{Packet}
 use Rattle.encoder.specs.Packets.{packet_by, reported_by}
 use Rattle.encoder.specs.Piece.{is_cut}
-use Rattle.encoder.specs.Stepping.{rule_before, rule_of_quiet, cuts_off, jumps_back_to, is_unreported, is_handler_due, is_quiet, next_due, due_next, packets_by, packets_before, reported_before, handler_packet, pending_with, left_after, hold, given, given_with, after, after_with}
+use Rattle.encoder.specs.steps.Stepping.{rule_before, rule_of_quiet, cuts_off, jumps_back_to, is_unreported, is_handler_due, is_quiet, next_due, due_next, packets_by, packets_before, reported_before, handler_packet, pending_with, left_after, hold, given, given_with, after, after_with}
 use Rattle.encoder.specs.declared.due.Due.{Due}
 use Rattle.encoder.specs.declared.due.Due.TheVariants as due
 use Rattle.encoder.specs.declared.encoder.Encoder.{Encoder}
@@ -17,14 +17,18 @@ use Rattle.encoder.specs.declared.rule.Rule.TheVariants as by
 use Rattle.encoder.proofs.CountLemmas.{full_by_count}
 
 -- The event is held with its outcome, where it is no handler.
-pub pending_with-outcomes : (d : Due) (front : List Event) (event : Event) → is_handler_due d ≡ false → pending_with d event (outcomes front) ≡ outcomes (front ++ event ∷ [])
-pending_with-outcomes d front event h = ap (λ b. cond (not b && is_branch event) (outcomes front ++ is_taken event ∷ []) (outcomes front)) h ∙ by_branch (is_branch event) refl ∙ sym (outcomes-append front (event ∷ []))
+pub pending_with-outcomes : (d : Due) (front : List Event) (event : Event) → is_handler_due d ≡ false
+    → pending_with d event (outcomes front) ≡ outcomes (front ++ event ∷ [])
+pending_with-outcomes d front event h =
+    ap (λ b. cond (not b && is_branch event) (outcomes front ++ is_taken event ∷ []) (outcomes front)) h
+    ∙ by_branch (is_branch event) refl ∙ sym (outcomes-append front (event ∷ []))
   where
     append_none : (l : List Bool) → l ≡ l ++ []
     append_none [] = refl
     append_none (x ∷ l) = ap (λ k. x ∷ k) (append_none l)
 
-    by_branch : (b : Bool) → is_branch event ≡ b → cond b (outcomes front ++ is_taken event ∷ []) (outcomes front) ≡ outcomes front ++ outcomes (event ∷ [])
+    by_branch : (b : Bool) → is_branch event ≡ b → cond b (outcomes front ++ is_taken event ∷ []) (outcomes front)
+        ≡ outcomes front ++ outcomes (event ∷ [])
     by_branch true e = ap (λ l. outcomes front ++ l) (sym (outcomes-branch event [] e))
     by_branch false e = append_none (outcomes front) ∙ ap (λ l. outcomes front ++ l) (sym (outcomes-other event [] e))
 
@@ -42,7 +46,8 @@ IsOwn by.Explicit = Unit {0}
 IsOwn by.Notify = Unit {0}
 IsOwn by.Unreported = Unit {0}
 
-pub rule_before-IsOwn : (words : Words) (held : Event) (d : Due) (next : Event) (d' : Due) → is_handler_due d ≡ false → IsOwn (rule_before words held d next d')
+pub rule_before-IsOwn : (words : Words) (held : Event) (d : Due) (next : Event) (d' : Due) → is_handler_due d ≡ false
+    → IsOwn (rule_before words held d next d')
 rule_before-IsOwn words held due.TrapOrHandler next d' h = tt
 rule_before-IsOwn words held due.Trap next d' h = tt
 rule_before-IsOwn words held due.Handler next d' h = cc
@@ -56,7 +61,8 @@ rule_before-IsOwn words held due.Nothing next d' h = by_tests (cuts_off d') (jum
     by_tests false false = tt
 
 -- An event is quiet exactly where it is no cut.
-pub quiet_is : (front : List Event) (held : Event) (r : Rule) → length (outcomes front) ≤ 30 → IsOwn r → (is_unreported r && nat_lt (length (outcomes (front ++ held ∷ []))) 31) ≡ not (is_cut front held r)
+pub quiet_is : (front : List Event) (held : Event) (r : Rule) → length (outcomes front) ≤ 30 → IsOwn r
+    → (is_unreported r && nat_lt (length (outcomes (front ++ held ∷ []))) 31) ≡ not (is_cut front held r)
 quiet_is front held (by.Trap true) few own = absurd own
 quiet_is front held (by.Trap false) few own = refl
 quiet_is front held by.Handler few own = absurd own
@@ -64,14 +70,16 @@ quiet_is front held by.Sync few own = refl
 quiet_is front held (by.Target cut_off) few own = refl
 quiet_is front held by.Explicit few own = refl
 quiet_is front held by.Notify few own = refl
-quiet_is front held by.Unreported few own = twice (nat_lt (length (outcomes (front ++ held ∷ []))) 31) ∙ ap not (sym (full_by_count front held few))
+quiet_is front held by.Unreported few own =
+    twice (nat_lt (length (outcomes (front ++ held ∷ []))) 31) ∙ ap not (sym (full_by_count front held few))
   where
     twice : (x : Bool) → x ≡ not (not x)
     twice true = refl
     twice false = refl
 
 -- Its packet is that of its piece.
-pub packets_by-own : (front : List Event) (held : Event) (r : Rule) (reported : ℕ) → IsOwn r → packets_by r held (outcomes (front ++ held ∷ [])) reported ≡ packet_by reported front held r ∷ []
+pub packets_by-own : (front : List Event) (held : Event) (r : Rule) (reported : ℕ) → IsOwn r
+    → packets_by r held (outcomes (front ++ held ∷ [])) reported ≡ packet_by reported front held r ∷ []
 packets_by-own front held (by.Trap true) reported own = absurd own
 packets_by-own front held (by.Trap false) reported own = refl
 packets_by-own front held by.Handler reported own = absurd own
@@ -81,7 +89,8 @@ packets_by-own front held by.Explicit reported own = refl
 packets_by-own front held by.Notify reported own = refl
 packets_by-own front held by.Unreported reported own = refl
 
-pub rule_before-handler : (words : Words) (held : Event) (d : Due) (next : Event) (d' : Due) → is_handler_due d ≡ true → rule_before words held d next d' ≡ by.Handler
+pub rule_before-handler : (words : Words) (held : Event) (d : Due) (next : Event) (d' : Due) → is_handler_due d ≡ true
+    → rule_before words held d next d' ≡ by.Handler
 rule_before-handler words held due.TrapOrHandler next d' h = cc
 rule_before-handler words held due.Trap next d' h = cc
 rule_before-handler words held due.Handler next d' h = refl
@@ -90,7 +99,8 @@ rule_before-handler words held due.Target next d' h = cc
 rule_before-handler words held due.Nothing next d' h = cc
 
 -- What an encoder that holds this event gives and becomes.
-pub record Does (words : Words) (e : Encoder) (next : Event) (packets : List Packet) (pending : List Bool) (reported : ℕ) (d : Due) : Type 0 where
+pub record Does (words : Words) (e : Encoder) (next : Event) (packets : List Packet) (pending : List Bool)
+    (reported : ℕ) (d : Due) : Type 0 where
   pub gives : given words e next ≡ packets
   pub between : (after words e next).between ≡ e.between
   pub left : (after words e next).left ≡ left_after e.between e.left next
@@ -99,8 +109,11 @@ pub record Does (words : Words) (e : Encoder) (next : Event) (packets : List Pac
   pub pending_is : (after words e next).pending ≡ pending
   pub reported_is : (after words e next).reported ≡ reported
 
-module _ (words : Words) (e : Encoder) (held next : Event) (pending : List Bool) (reported : ℕ) (d d' : Due) (h : e.held ≡ Some held) (a : e.due ≡ d) (p : e.pending ≡ pending) (r : e.reported ≡ reported) (n : next_due (Some held) d e.left next ≡ d') where
-  pub does_quiet : (is_unreported (rule_before words held d next d') && nat_lt (length pending) 31) ≡ true → Does words e next [] (pending_with d' next pending) reported d'
+module _ (words : Words) (e : Encoder) (held next : Event) (pending : List Bool) (reported : ℕ) (d d' : Due)
+    (h : e.held ≡ Some held) (a : e.due ≡ d) (p : e.pending ≡ pending) (r : e.reported ≡ reported)
+    (n : next_due (Some held) d e.left next ≡ d') where
+  pub does_quiet : (is_unreported (rule_before words held d next d') && nat_lt (length pending) 31) ≡ true
+      → Does words e next [] (pending_with d' next pending) reported d'
   does_quiet q = record {
     gives = rw (h, a, n, p, q) refl;
     between = rw (h, a, n, p, q) refl;
@@ -111,7 +124,9 @@ module _ (words : Words) (e : Encoder) (held next : Event) (pending : List Bool)
     reported_is = rw (h, a, n, p, q, r) refl;
   }
 
-  pub does_handler : (is_unreported (rule_before words held d next d') && nat_lt (length pending) 31) ≡ false → is_handler_due d' ≡ true → Does words e next (handler_packet held next ∷ []) (pending_with d' next []) (place next) d'
+  pub does_handler : (is_unreported (rule_before words held d next d') && nat_lt (length pending) 31) ≡ false
+      → is_handler_due d' ≡ true → Does words e next (handler_packet held next ∷ []) (pending_with d' next [])
+      (place next) d'
   does_handler q f = record {
     gives = rw (h, a, n, p, q, f) refl;
     between = rw (h, a, n, p, q) refl;
@@ -122,7 +137,9 @@ module _ (words : Words) (e : Encoder) (held next : Event) (pending : List Bool)
     reported_is = rw (h, a, n, p, q, f) refl;
   }
 
-  pub does_loud : (is_unreported (rule_before words held d next d') && nat_lt (length pending) 31) ≡ false → is_handler_due d' ≡ false → Does words e next (packets_by (rule_before words held d next d') held pending reported) (pending_with d' next []) (reported_by (rule_before words held d next d') reported held) d'
+  pub does_loud : (is_unreported (rule_before words held d next d') && nat_lt (length pending) 31) ≡ false
+      → is_handler_due d' ≡ false → Does words e next (packets_by (rule_before words held d next d') held pending
+      reported) (pending_with d' next []) (reported_by (rule_before words held d next d') reported held) d'
   does_loud q f = record {
     gives = rw (h, a, n, p, q, f, r) refl;
     between = rw (h, a, n, p, q) refl;
@@ -136,13 +153,18 @@ module _ (words : Words) (e : Encoder) (held next : Event) (pending : List Bool)
 -- The two ways of the code, of which one gives nothing.
 module _ (words : Words) (e : Encoder) (event : Event) (d : Due) (n : d ≡ due_next e event) where
   pub after_quiet : is_quiet words e e.held event d ≡ true → hold e e.pending e.reported event d ≡ after words e event
-  after_quiet q = sym (ap (λ b. cond b (hold e e.pending e.reported event d) (hold e [] (reported_before words e e.held event d) event d)) q) ∙ ap (after_with words e event) n
+  after_quiet q =
+      sym (ap (λ b. cond b (hold e e.pending e.reported event d)
+      (hold e [] (reported_before words e e.held event d) event d)) q) ∙ ap (after_with words e event) n
 
   pub given_quiet : is_quiet words e e.held event d ≡ true → [] ≡ given words e event
   given_quiet q = sym (ap (λ b. cond b [] (packets_before words e e.held event d)) q) ∙ ap (given_with words e event) n
 
-  pub after_loud : is_quiet words e e.held event d ≡ false → hold e [] (reported_before words e e.held event d) event d ≡ after words e event
-  after_loud q = sym (ap (λ b. cond b (hold e e.pending e.reported event d) (hold e [] (reported_before words e e.held event d) event d)) q) ∙ ap (after_with words e event) n
+  pub after_loud : is_quiet words e e.held event d ≡ false
+      → hold e [] (reported_before words e e.held event d) event d ≡ after words e event
+  after_loud q =
+      sym (ap (λ b. cond b (hold e e.pending e.reported event d)
+      (hold e [] (reported_before words e e.held event d) event d)) q) ∙ ap (after_with words e event) n
 
   pub given_loud : is_quiet words e e.held event d ≡ false → packets_before words e e.held event d ≡ given words e event
   given_loud q = sym (ap (λ b. cond b [] (packets_before words e e.held event d)) q) ∙ ap (given_with words e event) n

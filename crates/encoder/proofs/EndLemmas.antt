@@ -16,7 +16,7 @@ use Rattle.encoder.specs.Piece.{Piece, is_cut, cut_or_go_on, pieces}
 use Rattle.encoder.specs.Rule.{holds, is_handler, is_start, rule}
 use Rattle.encoder.specs.Spot.{Spot, spots}
 use Rattle.encoder.specs.Stands.{reported_after, since_cut, Stands}
-use Rattle.encoder.specs.Stepping.{rule_at_end, packets_by, is_handler_due, given_at_end}
+use Rattle.encoder.specs.steps.Stepping.{rule_at_end, packets_by, is_handler_due, given_at_end}
 use Rattle.encoder.specs.declared.due.Due.{Due}
 use Rattle.encoder.specs.declared.due.Due.TheVariants as due
 use Rattle.encoder.specs.declared.encoder.Encoder.{Encoder}
@@ -28,16 +28,28 @@ use Rattle.encoder.proofs.ViewLemmas.{by_last, view_open, view_known}
 use Rattle.encoder.proofs.CodeLemmas.{IsOwn, packets_by-own}
 
 -- The rule of a log's last event is as the code says.
-rule-at_end : (words : Words) (period : ℕ) (n : ℕ) (b2 b : Option Event) (held : Event) → rule words period (record { number = n; before_that = b2; before = b; event = held; after = None }) ≡ rule_at_end (due_at words period (record { number = n; before_that = b2; before = b; event = held; after = None }))
+rule-at_end : (words : Words) (period : ℕ) (n : ℕ) (b2 b : Option Event) (held : Event)
+    → rule words period (record { number = n; before_that = b2; before = b; event = held; after = None })
+    ≡ rule_at_end (due_at words period (record {
+      number = n;
+      before_that = b2;
+      before = b;
+      event = held;
+      after =
+          None;
+    }))
 rule-at_end words period n b2 b (Retire addr itype priv) =
-    by_tests (is_handler words b2 b (Retire addr itype priv)) (is_start period n b priv) (holds (is_discontinuity words) b)
+    by_tests (is_handler words b2 b (Retire addr itype priv)) (is_start period n b priv)
+    (holds (is_discontinuity words) b)
   where
-    by_tests : (h y z : Bool) → cond h by.Handler (cond y by.Sync (cond z (by.Target false) by.Explicit)) ≡ rule_at_end (cond h due.Handler (cond y due.Sync (cond z due.Target due.Nothing)))
+    by_tests : (h y z : Bool) → cond h by.Handler (cond y by.Sync (cond z (by.Target false) by.Explicit))
+        ≡ rule_at_end (cond h due.Handler (cond y due.Sync (cond z due.Target due.Nothing)))
     by_tests true y z = refl
     by_tests false true z = refl
     by_tests false false true = refl
     by_tests false false false = refl
-rule-at_end words period n b2 b (Trap epc priv interrupt cause tval) = by_before (holds is_retirement b && not (holds (is_discontinuity words) b))
+rule-at_end words period n b2 b (Trap epc priv interrupt cause tval) =
+    by_before (holds is_retirement b && not (holds (is_discontinuity words) b))
   where
     by_before : (x : Bool) → by.Trap (x && false) ≡ rule_at_end (cond x due.TrapOrHandler due.Trap)
     by_before true = refl
@@ -68,7 +80,10 @@ handler_at_end due.Sync h = cc
 handler_at_end due.Target h = cc
 handler_at_end due.Nothing h = cc
 
-gives_at_end : (e : Encoder) (held : Event) (pending : List Bool) (reported : ℕ) (d : Due) → e.held ≡ Some held → e.due ≡ d → e.pending ≡ pending → e.reported ≡ reported → given_at_end e e.held ≡ packets_by (rule_at_end d) held pending reported ++ packet.Support (closing (rule_at_end d)) ∷ []
+gives_at_end : (e : Encoder) (held : Event) (pending : List Bool) (reported : ℕ) (d : Due) → e.held ≡ Some held
+    → e.due ≡ d → e.pending ≡ pending → e.reported ≡ reported
+    → given_at_end e e.held ≡ packets_by (rule_at_end d) held pending reported
+    ++ packet.Support (closing (rule_at_end d)) ∷ []
 gives_at_end e held pending reported d h a p r = rw (h, a, p, r) refl
 
 module _ (words : Words) (period : ℕ) where
@@ -101,58 +116,84 @@ module _ (words : Words) (period : ℕ) where
     rule_is = rule-at_end words period _ _ _ held
 
     ends : Reaches words period (ss ++ here ∷ []) (ps ++ last_packet ∷ []) (reported_by (rule_at_end d) r held) []
-    ends = reaches_cut words period ss here ps r since (rule_at_end d) (reaches words period ss) rule_is (cut_at_end d since held)
+    ends = reaches_cut words period ss here ps r since (rule_at_end d) (reaches words period ss) rule_is
+        (cut_at_end d since held)
 
     closing_is : closing_packet words period (front ++ held ∷ []) ≡ packet.Support (closing (rule_at_end d))
     closing_is =
         let p : Piece = record { front = since; last = held; by = rule_at_end d } in
         let before = pieces words period [] ss in
-        ap (λ x. packet.Support (closing (last_rule by.Unreported (pieces words period [] x)))) (spots-snoc front held None)
-        ∙ ap (λ x. packet.Support (closing (last_rule by.Unreported x))) (one_more words period ss here since (rule_at_end d) refl rule_is ∙ ap (λ b. before ++ cut_or_go_on b p (λ w. [])) (cut_at_end d since held))
+        ap (λ x. packet.Support (closing (last_rule by.Unreported (pieces words period [] x))))
+        (spots-snoc front held None)
+        ∙ ap (λ x. packet.Support (closing (last_rule by.Unreported x)))
+        (one_more words period ss here since (rule_at_end d) refl rule_is
+        ∙ ap (λ b. before ++ cut_or_go_on b p (λ w. [])) (cut_at_end d since held))
         ∙ ap (λ x. packet.Support (closing x)) (last_rule-snoc by.Unreported before p)
 
-    packets_are : packets words period (front ++ held ∷ []) ≡ packet.Support Open ∷ (ps ++ last_packet ∷ []) ++ packet.Support (closing (rule_at_end d)) ∷ []
+    packets_are : packets words period (front ++ held ∷ []) ≡ packet.Support Open
+        ∷ (ps ++ last_packet ∷ []) ++ packet.Support (closing (rule_at_end d)) ∷ []
     packets_are =
-        ap (λ x. packet.Support Open ∷ reports 0 (pieces words period [] x) ++ closing_packet words period (front ++ held ∷ []) ∷ []) (spots-snoc front held None)
+        ap (λ x. packet.Support Open ∷ reports 0 (pieces words period [] x)
+        ++ closing_packet words period (front ++ held ∷ []) ∷ []) (spots-snoc front held None)
         ∙ ap (λ x. packet.Support Open ∷ x ++ closing_packet words period (front ++ held ∷ []) ∷ []) ends.given
         ∙ ap (λ x. packet.Support Open ∷ (ps ++ last_packet ∷ []) ++ x ∷ []) closing_is
 
-    open_at_end : is_known words here ≡ false → packets words period (front ++ held ∷ []) ≡ packets_so_far words period (front ++ held ∷ []) ++ given_at_end e e.held
+    open_at_end : is_known words here ≡ false → packets words period (front ++ held ∷ [])
+        ≡ packets_so_far words period (front ++ held ∷ []) ++ given_at_end e e.held
     open_at_end k =
         let old = view_open words period front held ps r since k (reaches words period ss) in
         let is : is_handler_due d ≡ false = sym (is_known-due words period here) ∙ k in
-        let gives = gives_at_end e held (outcomes (since ++ held ∷ [])) r d is_held (stands.due ∙ old.asked) (stands.pending ∙ ap outcomes old.rest) (stands.reported ∙ old.told) in
+        let gives =
+        gives_at_end e held (outcomes (since ++ held ∷ [])) r d is_held (stands.due ∙ old.asked)
+        (stands.pending ∙ ap outcomes old.rest) (stands.reported ∙ old.told) in
         let own = packets_by-own since held (rule_at_end d) r (own_at_end d is) in
         packets_are
-        ∙ ap (λ x. packet.Support Open ∷ x) (append_assoc ps (last_packet ∷ []) (packet.Support (closing (rule_at_end d)) ∷ []))
+        ∙ ap (λ x. packet.Support Open ∷ x) (append_assoc ps (last_packet ∷ [])
+        (packet.Support (closing (rule_at_end d)) ∷ []))
         ∙ ap (λ x. packet.Support Open ∷ ps ++ (x ++ packet.Support (closing (rule_at_end d)) ∷ [])) (sym own)
         ∙ ap (λ x. packet.Support Open ∷ ps ++ x) (sym gives)
         ∙ ap (λ x. x ++ given_at_end e e.held) (sym old.so_far)
 
-    known_at_end : is_known words here ≡ true → packets words period (front ++ held ∷ []) ≡ packets_so_far words period (front ++ held ∷ []) ++ given_at_end e e.held
+    known_at_end : is_known words here ≡ true → packets words period (front ++ held ∷ [])
+        ≡ packets_so_far words period (front ++ held ∷ []) ++ given_at_end e e.held
     known_at_end k =
         let is : is_handler_due d ≡ true = sym (is_known-due words period here) ∙ k in
         let r_is : rule_at_end d ≡ by.Handler = handler_at_end d is in
-        let old = view_known words period front held (ps ++ last_packet ∷ []) (place held) k (subst (λ x. Reaches words period (ss ++ here ∷ []) (ps ++ last_packet ∷ []) x []) (ap (λ x. reported_by x r held) r_is) ends) in
-        let gives = gives_at_end e held [] (place held) d is_held (stands.due ∙ old.asked) (stands.pending ∙ ap outcomes old.rest) (stands.reported ∙ old.told) in
+        let old =
+        view_known words period front held (ps ++ last_packet ∷ []) (place held) k
+        (subst (λ x. Reaches words period (ss ++ here ∷ []) (ps ++ last_packet ∷ []) x [])
+        (ap (λ x. reported_by x r held) r_is) ends) in
+        let gives =
+        gives_at_end e held [] (place held) d is_held (stands.due ∙ old.asked)
+        (stands.pending ∙ ap outcomes old.rest) (stands.reported ∙ old.told) in
         packets_are
-        ∙ ap (λ x. packet.Support Open ∷ (ps ++ last_packet ∷ []) ++ (x ++ packet.Support (closing (rule_at_end d)) ∷ [])) (sym (ap (λ x. packets_by x held [] (place held)) r_is))
+        ∙ ap (λ x. packet.Support Open ∷ (ps ++ last_packet ∷ [])
+        ++ (x ++ packet.Support (closing (rule_at_end d)) ∷ []))
+        (sym (ap (λ x. packets_by x held [] (place held)) r_is))
         ∙ ap (λ x. packet.Support Open ∷ (ps ++ last_packet ∷ []) ++ x) (sym gives)
         ∙ ap (λ x. x ++ given_at_end e e.held) (sym old.so_far)
 
-    pub ends_with : packets words period (front ++ held ∷ []) ≡ packets_so_far words period (front ++ held ∷ []) ++ given_at_end e e.held
+    pub ends_with : packets words period (front ++ held ∷ []) ≡ packets_so_far words period (front ++ held ∷ [])
+        ++ given_at_end e e.held
     ends_with = go (is_known words here) refl
       where
-        go : (k : Bool) → is_known words here ≡ k → packets words period (front ++ held ∷ []) ≡ packets_so_far words period (front ++ held ∷ []) ++ given_at_end e e.held
+        go : (k : Bool) → is_known words here ≡ k → packets words period (front ++ held ∷ [])
+            ≡ packets_so_far words period (front ++ held ∷ []) ++ given_at_end e e.held
         go true k = known_at_end k
         go false k = open_at_end k
 
-  empty_ends : (e : Encoder) → e.held ≡ None → packets words period [] ≡ packets_so_far words period [] ++ given_at_end e e.held
+  empty_ends : (e : Encoder) → e.held ≡ None → packets words period [] ≡ packets_so_far words period []
+      ++ given_at_end e e.held
   empty_ends e h = rw h refl
 
   -- What an encoder gives at the end completes the packets of its log.
-  pub ends_any : (log : List Event) (e : Encoder) → Stands words period log e → packets words period log ≡ packets_so_far words period log ++ given_at_end e e.held
+  pub ends_any : (log : List Event) (e : Encoder) → Stands words period log e
+      → packets words period log ≡ packets_so_far words period log ++ given_at_end e e.held
   ends_any log e stands = elim (by_last log) [
-    | inl is ↦ subst (λ l. packets words period l ≡ packets_so_far words period l ++ given_at_end e e.held) (sym is) (empty_ends e (stands.held ∙ ap (last_or None) is))
-    | inr q ↦ subst (λ l. packets words period l ≡ packets_so_far words period l ++ given_at_end e e.held) (sym q.2) (ends_with q.0 q.1 e (subst (λ l. Stands words period l e) q.2 stands))
+    | inl is ↦
+        subst (λ l. packets words period l ≡ packets_so_far words period l ++ given_at_end e e.held) (sym is)
+        (empty_ends e (stands.held ∙ ap (last_or None) is))
+    | inr q ↦
+        subst (λ l. packets words period l ≡ packets_so_far words period l ++ given_at_end e e.held) (sym q.2)
+        (ends_with q.0 q.1 e (subst (λ l. Stands words period l e) q.2 stands))
   ]

@@ -6,7 +6,7 @@ use Rattle.std.specs.Prelude.{nat_lt}
 use Rattle.retire.specs.declared.event.Event.{Event}
 use Rattle.retire.specs.declared.event.Event.TheVariants.{Retire, Trap}
 use Rattle.rvclass.specs.Words.{Words}
-use Rattle.encoder.specs.Stepping.{next_due, leaves_by_type, jumps_back_to, rule_of_quiet, rule_before, is_unreported, is_quiet, pending_with, left_after, due_next, given, after, passes}
+use Rattle.encoder.specs.steps.Stepping.{next_due, is_discontinuity_by_type, jumps_back_to, rule_of_quiet, rule_before, is_unreported, is_quiet, pending_with, left_after, due_next, given, after, passes}
 use Rattle.encoder.specs.declared.due.Due.TheVariants as due
 use Rattle.encoder.specs.declared.encoder.Encoder.{Encoder}
 use Rattle.encoder.proofs.CodeLemmas.{after_quiet, given_quiet}
@@ -14,11 +14,13 @@ use Rattle.encoder.proofs.SpotLemmas.{last_or-snoc}
 use Rattle.encoder.proofs.ViewLemmas.{both_true}
 
 -- The last of the first events.
-pub last_of_first : (events : List Event) (at : ℕ) → 1 ≤ at → at ≤ length events → last_or None (take at events) ≡ Some (get_or events (at - 1) (Retire 0 0 0))
+pub last_of_first : (events : List Event) (at : ℕ) → 1 ≤ at → at ≤ length events
+    → last_or None (take at events) ≡ Some (get_or events (at - 1) (Retire 0 0 0))
 last_of_first events at some within =
     let is : at - 1 + 1 ≡ at = omega (arith, some) in
     let more = take_more events (at - 1) (Retire 0 0 0) (omega (arith, some, within)) in
-    ap (λ n. last_or None (take n events)) (sym is) ∙ ap (last_or None) more ∙ last_or-snoc None (take (at - 1) events) (get_or events (at - 1) (Retire 0 0 0))
+    ap (λ n. last_or None (take n events)) (sym is) ∙ ap (last_or None) more
+    ∙ last_or-snoc None (take (at - 1) events) (get_or events (at - 1) (Retire 0 0 0))
 
 not_true : (b : Bool) → not b ≡ true → b ≡ false
 not_true true h = cc
@@ -31,55 +33,58 @@ record Facts (words : Words) (held : Event) (left : ℕ) (pending : List Bool) (
   nothing_due : next_due (Some held) due.Nothing left next ≡ due.Nothing
   unreported : is_unreported (rule_before words held due.Nothing next due.Nothing) ≡ true
 
-facts : (words : Words) (held : Event) (left : ℕ) (pending : List Bool) (next : Event) → passes words held left pending next ≡ true → Facts words held left pending next
+facts : (words : Words) (held : Event) (left : ℕ) (pending : List Bool) (next : Event)
+    → passes words held left pending next ≡ true → Facts words held left pending next
 facts words (Retire at type level) left pending (Retire addr itype priv) h =
     let back = both_true _ (not (jumps_back_to words (Retire at type level) (Retire addr itype priv))) h in
     let few = both_true _ (nat_lt (length pending) 31) back.0 in
-    let leaves = both_true _ (not (leaves_by_type type)) few.0 in
+    let leaves = both_true _ (not (is_discontinuity_by_type type)) few.0 in
     let same = both_true (priv == level) (not (left == 0)) leaves.0 in
     let some = not_true (left == 0) same.1 in
-    let stays = not_true (leaves_by_type type) leaves.1 in
+    let stays = not_true (is_discontinuity_by_type type) leaves.1 in
     record {
       some_left = some;
       few = few.1;
       nothing_due =
-          ap (λ b. cond (not b || (left == 0)) due.Sync (cond (leaves_by_type type) due.Target due.Nothing)) same.0
-          ∙ ap (λ b. cond (false || b) due.Sync (cond (leaves_by_type type) due.Target due.Nothing)) some
+          ap (λ b. cond (not b || (left == 0)) due.Sync (cond (is_discontinuity_by_type type) due.Target due.Nothing)) same.0
+          ∙ ap (λ b. cond (false || b) due.Sync (cond (is_discontinuity_by_type type) due.Target due.Nothing)) some
           ∙ ap (λ b. cond b due.Target due.Nothing) stays;
-      unreported = ap (λ b. is_unreported (rule_of_quiet false b)) (not_true (jumps_back_to words (Retire at type level) (Retire addr itype priv)) back.1);
+      unreported =
+          ap (λ b. is_unreported (rule_of_quiet false b)) (not_true
+          (jumps_back_to words (Retire at type level) (Retire addr itype priv)) back.1);
     }
 facts words (Retire at type level) left pending (Trap epc priv interrupt cause tval) h = cc
 facts words (Trap at level irq code value) left pending (Retire addr itype priv) h = cc
 facts words (Trap at level irq code value) left pending (Trap epc priv interrupt cause tval) h = cc
 
-pub passes-some_left : (words : Words) (held : Event) (left : ℕ) (pending : List Bool) (next : Event) → passes words held left pending next ≡ true → (left == 0) ≡ false
+pub passes-some_left : (words : Words) (held : Event) (left : ℕ) (pending : List Bool) (next : Event)
+    → passes words held left pending next ≡ true → (left == 0) ≡ false
 passes-some_left words held left pending next h = (facts words held left pending next h).some_left
-
-pub passes-few : (words : Words) (held : Event) (left : ℕ) (pending : List Bool) (next : Event) → passes words held left pending next ≡ true → nat_lt (length pending) 31 ≡ true
-passes-few words held left pending next h = (facts words held left pending next h).few
 
 -- An encoder that is given it.
 abbrev pub passed : Encoder → Event → Encoder
-passed e next = record {
-  between = e.between;
+passed e next = record e {
   left = e.left - 1;
   held = Some next;
   due = due.Nothing;
   pending = pending_with due.Nothing next e.pending;
-  reported = e.reported;
 }
 
-left_is : (words : Words) (held : Event) (between left : ℕ) (pending : List Bool) (next : Event) → passes words held left pending next ≡ true → left_after between left next ≡ left - 1
-left_is words held between left pending (Retire addr itype priv) h = ap (λ b. cond b between (left - 1)) (passes-some_left words held left pending (Retire addr itype priv) h)
+left_is : (words : Words) (held : Event) (between left : ℕ) (pending : List Bool) (next : Event)
+    → passes words held left pending next ≡ true → left_after between left next ≡ left - 1
+left_is words held between left pending (Retire addr itype priv) h =
+    ap (λ b. cond b between (left - 1)) (passes-some_left words held left pending (Retire addr itype priv) h)
 left_is words (Retire at type level) between left pending (Trap epc priv interrupt cause tval) h = cc
 left_is words (Trap at level irq code value) between left pending (Trap epc priv interrupt cause tval) h = cc
 
-module _ (words : Words) (e : Encoder) (held next : Event) (is : e.held ≡ Some held) (asked : e.due ≡ due.Nothing) (h : passes words held e.left e.pending next ≡ true) where
+module _ (words : Words) (e : Encoder) (held next : Event) (is : e.held ≡ Some held) (asked : e.due ≡ due.Nothing)
+    (h : passes words held e.left e.pending next ≡ true) where
   abbrev known : Facts words held e.left e.pending next
   known = facts words held e.left e.pending next h
 
   due_is : due.Nothing ≡ due_next e next
-  due_is = sym (ap (λ x. next_due x e.due e.left next) is ∙ ap (λ d. next_due (Some held) d e.left next) asked ∙ known.nothing_due)
+  due_is = sym (ap (λ x. next_due x e.due e.left next) is ∙ ap (λ d. next_due (Some held) d e.left next) asked
+      ∙ known.nothing_due)
 
   quiet : is_quiet words e e.held next due.Nothing ≡ true
   quiet =
@@ -89,7 +94,9 @@ module _ (words : Words) (e : Encoder) (held next : Event) (is : e.held ≡ Some
       ∙ known.few
 
   pub after_passed : passed e next ≡ after words e next
-  after_passed = ap (λ n. record { between = e.between; left = n; held = Some next; due = due.Nothing; pending = pending_with due.Nothing next e.pending; reported = e.reported }) (sym (left_is words held e.between e.left e.pending next h)) ∙ after_quiet words e next due.Nothing due_is quiet
+  after_passed =
+      ap (λ n. record (passed e next) { left = n }) (sym (left_is words held e.between e.left e.pending next h))
+      ∙ after_quiet words e next due.Nothing due_is quiet
 
   pub given_passed : [] ≡ given words e next
   given_passed = given_quiet words e next due.Nothing due_is quiet

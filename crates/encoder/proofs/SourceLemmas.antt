@@ -25,10 +25,10 @@ use Rattle.encoder.specs.Packets.{reports, closing_packet, packets}
 use Rattle.encoder.specs.PacketsSoFar.{is_known, decided, packets_so_far}
 use Rattle.encoder.specs.Piece.{pieces}
 use Rattle.encoder.specs.SourceAt.{SourceAt}
-use Rattle.encoder.specs.SourceFields.{number_at, stands_at}
+use Rattle.encoder.specs.steps.SourceFields.{number_at, stands_at}
 use Rattle.encoder.specs.Spot.{Spot, first_event, spots, spots_of}
 use Rattle.encoder.specs.Stands.{count_all, reported_after, since_cut, Stands}
-use Rattle.encoder.specs.Stepping.{given, after, last_given, ends_by, given_at_end}
+use Rattle.encoder.specs.steps.Stepping.{given, after, last_given, ends_by, given_at_end}
 use Rattle.encoder.specs.declared.encoder.Encoder.{Encoder}
 use Rattle.encoder.specs.declared.rule.Rule.TheVariants as by
 use Rattle.encoder.specs.declared.source.Stage.{Stage}
@@ -42,44 +42,72 @@ use Rattle.encoder.proofs.EndLemmas.{ends_any}
 -- The first events of a legal log are one.
 pub legal-take : (words : Words) (count : ℕ) (log : List Event) → Legal words log → Legal words (take count log)
 legal-take words count log legal =
-    (runs_split words None (take count log) (drop count log) (subst (Legal words) (sym (take-append-drop count log)) legal)).0
+    (runs_split words None (take count log) (drop count log)
+    (subst (Legal words) (sym (take-append-drop count log)) legal)).0
 
 -- An encoder that stands for the first events stands for one more by a step, which gives the packets that are more.
 pub record Steps (words : Words) (period at : ℕ) (log : List Event) (e : Encoder) (packets : List Packet) : Type 0 where
   pub stands : Stands words period (take (at + 1) log) e
   pub more : packets_so_far words period (take (at + 1) log) ≡ packets_so_far words period (take at log) ++ packets
 
-pub steps : (words : Words) (period at : ℕ) (log : List Event) (event : Event) (e e' : Encoder) (packets : List Packet) → take (at + 1) log ≡ take at log ++ event ∷ [] → Legal words log → Stands words period (take at log) e → Is64Bit event → e' ≡ after words e event → packets ≡ given words e event → Steps words period at log e' packets
+pub steps : (words : Words) (period at : ℕ) (log : List Event) (event : Event) (e e' : Encoder) (packets : List Packet)
+    → take (at + 1) log ≡ take at log ++ event ∷ [] → Legal words log → Stands words period (take at log) e
+    → Is64Bit event → e' ≡ after words e event → packets ≡ given words e event → Steps words period at log e' packets
 steps words period at log event e e' packets more legal stands fits is gives =
-    let pushed = pushes_any words period (take at log) e event stands (subst (Legal words) more (legal-take words (at + 1) log legal)) in
+    let pushed =
+    pushes_any words period (take at log) e event stands
+    (subst (Legal words) more (legal-take words (at + 1) log legal)) in
     let grown = stands_after words period (take at log) e event fits stands pushed in
     record {
-      stands = subst (λ l. Stands words period l e') (sym more) (subst (Stands words period (take at log ++ event ∷ [])) (sym is) grown);
-      more = ap (packets_so_far words period) more ∙ pushed.more ∙ ap (λ p. packets_so_far words period (take at log) ++ p) (sym gives);
+      stands = subst (λ l. Stands words period l e') (sym more)
+          (subst (Stands words period (take at log ++ event ∷ [])) (sym is) grown);
+      more = ap (packets_so_far words period) more ∙ pushed.more
+          ∙ ap (λ p. packets_so_far words period (take at log) ++ p) (sym gives);
     }
 
 -- The same behind events that gave nothing.
-pub steps_on : (words : Words) (log : List Event) (between from taken at : ℕ) (event : Event) (e e' e'' : Encoder) (packets : List Packet) → take (at + 1) log ≡ take at log ++ event ∷ [] → Legal words log → e.between ≡ between → packets_so_far words (between + 1) (take taken log) ≡ packets_so_far words (between + 1) (take from log) → Stands words (e.between + 1) (take at log) e' → packets_so_far words (e.between + 1) (take at log) ≡ packets_so_far words (e.between + 1) (take taken log) → Is64Bit event → e'' ≡ after words e' event → packets ≡ given words e' event → Stands words (between + 1) (take (at + 1) log) e'' × (packets_so_far words (between + 1) (take (at + 1) log) ≡ packets_so_far words (between + 1) (take from log) ++ packets)
+pub steps_on : (words : Words) (log : List Event) (between from taken at : ℕ) (event : Event) (e e' e'' : Encoder)
+    (packets : List Packet) → take (at + 1) log ≡ take at log ++ event ∷ [] → Legal words log → e.between ≡ between
+    → packets_so_far words (between + 1) (take taken log) ≡ packets_so_far words (between + 1) (take from log)
+    → Stands words (e.between + 1) (take at log) e' → packets_so_far words (e.between + 1) (take at log)
+    ≡ packets_so_far words (e.between + 1) (take taken log) → Is64Bit event → e'' ≡ after words e' event
+    → packets ≡ given words e' event → Stands words (between + 1) (take (at + 1) log) e''
+    × (packets_so_far words (between + 1) (take (at + 1) log) ≡ packets_so_far words (between + 1) (take from log)
+    ++ packets)
 steps_on words log between from taken at event e e' e'' packets more legal same before stands none fits is gives =
-    let step = steps words (between + 1) at log event e' e'' packets more legal (subst (λ b. Stands words (b + 1) (take at log) e') same stands) fits is gives in
-    let passed = subst (λ b. packets_so_far words (b + 1) (take at log) ≡ packets_so_far words (b + 1) (take taken log)) same none in
+    let step =
+    steps words (between + 1) at log event e' e'' packets more legal
+    (subst (λ b. Stands words (b + 1) (take at log) e') same stands) fits is gives in
+    let passed =
+    subst (λ b. packets_so_far words (b + 1) (take at log) ≡ packets_so_far words (b + 1) (take taken log)) same
+    none in
     (step.stands, step.more ∙ ap (λ p. p ++ packets) (passed ∙ before))
 
 module _ (words : Words) (period : ℕ) where
-  front_reports : (ss ts : List Spot) → reports 0 (pieces words period [] (ss ++ ts)) ≡ reports 0 (pieces words period [] ss) ++ reports (reported_after 0 (pieces words period [] ss)) (pieces words period (since_cut words period [] ss) ts)
-  front_reports ss ts = ap (reports 0) (pieces-append words period [] ss ts) ∙ reports-append 0 (pieces words period [] ss) (pieces words period (since_cut words period [] ss) ts)
+  front_reports : (ss ts : List Spot) → reports 0 (pieces words period [] (ss ++ ts))
+      ≡ reports 0 (pieces words period [] ss) ++ reports (reported_after 0 (pieces words period [] ss))
+      (pieces words period (since_cut words period [] ss) ts)
+  front_reports ss ts =
+      ap (reports 0) (pieces-append words period [] ss ts)
+      ∙ reports-append 0 (pieces words period [] ss) (pieces words period (since_cut words period [] ss) ts)
 
   -- The packets of a log so far are the first of them, whatever follows.
   abbrev Begins : List Event → List Event → Type 0
-  Begins front rest = (more : List Packet) × (packets words period (front ++ rest) ≡ packets_so_far words period front ++ more)
+  Begins front rest =
+      (more : List Packet) × (packets words period (front ++ rest) ≡ packets_so_far words period front ++ more)
 
-  begins_by : (front rest : List Event) (ss ts : List Spot) → spots_of (front ++ rest) ≡ ss ++ ts → reports 0 (pieces words period [] (decided words (spots_of front))) ≡ reports 0 (pieces words period [] ss) → Begins front rest
+  begins_by : (front rest : List Event) (ss ts : List Spot) → spots_of (front ++ rest) ≡ ss ++ ts
+      → reports 0 (pieces words period [] (decided words (spots_of front))) ≡ reports 0 (pieces words period [] ss)
+      → Begins front rest
   begins_by front rest ss ts all same =
       let first = reports 0 (pieces words period [] ss) in
-      let other = reports (reported_after 0 (pieces words period [] ss)) (pieces words period (since_cut words period [] ss) ts) in
+      let other =
+      reports (reported_after 0 (pieces words period [] ss))
+      (pieces words period (since_cut words period [] ss) ts) in
       let end = closing_packet words period (front ++ rest) ∷ [] in (
         other ++ end,
-        ap (λ x. packet.Support Open ∷ x ++ end) (ap (λ x. reports 0 (pieces words period [] x)) all ∙ front_reports ss ts)
+        ap (λ x. packet.Support Open ∷ x ++ end) (ap (λ x. reports 0 (pieces words period [] x)) all
+            ∙ front_reports ss ts)
             ∙ ap (λ x. packet.Support Open ∷ x) (append_assoc first other end)
             ∙ ap (λ x. packet.Support Open ∷ x ++ (other ++ end)) (sym same),
       )
@@ -95,10 +123,12 @@ module _ (words : Words) (period : ℕ) where
     there = spot_after front held (first_event rest None)
 
     abbrev behind : List Spot
-    behind = spots (count_all 0 (front ++ held ∷ [])) (before_last None None (front ++ held ∷ [])) (last_or None (front ++ held ∷ [])) rest None
+    behind = spots (count_all 0 (front ++ held ∷ [])) (before_last None None (front ++ held ∷ []))
+        (last_or None (front ++ held ∷ [])) rest None
 
     all : spots_of ((front ++ held ∷ []) ++ rest) ≡ (ss ++ there ∷ []) ++ behind
-    all = spots-append 0 None None (front ++ held ∷ []) rest None ∙ ap (λ x. x ++ behind) (spots-snoc front held (first_event rest None))
+    all = spots-append 0 None None (front ++ held ∷ []) rest None
+        ∙ ap (λ x. x ++ behind) (spots-snoc front held (first_event rest None))
 
     begins_behind : Begins (front ++ held ∷ []) rest
     begins_behind = go (is_known words here) refl
@@ -109,10 +139,12 @@ module _ (words : Words) (period : ℕ) where
             let mine = reaches_cut words period ss here _ _ _ by.Handler base (rule_known words period here k) refl in
             let full = reaches_cut words period ss there _ _ _ by.Handler base (rule_known words period there k) refl in
             begins_by (front ++ held ∷ []) rest (ss ++ there ∷ []) behind all
-            (ap (λ x. reports 0 (pieces words period [] x)) (decided_is words period front held true k) ∙ mine.given ∙ sym full.given)
+            (ap (λ x. reports 0 (pieces words period [] x)) (decided_is words period front held true k) ∙ mine.given
+            ∙ sym full.given)
         go false k =
             begins_by (front ++ held ∷ []) rest ss (there ∷ behind) (all ∙ append_assoc ss (there ∷ []) behind)
-            (ap (λ x. reports 0 (pieces words period [] x)) (decided_is words period front held false k ∙ append-nil ss))
+            (ap (λ x. reports 0 (pieces words period [] x)) (decided_is words period front held false k
+            ∙ append-nil ss))
 
   pub so_far_begins : (front rest : List Event) → Begins front rest
   so_far_begins front rest = elim (by_last front) [
@@ -120,28 +152,42 @@ module _ (words : Words) (period : ℕ) where
     | inr r ↦ subst (λ l. Begins l rest) (sym r.2) (begins_behind r.0 r.1 rest)
   ]
 
-  pub so_far_begins-take : (taken : ℕ) (log : List Event) → (more : List Packet) × (packets words period log ≡ packets_so_far words period (take taken log) ++ more)
-  so_far_begins-take taken log = subst (λ l. (more : List Packet) × (packets words period l ≡ packets_so_far words period (take taken log) ++ more)) (take-append-drop taken log) (so_far_begins (take taken log) (drop taken log))
+  pub so_far_begins-take : (taken : ℕ) (log : List Event)
+      → (more : List Packet) × (packets words period log ≡ packets_so_far words period (take taken log) ++ more)
+  so_far_begins-take taken log =
+      subst (λ l. (more : List Packet) × (packets words period l ≡ packets_so_far words period (take taken log)
+      ++ more)) (take-append-drop taken log) (so_far_begins (take taken log) (drop taken log))
 
 -- A packet stands behind the packets before it.
-pub seam : (all front : List Packet) (p : Packet) (rest : List Packet) (number : ℕ) → all ≡ front ++ p ∷ rest → number ≡ length front → Some p ≡ slice_get all number
+pub seam : (all front : List Packet) (p : Packet) (rest : List Packet) (number : ℕ) → all ≡ front ++ p ∷ rest
+    → number ≡ length front → Some p ≡ slice_get all number
 seam all front p rest number is n =
-    let found : slice_get (front ++ p ∷ rest) (length front) ≡ Some p = slice_get_read (front ++ p ∷ rest) _ (length front) p refl (omega (arith, length-append front (p ∷ rest))) (sym (get_or-append_seam front p rest p)) in
+    let found : slice_get (front ++ p ∷ rest) (length front) ≡ Some p =
+    slice_get_read (front ++ p ∷ rest) _ (length front) p refl (omega (arith, length-append front (p ∷ rest)))
+    (sym (get_or-append_seam front p rest p)) in
     sym found ∙ ap (λ l. slice_get l (length front)) (sym is) ∙ ap (slice_get all) (sym n)
 
-pub behind_seam : (all front : List Packet) (p : Packet) (rest : List Packet) → all ≡ front ++ p ∷ rest → length all ≡ length front + 1 + length rest
+pub behind_seam : (all front : List Packet) (p : Packet) (rest : List Packet) → all ≡ front ++ p ∷ rest
+    → length all ≡ length front + 1 + length rest
 behind_seam all front p rest is = ap length is ∙ (let l = length-append front (p ∷ rest) in omega (arith, l))
 
 -- The events that were taken, when an encoder was given more of them until one gave a packet.
-pub record Ran (image : Image) (events : List Event) (e : Encoder) (taken : ℕ) (e' : Encoder) (taken' : ℕ) (given : Option Packet) : Type 0 where
+pub record Ran (image : Image) (events : List Event) (e : Encoder) (taken : ℕ) (e' : Encoder) (taken' : ℕ)
+    (given : Option Packet) : Type 0 where
   pub stands : Stands (words_of image) (e.between + 1) (take taken' events) e'
-  pub more : packets_so_far (words_of image) (e.between + 1) (take taken' events) ≡ packets_so_far (words_of image) (e.between + 1) (take taken events) ++ option_to_list given
+  pub more : packets_so_far (words_of image) (e.between + 1) (take taken' events)
+      ≡ packets_so_far (words_of image) (e.between + 1) (take taken events) ++ option_to_list given
   pub all : given ≡ None → taken' ≡ length events
 
-pub ran_by : (image program : Image) (events log : List Event) (e : Encoder) (taken : ℕ) (e' : Encoder) (taken' : ℕ) (given : Option Packet) → image ≡ program → events ≡ log → Ran image events e taken e' taken' given → Ran program log e taken e' taken' given
-ran_by image program events log e taken e' taken' given same events_same ran = subst (λ (p : Image). Ran p log e taken e' taken' given) same (subst (λ l. Ran image l e taken e' taken' given) events_same ran)
+pub ran_by : (image program : Image) (events log : List Event) (e : Encoder) (taken : ℕ) (e' : Encoder) (taken' : ℕ)
+    (given : Option Packet) → image ≡ program → events ≡ log → Ran image events e taken e' taken' given
+    → Ran program log e taken e' taken' given
+ran_by image program events log e taken e' taken' given same events_same ran =
+    subst (λ (p : Image). Ran p log e taken e' taken' given) same
+    (subst (λ l. Ran image l e taken e' taken' given) events_same ran)
 
-module _ (image : Image) (log : List Event) (e : Encoder) (taken : ℕ) (e' : Encoder) (taken' : ℕ) (legal : Legal (words_of image) log) where
+module _ (image : Image) (log : List Event) (e : Encoder) (taken : ℕ) (e' : Encoder) (taken' : ℕ)
+    (legal : Legal (words_of image) log) where
   abbrev words : Words
   words = words_of image
 
@@ -157,18 +203,19 @@ module _ (image : Image) (log : List Event) (e : Encoder) (taken : ℕ) (e' : En
   even : IsEven words
   even addr word is = (words_stand image addr word is).even
 
-  -- a packet of the events before the last
+  -- A packet of the events before the last.
   pub given_running : (p : Packet) → Ran image log e taken e' taken' (Some p) → Some p ≡ slice_get full (length before)
   given_running p ran =
       let begins = so_far_begins-take words period taken' log in
-      seam full before p begins.0 (length before) (begins.1 ∙ ap (λ l. l ++ begins.0) ran.more ∙ append_assoc before (p ∷ []) begins.0) refl
+      seam full before p begins.0 (length before) (begins.1 ∙ ap (λ l. l ++ begins.0) ran.more
+      ∙ append_assoc before (p ∷ []) begins.0) refl
 
   pub profile_running : (p : Packet) → Ran image log e taken e' taken' (Some p) → All InProfile (p ∷ [])
   profile_running p ran =
       profile_behind before (p ∷ []) (packets_so_far words period (take taken' log)) ran.more
       (so_far_in_profile words even period (take taken' log) ran.stands.numbers (legal-take words taken' log legal))
 
-  -- what is left when all events were taken
+  -- What is left when all events were taken.
   pub at_end : Ran image log e taken e' taken' None → full ≡ before ++ given_at_end e' e'.held
   at_end ran =
       let whole : take taken' log ≡ log = take_all taken' log (omega (arith, ran.all refl)) in
@@ -179,38 +226,54 @@ module _ (image : Image) (log : List Event) (e : Encoder) (taken : ℕ) (e' : En
   pub profile_at_end : Ran image log e taken e' taken' None → All InProfile (given_at_end e' e'.held)
   profile_at_end ran =
       let whole : take taken' log ≡ log = take_all taken' log (omega (arith, ran.all refl)) in
-      profile_behind before (given_at_end e' e'.held) full (at_end ran) (packets_in_profile words even period log (subst (All Is64Bit) whole ran.stands.numbers) legal)
+      profile_behind before (given_at_end e' e'.held) full (at_end ran)
+      (packets_in_profile words even period log (subst (All Is64Bit) whole ran.stands.numbers) legal)
 
-  pub end_some : (p : Packet) → Ran image log e taken e' taken' None → p ∷ [] ≡ last_given e' e'.held → (Some p ≡ slice_get full (length before)) × (length before + 1 ≡ length full - 1) × All InProfile (p ∷ [])
+  pub end_some : (p : Packet) → Ran image log e taken e' taken' None → p ∷ [] ≡ last_given e' e'.held
+      → (Some p ≡ slice_get full (length before)) × (length before + 1 ≡ length full - 1) × All InProfile (p ∷ [])
   end_some p ran is =
-      let joined : full ≡ before ++ p ∷ (packet.Support (ends_by e' e'.held) ∷ []) = at_end ran ∙ ap (λ l. before ++ (l ++ packet.Support (ends_by e' e'.held) ∷ [])) (sym is) in
+      let joined : full ≡ before ++ p ∷ (packet.Support (ends_by e' e'.held) ∷ []) =
+      at_end ran ∙ ap (λ l. before ++ (l ++ packet.Support (ends_by e' e'.held) ∷ [])) (sym is) in
       let counted = behind_seam full before p (packet.Support (ends_by e' e'.held) ∷ []) joined in (
         seam full before p (packet.Support (ends_by e' e'.held) ∷ []) (length before) joined refl,
         omega (arith, counted),
-        All-cons InProfile p [] (All-head InProfile p (packet.Support (ends_by e' e'.held) ∷ []) (subst (All InProfile) (ap (λ l. l ++ packet.Support (ends_by e' e'.held) ∷ []) (sym is)) (profile_at_end ran))) (All-nil InProfile),
+        All-cons InProfile p [] (All-head InProfile p (packet.Support (ends_by e' e'.held) ∷ [])
+            (subst (All InProfile) (ap (λ l. l ++ packet.Support (ends_by e' e'.held) ∷ []) (sym is))
+            (profile_at_end ran))) (All-nil InProfile),
       )
 
-  pub end_none : (s : Support) → Ran image log e taken e' taken' None → [] ≡ last_given e' e'.held → s ≡ ends_by e' e'.held → (Some (packet.Support s) ≡ slice_get full (length before)) × (length before + 1 ≡ length full)
+  pub end_none : (s : Support) → Ran image log e taken e' taken' None → [] ≡ last_given e' e'.held
+      → s ≡ ends_by e' e'.held → (Some (packet.Support s) ≡ slice_get full (length before))
+      × (length before + 1 ≡ length full)
   end_none s ran none is =
-      let joined : full ≡ before ++ packet.Support s ∷ [] = at_end ran ∙ ap (λ l. before ++ (l ++ packet.Support (ends_by e' e'.held) ∷ [])) (sym none) ∙ ap (λ x. before ++ packet.Support x ∷ []) (sym is) in
+      let joined : full ≡ before ++ packet.Support s ∷ [] =
+      at_end ran ∙ ap (λ l. before ++ (l ++ packet.Support (ends_by e' e'.held) ∷ [])) (sym none)
+      ∙ ap (λ x. before ++ packet.Support x ∷ []) (sym is) in
       let counted = behind_seam full before (packet.Support s) [] joined in
       (seam full before (packet.Support s) [] (length before) joined refl, omega (arith, counted))
 
 -- The closing packet is the last.
-pub given_closing : (image : Image) (period : ℕ) (log : List Event) (e : Encoder) (taken : ℕ) (s : Support) → Stands (words_of image) period (take taken log) e → taken ≡ length log → s ≡ ends_by e e.held → Some (packet.Support s) ≡ slice_get (packets (words_of image) period log) (length (packets (words_of image) period log) - 1)
+pub given_closing : (image : Image) (period : ℕ) (log : List Event) (e : Encoder) (taken : ℕ) (s : Support)
+    → Stands (words_of image) period (take taken log) e → taken ≡ length log → s ≡ ends_by e e.held
+    → Some (packet.Support s) ≡ slice_get (packets (words_of image) period log)
+    (length (packets (words_of image) period log) - 1)
 given_closing image period log e taken s stands whole is =
     let words = words_of image in
     let front = packets_so_far words period log ++ last_given e e.held in
     let done : take taken log ≡ log = take_all taken log (omega (arith, whole)) in
     let joined : packets words period log ≡ front ++ packet.Support s ∷ [] =
     ends_any words period log e (subst (λ l. Stands words period l e) done stands)
-    ∙ sym (append_assoc (packets_so_far words period log) (last_given e e.held) (packet.Support (ends_by e e.held) ∷ []))
+    ∙ sym (append_assoc (packets_so_far words period log) (last_given e e.held)
+    (packet.Support (ends_by e e.held) ∷ []))
     ∙ ap (λ x. front ++ packet.Support x ∷ []) (sym is) in
     let counted = behind_seam (packets words period log) front (packet.Support s) [] joined in
     seam (packets words period log) front (packet.Support s) [] _ joined (omega (arith, counted))
 
 -- A source stands one payload further.
-pub further : (log : ProgramLog) (e e' : Encoder) (stage : Stage) (taken number : ℕ) (old : SourceAt) → e'.between + 1 ≡ e.between + 1 → number + 1 ≡ number_at (e.between + 1) log stage taken → record { log = log; period = e.between + 1; number = number } ≡ old → stands_at log e' stage taken ≡ record { log = old.log; period = old.period; number = old.number + 1 }
+pub further : (log : ProgramLog) (e e' : Encoder) (stage : Stage) (taken number : ℕ) (old : SourceAt)
+    → e'.between + 1 ≡ e.between + 1 → number + 1 ≡ number_at (e.between + 1) log stage taken
+    → record { log = log; period = e.between + 1; number = number } ≡ old
+    → stands_at log e' stage taken ≡ record { log = old.log; period = old.period; number = old.number + 1 }
 further log e e' stage taken number old between counted is =
     let at : ℕ → ℕ → SourceAt = λ p n. record { log = log; period = p; number = n } in
     ap (λ p. at p (number_at p log stage taken)) between

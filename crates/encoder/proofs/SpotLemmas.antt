@@ -16,10 +16,14 @@ abbrev pub before_last : Option Event → Option Event → List Event → Option
 before_last before_that before [] = before_that
 before_last before_that before (event ∷ events) = before_last before (Some event) events
 
-pub spots-append : (n : ℕ) (b2 b : Option Event) (es fs : List Event) (next : Option Event) → spots n b2 b (es ++ fs) next ≡ spots n b2 b es (first_event fs next) ++ spots (count_all n es) (before_last b2 b es) (last_or b es) fs next
+pub spots-append : (n : ℕ) (b2 b : Option Event) (es fs : List Event) (next : Option Event)
+    → spots n b2 b (es ++ fs) next ≡ spots n b2 b es (first_event fs next)
+    ++ spots (count_all n es) (before_last b2 b es) (last_or b es) fs next
 spots-append n b2 b [] fs next = refl
 spots-append n b2 b (e ∷ []) fs next = refl
-spots-append n b2 b (e ∷ f ∷ es) fs next = ap (λ ss. record { number = n; before_that = b2; before = b; event = e; after = Some f } ∷ ss) (spots-append (count_with n e) b (Some e) (f ∷ es) fs next)
+spots-append n b2 b (e ∷ f ∷ es) fs next =
+    ap (λ ss. record { number = n; before_that = b2; before = b; event = e; after = Some f } ∷ ss)
+    (spots-append (count_with n e) b (Some e) (f ∷ es) fs next)
 
 pub count_all-append : (n : ℕ) (es fs : List Event) → count_all n (es ++ fs) ≡ count_all (count_all n es) fs
 count_all-append n [] fs = refl
@@ -29,7 +33,8 @@ pub last_or-snoc : {A : Type 0} → (b : Option A) (es : List A) (e : A) → las
 last_or-snoc b [] e = refl
 last_or-snoc b (f ∷ es) e = last_or-snoc (Some f) es e
 
-pub before_last-snoc : (b2 b : Option Event) (es : List Event) (e : Event) → before_last b2 b (es ++ e ∷ []) ≡ last_or b es
+pub before_last-snoc : (b2 b : Option Event) (es : List Event) (e : Event)
+    → before_last b2 b (es ++ e ∷ []) ≡ last_or b es
 before_last-snoc b2 b [] e = refl
 before_last-snoc b2 b (f ∷ es) e = before_last-snoc b (Some f) es e
 
@@ -38,29 +43,46 @@ decided-snoc words [] s = refl
 decided-snoc words (t ∷ []) s = refl
 decided-snoc words (t ∷ u ∷ ss) s = ap (λ l. t ∷ l) (decided-snoc words (u ∷ ss) s)
 
-pub undecided-snoc : (words : Words) (ss : List Spot) (s : Spot) → undecided words (ss ++ s ∷ []) ≡ cond (is_known words s) [] (s.event ∷ [])
+pub undecided-snoc : (words : Words) (ss : List Spot) (s : Spot)
+    → undecided words (ss ++ s ∷ []) ≡ cond (is_known words s) [] (s.event ∷ [])
 undecided-snoc words [] s = refl
 undecided-snoc words (t ∷ []) s = refl
 undecided-snoc words (t ∷ u ∷ ss) s = undecided-snoc words (u ∷ ss) s
 
 module _ (words : Words) (period : ℕ) where
-  pub since_cut-append : (front : List Event) (ss ts : List Spot) → since_cut words period front (ss ++ ts) ≡ since_cut words period (since_cut words period front ss) ts
+  pub since_cut-append : (front : List Event) (ss ts : List Spot)
+      → since_cut words period front (ss ++ ts) ≡ since_cut words period (since_cut words period front ss) ts
   since_cut-append front [] ts = refl
-  since_cut-append front (s ∷ ss) ts = since_cut-append (cond (is_cut front s.event (rule words period s)) [] (front ++ s.event ∷ [])) ss ts
+  since_cut-append front (s ∷ ss) ts =
+      since_cut-append (cond (is_cut front s.event (rule words period s)) [] (front ++ s.event ∷ [])) ss ts
 
-  pub pieces-append : (front : List Event) (ss ts : List Spot) → pieces words period front (ss ++ ts) ≡ pieces words period front ss ++ pieces words period (since_cut words period front ss) ts
+  pub pieces-append : (front : List Event) (ss ts : List Spot)
+      → pieces words period front (ss ++ ts) ≡ pieces words period front ss
+      ++ pieces words period (since_cut words period front ss) ts
   pieces-append front [] ts = refl
-  pieces-append front (s ∷ ss) ts = go (is_cut front s.event (rule words period s)) (pieces-append [] ss ts) (pieces-append (front ++ s.event ∷ []) ss ts)
+  pieces-append front (s ∷ ss) ts =
+      go (is_cut front s.event (rule words period s)) (pieces-append [] ss ts)
+      (pieces-append (front ++ s.event ∷ []) ss ts)
     where
-      go : (c : Bool) → pieces words period [] (ss ++ ts) ≡ pieces words period [] ss ++ pieces words period (since_cut words period [] ss) ts → pieces words period (front ++ s.event ∷ []) (ss ++ ts) ≡ pieces words period (front ++ s.event ∷ []) ss ++ pieces words period (since_cut words period (front ++ s.event ∷ []) ss) ts → cut_or_go_on c (record { front = front; last = s.event; by = rule words period s }) (λ w. pieces words period w (ss ++ ts)) ≡ cut_or_go_on c (record { front = front; last = s.event; by = rule words period s }) (λ w. pieces words period w ss) ++ pieces words period (since_cut words period (cond c [] (front ++ s.event ∷ [])) ss) ts
+      go : (c : Bool) → pieces words period [] (ss ++ ts) ≡ pieces words period [] ss
+          ++ pieces words period (since_cut words period [] ss) ts
+          → pieces words period (front ++ s.event ∷ []) (ss ++ ts) ≡ pieces words period (front ++ s.event ∷ []) ss
+          ++ pieces words period (since_cut words period (front ++ s.event ∷ []) ss) ts
+          → cut_or_go_on c (record { front = front; last = s.event; by = rule words period s })
+          (λ w. pieces words period w (ss ++ ts)) ≡ cut_or_go_on c
+          (record { front = front; last = s.event; by = rule words period s }) (λ w. pieces words period w ss)
+          ++ pieces words period (since_cut words period (cond c [] (front ++ s.event ∷ [])) ss) ts
       go true a b = ap (λ l. record { front = front; last = s.event; by = rule words period s } ∷ l) a
       go false a b = b
 
-pub reports-append : (reported : ℕ) (ps qs : List Piece) → reports reported (ps ++ qs) ≡ reports reported ps ++ reports (reported_after reported ps) qs
+pub reports-append : (reported : ℕ) (ps qs : List Piece)
+    → reports reported (ps ++ qs) ≡ reports reported ps ++ reports (reported_after reported ps) qs
 reports-append reported [] qs = refl
-reports-append reported (p ∷ ps) qs = ap (λ l. packet_by reported p.front p.last p.by ∷ l) (reports-append (reported_by p.by reported p.last) ps qs)
+reports-append reported (p ∷ ps) qs =
+    ap (λ l. packet_by reported p.front p.last p.by ∷ l) (reports-append (reported_by p.by reported p.last) ps qs)
 
-pub reported_after-append : (reported : ℕ) (ps qs : List Piece) → reported_after reported (ps ++ qs) ≡ reported_after (reported_after reported ps) qs
+pub reported_after-append : (reported : ℕ) (ps qs : List Piece)
+    → reported_after reported (ps ++ qs) ≡ reported_after (reported_after reported ps) qs
 reported_after-append reported [] qs = refl
 reported_after-append reported (p ∷ ps) qs = reported_after-append (reported_by p.by reported p.last) ps qs
 

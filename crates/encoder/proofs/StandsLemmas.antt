@@ -12,7 +12,7 @@ use Rattle.encoder.specs.Due.{due_at, due_of_last}
 use Rattle.encoder.specs.PacketsSoFar.{is_known}
 use Rattle.encoder.specs.Spot.{count_with}
 use Rattle.encoder.specs.Stands.{count_all, AreLeft, Stands}
-use Rattle.encoder.specs.Stepping.{next_due, is_handler_due, pending_with, after}
+use Rattle.encoder.specs.steps.Stepping.{next_due, is_handler_due, pending_with, after}
 use Rattle.encoder.specs.declared.due.Due.{Due}
 use Rattle.encoder.specs.declared.encoder.Encoder.{Encoder}
 use Rattle.encoder.proofs.SpotLemmas.{count_all-append, last_or-snoc}
@@ -24,7 +24,8 @@ use Rattle.encoder.proofs.CodeLemmas.{pending_with-outcomes, Does}
 use Rattle.encoder.proofs.PushLemmas.{Pushes, joined, pushes}
 
 -- The first event gives nothing.
-does_first : (words : Words) (e : Encoder) (next : Event) (d' : Due) → e.held ≡ None → next_due None e.due e.left next ≡ d' → Does words e next [] (pending_with d' next []) e.reported d'
+does_first : (words : Words) (e : Encoder) (next : Event) (d' : Due) → e.held ≡ None
+    → next_due None e.due e.left next ≡ d' → Does words e next [] (pending_with d' next []) e.reported d'
 does_first words e next d' h n = record {
   gives = rw h refl;
   between = rw h refl;
@@ -36,7 +37,8 @@ does_first words e next d' h n = record {
 }
 
 -- What is due of a log's first event.
-first_due : (words : Words) (period : ℕ) (was : Due) (left : ℕ) (event : Event) → next_due None was left event ≡ due_at words period (spot_after [] event None)
+first_due : (words : Words) (period : ℕ) (was : Due) (left : ℕ) (event : Event)
+    → next_due None was left event ≡ due_at words period (spot_after [] event None)
 first_due words period was left (Retire addr itype priv) = refl
 first_due words period was left (Trap epc priv interrupt cause tval) = refl
 
@@ -50,33 +52,47 @@ module _ (words : Words) (period : ℕ) where
       let base : Reaches words period [] [] 0 [] = record { given = refl; told = refl; open_ = refl } in
       let d' = due_at words period (spot_after [] event None) in
       let k = first_unknown words event in
-      let old : Views words period [] [] 0 [] (due_of_last words period []) = record { so_far = refl; told = refl; rest = refl; asked = refl } in
+      let old : Views words period [] [] 0 [] (due_of_last words period []) =
+      record { so_far = refl; told = refl; rest = refl; asked = refl } in
       let new : Views words period (event ∷ []) [] 0 (event ∷ []) d' = view_open words period [] event [] 0 [] k base in
       let not_handler : is_handler_due d' ≡ false = sym (is_known-due words period (spot_after [] event None)) ∙ k in
       let does = does_first words e event d' stands.held (first_due words period e.due e.left event) in
-      let does' : Does words e event [] (pending_with d' event []) 0 d' = subst (λ r. Does words e event [] (pending_with d' event []) r d') stands.reported does in
-      joined words period [] e event [] 0 [] (due_of_last words period []) [] 0 (event ∷ []) d' [] (pending_with d' event []) old new does' refl (pending_with-outcomes d' [] event not_handler)
+      let does' : Does words e event [] (pending_with d' event []) 0 d' =
+      subst (λ r. Does words e event [] (pending_with d' event []) r d') stands.reported does in
+      joined words period [] e event [] 0 [] (due_of_last words period []) [] 0 (event ∷ []) d' []
+      (pending_with d' event []) old new does' refl (pending_with-outcomes d' [] event not_handler)
 
   -- An event that may follow the log is pushed as its packets ask for.
-  pub pushes_any : (log : List Event) (e : Encoder) (event : Event) → Stands words period log e → Legal words (log ++ event ∷ []) → Pushes words period log e event
+  pub pushes_any : (log : List Event) (e : Encoder) (event : Event) → Stands words period log e
+      → Legal words (log ++ event ∷ []) → Pushes words period log e event
   pushes_any log e event stands legal = elim (by_last log) [
-    | inl is ↦ subst (λ l. Pushes words period l e event) (sym is) (first_pushes e event (subst (λ l. Stands words period l e) is stands))
-    | inr r ↦ subst (λ l. Pushes words period l e event) (sym r.2) (behind r.0 r.1 (subst (λ l. Stands words period l e) r.2 stands) (subst (λ l. Legal words (l ++ event ∷ [])) r.2 legal))
+    | inl is ↦
+        subst (λ l. Pushes words period l e event) (sym is)
+        (first_pushes e event (subst (λ l. Stands words period l e) is stands))
+    | inr r ↦
+        subst (λ l. Pushes words period l e event) (sym r.2)
+        (behind r.0 r.1 (subst (λ l. Stands words period l e) r.2 stands)
+        (subst (λ l. Legal words (l ++ event ∷ [])) r.2 legal))
   ]
     where
-      behind : (front : List Event) (held : Event) → Stands words period (front ++ held ∷ []) e → Legal words ((front ++ held ∷ []) ++ event ∷ []) → Pushes words period (front ++ held ∷ []) e event
+      behind : (front : List Event) (held : Event) → Stands words period (front ++ held ∷ []) e
+          → Legal words ((front ++ held ∷ []) ++ event ∷ []) → Pushes words period (front ++ held ∷ []) e event
       behind front held stands legal =
           let parts = runs_split words None (front ++ held ∷ []) (event ∷ []) legal in
           let mine = runs_split words None front (held ∷ []) parts.0 in
-          let step : Step words held event = subst (λ b. StepFrom words b event) (last_or-snoc None front held) parts.1.1 in
+          let step : Step words held event =
+          subst (λ b. StepFrom words b event) (last_or-snoc None front held) parts.1.1 in
           pushes words period front held event e stands mine.1.0 step
 
   -- The encoder then stands for the log with it.
-  pub stands_after : (log : List Event) (e : Encoder) (event : Event) → Is64Bit event → Stands words period log e → Pushes words period log e event → Stands words period (log ++ event ∷ []) (after words e event)
+  pub stands_after : (log : List Event) (e : Encoder) (event : Event) → Is64Bit event → Stands words period log e
+      → Pushes words period log e event → Stands words period (log ++ event ∷ []) (after words e event)
   stands_after log e event fits stands p = record {
     numbers = All-append Is64Bit log (event ∷ []) stands.numbers (All-cons Is64Bit event [] fits (All-nil Is64Bit));
     between = ap (λ n. n + 1) p.between ∙ stands.between;
-    left = subst (λ n. AreLeft period n (after words e event).left) (sym (count_all-append 0 log (event ∷ []))) (subst (AreLeft period (count_with (count_all 0 log) event)) (sym p.left) (left-next period e.between (count_all 0 log) e.left event stands.between stands.left));
+    left = subst (λ n. AreLeft period n (after words e event).left) (sym (count_all-append 0 log (event ∷ [])))
+        (subst (AreLeft period (count_with (count_all 0 log) event)) (sym p.left)
+        (left-next period e.between (count_all 0 log) e.left event stands.between stands.left));
     held = p.held ∙ sym (last_or-snoc None log event);
     due = p.asked;
     pending = p.pending;

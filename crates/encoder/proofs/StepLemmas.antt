@@ -23,48 +23,67 @@ spot_after log event next = record {
   after = next;
 }
 
-pub spots-snoc : (log : List Event) (event : Event) (next : Option Event) → spots 0 None None (log ++ event ∷ []) next ≡ spots 0 None None log (Some event) ++ spot_after log event next ∷ []
+pub spots-snoc : (log : List Event) (event : Event) (next : Option Event)
+    → spots 0 None None (log ++ event ∷ []) next ≡ spots 0 None None log (Some event) ++ spot_after log event next ∷ []
 spots-snoc log event next = spots-append 0 None None log (event ∷ []) next
 
 module _ (words : Words) (period : ℕ) where
-  -- The events at these spots give these packets, of which the last reported address is this one; and these come since the last cut.
+  -- The events at these spots give these packets, of which the last reported address is this one; and these come since
+  -- the last cut.
   pub record Reaches (ss : List Spot) (packets : List Packet) (reported : ℕ) (front : List Event) : Type 0 where
     pub given : reports 0 (pieces words period [] ss) ≡ packets
     pub told : reported_after 0 (pieces words period [] ss) ≡ reported
     pub open_ : since_cut words period [] ss ≡ front
 
-  pub reaches : (ss : List Spot) → Reaches ss (reports 0 (pieces words period [] ss)) (reported_after 0 (pieces words period [] ss)) (since_cut words period [] ss)
+  pub reaches : (ss : List Spot) → Reaches ss (reports 0 (pieces words period [] ss))
+      (reported_after 0 (pieces words period [] ss)) (since_cut words period [] ss)
   reaches ss = record { given = refl; told = refl; open_ = refl }
 
-  -- the pieces of one spot more
-  pub one_more : (ss : List Spot) (s : Spot) (front : List Event) (by : Rule) → since_cut words period [] ss ≡ front → rule words period s ≡ by → pieces words period [] (ss ++ s ∷ []) ≡ pieces words period [] ss ++ cut_or_go_on (is_cut front s.event by) (record { front = front; last = s.event; by = by }) (λ w. [])
+  -- The pieces of one spot more.
+  pub one_more : (ss : List Spot) (s : Spot) (front : List Event) (by : Rule) → since_cut words period [] ss ≡ front
+      → rule words period s ≡ by → pieces words period [] (ss ++ s ∷ []) ≡ pieces words period [] ss
+      ++ cut_or_go_on (is_cut front s.event by) (record { front = front; last = s.event; by = by }) (λ w. [])
   one_more ss s front by f r =
       pieces-append words period [] ss (s ∷ [])
-      ∙ ap (λ x. pieces words period [] ss ++ cut_or_go_on (is_cut x s.event (rule words period s)) (record { front = x; last = s.event; by = rule words period s }) (λ w. [])) f
-      ∙ ap (λ x. pieces words period [] ss ++ cut_or_go_on (is_cut front s.event x) (record { front = front; last = s.event; by = x }) (λ w. [])) r
+      ∙ ap (λ x. pieces words period [] ss ++ cut_or_go_on (is_cut x s.event (rule words period s))
+      (record { front = x; last = s.event; by = rule words period s }) (λ w. [])) f
+      ∙ ap (λ x. pieces words period [] ss ++ cut_or_go_on (is_cut front s.event x)
+      (record { front = front; last = s.event; by = x }) (λ w. [])) r
 
-  front_more : (ss : List Spot) (s : Spot) (front : List Event) (by : Rule) → since_cut words period [] ss ≡ front → rule words period s ≡ by → since_cut words period [] (ss ++ s ∷ []) ≡ cond (is_cut front s.event by) [] (front ++ s.event ∷ [])
+  front_more : (ss : List Spot) (s : Spot) (front : List Event) (by : Rule) → since_cut words period [] ss ≡ front
+      → rule words period s ≡ by → since_cut words period [] (ss ++ s ∷ [])
+      ≡ cond (is_cut front s.event by) [] (front ++ s.event ∷ [])
   front_more ss s front by f r =
       since_cut-append words period [] ss (s ∷ [])
       ∙ ap (λ x. cond (is_cut x s.event (rule words period s)) [] (x ++ s.event ∷ [])) f
       ∙ ap (λ x. cond (is_cut front s.event x) [] (front ++ s.event ∷ [])) r
 
-  pub reaches_cut : (ss : List Spot) (s : Spot) (packets : List Packet) (reported : ℕ) (front : List Event) (by : Rule) → Reaches ss packets reported front → rule words period s ≡ by → is_cut front s.event by ≡ true → Reaches (ss ++ s ∷ []) (packets ++ packet_by reported front s.event by ∷ []) (reported_by by reported s.event) []
+  pub reaches_cut : (ss : List Spot) (s : Spot) (packets : List Packet) (reported : ℕ) (front : List Event) (by : Rule)
+      → Reaches ss packets reported front → rule words period s ≡ by → is_cut front s.event by ≡ true
+      → Reaches (ss ++ s ∷ []) (packets ++ packet_by reported front s.event by ∷ []) (reported_by by reported s.event)
+      []
   reaches_cut ss s packets reported front by h r c =
       let p : Piece = record { front = front; last = s.event; by = by } in
       let before = pieces words period [] ss in
-      let more : pieces words period [] (ss ++ s ∷ []) ≡ before ++ p ∷ [] = one_more ss s front by h.open_ r ∙ ap (λ b. before ++ cut_or_go_on b p (λ w. [])) c in
+      let more : pieces words period [] (ss ++ s ∷ []) ≡ before ++ p ∷ [] =
+      one_more ss s front by h.open_ r ∙ ap (λ b. before ++ cut_or_go_on b p (λ w. [])) c in
       record {
-        given = ap (reports 0) more ∙ reports-append 0 before (p ∷ []) ∙ ap (λ x. x ++ packet_by (reported_after 0 before) front s.event by ∷ []) h.given ∙ ap (λ x. packets ++ packet_by x front s.event by ∷ []) h.told;
-        told = ap (reported_after 0) more ∙ reported_after-append 0 before (p ∷ []) ∙ ap (λ x. reported_by by x s.event) h.told;
+        given = ap (reports 0) more ∙ reports-append 0 before (p ∷ [])
+            ∙ ap (λ x. x ++ packet_by (reported_after 0 before) front s.event by ∷ []) h.given
+            ∙ ap (λ x. packets ++ packet_by x front s.event by ∷ []) h.told;
+        told = ap (reported_after 0) more ∙ reported_after-append 0 before (p ∷ [])
+            ∙ ap (λ x. reported_by by x s.event) h.told;
         open_ = front_more ss s front by h.open_ r ∙ ap (λ b. cond b [] (front ++ s.event ∷ [])) c;
       }
 
-  pub reaches_on : (ss : List Spot) (s : Spot) (packets : List Packet) (reported : ℕ) (front : List Event) (by : Rule) → Reaches ss packets reported front → rule words period s ≡ by → is_cut front s.event by ≡ false → Reaches (ss ++ s ∷ []) packets reported (front ++ s.event ∷ [])
+  pub reaches_on : (ss : List Spot) (s : Spot) (packets : List Packet) (reported : ℕ) (front : List Event) (by : Rule)
+      → Reaches ss packets reported front → rule words period s ≡ by → is_cut front s.event by ≡ false
+      → Reaches (ss ++ s ∷ []) packets reported (front ++ s.event ∷ [])
   reaches_on ss s packets reported front by h r c =
       let p : Piece = record { front = front; last = s.event; by = by } in
       let before = pieces words period [] ss in
-      let more : pieces words period [] (ss ++ s ∷ []) ≡ before ++ [] = one_more ss s front by h.open_ r ∙ ap (λ b. before ++ cut_or_go_on b p (λ w. [])) c in
+      let more : pieces words period [] (ss ++ s ∷ []) ≡ before ++ [] =
+      one_more ss s front by h.open_ r ∙ ap (λ b. before ++ cut_or_go_on b p (λ w. [])) c in
       record {
         given = ap (reports 0) more ∙ reports-append 0 before [] ∙ append-nil (reports 0 before) ∙ h.given;
         told = ap (reported_after 0) more ∙ reported_after-append 0 before [] ∙ h.told;

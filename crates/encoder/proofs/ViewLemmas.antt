@@ -33,11 +33,33 @@ by_last (event ∷ log) = elim (by_last log) [
   | inr r ↦ inr (event ∷ r.0, r.1, ap (λ l. event ∷ l) r.2)
 ]
 
-pub spot_after-following : (log : List Event) (held next : Event) (a after : Option Event) → spot_after (log ++ held ∷ []) next after ≡ following (spot_after log held a) next after
+pub spot_after-following : (log : List Event) (held next : Event) (a after : Option Event)
+    → spot_after (log ++ held ∷ []) next after ≡ following (spot_after log held a) next after
 spot_after-following log held next a after =
-    ap (λ n. record { number = n; before_that = before_last None None (log ++ held ∷ []); before = last_or None (log ++ held ∷ []); event = next; after = after }) (count_all-append 0 log (held ∷ []))
-    ∙ ap (λ b. record { number = count_with (count_all 0 log) held; before_that = b; before = last_or None (log ++ held ∷ []); event = next; after = after }) (before_last-snoc None None log held)
-    ∙ ap (λ b. record { number = count_with (count_all 0 log) held; before_that = last_or None log; before = b; event = next; after = after }) (last_or-snoc None log held)
+    ap (λ n. record {
+      number = n;
+      before_that = before_last None None (log ++ held ∷ []);
+      before =
+          last_or None (log ++ held ∷ []);
+      event = next;
+      after = after;
+    }) (count_all-append 0 log (held ∷ []))
+    ∙ ap (λ b. record {
+      number = count_with (count_all 0 log) held;
+      before_that = b;
+      before =
+          last_or None (log ++ held ∷ []);
+      event = next;
+      after = after;
+    }) (before_last-snoc None None log held)
+    ∙ ap (λ b. record {
+      number = count_with (count_all 0 log) held;
+      before_that = last_or None log;
+      before = b;
+      event =
+          next;
+      after = after;
+    }) (last_or-snoc None log held)
 
 pub both_true : (x y : Bool) → (x && y) ≡ true → (x ≡ true) × (y ≡ true)
 both_true true y h = (refl, h)
@@ -45,37 +67,59 @@ both_true false y h = cc
 
 module _ (words : Words) (period : ℕ) where
   -- What a log's packets so far are, what they report last and leave untold, and what is due of its last event.
-  pub record Views (log : List Event) (packets : List Packet) (reported : ℕ) (left : List Event) (due : Due) : Type 0 where
-    pub so_far : packets_so_far words period log ≡ packet.Support Open ∷ packets
-    pub told : reported_so_far words period log ≡ reported
-    pub rest : untold words period log ≡ left
-    pub asked : due_of_last words period log ≡ due
+  pub record Views (log : List Event) (packets : List Packet) (reported : ℕ) (left : List Event) (due : Due) : Type 0
+    where
+      pub so_far : packets_so_far words period log ≡ packet.Support Open ∷ packets
+      pub told : reported_so_far words period log ≡ reported
+      pub rest : untold words period log ≡ left
+      pub asked : due_of_last words period log ≡ due
 
-  view : (log : List Event) (held : Event) (ss : List Spot) (us : List Event) (packets : List Packet) (reported : ℕ) (front : List Event) → decided words (spots_of (log ++ held ∷ [])) ≡ ss → undecided words (spots_of (log ++ held ∷ [])) ≡ us → Reaches words period ss packets reported front → Views (log ++ held ∷ []) packets reported (front ++ us) (due_at words period (spot_after log held None))
+  view : (log : List Event) (held : Event) (ss : List Spot) (us : List Event) (packets : List Packet) (reported : ℕ)
+      (front : List Event) → decided words (spots_of (log ++ held ∷ [])) ≡ ss
+      → undecided words (spots_of (log ++ held ∷ [])) ≡ us → Reaches words period ss packets reported front
+      → Views (log ++ held ∷ []) packets reported (front ++ us) (due_at words period (spot_after log held None))
   view log held ss us packets reported front d u h = record {
-    so_far = ap (λ x. packet.Support Open ∷ reports 0 (pieces words period [] x)) d ∙ ap (λ x. packet.Support Open ∷ x) h.given;
+    so_far = ap (λ x. packet.Support Open ∷ reports 0 (pieces words period [] x)) d
+        ∙ ap (λ x. packet.Support Open ∷ x) h.given;
     told = ap (λ x. reported_after 0 (pieces words period [] x)) d ∙ h.told;
-    rest = ap (λ x. since_cut words period [] x ++ undecided words (spots_of (log ++ held ∷ []))) d ∙ ap (λ x. x ++ undecided words (spots_of (log ++ held ∷ []))) h.open_ ∙ ap (λ x. front ++ x) u;
-    asked = ap (λ x. due_at_last words period (last_or None x)) (spots-snoc log held None) ∙ ap (due_at_last words period) (last_or-snoc None (spots 0 None None log (Some held)) (spot_after log held None));
+    rest = ap (λ x. since_cut words period [] x ++ undecided words (spots_of (log ++ held ∷ []))) d
+        ∙ ap (λ x. x ++ undecided words (spots_of (log ++ held ∷ []))) h.open_ ∙ ap (λ x. front ++ x) u;
+    asked = ap (λ x. due_at_last words period (last_or None x)) (spots-snoc log held None)
+        ∙ ap (due_at_last words period) (last_or-snoc None (spots 0 None None log (Some held))
+        (spot_after log held None));
   }
 
-  pub decided_is : (log : List Event) (held : Event) (k : Bool) → is_known words (spot_after log held None) ≡ k → decided words (spots_of (log ++ held ∷ [])) ≡ spots 0 None None log (Some held) ++ cond k (spot_after log held None ∷ []) []
+  pub decided_is : (log : List Event) (held : Event) (k : Bool) → is_known words (spot_after log held None) ≡ k
+      → decided words (spots_of (log ++ held ∷ [])) ≡ spots 0 None None log (Some held)
+      ++ cond k (spot_after log held None ∷ []) []
   decided_is log held k e =
-      ap (decided words) (spots-snoc log held None) ∙ decided-snoc words (spots 0 None None log (Some held)) (spot_after log held None)
+      ap (decided words) (spots-snoc log held None) ∙ decided-snoc words (spots 0 None None log (Some held))
+      (spot_after log held None)
       ∙ ap (λ b. spots 0 None None log (Some held) ++ cond b (spot_after log held None ∷ []) []) e
 
-  undecided_is : (log : List Event) (held : Event) (k : Bool) → is_known words (spot_after log held None) ≡ k → undecided words (spots_of (log ++ held ∷ [])) ≡ cond k [] (held ∷ [])
+  undecided_is : (log : List Event) (held : Event) (k : Bool) → is_known words (spot_after log held None) ≡ k
+      → undecided words (spots_of (log ++ held ∷ [])) ≡ cond k [] (held ∷ [])
   undecided_is log held k e =
-      ap (undecided words) (spots-snoc log held None) ∙ undecided-snoc words (spots 0 None None log (Some held)) (spot_after log held None)
+      ap (undecided words) (spots-snoc log held None) ∙ undecided-snoc words (spots 0 None None log (Some held))
+      (spot_after log held None)
       ∙ ap (λ b. cond b [] (held ∷ [])) e
 
-  pub view_open : (log : List Event) (held : Event) (packets : List Packet) (reported : ℕ) (front : List Event) → is_known words (spot_after log held None) ≡ false → Reaches words period (spots 0 None None log (Some held)) packets reported front → Views (log ++ held ∷ []) packets reported (front ++ held ∷ []) (due_at words period (spot_after log held None))
+  pub view_open : (log : List Event) (held : Event) (packets : List Packet) (reported : ℕ) (front : List Event)
+      → is_known words (spot_after log held None) ≡ false → Reaches words period (spots 0 None None log (Some held))
+      packets reported front → Views (log ++ held ∷ []) packets reported (front ++ held ∷ [])
+      (due_at words period (spot_after log held None))
   view_open log held packets reported front k h =
-      view log held (spots 0 None None log (Some held)) (held ∷ []) packets reported front (decided_is log held false k ∙ append-nil (spots 0 None None log (Some held))) (undecided_is log held false k) h
+      view log held (spots 0 None None log (Some held)) (held ∷ []) packets reported front
+      (decided_is log held false k ∙ append-nil (spots 0 None None log (Some held))) (undecided_is log held false k)
+      h
 
-  pub view_known : (log : List Event) (held : Event) (packets : List Packet) (reported : ℕ) → is_known words (spot_after log held None) ≡ true → Reaches words period (spots 0 None None log (Some held) ++ spot_after log held None ∷ []) packets reported [] → Views (log ++ held ∷ []) packets reported [] (due_at words period (spot_after log held None))
+  pub view_known : (log : List Event) (held : Event) (packets : List Packet) (reported : ℕ)
+      → is_known words (spot_after log held None) ≡ true → Reaches words period
+      (spots 0 None None log (Some held) ++ spot_after log held None ∷ []) packets reported []
+      → Views (log ++ held ∷ []) packets reported [] (due_at words period (spot_after log held None))
   view_known log held packets reported k h =
-      view log held (spots 0 None None log (Some held) ++ spot_after log held None ∷ []) [] packets reported [] (decided_is log held true k) (undecided_is log held true k) h
+      view log held (spots 0 None None log (Some held) ++ spot_after log held None ∷ []) [] packets reported []
+      (decided_is log held true k) (undecided_is log held true k) h
 
   -- A handler's rule does not hang on what follows.
   pub rule_known : (s : Spot) → is_known words s ≡ true → rule words period s ≡ by.Handler
@@ -89,40 +133,50 @@ module _ (words : Words) (period : ℕ) where
       by_tests false h r t e f = cc
 
   -- What follows a retirement is no handler.
-  pub known-behind : (s : Spot) (next : Event) (after : Option Event) → is_retirement s.event ≡ true → is_known words (following s next after) ≡ false
+  pub known-behind : (s : Spot) (next : Event) (after : Option Event) → is_retirement s.event ≡ true
+      → is_known words (following s next after) ≡ false
   known-behind s next after r = by_event s.event r
     where
       and_false : (x : Bool) → (x && false) ≡ false
       and_false true = refl
       and_false false = refl
 
-      by_event : (e : Event) → is_retirement e ≡ true → (is_retirement next && is_handler words s.before (Some e) next) ≡ false
+      by_event : (e : Event) → is_retirement e ≡ true → (is_retirement next && is_handler words s.before (Some e) next)
+          ≡ false
       by_event (Retire addr itype priv) r = and_false (is_retirement next)
       by_event (Trap epc priv interrupt cause tval) r = cc
 
   -- Before a trap every event is a cut.
-  pub cut_before_trap : (log : List Event) (held trap : Event) (front : List Event) → is_retirement trap ≡ false → is_cut front held (rule words period (spot_after log held (Some trap))) ≡ true
+  pub cut_before_trap : (log : List Event) (held trap : Event) (front : List Event) → is_retirement trap ≡ false
+      → is_cut front held (rule words period (spot_after log held (Some trap))) ≡ true
   cut_before_trap log held (Retire addr itype priv) front t = cc
   cut_before_trap log (Retire at type level) (Trap epc priv interrupt cause tval) front t =
-      by_tests (is_handler words (before_last None None log) (last_or None log) (Retire at type level)) (is_start period (count_all 0 log) (last_or None log) level) (holds (is_discontinuity words) (last_or None log)) (is_backward words (Retire at type level))
+      by_tests (is_handler words (before_last None None log) (last_or None log) (Retire at type level))
+      (is_start period (count_all 0 log) (last_or None log) level)
+      (holds (is_discontinuity words) (last_or None log)) (is_backward words (Retire at type level))
     where
-      by_tests : (h y z b : Bool) → is_cut front (Retire at type level) (cond h by.Handler (cond y by.Sync (cond z (by.Target true) (cond true by.Explicit (cond b by.Notify by.Unreported))))) ≡ true
+      by_tests : (h y z b : Bool) → is_cut front (Retire at type level)
+          (cond h by.Handler (cond y by.Sync (cond z (by.Target true)
+          (cond true by.Explicit (cond b by.Notify by.Unreported))))) ≡ true
       by_tests true y z b = refl
       by_tests false true z b = refl
       by_tests false false true b = refl
       by_tests false false false b = refl
-  cut_before_trap log (Trap at level irq code value) (Trap epc priv interrupt cause tval) front t = by_before (holds is_retirement (last_or None log) && not (holds (is_discontinuity words) (last_or None log)))
+  cut_before_trap log (Trap at level irq code value) (Trap epc priv interrupt cause tval) front t =
+      by_before (holds is_retirement (last_or None log) && not (holds (is_discontinuity words) (last_or None log)))
     where
       by_before : (x : Bool) → not (x && false) ≡ true
       by_before true = refl
       by_before false = refl
 
-  pub none_before_trap : (log : List Event) (trap : Event) → is_retirement trap ≡ false → since_cut words period [] (spots 0 None None log (Some trap)) ≡ []
+  pub none_before_trap : (log : List Event) (trap : Event) → is_retirement trap ≡ false
+      → since_cut words period [] (spots 0 None None log (Some trap)) ≡ []
   none_before_trap log trap t = elim (by_last log) [
     | inl e ↦ ap (λ l. since_cut words period [] (spots 0 None None l (Some trap))) e
     | inr r ↦
         ap (λ l. since_cut words period [] (spots 0 None None l (Some trap))) r.2
         ∙ ap (since_cut words period []) (spots-snoc r.0 r.1 (Some trap))
         ∙ since_cut-append words period [] (spots 0 None None r.0 (Some r.1)) (spot_after r.0 r.1 (Some trap) ∷ [])
-        ∙ ap (λ b. cond b [] (since_cut words period [] (spots 0 None None r.0 (Some r.1)) ++ r.1 ∷ [])) (cut_before_trap r.0 r.1 trap (since_cut words period [] (spots 0 None None r.0 (Some r.1))) t)
+        ∙ ap (λ b. cond b [] (since_cut words period [] (spots 0 None None r.0 (Some r.1)) ++ r.1 ∷ []))
+        (cut_before_trap r.0 r.1 trap (since_cut words period [] (spots 0 None None r.0 (Some r.1))) t)
   ]

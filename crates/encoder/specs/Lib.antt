@@ -8,6 +8,5 @@ pub mod Due
 pub mod Stands
 pub mod Profile
 pub mod FewPackets
-pub mod Stepping
 pub mod SourceAt
-pub mod SourceFields
+pub mod steps

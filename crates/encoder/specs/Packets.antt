@@ -28,26 +28,26 @@ first_or event [] = event
 first_or event (first ∷ events) = first
 
 -- The packet of these events and the last, by its rule, after the last reported address: a sync packet, a trap
--- packet, an address packet with the outcomes of the branches and the difference of the addresses, or a branch map alone.
+-- packet, an address packet with the outcomes of the branches and the difference of the addresses, or a branch map
+-- alone.
 abbrev pub packet_by : ℕ → List Event → Event → Rule → Packet
 packet_by reported front last (by.Trap handler) = trap_packet last false (privilege last) false (place last)
-packet_by reported front last by.Handler = trap_packet (first_or last front) (is_taken last) (privilege last) true (place last)
+packet_by reported front last by.Handler =
+    trap_packet (first_or last front) (is_taken last) (privilege last) true (place last)
 packet_by reported front last by.Sync = packet.Sync (is_taken last) (privilege last) (place last)
 packet_by reported front last (by.Target cut_off) =
-    packet.Address (outcomes (front ++ last ∷ [])) (difference reported (place last)) (if cut_off then Updiscon else Plain)
-packet_by reported front last by.Explicit = packet.Address (outcomes (front ++ last ∷ [])) (difference reported (place last)) Plain
-packet_by reported front last by.Notify = packet.Address (outcomes (front ++ last ∷ [])) (difference reported (place last)) Notify
+    packet.Address (outcomes (front ++ last ∷ [])) (difference reported (place last))
+    (if cut_off then Updiscon else Plain)
+packet_by reported front last by.Explicit =
+    packet.Address (outcomes (front ++ last ∷ [])) (difference reported (place last)) Plain
+packet_by reported front last by.Notify =
+    packet.Address (outcomes (front ++ last ∷ [])) (difference reported (place last)) Notify
 packet_by reported front last by.Unreported = packet.Map (outcomes (front ++ last ∷ []))
 
 -- The last reported address after a packet: a branch map leaves it.
 abbrev pub reported_by : Rule → ℕ → Event → ℕ
-reported_by (by.Trap handler) reported last = place last
-reported_by by.Handler reported last = place last
-reported_by by.Sync reported last = place last
-reported_by (by.Target cut_off) reported last = place last
-reported_by by.Explicit reported last = place last
-reported_by by.Notify reported last = place last
 reported_by by.Unreported reported last = reported
+reported_by other reported last = place last
 
 -- The packets of pieces, after this last reported address.
 abbrev pub reports : ℕ → List Piece → List Packet
@@ -62,13 +62,8 @@ last_rule rule (piece ∷ pieces) = last_rule piece.by pieces
 
 -- How tracing ends: the last address was reported because of it, or would have been anyway.
 abbrev pub closing : Rule → Support
-closing (by.Trap handler) = EndedNtr
-closing by.Handler = EndedNtr
-closing by.Sync = EndedNtr
-closing (by.Target cut_off) = EndedNtr
 closing by.Explicit = EndedRep
-closing by.Notify = EndedNtr
-closing by.Unreported = EndedNtr
+closing other = EndedNtr
 
 -- The closing packet of a log.
 abbrev pub closing_packet : Words → ℕ → List Event → Packet

@@ -28,4 +28,5 @@ decided words (spot ∷ next ∷ rest) = spot ∷ decided words (next ∷ rest)
 -- The packets of a log before it is known what follows: Open, and those of every event before the
 -- last; the packet of a trap that is reported with its handler is there once the handler is.
 abbrev pub packets_so_far : Words → ℕ → List Event → List Packet
-packets_so_far words period log = packet.Support Open ∷ reports 0 (pieces words period [] (decided words (spots_of log)))
+packets_so_far words period log =
+    packet.Support Open ∷ reports 0 (pieces words period [] (decided words (spots_of log)))

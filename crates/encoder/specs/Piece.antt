@@ -22,12 +22,8 @@ events_of piece = piece.front ++ piece.last ∷ []
 -- 31st branch since the last cut, which fills the branch map.
 abbrev pub is_cut : List Event → Event → Rule → Bool
 is_cut front event (rule_of.Trap handler) = not handler
-is_cut front event rule_of.Handler = true
-is_cut front event rule_of.Sync = true
-is_cut front event (rule_of.Target cut_off) = true
-is_cut front event rule_of.Explicit = true
-is_cut front event rule_of.Notify = true
 is_cut front event rule_of.Unreported = is_branch event && (length (outcomes (front ++ event ∷ [])) == 31)
+is_cut front event other = true
 
 -- A piece ends at a cut, and what follows begins the next one; where there is no cut it goes on.
 abbrev pub cut_or_go_on : Bool → Piece → (List Event → List Piece) → List Piece

@@ -23,9 +23,9 @@ with_handler words before after =
 
 -- The event is a handler: the one before it is a trap that is reported with it.
 abbrev pub is_handler : Words → Option Event → Option Event → Event → Bool
-is_handler words before_that None event = false
-is_handler words before_that (Some (Retire addr itype priv)) event = false
-is_handler words before_that (Some (Trap epc priv interrupt cause tval)) event = with_handler words before_that (Some event)
+is_handler words before_that (Some (Trap epc priv interrupt cause tval)) event =
+    with_handler words before_that (Some event)
+is_handler words before_that before event = false
 
 -- A retirement of this number and privilege that is no handler is a new start: it is the first event,
 -- follows a trap, changes the privilege, or has a number that the period divides, which is this
@@ -47,7 +47,8 @@ abbrev pub retirement_rule : Words → ℕ → Spot → Rule
 retirement_rule words period spot =
     if is_handler words spot.before_that spot.before spot.event then by.Handler else
     if is_start period spot.number spot.before (privilege spot.event) then by.Sync else
-    if holds (is_discontinuity words) spot.before then by.Target (is_cut_off period spot.number spot.event spot.after) else
+    if holds (is_discontinuity words) spot.before then by.Target
+    (is_cut_off period spot.number spot.event spot.after) else
     if is_cut_off period spot.number spot.event spot.after || is_none spot.after then by.Explicit else
     if is_backward words spot.event then by.Notify else
     by.Unreported
@@ -55,4 +56,5 @@ retirement_rule words period spot =
 -- The rule of the event at a spot.
 abbrev pub rule : Words → ℕ → Spot → Rule
 rule words period spot =
-    if is_retirement spot.event then retirement_rule words period spot else by.Trap (with_handler words spot.before spot.after)
+    if is_retirement spot.event then retirement_rule words period spot else by.Trap
+    (with_handler words spot.before spot.after)

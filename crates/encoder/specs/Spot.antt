@@ -27,7 +27,14 @@ count_with number (Trap epc priv interrupt cause tval) = number
 abbrev pub spots : ℕ → Option Event → Option Event → List Event → Option Event → List Spot
 spots number before_that before [] next = []
 spots number before_that before (event ∷ events) next =
-    record { number = number; before_that = before_that; before = before; event = event; after = first_event events next }
+    record {
+      number = number;
+      before_that = before_that;
+      before = before;
+      event = event;
+      after =
+          first_event events next;
+    }
     ∷ spots (count_with number event) before (Some event) events next
 
 -- The spot of each event of a log, its retirements numbered from 0.

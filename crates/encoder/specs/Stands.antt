@@ -28,7 +28,8 @@ reported_after reported (piece ∷ pieces) = reported_after (reported_by piece.b
 abbrev pub since_cut : Words → ℕ → List Event → List Spot → List Event
 since_cut words period front [] = front
 since_cut words period front (spot ∷ rest) =
-    since_cut words period (if is_cut front spot.event (rule words period spot) then [] else front ++ spot.event ∷ []) rest
+    since_cut words period (if is_cut front spot.event (rule words period spot) then [] else front ++ spot.event ∷ [])
+    rest
 
 -- The last of these events, where its rule is not known yet.
 abbrev pub undecided : Words → List Spot → List Event

@@ -1,7 +1,7 @@
 //! What is due of an event before the next one comes.
 
 ghost use Rattle.std.specs.Prelude.{◌≡◌};
-ghost use Rattle.encoder.specs.Stepping.{next_due, leaves_by_type, cuts_off, is_handler_due};
+ghost use Rattle.encoder.specs.steps.Stepping.{next_due, is_discontinuity_by_type, cuts_off, is_handler_due};
 
 use retire::Event;
 
@@ -57,7 +57,7 @@ pub fn due_behind(held: &Option<Event>, due: Due, left: u16, event: &Event) -> D
             ) => {
                 if *privilege != *level || left == 0 {
                     Due::Sync
-                } else if leaves(*itype) {
+                } else if is_discontinuity(*itype) {
                     Due::Target
                 } else {
                     Due::Nothing
@@ -74,7 +74,7 @@ pub fn due_behind(held: &Option<Event>, due: Due, left: u16, event: &Event) -> D
         },
         Event::Trap { .. } => match held {
             Some(Event::Retire { itype, .. }) => {
-                if leaves(*itype) {
+                if is_discontinuity(*itype) {
                     Due::Trap
                 } else {
                     Due::TrapOrHandler
@@ -87,8 +87,8 @@ pub fn due_behind(held: &Option<Event>, due: Due, left: u16, event: &Event) -> D
 
 /// Whether a retirement of this type is an uninferable discontinuity.
 #[inline]
-pub fn leaves(itype: u8) -> bool
-    ensures { result ≡ leaves_by_type itype }
+pub fn is_discontinuity(itype: u8) -> bool
+    ensures { result ≡ is_discontinuity_by_type itype }
 {
     itype == 3 || itype == 6
 }

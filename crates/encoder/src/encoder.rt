@@ -11,7 +11,7 @@ ghost use Rattle.payload.specs.Profile.{InProfile};
 ghost use Rattle.encoder.specs.Packets.{packets, closing};
 ghost use Rattle.encoder.specs.PacketsSoFar.{packets_so_far};
 ghost use Rattle.encoder.specs.Stands.{Stands};
-ghost use Rattle.encoder.specs.Stepping as stepping;
+ghost use Rattle.encoder.specs.steps.Stepping as stepping;
 
 use crate::due::{Due, due_behind};
 use crate::packet::{handler_packet, packet_by, reported_by};
@@ -191,7 +191,8 @@ impl Encoder {
     #[inline(never)]
     fn report(&mut self, program: &Program, event: &Event, due: Due) -> Option<Packet>
         ensures after { self.new
-            ≡ stepping.hold self.old [] (stepping.reported_before (words_of program.now) self.old self.old.held event.now due) event.now due }
+            ≡ stepping.hold self.old []
+            (stepping.reported_before (words_of program.now) self.old self.old.held event.now due) event.now due }
         ensures given { option_to_list result
             ≡ stepping.packets_before (words_of program.now) self.old self.old.held event.now due }
         ensures numbers { Is64Bit event.now }

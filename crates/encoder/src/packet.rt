@@ -5,7 +5,7 @@ ghost use Rattle.std.specs.Option.{option_to_list};
 ghost use Rattle.retire.specs.Events.{place};
 ghost use Rattle.payload.specs.Difference.{difference};
 ghost use Rattle.encoder.specs.Packets.{reported_by, trap_packet};
-ghost use Rattle.encoder.specs.Stepping.{packets_by, handler_packet};
+ghost use Rattle.encoder.specs.steps.Stepping.{packets_by, handler_packet};
 
 use crate::rule::Rule;
 use payload::{Outcomes, Packet, Report};

@@ -3,7 +3,7 @@
 ghost use Rattle.std.specs.Prelude.{◌≡◌};
 ghost use Rattle.rvclass.specs.Fetch.{words_of};
 ghost use Rattle.legalpath.specs.Backward.{jumps_back};
-ghost use Rattle.encoder.specs.Stepping.{rule_before, rule_at_end, jumps_back_to};
+ghost use Rattle.encoder.specs.steps.Stepping.{rule_before, rule_at_end, jumps_back_to};
 
 use crate::due::Due;
 use retire::Event;

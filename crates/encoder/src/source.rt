@@ -9,7 +9,7 @@ ghost use Rattle.payload.specs.Profile.{InProfile};
 ghost use Rattle.encoder.specs.PacketsSoFar.{packets_so_far};
 ghost use Rattle.encoder.specs.Payloads.{payloads};
 ghost use Rattle.encoder.specs.SourceAt.{SourceAt, IsAt, number_behind};
-ghost use Rattle.encoder.specs.SourceFields.{packets_of_log, stands_at, IsSource};
+ghost use Rattle.encoder.specs.steps.SourceFields.{packets_of_log, stands_at, IsSource};
 ghost use Rattle.encoder.specs.Stands.{Stands};
 
 use crate::encoder::Encoder;
@@ -134,7 +134,8 @@ fn run(
     ensures within { taken.new ≤ length events.now }
     ensures stands { Stands (words_of program.now) (encoder.old.between + 1) (take taken.new events.now) encoder.new }
     ensures packets { packets_so_far (words_of program.now) (encoder.old.between + 1) (take taken.new events.now)
-        ≡ packets_so_far (words_of program.now) (encoder.old.between + 1) (take taken.old events.now) ++ option_to_list result }
+        ≡ packets_so_far (words_of program.now) (encoder.old.between + 1) (take taken.old events.now)
+        ++ option_to_list result }
     ensures all { result ≡ None → taken.new ≡ length events.now }
 {
     for _ in *taken..events.len() {

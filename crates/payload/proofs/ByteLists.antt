@@ -17,7 +17,8 @@ bytes_from i zero n = refl
 bytes_from i (suc k) n =
     let here = byte_at-is i n in
     let there = bytes_from (suc i) k n in
-    let shifted : n / 256 ^ i / 256 ≡ n / 256 ^ suc i = div-div-eq-div-mul n (256 ^ i) 256 ∙ ap (λ x. n / x) (sym (pow-suc 256 i)) in
+    let shifted : n / 256 ^ i / 256 ≡ n / 256 ^ suc i =
+    div-div-eq-div-mul n (256 ^ i) 256 ∙ ap (λ x. n / x) (sym (pow-suc 256 i)) in
     rw (here, there, shifted) refl
 
 pub bytes_first : (k n : ℕ) → bytes_low_first 0 k n ≡ low_bytes k n
@@ -32,12 +33,13 @@ pub length-low_bytes : (k n : ℕ) → length (low_bytes k n) ≡ k
 length-low_bytes zero n = refl
 length-low_bytes (suc k) n = ap suc (length-low_bytes k (n / 256))
 
--- what is cut off above does not reach the lowest bytes
+-- What is cut off above does not reach the lowest bytes.
 pub low_bytes-mod : (k b n : ℕ) → 8 * k ≤ b → low_bytes k (n % 2 ^ b) ≡ low_bytes k n
 low_bytes-mod zero b n h = refl
 low_bytes-mod (suc k) b n h =
     let whole : b - 8 + 8 ≡ b = omega arith in
-    let parts : n % 2 ^ b ≡ n / 256 % 2 ^ (b - 8) * 256 + n % 256 = ap (λ x. n % 2 ^ x) (sym whole) ∙ mod-pow-add n (b - 8) 8 in
+    let parts : n % 2 ^ b ≡ n / 256 % 2 ^ (b - 8) * 256 + n % 256 =
+    ap (λ x. n % 2 ^ x) (sym whole) ∙ mod-pow-add n (b - 8) 8 in
     let low : n % 2 ^ b % 256 ≡ n % 256 = omega arith in
     let high : n % 2 ^ b / 256 ≡ n / 256 % 2 ^ (b - 8) = omega arith in
     rw (low, high, low_bytes-mod k (b - 8) (n / 256) (omega arith)) refl

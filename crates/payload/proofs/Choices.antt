@@ -17,8 +17,10 @@ chosen_of_4 : {X : Type 0} (a b c d : Bool) (x y z w v q : X) → cond a x (cond
 chosen_of_4 true b c d x y z w v q e = inl (refl, e)
 chosen_of_4 false b c d x y z w v q e = inr (chosen_of_3 b c d y z w v q e)
 
-pub chosen_of_5 : {X : Type 0} (a b c d f : Bool) (x y z w v u q : X) → cond a x (cond b y (cond c z (cond d w (cond f v u)))) ≡ q
-    → ((a ≡ true) × (x ≡ q)) ⊎ (((b ≡ true) × (y ≡ q)) ⊎ (((c ≡ true) × (z ≡ q)) ⊎ (((d ≡ true) × (w ≡ q)) ⊎ (((f ≡ true) × (v ≡ q)) ⊎ (u ≡ q)))))
+pub chosen_of_5 : {X : Type 0} (a b c d f : Bool) (x y z w v u q : X)
+    → cond a x (cond b y (cond c z (cond d w (cond f v u)))) ≡ q
+    → ((a ≡ true) × (x ≡ q)) ⊎ (((b ≡ true) × (y ≡ q)) ⊎ (((c ≡ true) × (z ≡ q))
+    ⊎ (((d ≡ true) × (w ≡ q)) ⊎ (((f ≡ true) × (v ≡ q)) ⊎ (u ≡ q)))))
 chosen_of_5 true b c d f x y z w v u q e = inl (refl, e)
 chosen_of_5 false b c d f x y z w v u q e = inr (chosen_of_4 b c d f y z w v u q e)
 

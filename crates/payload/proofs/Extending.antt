@@ -12,7 +12,7 @@ less_one : (x y : ℕ) → 1 ≤ x → (x - 1) * y + y ≡ x * y
 less_one zero y h = absurd (omega arith)
 less_one (suc x) y h = let same : suc x - 1 ≡ x = omega arith in rw same (sym (suc-mul x y))
 
--- the sizes at a width
+-- The sizes at a width.
 pub record Sizes (w : ℕ) : Type 0 where
   pub half : 2 ^ w ≡ 2 * 2 ^ (w - 1)
   pub most : 2 ^ (w - 1) ≤ 2 ^ 143
@@ -33,7 +33,7 @@ sizes w low high = record {
   ones = omega (arith, pow_pos (144 - w));
 }
 
--- the two cases of a number of so many bits
+-- The two cases of a number of so many bits.
 pub extended_low : (w n : ℕ) → n < 2 ^ (w - 1) → extended w n ≡ n
 unfolding extended
 extended_low w n h = rw (lt-ltb _ _ h) refl
@@ -77,10 +77,12 @@ magnitude_extended w n low high h =
     let most = s.most in
     elim (cases_lt n (2 ^ (w - 1))) [
       | inl less ↦ rw (extended_low w n less, magnitude_low w n less) (magnitude_low 144 n (omega arith))
-      | inr more ↦ rw (extended_high w n more, magnitude_high w n more) (magnitude_high 144 (n + (2 ^ 144 - 2 ^ w)) (omega arith) ∙ omega arith)
+      | inr more ↦
+          rw (extended_high w n more, magnitude_high w n more)
+          (magnitude_high 144 (n + (2 ^ 144 - 2 ^ w)) (omega arith) ∙ omega arith)
     ]
 
--- what is cut off a number that goes on with copies of a bit comes back
+-- What is cut off a number that goes on with copies of a bit comes back.
 pub extended_mod : (w n : ℕ) → 1 ≤ w → w ≤ 144 → n < 2 ^ w → extended w n % 2 ^ w ≡ n
 extended_mod w n low high h =
     let s = sizes w low high in
@@ -89,7 +91,8 @@ extended_mod w n low high h =
     elim (cases_lt n (2 ^ (w - 1))) [
       | inl less ↦ rw (extended_low w n less) (mod-eq_of_lt h)
       | inr more ↦ rw (extended_high w n more)
-          (let split : n + (2 ^ 144 - 2 ^ w) ≡ (2 ^ (144 - w) - 1) * 2 ^ w + n = omega (arith, less_one (2 ^ (144 - w)) (2 ^ w) ones) in rw split (mod_low (2 ^ (144 - w) - 1) w n h))
+          (let split : n + (2 ^ 144 - 2 ^ w) ≡ (2 ^ (144 - w) - 1) * 2 ^ w + n =
+          omega (arith, less_one (2 ^ (144 - w)) (2 ^ w) ones) in rw split (mod_low (2 ^ (144 - w) - 1) w n h))
     ]
 
 pub cut : (w n : ℕ) → 1 ≤ w → w ≤ 144 → n < 2 ^ 144 → magnitude 144 n < 2 ^ (w - 1) → extended w (n % 2 ^ w) ≡ n
@@ -106,8 +109,10 @@ cut w n low high bound small =
           rw same (extended_low w n under)
       | inr more ↦
           let under : 2 ^ 144 - 1 - n < 2 ^ (w - 1) = (rw (magnitude_high 144 n more) at small) in
-          let split : n ≡ (2 ^ (144 - w) - 1) * 2 ^ w + (n - (2 ^ 144 - 2 ^ w)) = omega (arith, less_one (2 ^ (144 - w)) (2 ^ w) ones) in
-          let low_part : n % 2 ^ w ≡ n - (2 ^ 144 - 2 ^ w) = ap (λ x. x % 2 ^ w) split ∙ mod_low (2 ^ (144 - w) - 1) w (n - (2 ^ 144 - 2 ^ w)) (omega arith) in
+          let split : n ≡ (2 ^ (144 - w) - 1) * 2 ^ w + (n - (2 ^ 144 - 2 ^ w)) =
+          omega (arith, less_one (2 ^ (144 - w)) (2 ^ w) ones) in
+          let low_part : n % 2 ^ w ≡ n - (2 ^ 144 - 2 ^ w) =
+          ap (λ x. x % 2 ^ w) split ∙ mod_low (2 ^ (144 - w) - 1) w (n - (2 ^ 144 - 2 ^ w)) (omega arith) in
           rw low_part (extended_high w (n - (2 ^ 144 - 2 ^ w)) (omega arith) ∙ omega arith)
     ]
 
@@ -118,7 +123,8 @@ top_bit w n low h more =
     let same : 2 ^ suc (w - 1) ≡ 2 ^ w = ap (λ x. 2 ^ x) whole in
     let some : 0 < 2 ^ (w - 1) = pow_pos (w - 1) in
     let split : n ≡ 1 * 2 ^ (w - 1) + (n - 2 ^ (w - 1)) = omega arith in
-    let one : n / 2 ^ (w - 1) ≡ 1 = ap (λ x. x / 2 ^ (w - 1)) split ∙ shr_high 1 (w - 1) (n - 2 ^ (w - 1)) (omega arith) in
+    let one : n / 2 ^ (w - 1) ≡ 1 =
+    ap (λ x. x / 2 ^ (w - 1)) split ∙ shr_high 1 (w - 1) (n - 2 ^ (w - 1)) (omega arith) in
     rw one refl
 
 pub bit_of_extended : (w n i : ℕ) → 1 ≤ w → w ≤ 144 → n < 2 ^ w → i < 144 → bit_at (extended w n) i ≡ extended_bit w n i
@@ -133,20 +139,24 @@ bit_of_extended w n i low high h inside =
             | inl in_it ↦ let at : min i (w - 1) ≡ i = min-eq_left (omega arith) in rw at refl
             | inr past ↦
                 let at : min i (w - 1) ≡ w - 1 = min-eq_right (omega arith) in
-                rw (at, bit_at_above n (w - 1) i less (omega arith)) (sym (bit_at_above n (w - 1) (w - 1) less (omega arith)))
+                rw (at, bit_at_above n (w - 1) i less (omega arith))
+                (sym (bit_at_above n (w - 1) (w - 1) less (omega arith)))
           ])
       | inr more ↦
-          let split : n + (2 ^ 144 - 2 ^ w) ≡ (2 ^ (144 - w) - 1) * 2 ^ w + n = omega (arith, less_one (2 ^ (144 - w)) (2 ^ w) ones) in
+          let split : n + (2 ^ 144 - 2 ^ w) ≡ (2 ^ (144 - w) - 1) * 2 ^ w + n =
+          omega (arith, less_one (2 ^ (144 - w)) (2 ^ w) ones) in
           rw (extended_high w n more, split)
           (elim (cases_lt i w) [
-            | inl in_it ↦ let at : min i (w - 1) ≡ i = min-eq_left (omega arith) in rw at (bit_at_cat_low (2 ^ (144 - w) - 1) w n i in_it)
+            | inl in_it ↦ let at : min i (w - 1) ≡ i = min-eq_left (omega arith) in
+                rw at (bit_at_cat_low (2 ^ (144 - w) - 1) w n i in_it)
             | inr past ↦
                 let at : min i (w - 1) ≡ w - 1 = min-eq_right (omega arith) in
-                rw at (bit_at_cat_high (2 ^ (144 - w) - 1) w n i h past ∙ bit_at_ones (144 - w) (i - w) (omega arith) ∙ sym (top_bit w n low h more))
+                rw at (bit_at_cat_high (2 ^ (144 - w) - 1) w n i h past ∙ bit_at_ones (144 - w) (i - w) (omega arith)
+                ∙ sym (top_bit w n low h more))
           ])
     ]
 
--- the bits are the same exactly where the numbers at 144 bits are
+-- The bits are the same exactly where the numbers at 144 bits are.
 pub same_number : (v a w b : ℕ) → 1 ≤ v → v ≤ 144 → a < 2 ^ v → 1 ≤ w → w ≤ 144 → b < 2 ^ w
     → ((i : ℕ) → extended_bit v a i ≡ extended_bit w b i) → extended v a ≡ extended w b
 same_number v a w b lv hv ha lw hw hb each =

@@ -12,8 +12,10 @@ use Rattle.payload.proofs.Extending.{extended_low, extended_high, magnitude_low,
 
 first_from_size : (m top : ℕ) → 1 ≤ top → m < 2 ^ top → 2 ^ (top - 1) ≤ m → IsFirst 1 m (top / 8 + 1)
 first_from_size m top some below above = record {
-  fits = (let wide : 2 ^ top ≤ 2 ^ (8 * (top / 8 + 1) - 1) = pow-le-pow_right {n = 2} (omega arith) {j = 8 * (top / 8 + 1) - 1} (omega arith) in omega arith);
-  others = λ j low high. let wide : 2 ^ (8 * j - 1) ≤ 2 ^ (top - 1) = pow-le-pow_right {n = 2} (omega arith) {j = top - 1} (omega arith) in omega arith;
+  fits = (let wide : 2 ^ top ≤ 2 ^ (8 * (top / 8 + 1) - 1) =
+      pow-le-pow_right {n = 2} (omega arith) {j = 8 * (top / 8 + 1) - 1} (omega arith) in omega arith);
+  others = λ j low high. let wide : 2 ^ (8 * j - 1) ≤ 2 ^ (top - 1) =
+      pow-le-pow_right {n = 2} (omega arith) {j = top - 1} (omega arith) in omega arith;
 }
 
 one_bit : (bits rest : ℕ) → rest ≢ 0 → rest < 2 ^ bits → 1 ≤ bits
@@ -32,7 +34,8 @@ counted_long head rest small narrow some =
     let twice : 2 ^ bits ≡ 2 ^ (bits - 1) * 2 = ap (λ x. 2 ^ x) (sym whole) ∙ pow-suc 2 (bits - 1) in
     let is : 142 - count_leading_zeros 64 rest ≡ 78 + bits = omega (arith, found.1) in
     let size : 2 ^ (78 + bits) ≡ 2 ^ 78 * 2 ^ bits = pow-add 2 78 bits in
-    let half : 2 ^ (78 + bits - 1) ≡ 2 ^ 78 * 2 ^ (bits - 1) = (let e : 78 + bits - 1 ≡ 78 + (bits - 1) = omega arith in ap (λ x. 2 ^ x) e ∙ pow-add 2 78 (bits - 1)) in
+    let half : 2 ^ (78 + bits - 1) ≡ 2 ^ 78 * 2 ^ (bits - 1) =
+    (let e : 78 + bits - 1 ≡ 78 + (bits - 1) = omega arith in ap (λ x. 2 ^ x) e ∙ pow-add 2 78 (bits - 1)) in
     let first = first_from_size (head + 2 ^ 78 * rest) (78 + bits) (omega arith) (omega arith) (omega arith) in
     let few : bits ≤ 64 = omega (arith, found.1) in
     rw is (sym (first_is 17 1 (head + 2 ^ 78 * rest) ((78 + bits) / 8 + 1) (omega arith) (omega arith) first))
@@ -45,31 +48,37 @@ low_bytes-append zero k n =
 low_bytes-append (suc j) k n =
     let count : suc j + k ≡ suc (j + k) = omega arith in
     let size : 2 ^ (8 * suc j) ≡ 256 * 2 ^ (8 * j) = power j in
-    let place : n / 2 ^ (8 * suc j) ≡ n / 256 / 2 ^ (8 * j) = ap (λ x. n / x) size ∙ sym (div-div-eq-div-mul n 256 (2 ^ (8 * j))) in
+    let place : n / 2 ^ (8 * suc j) ≡ n / 256 / 2 ^ (8 * j) =
+    ap (λ x. n / x) size ∙ sym (div-div-eq-div-mul n 256 (2 ^ (8 * j))) in
     rw (count, place) (ap (λ xs. n % 256 ∷ xs) (low_bytes-append j k (n / 256)))
 
-pub low_bytes-split : (j count n : ℕ) → j ≤ count → low_bytes j n ++ low_bytes (count - j) (n / 2 ^ (8 * j)) ≡ low_bytes count n
+pub low_bytes-split : (j count n : ℕ) → j ≤ count → low_bytes j n ++ low_bytes (count - j) (n / 2 ^ (8 * j))
+    ≡ low_bytes count n
 low_bytes-split j count n some =
     let whole : j + (count - j) ≡ count = omega arith in
     sym (low_bytes-append j (count - j) n) ∙ ap (λ k. low_bytes k n) whole
 
-pub low_part_alone : (count low high : ℕ) → count ≤ 16 → low < 2 ^ 128 → low_bytes count low ≡ low_bytes count (low + 2 ^ 128 * high)
+pub low_part_alone : (count low high : ℕ) → count ≤ 16 → low < 2 ^ 128
+    → low_bytes count low ≡ low_bytes count (low + 2 ^ 128 * high)
 low_part_alone count low high few bound =
     let cut : (low + 2 ^ 128 * high) % 2 ^ 128 ≡ low = omega arith in
     ap (low_bytes count) (sym cut) ∙ low_bytes-mod count 128 (low + 2 ^ 128 * high) (omega arith)
 
-pub both_parts_of : (count low high : ℕ) → 16 ≤ count → low < 2 ^ 128 → low_bytes 16 low ++ low_bytes (count - 16) high ≡ low_bytes count (low + 2 ^ 128 * high)
+pub both_parts_of : (count low high : ℕ) → 16 ≤ count → low < 2 ^ 128
+    → low_bytes 16 low ++ low_bytes (count - 16) high ≡ low_bytes count (low + 2 ^ 128 * high)
 both_parts_of count low high many bound =
     let whole : 16 + (count - 16) ≡ count = omega arith in
     let above : (low + 2 ^ 128 * high) / 2 ^ (8 * 16) ≡ high = omega arith in
     let split = low_bytes-append 16 (count - 16) (low + 2 ^ 128 * high) in
     sym (ap (λ k. low_bytes k (low + 2 ^ 128 * high)) (sym whole) ∙ split
-    ∙ ap (λ xs. xs ++ low_bytes (count - 16) ((low + 2 ^ 128 * high) / 2 ^ (8 * 16))) (sym (low_part_alone 16 low high (omega arith) bound))
+    ∙ ap (λ xs. xs ++ low_bytes (count - 16) ((low + 2 ^ 128 * high) / 2 ^ (8 * 16)))
+    (sym (low_part_alone 16 low high (omega arith) bound))
     ∙ ap (λ n. low_bytes 16 low ++ low_bytes (count - 16) n) above)
 
--- 142 bits, with a top bit of 0 and of 1
+-- 142 bits, with a top bit of 0 and of 1.
 pub shortest_clear : (n count : ℕ) → n < 2 ^ 141 → count ≡ fewest_bytes n → low_bytes count n ≡ shortest_bytes 142 n
 shortest_clear n count h is = rw (is, magnitude_low 142 n h, extended_low 142 n h) refl
 
-pub shortest_set : (n count m whole : ℕ) → 2 ^ 141 ≤ n → m ≡ 2 ^ 142 - 1 - n → whole ≡ n + (2 ^ 144 - 2 ^ 142) → count ≡ fewest_bytes m → low_bytes count whole ≡ shortest_bytes 142 n
+pub shortest_set : (n count m whole : ℕ) → 2 ^ 141 ≤ n → m ≡ 2 ^ 142 - 1 - n → whole ≡ n + (2 ^ 144 - 2 ^ 142)
+    → count ≡ fewest_bytes m → low_bytes count whole ≡ shortest_bytes 142 n
 shortest_set n count m whole h sign long is = rw (is, sign, long, magnitude_high 142 n h, extended_high 142 n h) refl

@@ -7,7 +7,7 @@ use Rattle.payload.specs.Faults.{part}
 use Rattle.payload.specs.Outcomes.{map_width}
 use Rattle.payload.proofs.Parts.{cut_in_two, halves}
 
--- a map has room for its outcomes and is at most 31 bits wide
+-- A map has room for its outcomes and is at most 31 bits wide.
 pub map_sizes : (count : ℕ) → count ≤ 31 → (count ≤ map_width count) × (map_width count ≤ 31)
 map_sizes count few =
     elim (cases_lt count 2) [
@@ -27,16 +27,20 @@ map_sizes count few =
           ])
     ]
 
--- a map and what stands in its unused bits fit its width
-pub map-lt : (count width map spare : ℕ) → count ≤ width → map < 2 ^ count → spare < 2 ^ (width - count) → map + 2 ^ count * spare < 2 ^ width
+-- A map and what stands in its unused bits fit its width.
+pub map-lt : (count width map spare : ℕ) → count ≤ width → map < 2 ^ count → spare < 2 ^ (width - count)
+    → map + 2 ^ count * spare < 2 ^ width
 map-lt count width map spare room below unused =
-    let whole : 2 ^ width ≡ 2 ^ count * 2 ^ (width - count) = (let e : width ≡ count + (width - count) = omega arith in ap (λ x. 2 ^ x) e ∙ pow-add 2 count (width - count)) in
+    let whole : 2 ^ width ≡ 2 ^ count * 2 ^ (width - count) =
+    (let e : width ≡ count + (width - count) = omega arith in
+    ap (λ x. 2 ^ x) e ∙ pow-add 2 count (width - count)) in
     let step : 2 ^ count * suc spare ≤ 2 ^ count * 2 ^ (width - count) = mul-le-mul_left (2 ^ count) unused in
     let more : 2 ^ count * suc spare ≡ 2 ^ count * spare + 2 ^ count = mul-suc (2 ^ count) spare in
     rw whole (omega arith)
 
--- a map is its outcomes' bits and the unused ones
-pub map_parts : (n from count width : ℕ) → count ≤ width → part n from width ≡ part n from count + 2 ^ count * part n (from + count) (width - count)
+-- A map is its outcomes' bits and the unused ones.
+pub map_parts : (n from count width : ℕ) → count ≤ width
+    → part n from width ≡ part n from count + 2 ^ count * part n (from + count) (width - count)
 map_parts n from count width room =
     let e : width ≡ count + (width - count) = omega arith in
     ap (part n from) e ∙ cut_in_two (n / 2 ^ from) count (width - count)
@@ -45,8 +49,9 @@ map_parts n from count width room =
 pub part-lt : (n from width : ℕ) → part n from width < 2 ^ width
 part-lt n from width = mod_below (n / 2 ^ from) (2 ^ width) (pow_pos width)
 
--- the outcomes' bits come back from a map with unused bits
-pub map_read : (n from count width map spare : ℕ) → count ≤ width → map < 2 ^ count → part n from width ≡ map + 2 ^ count * spare → part n from count ≡ map
+-- The outcomes' bits come back from a map with unused bits.
+pub map_read : (n from count width map spare : ℕ) → count ≤ width → map < 2 ^ count
+    → part n from width ≡ map + 2 ^ count * spare → part n from count ≡ map
 map_read n from count width map spare room below e =
     (halves count (part n from count) (part n (from + count) (width - count)) map spare (part-lt n from count) below
     (sym (map_parts n from count width room) ∙ e)).0

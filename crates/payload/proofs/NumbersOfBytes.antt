@@ -24,7 +24,7 @@ number-ones : (k : ℕ) → number (replicate k 255) + 1 ≡ 2 ^ (8 * k)
 number-ones zero = refl
 number-ones (suc k) = let there = number-ones k in rw (power k) (omega arith)
 
--- the last byte tells the top bit
+-- The last byte tells the top bit.
 pub record Top (n : ℕ) (xs : List ℕ) : Type 0 where
   pub clear : get_or xs n 0 < 128 → number xs < 128 * 2 ^ (8 * n)
   pub set : 128 ≤ get_or xs n 0 → 128 * 2 ^ (8 * n) ≤ number xs
@@ -41,21 +41,32 @@ top (suc n) (x ∷ xs) e h =
       set = λ a. let next : 128 * 2 ^ (8 * n) ≤ number xs = there.set a in rw (power n) (omega arith);
     }
 
--- copies of the top bit make the number at 144 bits
+-- Copies of the top bit make the number at 144 bits.
 pub filled : (n fill : ℕ) (xs : List ℕ) → length xs ≡ suc n → suc n ≤ 18 → IsBytes xs
     → ((get_or xs n 0 < 128) × (fill ≡ 0)) ⊎ ((128 ≤ get_or xs n 0) × (fill ≡ 255))
     → number (xs ++ replicate (18 - length xs) fill) ≡ bits_of xs
 filled n fill xs e few h (inl (clear, is)) =
-    let size : 2 ^ (8 * suc n - 1) ≡ 128 * 2 ^ (8 * n) = (let same : 8 * suc n - 1 ≡ 7 + 8 * n = omega arith in ap (λ x. 2 ^ x) same ∙ pow-add 2 7 (8 * n)) in
+    let size : 2 ^ (8 * suc n - 1) ≡ 128 * 2 ^ (8 * n) =
+    (let same : 8 * suc n - 1 ≡ 7 + 8 * n = omega arith in ap (λ x. 2 ^ x) same ∙ pow-add 2 7 (8 * n)) in
     let less = (top n xs e h).clear clear in
-    rw (is, number-append xs (replicate (18 - length xs) 0), number-zeros (18 - length xs), e, extended_low (8 * suc n) (number xs) (omega arith)) (omega arith)
+    rw (
+      is,
+      number-append xs (replicate (18 - length xs) 0),
+      number-zeros (18 - length xs),
+      e,
+      extended_low (8 * suc n) (number xs) (omega arith),
+    ) (omega arith)
 filled n fill xs e few h (inr (set, is)) =
-    let size : 2 ^ (8 * suc n - 1) ≡ 128 * 2 ^ (8 * n) = (let same : 8 * suc n - 1 ≡ 7 + 8 * n = omega arith in ap (λ x. 2 ^ x) same ∙ pow-add 2 7 (8 * n)) in
+    let size : 2 ^ (8 * suc n - 1) ≡ 128 * 2 ^ (8 * n) =
+    (let same : 8 * suc n - 1 ≡ 7 + 8 * n = omega arith in ap (λ x. 2 ^ x) same ∙ pow-add 2 7 (8 * n)) in
     let more = (top n xs e h).set set in
     let ones = number-ones (18 - suc n) in
-    let whole : 2 ^ 144 ≡ 2 ^ (8 * suc n) * 2 ^ (8 * (18 - suc n)) = (let same : 144 ≡ 8 * suc n + 8 * (18 - suc n) = omega arith in ap (λ x. 2 ^ x) same ∙ pow-add 2 (8 * suc n) (8 * (18 - suc n))) in
+    let whole : 2 ^ 144 ≡ 2 ^ (8 * suc n) * 2 ^ (8 * (18 - suc n)) =
+    (let same : 144 ≡ 8 * suc n + 8 * (18 - suc n) = omega arith in
+    ap (λ x. 2 ^ x) same ∙ pow-add 2 (8 * suc n) (8 * (18 - suc n))) in
     let parts : 2 ^ (8 * suc n) * (number (replicate (18 - suc n) 255) + 1) ≡ 2 ^ 144 = rw (ones, whole) refl in
-    rw (is, number-append xs (replicate (18 - length xs) 255), e, extended_high (8 * suc n) (number xs) (omega arith)) (omega arith)
+    rw (is, number-append xs (replicate (18 - length xs) 255), e, extended_high (8 * suc n) (number xs) (omega arith))
+    (omega arith)
 
 powers : (k : ℕ) → 256 ^ k ≡ 2 ^ (8 * k)
 powers zero = refl
@@ -76,8 +87,9 @@ take_whole [] (suc k) h = absurd (omega arith)
 take_whole (x ∷ xs) zero h = absurd (omega arith)
 take_whole (x ∷ xs) (suc k) h = ap (λ ys. x ∷ ys) (take_whole xs k (omega arith))
 
--- the sum that `from_le_bytes` makes
-pub summed : (k : ℕ) (xs : List ℕ) → k < length xs → sum_through (λ i. byte_worth i (get_or xs i 0)) k ≡ number (take (suc k) xs)
+-- The sum that `from_le_bytes` makes.
+pub summed : (k : ℕ) (xs : List ℕ) → k < length xs → sum_through (λ i. byte_worth i (get_or xs i 0)) k
+    ≡ number (take (suc k) xs)
 summed zero (x ∷ xs) h = omega arith
 summed zero [] h = absurd (omega arith)
 summed (suc k) xs h =
@@ -91,39 +103,63 @@ pub from_le_16 : (xs : List ℕ) → length xs ≡ 16 → from_le_bytes w128 xs 
 from_le_16 xs h = summed 15 xs (omega arith) ∙ ap number (take_whole xs 16 h)
 
 pub padded_16 : (bytes new : List ℕ) (fill : ℕ) → new ≡ bytes → length bytes ≤ 16
-    → from_le_bytes w128 (new ++ drop (length bytes) (replicate 16 fill)) ≡ number (bytes ++ replicate (16 - length bytes) fill)
+    → from_le_bytes w128 (new ++ drop (length bytes) (replicate 16 fill))
+    ≡ number (bytes ++ replicate (16 - length bytes) fill)
 padded_16 bytes new fill same few =
-    let rest : drop (length bytes) (replicate 16 fill) ≡ replicate (16 - length bytes) fill = drop-replicate (length bytes) 16 fill in
-    let size : length (bytes ++ replicate (16 - length bytes) fill) ≡ 16 = rw (length-append bytes (replicate (16 - length bytes) fill), length-replicate (16 - length bytes) fill) (omega arith) in
+    let rest : drop (length bytes) (replicate 16 fill) ≡ replicate (16 - length bytes) fill =
+    drop-replicate (length bytes) 16 fill in
+    let size : length (bytes ++ replicate (16 - length bytes) fill) ≡ 16 =
+    rw (length-append bytes (replicate (16 - length bytes) fill), length-replicate (16 - length bytes) fill)
+    (omega arith) in
     ap (λ xs. from_le_bytes w128 (xs ++ drop (length bytes) (replicate 16 fill))) same
     ∙ ap (λ xs. from_le_bytes w128 (bytes ++ xs)) rest
     ∙ from_le_16 (bytes ++ replicate (16 - length bytes) fill) size
 
--- a number from its two parts
+-- A number from its two parts.
 pub whole_short : (bytes : List ℕ) (fill low high : ℕ) → length bytes ≤ 16
     → low ≡ number (bytes ++ replicate (16 - length bytes) fill) → high ≡ number (replicate 2 fill)
     → low + 2 ^ 128 * high ≡ number (bytes ++ replicate (18 - length bytes) fill)
 whole_short bytes fill low high few is_low is_high =
-    let size : length (bytes ++ replicate (16 - length bytes) fill) ≡ 16 = rw (length-append bytes (replicate (16 - length bytes) fill), length-replicate (16 - length bytes) fill) (omega arith) in
+    let size : length (bytes ++ replicate (16 - length bytes) fill) ≡ 16 =
+    rw (length-append bytes (replicate (16 - length bytes) fill), length-replicate (16 - length bytes) fill)
+    (omega arith) in
     let count : 18 - length bytes ≡ 16 - length bytes + 2 = omega arith in
-    let lists : bytes ++ replicate (18 - length bytes) fill ≡ (bytes ++ replicate (16 - length bytes) fill) ++ replicate 2 fill =
-    rw (count, ← replicate-append-replicate (16 - length bytes) 2 fill) (sym (append_assoc bytes (replicate (16 - length bytes) fill) (replicate 2 fill))) in
-    rw (lists, number-append (bytes ++ replicate (16 - length bytes) fill) (replicate 2 fill), size, is_low, is_high) refl
+    let lists : bytes ++ replicate (18 - length bytes) fill ≡ (bytes ++ replicate (16 - length bytes) fill)
+    ++ replicate 2 fill =
+    rw (count, ← replicate-append-replicate (16 - length bytes) 2 fill)
+    (sym (append_assoc bytes (replicate (16 - length bytes) fill) (replicate 2 fill))) in
+    rw (lists, number-append (bytes ++ replicate (16 - length bytes) fill) (replicate 2 fill), size, is_low, is_high)
+    refl
 
 pub whole_long : (bytes : List ℕ) (fill low high : ℕ) → 16 ≤ length bytes → length bytes ≤ 18
-    → low ≡ number (take 16 bytes ++ replicate (16 - length (take 16 bytes)) fill) → high ≡ number (take (length bytes - 16) (drop 16 bytes) ++ replicate (2 - length (take (length bytes - 16) (drop 16 bytes))) fill)
+    → low ≡ number (take 16 bytes ++ replicate (16 - length (take 16 bytes)) fill)
+    → high ≡ number (take (length bytes - 16) (drop 16 bytes)
+    ++ replicate (2 - length (take (length bytes - 16) (drop 16 bytes))) fill)
     → low + 2 ^ 128 * high ≡ number (bytes ++ replicate (18 - length bytes) fill)
 whole_long bytes fill low high many few is_low is_high =
     let front : length (take 16 bytes) ≡ 16 = take_length bytes 16 many in
     let back : length (drop 16 bytes) ≡ length bytes - 16 = length-drop 16 bytes in
-    let none : take 16 bytes ++ replicate (16 - length (take 16 bytes)) fill ≡ take 16 bytes = rw front (append-nil (take 16 bytes)) in
+    let none : take 16 bytes ++ replicate (16 - length (take 16 bytes)) fill ≡ take 16 bytes =
+    rw front (append-nil (take 16 bytes)) in
     let count : 2 - length (drop 16 bytes) ≡ 18 - length bytes = omega arith in
-    let lists : bytes ++ replicate (18 - length bytes) fill ≡ take 16 bytes ++ (drop 16 bytes ++ replicate (18 - length bytes) fill) =
-    ap (λ xs. xs ++ replicate (18 - length bytes) fill) (sym (take-append-drop 16 bytes)) ∙ append_assoc (take 16 bytes) (drop 16 bytes) (replicate (18 - length bytes) fill) in
-    let all : take (length bytes - 16) (drop 16 bytes) ≡ drop 16 bytes = take_whole (drop 16 bytes) (length bytes - 16) back in
-    rw (lists, number-append (take 16 bytes) (drop 16 bytes ++ replicate (18 - length bytes) fill), front, is_low, none, is_high, all, count) refl
+    let lists : bytes ++ replicate (18 - length bytes) fill ≡ take 16 bytes
+    ++ (drop 16 bytes ++ replicate (18 - length bytes) fill) =
+    ap (λ xs. xs ++ replicate (18 - length bytes) fill) (sym (take-append-drop 16 bytes))
+    ∙ append_assoc (take 16 bytes) (drop 16 bytes) (replicate (18 - length bytes) fill) in
+    let all : take (length bytes - 16) (drop 16 bytes) ≡ drop 16 bytes =
+    take_whole (drop 16 bytes) (length bytes - 16) back in
+    rw (
+      lists,
+      number-append (take 16 bytes) (drop 16 bytes ++ replicate (18 - length bytes) fill),
+      front,
+      is_low,
+      none,
+      is_high,
+      all,
+      count,
+    ) refl
 
--- bytes, from a bound at each index
+-- Bytes, from a bound at each index.
 pub bytes_from_each : (xs : List ℕ) → ((i : ℕ) → get_or xs i 0 < 256) → IsBytes xs
 bytes_from_each [] h = tt
 bytes_from_each (x ∷ xs) h = (h 0, bytes_from_each xs (λ i. h (suc i)))

@@ -10,8 +10,9 @@ abbrev pub flag : Bool → ℕ
 flag true = 0
 flag false = 1
 
--- one more outcome
-pub push_outcome : (count map : ℕ) (taken : Bool) → map < 2 ^ count → outcomes (suc count) (map + flag taken * 2 ^ count) ≡ outcomes count map ++ taken ∷ []
+-- One more outcome.
+pub push_outcome : (count map : ℕ) (taken : Bool) → map < 2 ^ count
+    → outcomes (suc count) (map + flag taken * 2 ^ count) ≡ outcomes count map ++ taken ∷ []
 push_outcome zero map true h = let none : map ≡ 0 = omega arith in rw none refl
 push_outcome zero map false h = let none : map ≡ 0 = omega arith in rw none refl
 push_outcome (suc count) map taken h =
@@ -21,14 +22,15 @@ push_outcome (suc count) map taken h =
     let high : (map + flag taken * 2 ^ suc count) / 2 ≡ map / 2 + flag taken * 2 ^ count = omega arith in
     rw (low, high) (ap (λ xs. (map % 2 == 0) ∷ xs) (push_outcome count (map / 2) taken (omega arith)))
 
--- an outcome by its place
+-- An outcome by its place.
 pub get_outcome : (count map i : ℕ) → i < count → slice_get (outcomes count map) i ≡ Some (bit_and (map / 2 ^ i) 1 == 0)
 get_outcome zero map i h = absurd (omega arith)
 get_outcome (suc count) map zero h =
     let one : map / 2 ^ 0 ≡ map = omega arith in
     rw (one, and_mask map 1) refl
 get_outcome (suc count) map (suc i) h =
-    let shifted : map / 2 ^ suc i ≡ map / 2 / 2 ^ i = sym (shr-shr map 1 i ∙ ap (λ k. map / 2 ^ k) (let e : 1 + i ≡ suc i = omega arith in e)) in
+    let shifted : map / 2 ^ suc i ≡ map / 2 / 2 ^ i =
+    sym (shr-shr map 1 i ∙ ap (λ k. map / 2 ^ k) (let e : 1 + i ≡ suc i = omega arith in e)) in
     rw shifted (get_outcome count (map / 2) i (omega arith))
 
 pub get_past : (count map i : ℕ) → count ≤ i → slice_get (outcomes count map) i ≡ None
@@ -58,7 +60,7 @@ map_of-lt (false ∷ os) =
     let twice : 2 ^ suc (length os) ≡ 2 ^ length os * 2 = pow-suc 2 (length os) in
     omega arith
 
--- outcomes come back from their map
+-- Outcomes come back from their map.
 pub outcomes_of_map : (os : List Bool) → outcomes (length os) (map_of os) ≡ os
 outcomes_of_map [] = refl
 outcomes_of_map (true ∷ os) =

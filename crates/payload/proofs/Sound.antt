@@ -35,15 +35,37 @@ report_fit top report.Notify h = (omega arith, (omega arith, (omega arith, tt)))
 address_fit : (delta : ℕ) (r : Report) → IsAddress delta → Fit (address_fields delta r)
 address_fit delta r h = (omega (arith, h.0), report_fit (delta / 2 ^ 63) r (omega (arith, h.0)))
 
-branches_fit : (spare : ℕ) (os : List Bool) (delta : ℕ) (r : Report) → AreOutcomes os → spare < 2 ^ (map_width (length os) - length os) → IsAddress delta
+branches_fit : (spare : ℕ) (os : List Bool) (delta : ℕ) (r : Report) → AreOutcomes os
+    → spare < 2 ^ (map_width (length os) - length os) → IsAddress delta
     → Fit (branches_fields spare os delta r)
-branches_fit spare os delta r few unused h =
-    (omega arith, (omega arith, (map-lt (length os) (map_width (length os)) (map_of os) spare (map_sizes (length os) few).0 (map_of-lt os) unused, address_fit delta r h)))
+branches_fit spare os delta r few unused h = (
+  omega arith,
+  (
+    omega arith,
+    (
+      map-lt (length os) (map_width (length os)) (map_of os) spare
+          (map_sizes (length os) few).0 (map_of-lt os) unused,
+      address_fit delta r h,
+    ),
+  ),
+)
 
-trap_fit : (taken : Bool) (privilege cause : ℕ) (interrupt handler : Bool) (address : ℕ) (behind : List Field) → privilege < 4 → cause < 64 → IsAddress address → Fit behind
+trap_fit : (taken : Bool) (privilege cause : ℕ) (interrupt handler : Bool) (address : ℕ) (behind : List Field)
+    → privilege < 4 → cause < 64 → IsAddress address → Fit behind
     → Fit (trap_fields taken privilege cause interrupt handler address behind)
-trap_fit taken privilege cause interrupt handler address behind level some h fit =
-    (omega arith, (omega arith, (branch-lt taken, (level, (some, (flag-lt interrupt, (flag-lt handler, (omega (arith, h.0), fit))))))))
+trap_fit taken privilege cause interrupt handler address behind level some h fit = (
+  omega arith,
+  (
+    omega arith,
+    (
+      branch-lt taken,
+      (
+        level,
+        (some, (flag-lt interrupt, (flag-lt handler, (omega (arith, h.0), fit)))),
+      ),
+    ),
+  ),
+)
 
 pub fields_fit : (spare : ℕ) (p : Packet) → InProfile p → spare < 2 ^ unused_bits p → Fit (fields_with spare p)
 fields_fit spare (packet.Sync taken privilege address) h unused =
@@ -52,13 +74,17 @@ fields_fit spare (packet.Trap taken privilege cause true handler address tval) h
     trap_fit taken privilege cause true handler address [] h.0.0 h.1 h.2 tt
 fields_fit spare (packet.Trap taken privilege cause false handler address tval) h unused =
     trap_fit taken privilege cause false handler address (field 64 tval ∷ []) h.0.0 h.1 h.2 (h.3, tt)
-fields_fit spare (packet.Support support.Open) h unused = (omega arith, (omega arith, (omega arith, (omega arith, (omega arith, (omega arith, tt))))))
-fields_fit spare (packet.Support support.EndedRep) h unused = (omega arith, (omega arith, (omega arith, (omega arith, (omega arith, (omega arith, tt))))))
-fields_fit spare (packet.Support support.EndedNtr) h unused = (omega arith, (omega arith, (omega arith, (omega arith, (omega arith, (omega arith, tt))))))
+fields_fit spare (packet.Support support.Open) h unused =
+    (omega arith, (omega arith, (omega arith, (omega arith, (omega arith, (omega arith, tt))))))
+fields_fit spare (packet.Support support.EndedRep) h unused =
+    (omega arith, (omega arith, (omega arith, (omega arith, (omega arith, (omega arith, tt))))))
+fields_fit spare (packet.Support support.EndedNtr) h unused =
+    (omega arith, (omega arith, (omega arith, (omega arith, (omega arith, (omega arith, tt))))))
 fields_fit spare (packet.Address [] delta r) h unused = (omega arith, address_fit delta r h.1)
 fields_fit spare (packet.Address (o ∷ os) delta r) h unused =
     branches_fit spare (o ∷ os) delta r h.0 unused h.1
-fields_fit spare (packet.Map os) h unused = (omega arith, (omega arith, (subst (λ k. map_of os < 2 ^ k) h (map_of-lt os), tt)))
+fields_fit spare (packet.Map os) h unused =
+    (omega arith, (omega arith, (subst (λ k. map_of os < 2 ^ k) h (map_of-lt os), tt)))
 
 record IsHeld (fs : List Field) : Type 0 where
   pub some : 1 ≤ total fs
@@ -66,8 +92,10 @@ record IsHeld (fs : List Field) : Type 0 where
 
 fields_held : (spare : ℕ) (p : Packet) → InProfile p → IsHeld (fields_with spare p)
 fields_held spare (packet.Sync taken privilege address) h = record { some = omega arith; few = omega arith }
-fields_held spare (packet.Trap taken privilege cause true handler address tval) h = record { some = omega arith; few = omega arith }
-fields_held spare (packet.Trap taken privilege cause false handler address tval) h = record { some = omega arith; few = omega arith }
+fields_held spare (packet.Trap taken privilege cause true handler address tval) h =
+    record { some = omega arith; few = omega arith }
+fields_held spare (packet.Trap taken privilege cause false handler address tval) h =
+    record { some = omega arith; few = omega arith }
 fields_held spare (packet.Support support.Open) h = record { some = omega arith; few = omega arith }
 fields_held spare (packet.Support support.EndedRep) h = record { some = omega arith; few = omega arith }
 fields_held spare (packet.Support support.EndedNtr) h = record { some = omega arith; few = omega arith }

@@ -2,7 +2,7 @@
 use Rattle.std.proofs.Common.{◌≡◌, ℕ, ◌<◌, inl, inr, true, cond, eqb, ◌==◌, ◌&&◌, not, Result, Ok, Err, arith, eqb-true}
 use Rattle.payload.specs.Faults.{part}
 use Rattle.payload.specs.PacketFields.{support_fields}
-use Rattle.payload.specs.ReadingByKind.{padded, support_reading}
+use Rattle.payload.specs.steps.ReadingByKind.{padded, support_reading}
 use Rattle.payload.specs.declared.packet.Packet.{Packet}
 use Rattle.payload.specs.declared.packet.Packet.TheVariants as packet
 use Rattle.payload.specs.declared.packet.Support.{Support}
@@ -14,7 +14,8 @@ use Rattle.payload.proofs.PaddedBits.{IsRead, padded_found, padded_read}
 use Rattle.payload.proofs.Parts.{Holds}
 
 status_parts : (n a b : ℕ) → ((part n 4 2 == a) && (part n 6 2 == b)) ≡ true → (part n 4 2 ≡ a) × (part n 6 2 ≡ b)
-status_parts n a b e = let t = both_true (eqb (part n 4 2) a) (eqb (part n 6 2) b) e in (eqb-true _ _ t.0, eqb-true _ _ t.1)
+status_parts n a b e = let t = both_true (eqb (part n 4 2) a) (eqb (part n 6 2) b) e in
+    (eqb-true _ _ t.0, eqb-true _ _ t.1)
 
 support_holds : (n ienable status : ℕ) → part n 0 2 ≡ 3 → part n 2 2 ≡ 3 → part n 8 5 ≡ 0 → ienable < 2
     → (part n 4 2 ≡ ienable) × (part n 6 2 ≡ status) → Holds n 0 (support_fields ienable status)
@@ -27,10 +28,13 @@ status_reading n =
     (cond ((part n 4 2 == 0) && (part n 6 2 == 1)) (padded 13 n (packet.Support support.EndedRep))
     (cond ((part n 4 2 == 0) && (part n 6 2 == 3)) (padded 13 n (packet.Support support.EndedNtr)) (Err Unsupported)))
 
-status_found : (n : ℕ) (p : Packet) → part n 0 2 ≡ 3 → part n 2 2 ≡ 3 → part n 8 5 ≡ 0 → status_reading n ≡ Ok p → IsRead n p
+status_found : (n : ℕ) (p : Packet) → part n 0 2 ≡ 3 → part n 2 2 ≡ 3 → part n 8 5 ≡ 0 → status_reading n ≡ Ok p
+    → IsRead n p
 status_found n p format subformat options e =
-    elim (chosen_of_3 ((part n 4 2 == 1) && (part n 6 2 == 0)) ((part n 4 2 == 0) && (part n 6 2 == 1)) ((part n 4 2 == 0) && (part n 6 2 == 3))
-    (padded 13 n (packet.Support support.Open)) (padded 13 n (packet.Support support.EndedRep)) (padded 13 n (packet.Support support.EndedNtr)) (Err Unsupported) (Ok p) e) [
+    elim (chosen_of_3 ((part n 4 2 == 1) && (part n 6 2 == 0)) ((part n 4 2 == 0) && (part n 6 2 == 1))
+    ((part n 4 2 == 0) && (part n 6 2 == 3))
+    (padded 13 n (packet.Support support.Open)) (padded 13 n (packet.Support support.EndedRep))
+    (padded 13 n (packet.Support support.EndedNtr)) (Err Unsupported) (Ok p) e) [
       | inl (so, same) ↦ padded_found 13 n _ p same (λ width. record {
         profile = tt;
         spare = 0;

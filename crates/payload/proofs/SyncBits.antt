@@ -2,7 +2,7 @@
 use Rattle.std.proofs.Common.{◌≡◌, ◌≢◌, ℕ, zero, suc, ◌*◌, ◌/◌, ◌<◌, inl, inr, Bool, true, false, eqb, ◌==◌, Ok, Err, refl, arith, eq-eqb, ne_eqb}
 use Rattle.payload.specs.Faults.{part}
 use Rattle.payload.specs.PacketFields.{branch_of}
-use Rattle.payload.specs.ReadingByKind.{padded, sync_reading}
+use Rattle.payload.specs.steps.ReadingByKind.{padded, sync_reading}
 use Rattle.payload.specs.declared.packet.Packet.{Packet}
 use Rattle.payload.specs.declared.packet.Packet.TheVariants as packet
 use Rattle.payload.specs.declared.fault.PackFault.TheVariants.{BadPrivilege}
@@ -21,10 +21,12 @@ branch_back x false e = rw e refl
 pub sync_found : (n : ℕ) (p : Packet) → part n 0 2 ≡ 3 → part n 2 2 ≡ 0 → sync_reading n ≡ Ok p → IsRead n p
 unfolding sync_reading
 sync_found n p format subformat e =
-    elim (chosen (eqb (part n 5 2) 2) (Err BadPrivilege) (padded 70 n (packet.Sync (eqb (part n 4 1) 0) (part n 5 2) (2 * part n 7 63))) (Ok p) e) [
+    elim (chosen (eqb (part n 5 2) 2) (Err BadPrivilege) (padded 70 n
+    (packet.Sync (eqb (part n 4 1) 0) (part n 5 2) (2 * part n 7 63))) (Ok p) e) [
       | inl (so, same) ↦ absurd (cc)
       | inr (other, same) ↦
-          let level : part n 5 2 ≢ 2 = λ is. absurd (let t : eqb (part n 5 2) 2 ≡ true = eq-eqb (part n 5 2) 2 is in cc) in
+          let level : part n 5 2 ≢ 2 =
+          λ is. absurd (let t : eqb (part n 5 2) 2 ≡ true = eq-eqb (part n 5 2) 2 is in cc) in
           padded_found 70 n _ p same (λ width. record {
             profile = ((omega arith, level), (omega arith, omega arith));
             spare = 0;

@@ -5,7 +5,7 @@ use Rattle.payload.specs.Extension.{magnitude}
 use Rattle.payload.specs.Faults.{part, is_interrupt, trap_width}
 use Rattle.payload.specs.PacketFields.{flag_of}
 use Rattle.payload.specs.Reading.{trap_from}
-use Rattle.payload.specs.ReadingByKind.{padded, trap_reading}
+use Rattle.payload.specs.steps.ReadingByKind.{padded, trap_reading}
 use Rattle.payload.specs.declared.packet.Packet.{Packet}
 use Rattle.payload.specs.declared.packet.Packet.TheVariants as packet
 use Rattle.payload.specs.declared.fault.PackFault.TheVariants.{BadPrivilege}
@@ -22,16 +22,27 @@ flag_back : (x : ℕ) (holds : Bool) → x ≡ flag_of holds → (x == 1) ≡ ho
 flag_back x true e = rw e refl
 flag_back x false e = rw e refl
 
--- what is read of a trap whose interrupt bit is this
-trap_with : (n : ℕ) (interrupt : Bool) → part n 0 2 ≡ 3 → part n 2 2 ≡ 1 → part n 5 2 ≢ 2 → part n 13 1 ≡ flag_of interrupt
+-- What is read of a trap whose interrupt bit is this.
+trap_with : (n : ℕ) (interrupt : Bool) → part n 0 2 ≡ 3 → part n 2 2 ≡ 1 → part n 5 2 ≢ 2
+    → part n 13 1 ≡ flag_of interrupt
     → magnitude 144 n < 2 ^ (cond interrupt 78 142 - 1)
-    → IsRead n (packet.Trap (part n 4 1 == 0) (part n 5 2) (part n 7 6) interrupt (part n 14 1 == 1) (2 * part n 15 63) (cond interrupt 0 (part n 78 64)))
+    → IsRead n (packet.Trap (part n 4 1 == 0) (part n 5 2) (part n 7 6) interrupt (part n 14 1 == 1) (2 * part n 15 63)
+    (cond interrupt 0 (part n 78 64)))
 trap_with n true format subformat level flag width = record {
   profile = ((omega arith, level), omega arith, (omega arith, omega arith), refl);
   spare = 0;
   unused = omega arith;
   spells = record {
-    holds = (format, (subformat, (branch_is (part n 4 1) (omega arith), (refl, (refl, (flag, (flag_is (part n 14 1) (omega arith), (omega arith, tt))))))));
+    holds = (
+      format,
+      (
+        subformat,
+        (
+          branch_is (part n 4 1) (omega arith),
+          (refl, (refl, (flag, (flag_is (part n 14 1) (omega arith), (omega arith, tt))))),
+        ),
+      ),
+    );
     width = width;
   };
 }
@@ -40,7 +51,16 @@ trap_with n false format subformat level flag width = record {
   spare = 0;
   unused = omega arith;
   spells = record {
-    holds = (format, (subformat, (branch_is (part n 4 1) (omega arith), (refl, (refl, (flag, (flag_is (part n 14 1) (omega arith), (omega arith, (refl, tt)))))))));
+    holds = (
+      format,
+      (
+        subformat,
+        (
+          branch_is (part n 4 1) (omega arith),
+          (refl, (refl, (flag, (flag_is (part n 14 1) (omega arith), (omega arith, (refl, tt)))))),
+        ),
+      ),
+    );
     width = width;
   };
 }
@@ -68,7 +88,8 @@ trap_read n taken privilege cause true handler address tval h =
     let even = h.profile.2.1 in
     let at = fields.1.1.1.1.1.0 in
     let whole : 2 * part n 15 63 ≡ address = omega arith in
-    rw (branch, level, why, kind, place, whole, h.profile.3, ne_eqb privilege 2 h.profile.0.1) (padded_read 78 n _ h.spells.width)
+    rw (branch, level, why, kind, place, whole, h.profile.3, ne_eqb privilege 2 h.profile.0.1)
+    (padded_read 78 n _ h.spells.width)
 trap_read n taken privilege cause false handler address tval h =
     let fields = h.spells.holds.1.1 in
     let branch = branch_back (part n 4 1) taken fields.0 in
@@ -80,4 +101,5 @@ trap_read n taken privilege cause false handler address tval h =
     let at = fields.1.1.1.1.1.0 in
     let value = fields.1.1.1.1.1.1.0 in
     let whole : 2 * part n 15 63 ≡ address = omega arith in
-    rw (branch, level, why, kind, place, whole, value, ne_eqb privilege 2 h.profile.0.1) (padded_read 142 n _ h.spells.width)
+    rw (branch, level, why, kind, place, whole, value, ne_eqb privilege 2 h.profile.0.1)
+    (padded_read 142 n _ h.spells.width)

@@ -6,20 +6,17 @@ use Rattle.payload.specs.declared.packet.Packet.TheVariants as packet
 use Rattle.payload.specs.declared.packet.Support.TheVariants as support
 use Rattle.payload.specs.declared.fault.PackFault.{PackFault}
 
--- the packet ends a trace: its qual_status is ended_rep or ended_ntr
+-- The packet ends a trace: its qual_status is ended_rep or ended_ntr.
 abbrev pub is_closing_packet : Packet → Bool
-is_closing_packet (packet.Support support.Open) = false
 is_closing_packet (packet.Support support.EndedRep) = true
 is_closing_packet (packet.Support support.EndedNtr) = true
-is_closing_packet (packet.Sync taken privilege address) = false
-is_closing_packet (packet.Trap taken privilege cause interrupt handler address tval) = false
-is_closing_packet (packet.Address outcomes delta report) = false
-is_closing_packet (packet.Map outcomes) = false
+is_closing_packet other = false
 
+-- What was read is such a packet.
 abbrev pub is_closing_reading : Result Packet PackFault → Bool
 is_closing_reading (Ok p) = is_closing_packet p
 is_closing_reading (Err fault) = false
 
--- the bytes unpack to a packet that ends a trace
+-- The bytes unpack to a packet that ends a trace.
 abbrev pub is_closing : List ℕ → Bool
 is_closing bytes = is_closing_reading (reading bytes)

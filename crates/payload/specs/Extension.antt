@@ -3,24 +3,24 @@ use Rattle.std.specs.Prelude.{ℕ, ◌+◌, ◌-◌, ◌*◌, ◌^◌, nat_lt, i
 use Rattle.std.specs.Int.{bit_at}
 use Prim.Native.Nat.{zero, suc, min}
 
--- bit i of a number of so many bits that goes on with copies of its top bit
+-- Bit i of a number of so many bits that goes on with copies of its top bit.
 abbrev pub extended_bit : ℕ → ℕ → ℕ → ℕ
 extended_bit width n i = bit_at n (min i (width - 1))
 
--- such a number's lowest 144 bits, the most that a payload holds
+-- Such a number's lowest 144 bits, the most that a payload holds.
 unfoldable pub extended : ℕ → ℕ → ℕ
 extended width n = if nat_lt n (2 ^ (width - 1)) then n else n + (2 ^ 144 - 2 ^ width)
 
--- such a number with each bit turned where the top bit is 1, so that copies of the top bit are zeros
+-- Such a number with each bit turned where the top bit is 1, so that copies of the top bit are zeros.
 unfoldable pub magnitude : ℕ → ℕ → ℕ
 magnitude width n = if nat_lt n (2 ^ (width - 1)) then n else 2 ^ width - 1 - n
 
--- the first count of bytes, from one on, whose bits below the top one hold a magnitude
+-- The first count of bytes, from one on, whose bits below the top one hold a magnitude.
 unfoldable pub first_that_fits : ℕ → ℕ → ℕ → ℕ
 first_that_fits zero count m = count
 first_that_fits (suc more) count m =
     if nat_lt m (2 ^ (8 * count - 1)) then count else first_that_fits more (count + 1) m
 
--- the fewest bytes, of 1 to 18, whose bits below the top one hold a magnitude
+-- The fewest bytes, of 1 to 18, whose bits below the top one hold a magnitude.
 abbrev pub fewest_bytes : ℕ → ℕ
 fewest_bytes m = first_that_fits 17 1 m

@@ -1,7 +1,7 @@
 -- Packets as lists of fields, and the number that a list of fields is.
 use Rattle.std.specs.Prelude.{ℕ, ◌+◌, ◌*◌, ◌^◌, List, [], ◌∷◌}
 
--- how many bits a field takes, and its value
+-- How many bits a field takes, and its value.
 pub record Field : Type 0 where
   pub width : ℕ
   pub value : ℕ
@@ -9,12 +9,12 @@ pub record Field : Type 0 where
 abbrev pub field : ℕ → ℕ → Field
 field width value = record { width = width; value = value }
 
--- the bits that fields take
+-- The bits that fields take.
 abbrev pub total : List Field → ℕ
 total [] = 0
 total (f ∷ fs) = f.width + total fs
 
--- the bits of fields as one number, the first field in the lowest bits
+-- The bits of fields as one number, the first field in the lowest bits.
 abbrev pub joined : List Field → ℕ
 joined [] = 0
 joined (f ∷ fs) = f.value + 2 ^ f.width * joined fs

@@ -1,6 +1,7 @@
 pub mod Bytes
 pub mod Extension
 pub mod Fields
+pub mod Layout
 pub mod Outcomes
 pub mod OutcomesInverse
 pub mod PacketFields
@@ -8,6 +9,6 @@ pub mod Profile
 pub mod Spelling
 pub mod Faults
 pub mod Reading
-pub mod ReadingByKind
+pub mod steps
 pub mod Closing
 pub mod Difference

@@ -2,17 +2,17 @@
 use Rattle.std.specs.Prelude.{ℕ, ◌+◌, ◌*◌, ◌/◌, ◌%◌, ◌==◌, nat_lt, Bool, if◌then◌else◌, List, [], ◌∷◌}
 use Prim.Native.Nat.{zero, suc}
 
--- so many outcomes of a map, the oldest first
+-- So many outcomes of a map, the oldest first.
 abbrev pub outcomes : ℕ → ℕ → List Bool
 outcomes zero map = []
 outcomes (suc count) map = (map % 2 == 0) ∷ outcomes count (map / 2)
 
--- the map of outcomes
+-- The map of outcomes.
 abbrev pub map_of : List Bool → ℕ
 map_of [] = 0
 map_of (taken ∷ rest) = (if taken then 0 else 1) + 2 * map_of rest
 
--- how many bits the branch map of so many outcomes has
+-- How many bits the branch map of so many outcomes has.
 abbrev pub map_width : ℕ → ℕ
 map_width count =
     if nat_lt count 2 then 1 else

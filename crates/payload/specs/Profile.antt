@@ -3,28 +3,28 @@ use Rattle.std.specs.Prelude.{ℕ, ◌≡◌, ◌≢◌, ◌%◌, ◌^◌, ◌<�
 use Rattle.payload.specs.declared.packet.Packet.{Packet}
 use Rattle.payload.specs.declared.packet.Packet.TheVariants as packet
 
--- a privilege level: 0 user, 1 supervisor or 3 machine
+-- A privilege level: 0 user, 1 supervisor or 3 machine.
 abbrev pub IsPrivilege : ℕ → Type 0
 IsPrivilege p = (p < 4) × (p ≢ 2)
 
--- an address of an instruction, or a difference of two: even
+-- An address of an instruction, or a difference of two: even.
 abbrev pub IsAddress : ℕ → Type 0
 IsAddress a = (a < 2 ^ 64) × (a % 2 ≡ 0)
 
--- outcomes that an address packet may carry: none to 31
+-- Outcomes that an address packet may carry: none to 31.
 abbrev pub AreOutcomes : List Bool → Type 0
 AreOutcomes outcomes = length outcomes ≤ 31
 
--- outcomes of a full branch map
+-- Outcomes of a full branch map.
 abbrev pub AreFull : List Bool → Type 0
 AreFull outcomes = length outcomes ≡ 31
 
--- the value that a trap reports: none with an interrupt
+-- The value that a trap reports: none with an interrupt.
 abbrev pub IsTrapValue : Bool → ℕ → Type 0
 IsTrapValue true tval = tval ≡ 0
 IsTrapValue false tval = tval < 2 ^ 64
 
--- the packet is of the profile
+-- The packet is of the profile.
 abbrev pub InProfile : Packet → Type 0
 InProfile (packet.Sync taken privilege address) = IsPrivilege privilege × IsAddress address
 InProfile (packet.Trap taken privilege cause interrupt handler address tval) =

@@ -6,32 +6,32 @@ use Rattle.payload.specs.Fields.{Field, total, joined}
 use Rattle.payload.specs.PacketFields.{unused_bits, fields_with, fields}
 use Rattle.payload.specs.declared.packet.Packet.{Packet}
 
--- 1 to 18 bytes have the bits of these fields, where both go on with copies of their last bit
+-- 1 to 18 bytes have the bits of these fields, where both go on with copies of their last bit.
 pub record Extends (bytes : List ℕ) (fs : List Field) : Type 0 where
   pub some : 1 ≤ length bytes
   pub few : length bytes ≤ 18
   pub each : IsBytes bytes
   pub bits : (i : ℕ) → extended_bit (8 * length bytes) (number bytes) i ≡ extended_bit (total fs) (joined fs) i
 
--- no shorter bytes extend these fields
+-- No shorter bytes extend these fields.
 pub record IsShortest (bytes : List ℕ) (fs : List Field) : Type 0 where
   pub extends : Extends bytes fs
   pub shortest : (others : List ℕ) → Extends others fs → length bytes ≤ length others
 
--- bytes stand for a packet: they extend its fields, whatever the unused bits of its branch map are
+-- Bytes stand for a packet: they extend its fields, whatever the unused bits of its branch map are.
 pub record Spelt (bytes : List ℕ) (p : Packet) : Type 0 where
   pub spare : ℕ
   pub unused : spare < 2 ^ unused_bits p
   pub extends : Extends bytes (fields_with spare p)
 
--- the shortest bytes of a number of so many bits
+-- The shortest bytes of a number of so many bits.
 abbrev pub shortest_bytes : ℕ → ℕ → List ℕ
 shortest_bytes width n = low_bytes (fewest_bytes (magnitude width n)) (extended width n)
 
--- the shortest bytes of fields
+-- The shortest bytes of fields.
 abbrev pub shortest_of : List Field → List ℕ
 shortest_of fs = shortest_bytes (total fs) (joined fs)
 
--- the payload of a packet: the shortest bytes of its fields
+-- The payload of a packet: the shortest bytes of its fields.
 abbrev pub payload_of : Packet → List ℕ
 payload_of p = shortest_of (fields p)

@@ -2,8 +2,10 @@
 ghost use Rattle.std.specs.Prelude.{◌≡◌, ◌+◌, ◌-◌, ◌*◌, ◌/◌, ◌%◌, ◌^◌, ◌<◌, ◌≤◌, ◌++◌, nat_lt, length, replicate, ℕ};
 ghost use Rattle.payload.specs.Bytes.{number};
 ghost use Rattle.payload.specs.Extension.{magnitude};
-ghost use Rattle.payload.specs.Faults.{bits_of, part};
+ghost use Rattle.payload.specs.Faults.{bits_of, part, field_at};
+ghost use Rattle.payload.specs.Layout.{tval_at, exception_width};
 
+use crate::layout::{Place, TVAL};
 use std::marker::Model;
 
 /// 144 bits, the most that a payload holds, seen as one number.
@@ -46,7 +48,7 @@ impl Bits {
         }
     }
 
-    /// The field of `width` bits that begins at the bit `from`.
+    /// The `width` bits from the bit `from` on.
     #[inline(always)]
     pub(crate) fn part(&self, from: u32, width: u32) -> u64
         requires inside { from + width ≤ 128 }
@@ -57,11 +59,22 @@ impl Bits {
         ((self.low >> from) & ((1 << width) - 1)) as u64
     }
 
-    /// The 64 bits from the bit 78 on.
-    pub(crate) fn last_part(&self) -> u64
-        ensures { result ≡ part self.now 78 64 }
+    /// The field at this place.
+    #[inline(always)]
+    pub(crate) fn field(&self, place: Place) -> u64
+        requires inside { place.from + place.width ≤ 128 }
+        requires some { 1 ≤ place.width }
+        requires narrow { place.width ≤ 64 }
+        ensures { result ≡ part self.now place.from place.width }
     {
-        ((self.low >> 78) as u64) + (u64::from(self.high % (1 << 14)) << 50)
+        self.part(place.from, place.width)
+    }
+
+    /// `tval` of an exception.
+    pub(crate) fn tval(&self) -> u64
+        ensures { result ≡ field_at self.now tval_at }
+    {
+        ((self.low >> TVAL.from) as u64) + (u64::from(self.high % (1 << 14)) << 50)
     }
 
     /// Whether all bits from the bit `width - 1` on are the same.
@@ -81,9 +94,9 @@ impl Bits {
         }
     }
 
-    /// Whether all bits from the bit 141 on are the same.
-    pub(crate) fn has_width_142(&self) -> bool
-        ensures { result ≡ nat_lt (magnitude 144 self.now) (2 ^ 141) }
+    /// Whether all bits from the last one of an exception on are the same.
+    pub(crate) fn has_width_of_exception(&self) -> bool
+        ensures { result ≡ nat_lt (magnitude 144 self.now) (2 ^ (exception_width - 1)) }
     {
         let top = self.high >> 13;
         top == 0b000 || top == 0b111

@@ -7,6 +7,7 @@
 
 mod bits;
 mod fault;
+mod layout;
 mod outcomes;
 mod packet;
 mod packing;

@@ -3,8 +3,7 @@ ghost use Rattle.std.specs.Prelude.{◌≡◌, ◌↔◌, IsTrue, false};
 
 use crate::Outcomes;
 
-/// A packet of an instruction trace: of the formats of the E-Trace specification's chapter "Instruction Trace Encoder
-/// Output Packets", those of this project's profile.
+/// A packet of an instruction trace: of the E-Trace specification's packet formats, those of this project's profile.
 #[derive(Clone, Copy, Debug, PartialEq, Eq)]
 pub enum Packet {
     /// Where the trace is: format 3, subformat 0.

@@ -1,11 +1,12 @@
 //! From packets to payloads.
-ghost use Rattle.std.specs.Prelude.{◌≡◌, ◌/◌, ◌^◌, ◌<◌, ◌≤◌, [], length, Ok};
+ghost use Rattle.std.specs.Prelude.{◌≡◌, ◌+◌, ◌*◌, ◌/◌, ◌^◌, ◌<◌, ◌≤◌, [], length, Ok};
 ghost use Rattle.payload.specs.Fields.{joined};
 ghost use Rattle.payload.specs.PacketFields.{fields, trap_fields, address_fields, report_fields};
 ghost use Rattle.payload.specs.Profile.{InProfile};
 ghost use Rattle.payload.specs.Reading.{reading};
 ghost use Rattle.payload.specs.Spelling.{IsShortest, payload_of};
 
+use crate::layout::*;
 use crate::outcomes::map_width;
 use crate::spelling::{spell, spell_long};
 use crate::{Outcomes, Packet, Payload, Report, Support};
@@ -24,6 +25,7 @@ pub fn pack(packet: &Packet) -> Payload
     packed(packet)
 }
 
+/// The payload of a packet.
 fn packed(packet: &Packet) -> Payload
     requires { InProfile packet.now }
     ensures { result ≡ payload_of packet.now }
@@ -33,7 +35,7 @@ fn packed(packet: &Packet) -> Payload
             taken,
             privilege,
             address,
-        } => spell(70, sync_bits(taken, privilege, address)),
+        } => spell(SYNC_WIDTH, sync_bits(taken, privilege, address)),
         Packet::Trap {
             taken,
             privilege,
@@ -45,34 +47,46 @@ fn packed(packet: &Packet) -> Payload
         } => {
             let head = trap_bits(taken, privilege, cause, interrupt, handler, address);
             if interrupt {
-                spell(78, head)
+                spell(INTERRUPT_WIDTH, head)
             } else {
                 spell_long(head, tval)
             }
         }
-        Packet::Support(support) => spell(13, support_bits(support)),
+        Packet::Support(support) => spell(SUPPORT_WIDTH, support_bits(support)),
         Packet::Address {
             outcomes,
             delta,
             report,
         } => packed_address(&outcomes, delta, report),
-        Packet::Map(outcomes) => spell(38, 0b01 + (u128::from(outcomes.map()) << 7)),
+        Packet::Map(outcomes) => spell(
+            MAP_PACKET_WIDTH,
+            1 + (u128::from(outcomes.map()) << MAP_FROM),
+        ),
     }
 }
 
-/// The bits of a sync packet: format 3, subformat 0, then branch, privilege and address from bit 4 on.
+/// The bits of `format` and `subformat` of a packet of format 3.
+#[inline(always)]
+fn format_3(subformat: u8) -> u128
+    requires { subformat < 4 }
+    ensures { result ≡ 3 + 4 * subformat }
+{
+    3 + (u128::from(subformat) << SUBFORMAT.from)
+}
+
+/// The bits of a sync packet: format 3, subformat 0, then branch, privilege and address.
 fn sync_bits(taken: bool, privilege: u8, address: u64) -> u128
     requires { privilege < 4 }
     ensures value { result ≡ joined (fields (Packet.Sync taken privilege address)) }
     ensures below { result < 2 ^ 70 }
 {
-    0b0011
-        + (u128::from(!taken) << 4)
-        + (u128::from(privilege) << 5)
-        + (u128::from(address >> 1) << 7)
+    format_3(SYNC)
+        + (u128::from(!taken) << BRANCH.from)
+        + (u128::from(privilege) << PRIVILEGE.from)
+        + (u128::from(address >> 1) << SYNC_ADDRESS.from)
 }
 
-/// The bits of a trap packet up to the address: format 3, subformat 1, then branch and what follows it from bit 4 on.
+/// The bits of a trap packet up to the address: format 3, subformat 1, then branch and what follows it.
 fn trap_bits(
     taken: bool,
     privilege: u8,
@@ -86,25 +100,26 @@ fn trap_bits(
     ensures value { result ≡ joined (trap_fields taken privilege cause interrupt handler address []) }
     ensures below { result < 2 ^ 78 }
 {
-    0b0111
-        + (u128::from(!taken) << 4)
-        + (u128::from(privilege) << 5)
-        + (u128::from(cause) << 7)
-        + (u128::from(interrupt) << 13)
-        + (u128::from(handler) << 14)
-        + (u128::from(address >> 1) << 15)
+    format_3(TRAP)
+        + (u128::from(!taken) << BRANCH.from)
+        + (u128::from(privilege) << PRIVILEGE.from)
+        + (u128::from(cause) << ECAUSE.from)
+        + (u128::from(interrupt) << INTERRUPT.from)
+        + (u128::from(handler) << THADDR.from)
+        + (u128::from(address >> 1) << TRAP_ADDRESS.from)
 }
 
-/// The bits of a support packet: format 3, subformat 3, then ienable in bit 4 and qual_status from bit 6 on.
+/// The bits of a support packet: format 3, subformat 3, then ienable and qual_status.
 fn support_bits(support: Support) -> u128
     ensures value { result ≡ joined (fields (Packet.Support support)) }
     ensures below { result < 2 ^ 13 }
 {
-    match support {
-        Support::Open => 0b0001_1111,
-        Support::EndedRep => 0b0100_1111,
-        Support::EndedNtr => 0b1100_1111,
-    }
+    let (ienable, status) = match support {
+        Support::Open => (1, NO_CHANGE),
+        Support::EndedRep => (0, ENDED_REP),
+        Support::EndedNtr => (0, ENDED_NTR),
+    };
+    format_3(SUPPORT) + (ienable << ENABLE.from) + (u128::from(status) << STATUS.from)
 }
 
 /// The payload of an address packet.
@@ -114,12 +129,15 @@ fn packed_address(outcomes: &Outcomes, delta: u64, report: Report) -> Payload
 {
     let address = address_bits(delta, report);
     if outcomes.is_empty() {
-        return spell(68, 0b10 + (address << 2));
+        return spell(ADDRESS_FROM + REPORTED_WIDTH, 2 + (address << ADDRESS_FROM));
     }
     let count = outcomes.len();
     let width = map_width(count);
     let behind = u128::from(outcomes.map()) + (address << width);
-    spell(73 + width, 0b01 + ((count as u128) << 2) + (behind << 7))
+    spell(
+        MAP_FROM + width + REPORTED_WIDTH,
+        1 + ((count as u128) << BRANCHES.from) + (behind << MAP_FROM),
+    )
 }
 
 /// The bits of an address field and of notify, updiscon and irreport.
@@ -127,7 +145,7 @@ fn address_bits(delta: u64, report: Report) -> u128
     ensures value { result ≡ joined (address_fields delta report) }
     ensures below { result < 2 ^ 66 }
 {
-    u128::from(delta >> 1) + (u128::from(report_bits(delta, report)) << 63)
+    u128::from(delta >> 1) + (u128::from(report_bits(delta, report)) << NOTIFY_BIT)
 }
 
 /// The bits notify, updiscon and irreport, which follow the address field of this difference.

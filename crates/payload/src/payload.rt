@@ -100,7 +100,8 @@ impl Payload {
     }
 }
 
-/// Appends the lowest `count` bytes of a number, by copies of 4, 2 and 1 bytes: a copy of `count` bytes would be a call.
+/// Appends the lowest `count` bytes of a number, by copies of 4, 2 and 1 bytes: a copy of `count` bytes would be a
+/// call.
 #[inline(always)]
 fn append_up_to_7(bytes: &mut ArrayVec<u8, MOST>, n: u64, count: usize)
     requires room { array_vec_len bytes.old + count ≤ 18 }

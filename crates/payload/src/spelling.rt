@@ -4,6 +4,7 @@ ghost use Rattle.payload.specs.Extension.{extended, magnitude, fewest_bytes};
 ghost use Rattle.payload.specs.Spelling.{shortest_bytes};
 
 use crate::Payload;
+use crate::layout::TVAL;
 
 /// The shortest bytes of a number of `width` bits.
 pub(crate) fn spell(width: u32, n: u128) -> Payload
@@ -59,17 +60,17 @@ fn byte_count(magnitude: u128) -> usize
     (128 - magnitude.leading_zeros()) as usize / 8 + 1
 }
 
-/// The shortest bytes of 142 bits, of which `rest` are the highest 64.
+/// The shortest bytes of an exception's bits, of which `rest` are those of `tval`.
 pub(crate) fn spell_long(head: u128, rest: u64) -> Payload
     requires { head < 2 ^ 78 }
     ensures { result ≡ shortest_bytes 142 (head + 2 ^ 78 * rest) }
 {
-    let low = head + (u128::from(rest % (1 << 50)) << 78);
+    let low = head + (u128::from(rest % (1 << 50)) << TVAL.from);
     let high = (rest >> 50) as u16;
     if rest < 1 << 63 {
         Payload::of_low_bytes_long(low, high, byte_count_long(head, rest))
     } else {
-        let count = byte_count_long((1 << 78) - 1 - head, u64::MAX - rest);
+        let count = byte_count_long((1 << TVAL.from) - 1 - head, u64::MAX - rest);
         Payload::of_low_bytes_long(low, high + 0xc000, count)
     }
 }

@@ -4,11 +4,12 @@ ghost use Rattle.std.specs.Result.{result_err};
 ghost use Rattle.payload.specs.Faults.{first_fault};
 ghost use Rattle.payload.specs.Profile.{InProfile};
 ghost use Rattle.payload.specs.Reading.{outcomes_from, reading};
-ghost use Rattle.payload.specs.ReadingByKind.{sync_reading, trap_reading, support_reading, report_in, address_reading, map_reading, branches_reading, reading_by_kind};
+ghost use Rattle.payload.specs.steps.ReadingByKind.{sync_reading, trap_reading, support_reading, report_in, address_reading, map_reading, branches_reading, reading_by_kind};
 ghost use Rattle.payload.specs.Spelling.{Spelt};
 ghost use Rattle.payload.specs.declared.packet.Packet.{Packet as AnyPacket};
 
 use crate::bits::Bits;
+use crate::layout::*;
 use crate::outcomes::map_width;
 use crate::{Outcomes, PackFault, Packet, Report, Support};
 
@@ -23,7 +24,8 @@ pub fn unpack(bytes: &[u8]) -> Result<Packet, PackFault>
     unpacked(bytes)
 }
 
-#[tactic(auto, unfolding(crate::specs::ReadingByKind::reading_by_kind))]
+/// The packet of bytes, read by its format, or else the first fault.
+#[tactic(auto, unfolding(crate::specs::steps::ReadingByKind::reading_by_kind))]
 fn unpacked(bytes: &[u8]) -> Result<Packet, PackFault>
     ensures { result ≡ reading_by_kind bytes.now }
 {
@@ -34,108 +36,111 @@ fn unpacked(bytes: &[u8]) -> Result<Packet, PackFault>
         return Err(PackFault::TooLong);
     }
     let bits = Bits::read(bytes);
-    match bits.part(0, 2) {
-        0b11 => match bits.part(2, 2) {
-            0b00 => sync_of(&bits),
-            0b01 => trap_of(&bits),
-            0b11 => support_of(&bits),
+    match bits.field(FORMAT) {
+        3 => match bits.field(SUBFORMAT) as u8 {
+            SYNC => sync_of(&bits),
+            TRAP => trap_of(&bits),
+            SUPPORT => support_of(&bits),
             _ => Err(PackFault::Unsupported),
         },
-        0b10 => address_of(&bits, Outcomes::new(), 2),
-        0b01 => branches_of(&bits),
+        2 => address_of(&bits, Outcomes::new(), ADDRESS_FROM),
+        1 => format_1_of(&bits),
         _ => Err(PackFault::Unsupported),
     }
 }
 
 /// The packet of bits of format 3, subformat 0.
-#[tactic(auto, unfolding(crate::specs::ReadingByKind::sync_reading))]
+#[tactic(auto, unfolding(crate::specs::steps::ReadingByKind::sync_reading))]
 fn sync_of(bits: &Bits) -> Result<Packet, PackFault>
     ensures { result ≡ sync_reading bits.now }
 {
-    let privilege = bits.part(5, 2) as u8;
+    let privilege = bits.field(PRIVILEGE) as u8;
     if privilege == 2 {
         return Err(PackFault::BadPrivilege);
     }
-    if !bits.has_width(70) {
+    if !bits.has_width(SYNC_WIDTH) {
         return Err(PackFault::BadPad);
     }
     Ok(Packet::Sync {
-        taken: bits.part(4, 1) == 0,
+        taken: bits.field(BRANCH) == 0,
         privilege,
-        address: bits.part(7, 63) << 1,
+        address: bits.field(SYNC_ADDRESS) << 1,
     })
 }
 
 /// The packet of bits of format 3, subformat 1.
-#[tactic(auto, unfolding(crate::specs::ReadingByKind::trap_reading))]
+#[tactic(auto, unfolding(crate::specs::steps::ReadingByKind::trap_reading))]
 fn trap_of(bits: &Bits) -> Result<Packet, PackFault>
     ensures { result ≡ trap_reading bits.now }
 {
-    let privilege = bits.part(5, 2) as u8;
+    let privilege = bits.field(PRIVILEGE) as u8;
     if privilege == 2 {
         return Err(PackFault::BadPrivilege);
     }
-    let interrupt = bits.part(13, 1) == 1;
+    let interrupt = bits.field(INTERRUPT) == 1;
     let is_padded = if interrupt {
-        bits.has_width(78)
+        bits.has_width(INTERRUPT_WIDTH)
     } else {
-        bits.has_width_142()
+        bits.has_width_of_exception()
     };
     if !is_padded {
         return Err(PackFault::BadPad);
     }
     Ok(Packet::Trap {
-        taken: bits.part(4, 1) == 0,
+        taken: bits.field(BRANCH) == 0,
         privilege,
-        cause: bits.part(7, 6) as u8,
+        cause: bits.field(ECAUSE) as u8,
         interrupt,
-        handler: bits.part(14, 1) == 1,
-        address: bits.part(15, 63) << 1,
-        tval: if interrupt { 0 } else { bits.last_part() },
+        handler: bits.field(THADDR) == 1,
+        address: bits.field(TRAP_ADDRESS) << 1,
+        tval: if interrupt { 0 } else { bits.tval() },
     })
 }
 
 /// The packet of bits of format 3, subformat 3.
-#[tactic(auto, unfolding(crate::specs::ReadingByKind::support_reading))]
+#[tactic(auto, unfolding(crate::specs::steps::ReadingByKind::support_reading))]
 fn support_of(bits: &Bits) -> Result<Packet, PackFault>
     ensures { result ≡ support_reading bits.now }
 {
-    let support = match (bits.part(4, 2), bits.part(6, 2), bits.part(8, 5)) {
-        (1, 0, 0) => Support::Open,
-        (0, 1, 0) => Support::EndedRep,
-        (0, 3, 0) => Support::EndedNtr,
+    if bits.field(OPTIONS) != 0 {
+        return Err(PackFault::Unsupported);
+    }
+    let support = match (bits.field(ENABLE) as u8, bits.field(STATUS) as u8) {
+        (1, NO_CHANGE) => Support::Open,
+        (0, ENDED_REP) => Support::EndedRep,
+        (0, ENDED_NTR) => Support::EndedNtr,
         _ => return Err(PackFault::Unsupported),
     };
-    if !bits.has_width(13) {
+    if !bits.has_width(SUPPORT_WIDTH) {
         return Err(PackFault::BadPad);
     }
     Ok(Packet::Support(support))
 }
 
 /// The packet of bits of format 1.
-fn branches_of(bits: &Bits) -> Result<Packet, PackFault>
+fn format_1_of(bits: &Bits) -> Result<Packet, PackFault>
     ensures { result ≡ branches_reading bits.now }
 {
-    let count = bits.part(2, 5) as u8;
+    let count = bits.field(BRANCHES) as u8;
     if count == 0 {
-        return map_of(bits);
+        return full_map_of(bits);
     }
     address_of(
         bits,
         first_outcomes(bits, count),
-        7 + map_width(usize::from(count)),
+        MAP_FROM + map_width(usize::from(count)),
     )
 }
 
 /// The packet of bits of format 1 without branches.
-#[tactic(auto, unfolding(crate::specs::ReadingByKind::map_reading))]
-fn map_of(bits: &Bits) -> Result<Packet, PackFault>
+#[tactic(auto, unfolding(crate::specs::steps::ReadingByKind::map_reading))]
+fn full_map_of(bits: &Bits) -> Result<Packet, PackFault>
     ensures { result ≡ map_reading bits.now }
 {
-    if !bits.has_width(38) {
+    if !bits.has_width(MAP_PACKET_WIDTH) {
         return Err(PackFault::BadPad);
     }
-    Ok(Packet::Map(first_outcomes(bits, 31)))
+    Ok(Packet::Map(first_outcomes(bits, FULL_MAP.width as u8)))
 }
 
 /// So many outcomes of the branch map.
@@ -144,30 +149,33 @@ fn first_outcomes(bits: &Bits, count: u8) -> Outcomes
     requires few { count ≤ 31 }
     ensures { result ≡ outcomes_from bits.now count }
 {
-    Outcomes::of_map(count, bits.part(7, u32::from(count)) as u32)
+    Outcomes::of_map(count, bits.part(MAP_FROM, u32::from(count)) as u32)
 }
 
 /// The packet of bits of format 1 or 2 with these outcomes, whose address field begins at the bit `from`.
-#[tactic(auto, unfolding(crate::specs::ReadingByKind::address_reading))]
+#[tactic(auto, unfolding(crate::specs::steps::ReadingByKind::address_reading))]
 fn address_of(bits: &Bits, outcomes: Outcomes, from: u32) -> Result<Packet, PackFault>
     requires { from ≤ 38 }
     ensures { result ≡ address_reading bits.now outcomes from }
 {
-    let Some(report) = report_of(bits.part(from + 62, 1), bits.part(from + 63, 3)) else {
+    let Some(report) = report_of(
+        bits.part(from + TOP_BIT, 1),
+        bits.part(from + NOTIFY_BIT, 3),
+    ) else {
         return Err(PackFault::BadReport);
     };
-    if !bits.has_width(from + 66) {
+    if !bits.has_width(from + REPORTED_WIDTH) {
         return Err(PackFault::BadPad);
     }
     Ok(Packet::Address {
         outcomes,
-        delta: bits.part(from, 63) << 1,
+        delta: bits.part(from, ADDRESS_WIDTH) << 1,
         report,
     })
 }
 
 /// The report of notify, updiscon and irreport behind an address field with this top bit.
-#[tactic(auto, unfolding(crate::specs::ReadingByKind::report_in))]
+#[tactic(auto, unfolding(crate::specs::steps::ReadingByKind::report_in))]
 fn report_of(top: u64, tail: u64) -> Option<Report>
     requires bit { top < 2 }
     requires bits { tail < 8 }

@@ -1,3 +1,4 @@
+-- The clause is a law, which takes an induction over the log.
 use Rattle.encoder.proofs.ProfileLemmas.{packets_in_profile}
 use Rattle.encoder.proofs.laws.packets_are_in_profile.Goals as goal
 

@@ -10,4 +10,5 @@ invariant-loop l =
     let period = l.fn.encoder.between + 1 in
     (l.counter ≤ l.taken) × (l.taken ≤ length l.events) × (l.encoder.between ≡ l.fn.encoder.between)
     × Stands (words_of l.program) period (take l.taken l.events) l.encoder
-    × (packets_so_far (words_of l.program) period (take l.taken l.events) ≡ packets_so_far (words_of l.program) period (take l.fn.taken l.events))
+    × (packets_so_far (words_of l.program) period (take l.taken l.events)
+    ≡ packets_so_far (words_of l.program) period (take l.fn.taken l.events))

@@ -1,3 +1,4 @@
+-- The clauses are laws of `payload_of`, which the search does not look for.
 use Rattle.std.proofs.Common.{◌∙◌, ap}
 use Rattle.payload.specs.Reading.{reading}
 use Rattle.payload.proofs.ReadingLaws.{payload_of-shortest, reading-payload_of}

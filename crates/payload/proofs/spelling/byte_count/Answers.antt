@@ -1,3 +1,4 @@
+-- The search does not relate leading zeros to the first count that fits.
 use Rattle.std.proofs.Common.{sym, arith}
 use Rattle.payload.proofs.Counts.{first_is, counted}
 use Rattle.payload.proofs.spelling.byte_count.Goals as goal

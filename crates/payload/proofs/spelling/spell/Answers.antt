@@ -1,3 +1,4 @@
+-- The search does not find that the bits above 128 do not reach the lowest 16 bytes.
 use Rattle.std.proofs.Common.{◌-◌, ◌^◌, ◌≤◌, arith, ap, ◌∙◌}
 use Rattle.std.proofs.Math.Nat.{pow-le-pow_right}
 use Rattle.payload.specs.Bytes.{low_bytes}
@@ -15,4 +16,5 @@ returns c =
     c.of_low_bytes.ensures
     ∙ ap (low_bytes c.byte_count.result) c.extended_of.ensures
     ∙ low_bytes-mod c.byte_count.result 128 (extended c.args.width c.args.n) (omega arith)
-    ∙ ap (λ k. low_bytes k (extended c.args.width c.args.n)) (c.byte_count.ensures.value ∙ ap fewest_bytes c.magnitude_of.ensures.value)
+    ∙ ap (λ k. low_bytes k (extended c.args.width c.args.n))
+    (c.byte_count.ensures.value ∙ ap fewest_bytes c.magnitude_of.ensures.value)

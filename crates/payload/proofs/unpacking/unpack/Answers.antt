@@ -1,3 +1,4 @@
+-- The clauses are laws of `reading`, which the search does not look for.
 use Rattle.std.proofs.Common.{◌≡◌, ℕ, List, Result, Ok, Err, sym, ap, ◌∙◌, arith}
 use Rattle.std.specs.Prelude.{IfOk}
 use Rattle.std.specs.Result.{result_err}
@@ -13,7 +14,8 @@ use Rattle.payload.proofs.FirstFaults.{reading_by_kind-is}
 use Rattle.payload.proofs.ReadingLaws.{reading-found, reading-only, result_err-fault_or}
 use Rattle.payload.proofs.unpacking.unpack.Goals as goal
 
-found_by : (bytes : List ℕ) (r : Result Packet PackFault) → IsBytes bytes → r ≡ reading bytes → IfOk r (λ p. InProfile p × Spelt bytes p)
+found_by : (bytes : List ℕ) (r : Result Packet PackFault) → IsBytes bytes → r ≡ reading bytes
+    → IfOk r (λ p. InProfile p × Spelt bytes p)
 found_by bytes (Ok p) each e = reading-found bytes p each (sym e)
 found_by bytes (Err f) each e = tt
 

@@ -1,10 +1,11 @@
+-- The clauses hold of each log that the encoder stands for, which the search does not instantiate.
 use Rattle.std.proofs.Common.{◌≡◌, ◌++◌, ◌∷◌, [], sym, ap, ◌∙◌}
 use Rattle.rvclass.proofs.WordsLemmas.{words_stand}
 use Rattle.rvclass.specs.Fetch.{words_of}
 use Rattle.payload.specs.declared.packet.Packet.TheVariants as packet
 use Rattle.encoder.specs.Packets.{packets}
 use Rattle.encoder.specs.PacketsSoFar.{packets_so_far}
-use Rattle.encoder.specs.Stepping.{last_given, given_at_end}
+use Rattle.encoder.specs.steps.Stepping.{last_given, given_at_end}
 use Rattle.encoder.proofs.EndLemmas.{ends_any}
 use Rattle.encoder.proofs.ProfileLemmas.{packets_in_profile, profile_behind}
 use Rattle.encoder.proofs.encoder.Encoder.finish.Goals as goal
@@ -18,9 +19,13 @@ given c =
 pub returns-clause-packets : goal.returns-clause-packets
 returns-clause-packets c = λ period log stands.
     let words = words_of c.args.program.now in
-    ends_any words period log c.args.self stands ∙ ap (λ given. packets_so_far words period log ++ given) (sym (given c))
+    ends_any words period log c.args.self stands ∙ ap (λ given. packets_so_far words period log ++ given)
+    (sym (given c))
 
 pub returns-clause-profile : goal.returns-clause-profile
 returns-clause-profile c = λ period log stands legal.
     let words = words_of c.args.program.now in
-    profile_behind (packets_so_far words period log) c.push.new.self.items (packets words period log) (ends_any words period log c.args.self stands ∙ ap (λ given. packets_so_far words period log ++ given) (sym (given c))) (packets_in_profile words (λ addr word e. (words_stand c.args.program.now addr word e).even) period log stands.numbers legal)
+    profile_behind (packets_so_far words period log) c.push.new.self.items (packets words period log)
+    (ends_any words period log c.args.self stands ∙ ap (λ given. packets_so_far words period log ++ given)
+    (sym (given c))) (packets_in_profile words (λ addr word e. (words_stand c.args.program.now addr word e).even)
+    period log stands.numbers legal)

@@ -1,10 +1,10 @@
+-- The loop keeps what the encoder would stand for, were the events that are passed over held in turn.
 use Rattle.std.proofs.Common.{◌≡◌, ◌+◌, ◌-◌, ◌++◌, ◌∷◌, [], Some, None, take, get_or, refl, sym, ap, subst, ◌∙◌, arith}
 use Rattle.std.proofs.lemmas.List.{take_more, append-nil}
 use Rattle.std.specs.List.{last_or}
 use Rattle.retire.specs.declared.event.Event.TheVariants.{Retire}
 use Rattle.rvclass.specs.Fetch.{words_of}
 use Rattle.encoder.specs.Stands.{Stands}
-use Rattle.encoder.specs.Stepping.{pending_with}
 use Rattle.encoder.specs.declared.due.Due.TheVariants as due
 use Rattle.encoder.specs.declared.encoder.Encoder.{Encoder}
 use Rattle.encoder.proofs.PassLemmas.{last_of_first, passed, after_passed, given_passed}
@@ -17,10 +17,15 @@ pub loop-at-init : goal.loop-at-init
 loop-at-init c =
     let words = words_of c.args.program.now in
     let e = c.args.self.now in
-    let asked : e.due ≡ due.Nothing = elim c.match-matches.branch [ in-Nothing w ↦ w.in-Nothing.is | in_default w ↦ (let is = w.matches-is in let was = c.if-not-matches.false in cc) ] in
-    let is : record { between = e.between; left = e.left; held = last_or None (take c.args.taken c.args.events.now); due = due.Nothing; pending = e.pending; reported = e.reported } ≡ e =
-    ap (λ h. record { between = e.between; left = e.left; held = h; due = due.Nothing; pending = e.pending; reported = e.reported }) (sym c.requires.stands.held)
-    ∙ ap (λ d. record { between = e.between; left = e.left; held = e.held; due = d; pending = e.pending; reported = e.reported }) (sym asked) in
+    let asked : e.due ≡ due.Nothing =
+    elim c.match-matches.branch [
+      | in-Nothing w ↦ w.in-Nothing.is
+      | in_default w ↦
+          (let is = w.matches-is in let was = c.if-not-matches.false in cc)
+    ] in
+    let is : record e { held = last_or None (take c.args.taken c.args.events.now); due = due.Nothing } ≡ e =
+    ap (λ h. record e { held = h; due = due.Nothing }) (sym c.requires.stands.held)
+    ∙ ap (λ d. record e { due = d }) (sym asked) in
     (refl, subst (Stands words (e.between + 1) (take c.args.taken c.args.events.now)) (sym is) c.requires.stands, refl)
 
 pub loop-at-preserved : goal.loop-at-preserved
@@ -31,19 +36,34 @@ loop-at-preserved c =
     let events = c.args.events.now in
     let next = get_or events at (Retire 0 0 0) in
     let held = get_or events (at - 1) (Retire 0 0 0) in
-    let more : take (at + 1) events ≡ take at events ++ next ∷ [] = take_more events at (Retire 0 0 0) c.loop-at-test.true in
-    let e : Encoder = record { between = c.args.self.now.between; left = c.loop-at.left; held = last_or None (take at events); due = due.Nothing; pending = c.loop-at.pending; reported = c.args.self.now.reported } in
+    let more : take (at + 1) events ≡ take at events ++ next ∷ [] =
+    take_more events at (Retire 0 0 0) c.loop-at-test.true in
+    let e : Encoder = record c.args.self.now {
+      left = c.loop-at.left;
+      held = last_or None (take at events);
+      due = due.Nothing;
+      pending = c.loop-at.pending;
+    } in
     let from = c.if-taken-eq0.false in
     let past = c.loop-at.auto.at in
     let on = c.loop-at-test.true in
     let is = last_of_first events at (omega (arith, from, past)) (omega (arith, on)) in
     let yes = sym c.passes.ensures.value ∙ c.if-not-passes.false in
-    let step = steps words period at events next e (passed e next) [] more c.requires.legal c.loop-at.invariant.1 c.passes.ensures.numbers (after_passed words e held next is refl yes) (given_passed words e held next is refl yes) in
-    let there : last_or None (take (at + 1) events) ≡ Some next = ap (last_or None) more ∙ last_or-snoc None (take at events) next in
-    let same : passed e next ≡ record { between = e.between; left = e.left - 1; held = last_or None (take (at + 1) events); due = due.Nothing; pending = c.add_outcome.new.pending; reported = e.reported } =
-    ap (λ h. record { between = e.between; left = e.left - 1; held = h; due = due.Nothing; pending = pending_with due.Nothing next e.pending; reported = e.reported }) (sym there)
-    ∙ ap (λ p. record { between = e.between; left = e.left - 1; held = last_or None (take (at + 1) events); due = due.Nothing; pending = p; reported = e.reported }) (sym c.add_outcome.ensures) in
-    (refl, subst (Stands words period (take (at + 1) events)) same step.stands, step.more ∙ append-nil _ ∙ c.loop-at.invariant.2)
+    let step =
+    steps words period at events next e (passed e next) [] more c.requires.legal c.loop-at.invariant.1
+    c.passes.ensures.numbers (after_passed words e held next is refl yes)
+    (given_passed words e held next is refl yes) in
+    let there : last_or None (take (at + 1) events) ≡ Some next =
+    ap (last_or None) more ∙ last_or-snoc None (take at events) next in
+    let grown : Encoder = record (passed e next) { held = last_or None (take (at + 1) events) } in
+    let same : passed e next ≡ record grown { pending = c.add_outcome.new.pending } =
+    ap (λ h. record (passed e next) { held = h }) (sym there)
+    ∙ ap (λ p. record grown { pending = p }) (sym c.add_outcome.ensures) in (
+      refl,
+      subst (Stands words period (take (at + 1) events)) same step.stands,
+      step.more ∙ append-nil _
+          ∙ c.loop-at.invariant.2,
+    )
 
 pub returns-clause-stands : goal.returns-clause-stands
 returns-clause-stands c =
@@ -51,13 +71,22 @@ returns-clause-stands c =
     let e = c.args.self.now in
     let events = c.args.events.now in
     let at = c.loop-at.at in
-    let asked : e.due ≡ due.Nothing = elim c.match-matches.branch [ in-Nothing w ↦ w.in-Nothing.is | in_default w ↦ (let is = w.matches-is in let was = c.if-not-matches.false in cc) ] in
+    let asked : e.due ≡ due.Nothing =
+    elim c.match-matches.branch [
+      | in-Nothing w ↦ w.in-Nothing.is
+      | in_default w ↦
+          (let is = w.matches-is in let was = c.if-not-matches.false in cc)
+    ] in
     let from = c.if-taken-eq0.false in
     let past = c.loop-at.auto.at in
     let within = c.loop-at.auto.at-end c.requires.within in
-    let last : last_or None (take at events) ≡ Some (get_or events (at - 1) (Retire 0 0 0)) = last_of_first events at (omega (arith, from, past)) within in
-    let same : record { between = e.between; left = c.loop-at.left; held = last_or None (take at events); due = due.Nothing; pending = c.loop-at.pending; reported = e.reported } ≡ record { between = e.between; left = c.loop-at.left; held = Some (get_or events (at - 1) (Retire 0 0 0)); due = e.due; pending = c.loop-at.pending; reported = e.reported } =
-    ap (λ h. record { between = e.between; left = c.loop-at.left; held = h; due = due.Nothing; pending = c.loop-at.pending; reported = e.reported }) last
-    ∙ ap (λ d. record { between = e.between; left = c.loop-at.left; held = Some (get_or events (at - 1) (Retire 0 0 0)); due = d; pending = c.loop-at.pending; reported = e.reported }) (sym asked) in
-    subst (λ n. Stands words (e.between + 1) (take n events) (record { between = e.between; left = c.loop-at.left; held = Some (get_or events (n - 1) (Retire 0 0 0)); due = e.due; pending = c.loop-at.pending; reported = e.reported })) (sym c.loop-at.invariant.0)
+    let last : last_or None (take at events) ≡ Some (get_or events (at - 1) (Retire 0 0 0)) =
+    last_of_first events at (omega (arith, from, past)) within in
+    let held = Some (get_or events (at - 1) (Retire 0 0 0)) in
+    let passed_on : Encoder = record e { left = c.loop-at.left; pending = c.loop-at.pending } in
+    let same : record passed_on { held = last_or None (take at events); due = due.Nothing } ≡ record passed_on { held = held } =
+    ap (λ h. record passed_on { held = h; due = due.Nothing }) last
+    ∙ ap (λ d. record passed_on { held = held; due = d }) (sym asked) in
+    subst (λ n. Stands words (e.between + 1) (take n events)
+    (record passed_on { held = Some (get_or events (n - 1) (Retire 0 0 0)) })) (sym c.loop-at.invariant.0)
     (subst (Stands words (e.between + 1) (take at events)) same c.loop-at.invariant.1)

@@ -12,12 +12,10 @@ invariant-loop-at l =
     let words = words_of l.program in
     let period = l.fn.self.between + 1 in
     (l.next ≡ l.at)
-    × Stands words period (take l.at l.events) (record {
-      between = l.self.between;
+    × Stands words period (take l.at l.events) (record l.self {
       left = l.left;
       held = last_or None (take l.at l.events);
       due = due.Nothing;
       pending = l.pending;
-      reported = l.self.reported;
     })
     × (packets_so_far words period (take l.at l.events) ≡ packets_so_far words period (take l.fn.taken l.events))

@@ -1,3 +1,4 @@
+-- The search does not turn what a new encoder stands for into where the source stands.
 use Rattle.std.proofs.Common.{ℕ, [], refl, sym, ap, subst}
 use Rattle.rvclass.specs.Fetch.{words_of}
 use Rattle.encoder.specs.SourceAt.{SourceAt}

@@ -1,3 +1,4 @@
+-- The search does not find that the fill is the last byte's top bit, and so the bits that go on without end.
 use Rattle.std.proofs.Common.{◌-◌, inl, inr, length, ◌∙◌, arith}
 use Rattle.payload.proofs.NumbersOfBytes.{filled, whole_short, whole_long, bytes_from_each}
 use Rattle.payload.proofs.bits.Bits.read.Goals as goal
@@ -15,7 +16,8 @@ returns-then-bytes-le16 c =
 
 pub returns-else-bytes-le16 : goal.returns-else-bytes-le16
 returns-else-bytes-le16 c =
-    whole_long c.args.bytes.now c.if-bytes-lt128.fill _ _ (omega arith) (omega arith) c.number_of_16-else-bytes-le16.ensures c.number_of_2-else-bytes-le16.ensures
+    whole_long c.args.bytes.now c.if-bytes-lt128.fill _ _ (omega arith) (omega arith)
+    c.number_of_16-else-bytes-le16.ensures c.number_of_2-else-bytes-le16.ensures
     ∙ filled (length c.args.bytes.now - 1) c.if-bytes-lt128.fill c.args.bytes.now (omega arith) (omega arith)
     (bytes_from_each c.args.bytes.now (λ i. omega (arith, c.type_inv.bytes i)))
     (elim c.if-bytes-lt128.branch [

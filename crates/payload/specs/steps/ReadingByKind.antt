@@ -1,8 +1,9 @@
 -- What bytes unpack to, one kind of packet after the other, as `unpack` reads them: the same as `reading`.
 use Rattle.std.specs.Prelude.{ℕ, ◌+◌, ◌-◌, ◌*◌, ◌^◌, nat_lt, ◌==◌, ◌&&◌, not, if◌then◌else◌, Bool, List, [], length, Option, Some, None, Result, Ok, Err}
 use Rattle.payload.specs.Extension.{magnitude}
-use Rattle.payload.specs.Faults.{bits_of, part, is_sync, is_trap, trap_width, is_support, is_address, address_behind_map}
-use Rattle.payload.specs.Reading.{trap_from, outcomes_from}
+use Rattle.payload.specs.Faults.{bits_of, part, field_at, is_sync, is_trap, trap_width, is_support, is_address_alone, address_behind_map}
+use Rattle.payload.specs.Layout as layout
+use Rattle.payload.specs.Reading.{sync_from, trap_from, outcomes_from}
 use Rattle.payload.specs.declared.packet.Packet.{Packet}
 use Rattle.payload.specs.declared.packet.Packet.TheVariants as packet
 use Rattle.payload.specs.declared.packet.Support.TheVariants as support
@@ -11,32 +12,39 @@ use Rattle.payload.specs.declared.packet.Report.TheVariants as report
 use Rattle.payload.specs.declared.fault.PackFault.{PackFault}
 use Rattle.payload.specs.declared.fault.PackFault.TheVariants.{Empty, TooLong, BadPad, Unsupported, BadPrivilege, BadReport}
 
--- a packet of so many bits, where all further bits are copies of its last
+-- A packet of so many bits, where all further bits are copies of its last.
 abbrev pub padded : ℕ → ℕ → Packet → Result Packet PackFault
 padded width n p = if nat_lt (magnitude 144 n) (2 ^ (width - 1)) then Ok p else Err BadPad
 
--- bits of format 3, subformat 0
+-- Bits of format 3, subformat 0.
 unfoldable pub sync_reading : ℕ → Result Packet PackFault
 sync_reading n =
-    if part n 5 2 == 2 then Err BadPrivilege else
-    padded 70 n (packet.Sync (part n 4 1 == 0) (part n 5 2) (2 * part n 7 63))
+    if field_at n layout.privilege_at == 2 then Err BadPrivilege else
+    padded layout.sync_width n (sync_from n)
 
--- bits of format 3, subformat 1
+-- Bits of format 3, subformat 1.
 unfoldable pub trap_reading : ℕ → Result Packet PackFault
 trap_reading n =
-    if part n 5 2 == 2 then Err BadPrivilege else
+    if field_at n layout.privilege_at == 2 then Err BadPrivilege else
     padded (trap_width n) n (trap_from n)
 
--- bits of format 3, subformat 3
+-- `ienable`, and above it `encoder_mode`.
+abbrev pub enable_of : ℕ → ℕ
+enable_of n = part n layout.ienable_at.from 2
+
+-- Bits of format 3, subformat 3.
 unfoldable pub support_reading : ℕ → Result Packet PackFault
 support_reading n =
-    if not (part n 8 5 == 0) then Err Unsupported else
-    if (part n 4 2 == 1) && (part n 6 2 == 0) then padded 13 n (packet.Support support.Open) else
-    if (part n 4 2 == 0) && (part n 6 2 == 1) then padded 13 n (packet.Support support.EndedRep) else
-    if (part n 4 2 == 0) && (part n 6 2 == 3) then padded 13 n (packet.Support support.EndedNtr) else
+    if not (field_at n layout.options_at == 0) then Err Unsupported else
+    if (enable_of n == 1) && (field_at n layout.status_at == layout.no_change) then
+    padded layout.support_width n (packet.Support support.Open) else
+    if (enable_of n == 0) && (field_at n layout.status_at == layout.ended_rep) then
+    padded layout.support_width n (packet.Support support.EndedRep) else
+    if (enable_of n == 0) && (field_at n layout.status_at == layout.ended_ntr) then
+    padded layout.support_width n (packet.Support support.EndedNtr) else
     Err Unsupported
 
--- what notify, updiscon and irreport report behind an address field's top bit
+-- What `notify`, `updiscon` and `irreport` report behind an address field's top bit.
 unfoldable pub report_in : ℕ → ℕ → Option Report
 report_in top tail =
     if tail == 7 * top then Some report.Plain else
@@ -46,30 +54,32 @@ report_in top tail =
 
 abbrev pub reported : ℕ → List Bool → ℕ → Option Report → Result Packet PackFault
 reported n taken from None = Err BadReport
-reported n taken from (Some report) = padded (from + 66) n (packet.Address taken (2 * part n from 63) report)
+reported n taken from (Some report) =
+    padded (from + layout.reported_width) n (packet.Address taken (2 * part n from layout.address_width) report)
 
--- bits of format 1 or 2 with these outcomes, whose address field begins at this bit
+-- Bits of format 1 or 2 with these outcomes, whose address field begins at this bit.
 unfoldable pub address_reading : ℕ → List Bool → ℕ → Result Packet PackFault
 unfolding report_in
-address_reading n taken from = reported n taken from (report_in (part n (from + 62) 1) (part n (from + 63) 3))
+address_reading n taken from =
+    reported n taken from (report_in (part n (from + layout.top_bit) 1) (part n (from + layout.notify_bit) 3))
 
--- bits of format 1 without branches
+-- Bits of format 1 without branches.
 unfoldable pub map_reading : ℕ → Result Packet PackFault
-map_reading n = padded 38 n (packet.Map (outcomes_from n 31))
+map_reading n = padded layout.map_packet_width n (packet.Map (outcomes_from n layout.full_map_at.width))
 
--- bits of format 1
+-- Bits of format 1.
 abbrev pub branches_reading : ℕ → Result Packet PackFault
 branches_reading n =
-    if part n 2 5 == 0 then map_reading n else
-    address_reading n (outcomes_from n (part n 2 5)) (address_behind_map n)
+    if field_at n layout.branches_at == 0 then map_reading n else
+    address_reading n (outcomes_from n (field_at n layout.branches_at)) (address_behind_map n)
 
 abbrev pub reading_of_bits : ℕ → Result Packet PackFault
 reading_of_bits n =
     if is_sync n then sync_reading n else
     if is_trap n then trap_reading n else
     if is_support n then support_reading n else
-    if is_address n then address_reading n [] 2 else
-    if part n 0 2 == 1 then branches_reading n else
+    if is_address_alone n then address_reading n [] layout.address_from else
+    if field_at n layout.format_at == 1 then branches_reading n else
     Err Unsupported
 
 unfoldable pub reading_by_kind : List ℕ → Result Packet PackFault

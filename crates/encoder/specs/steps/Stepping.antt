@@ -20,17 +20,13 @@ use Rattle.encoder.specs.declared.rule.Rule.{Rule}
 use Rattle.encoder.specs.declared.rule.Rule.TheVariants as by
 
 -- A retirement of this type is an uninferable discontinuity.
-abbrev pub leaves_by_type : ℕ → Bool
-leaves_by_type itype = (itype == 3) || (itype == 6)
+abbrev pub is_discontinuity_by_type : ℕ → Bool
+is_discontinuity_by_type itype = (itype == 3) || (itype == 6)
 
 -- What is due of a retirement behind a trap of which this is due.
 abbrev pub due_behind_trap : Due → Due
 due_behind_trap due_of.TrapOrHandler = due_of.Handler
-due_behind_trap due_of.Trap = due_of.Sync
-due_behind_trap due_of.Handler = due_of.Sync
-due_behind_trap due_of.Sync = due_of.Sync
-due_behind_trap due_of.Target = due_of.Sync
-due_behind_trap due_of.Nothing = due_of.Sync
+due_behind_trap other = due_of.Sync
 
 -- What is due of an event behind the held one, of which this is due, with so many retirements left.
 abbrev pub next_due : Option Event → Due → ℕ → Event → Due
@@ -38,25 +34,24 @@ next_due None due left (Retire addr itype priv) = due_of.Sync
 next_due None due left (Trap epc priv interrupt cause tval) = due_of.Trap
 next_due (Some (Retire at type level)) due left (Retire addr itype priv) =
     if not (priv == level) || (left == 0) then due_of.Sync else
-    if leaves_by_type type then due_of.Target else
+    if is_discontinuity_by_type type then due_of.Target else
     due_of.Nothing
 next_due (Some (Trap epc level interrupt cause tval)) due left (Retire addr itype priv) = due_behind_trap due
 next_due (Some (Retire at type level)) due left (Trap epc priv interrupt cause tval) =
-    if leaves_by_type type then due_of.Trap else due_of.TrapOrHandler
+    if is_discontinuity_by_type type then due_of.Trap else due_of.TrapOrHandler
 next_due (Some (Trap at level irq code value)) due left (Trap epc priv interrupt cause tval) = due_of.Trap
 
 -- A trap or a new start, by what is due of it.
 abbrev pub cuts_off : Due → Bool
 cuts_off due_of.TrapOrHandler = true
 cuts_off due_of.Trap = true
-cuts_off due_of.Handler = false
 cuts_off due_of.Sync = true
-cuts_off due_of.Target = false
-cuts_off due_of.Nothing = false
+cuts_off other = false
 
 -- The event is a backward jump, by its type, by where the next one stands, and by its word.
 abbrev pub jumps_back_to : Words → Event → Event → Bool
-jumps_back_to words (Retire addr itype priv) next = (itype == 0) && nat_le (place next) addr && jumps_back addr (words addr)
+jumps_back_to words (Retire addr itype priv) next =
+    (itype == 0) && nat_le (place next) addr && jumps_back addr (words addr)
 jumps_back_to words (Trap epc priv interrupt cause tval) next = false
 
 -- The rule of an event of which nothing is due, before one of which this is due.
@@ -102,22 +97,13 @@ handler_packet trap handler = trap_packet trap (is_taken handler) (privilege han
 
 -- A handler is due: the packet of the trap before it told of it.
 abbrev pub is_handler_due : Due → Bool
-is_handler_due due_of.TrapOrHandler = false
-is_handler_due due_of.Trap = false
 is_handler_due due_of.Handler = true
-is_handler_due due_of.Sync = false
-is_handler_due due_of.Target = false
-is_handler_due due_of.Nothing = false
+is_handler_due other = false
 
 -- Nothing reports the event, unless it fills the branch map.
 abbrev pub is_unreported : Rule → Bool
-is_unreported (by.Trap handler) = false
-is_unreported by.Handler = false
-is_unreported by.Sync = false
-is_unreported (by.Target cut_off) = false
-is_unreported by.Explicit = false
-is_unreported by.Notify = false
 is_unreported by.Unreported = true
+is_unreported other = false
 
 -- The next event, of which this is due, leaves the held one without a packet.
 abbrev pub is_quiet : Words → Encoder → Option Event → Event → Due → Bool
@@ -153,8 +139,7 @@ pending_with due event pending =
 -- The encoder holds an event of which this is due, with these outcomes before it and this last
 -- reported address.
 abbrev pub hold : Encoder → List Bool → ℕ → Event → Due → Encoder
-hold e pending reported event due = record {
-  between = e.between;
+hold e pending reported event due = record e {
   left = left_after e.between e.left event;
   held = Some event;
   due = due;
@@ -176,11 +161,9 @@ after_with words e event due =
 -- so many retirements left, and these outcomes.
 abbrev pub passes : Words → Event → ℕ → List Bool → Event → Bool
 passes words (Retire at type level) left pending (Retire addr itype priv) =
-    (priv == level) && (not (left == 0)) && (not (leaves_by_type type)) && nat_lt (length pending) 31
+    (priv == level) && (not (left == 0)) && (not (is_discontinuity_by_type type)) && nat_lt (length pending) 31
     && not (jumps_back_to words (Retire at type level) (Retire addr itype priv))
-passes words (Retire at type level) left pending (Trap epc priv interrupt cause tval) = false
-passes words (Trap at level irq code value) left pending (Retire addr itype priv) = false
-passes words (Trap at level irq code value) left pending (Trap epc priv interrupt cause tval) = false
+passes words held left pending next = false
 
 -- What is due of an event that an encoder is given.
 abbrev pub due_next : Encoder → Event → Due
