@@ -7,7 +7,7 @@ use Rattle.legalpath.proofs.JudgingLemmas.{left_after, Outcome, judged}
 use Rattle.legalpath.proofs.ReasonLemmas.{none_applies}
 use Rattle.legalpath.proofs.RunsLemmas.{runs_split}
 use Rattle.legalpath.specs.FirstFault.{IsFirstFault}
-use Rattle.legalpath.specs.Judging.{judge_all, answer_after, left_at_start, Answer}
+use Rattle.legalpath.specs.steps.Judging.{judge_all, answer_after, left_at_start, Answer}
 use Rattle.legalpath.specs.Legal.{Runs, Legal}
 use Rattle.legalpath.specs.Reason.{IsReason}
 use Rattle.legalpath.specs.Right.{Right}

@@ -8,12 +8,13 @@ use Rattle.rvclass.specs.declared.class.Class.{Class}
 use Rattle.rvclass.specs.declared.class.Class.TheVariants.{Plain, Jump, Branch, Uninferable, TrapReturn, NotRetirable as NeverRetires}
 use Rattle.rvclass.specs.declared.class.Return.TheVariants.{Mret, Sret}
 use Rattle.legalpath.proofs.Telling.{Tells, tells_true, tells_false, tells_eq, tells_le, tells_lt, tells-same, tells-and, tells-or}
-use Rattle.legalpath.specs.Judging.{is_privilege, is_type_of, may_retire_at, may_stand_at, was_left, left_at_start, left_by_retirement, left_by_trap, is_never, judge_retirement, judge_trap, judge}
+use Rattle.legalpath.specs.Judging.{may_retire_at, may_stand_at}
+use Rattle.legalpath.specs.steps.Judging.{is_privilege, is_type_of, was_left, left_at_start, left_by_retirement, left_by_trap, is_never, judge_retirement, judge_trap, judge}
 use Rattle.legalpath.specs.Reason.{IsNotRetirable, AppliesToRetirement, AppliesToTrap, IsReason, earlier}
 use Rattle.retire.specs.InRange.{IsPrivilege}
 use Rattle.legalpath.specs.Right.{IsTypeOf, MayRetireAt, RetiresOn, Right}
 use Rattle.legalpath.specs.Successor.{leads, leads_from}
-use Rattle.legalpath.specs.Step.{MayStandAt, MayStandAfter, KeepsPrivilege, PrivilegeFrom, StepFrom}
+use Rattle.legalpath.specs.Step.{MayStandAt, MayStandAfter, KeepsPrivilege, MayHavePrivilegeAfter, StepFrom}
 use Rattle.legalpath.specs.declared.fault.Why.{Why}
 use Rattle.legalpath.specs.declared.fault.Why.TheVariants.{NotRetirable, WrongType, WrongNext, WrongPrivilege, WrongEpc}
 use Rattle.legalpath.specs.declared.judging.Left.{Left}
@@ -103,20 +104,20 @@ left_on_tells addr itype priv after word is = on word
     on (Some (TrapReturn Sret, length)) = tells-same (λ h. h.1) (λ h. (omega arith, h)) (between (left_on addr itype priv (Some (TrapReturn Sret, length))) after)
     on (Some (NeverRetires, length)) = same (left_on addr itype priv (Some (NeverRetires, length))) refl refl
 
-between_tells : (words : Words) (before : Option Event) (after : ℕ) → IsPrivilege after → Tells (is_between (left_after words before) after) (PrivilegeFrom words before after)
+between_tells : (words : Words) (before : Option Event) (after : ℕ) → IsPrivilege after → Tells (is_between (left_after words before) after) (MayHavePrivilegeAfter words before after)
 between_tells words None after is = tells-same (λ h. tt) (λ u. (omega arith, is.0)) (between left_at_start after)
 between_tells words (Some (Retire addr itype priv)) after is = left_on_tells addr itype priv after (words addr) is
 between_tells words (Some (Trap epc priv interrupt cause tval)) after is =
     tells-same (λ h. let a = h.0 in (omega arith, omega arith)) (λ h. let a = h.0 in let b = h.1 in let d = is.0 in (omega arith, d)) (between (left_by_trap priv) after)
 
-pub left_tells : (words : Words) (before : Option Event) (after : ℕ) → Tells (was_left (left_after words before) after) (IsPrivilege after × PrivilegeFrom words before after)
+pub left_tells : (words : Words) (before : Option Event) (after : ℕ) → Tells (was_left (left_after words before) after) (IsPrivilege after × MayHavePrivilegeAfter words before after)
 left_tells words before after = tells-and (privilege_tells after) (λ is. between_tells words before after is)
 
-pub step_from : (words : Words) (before : Option Event) (event : Event) → MayStandAfter words before (place event) → PrivilegeFrom words before (privilege event) → StepFrom words before event
+pub step_from : (words : Words) (before : Option Event) (event : Event) → MayStandAfter words before (place event) → MayHavePrivilegeAfter words before (privilege event) → StepFrom words before event
 step_from words None event stands keeps = tt
 step_from words (Some before) event stands keeps = (stands, keeps)
 
-pub step_parts : (words : Words) (before : Option Event) (event : Event) → StepFrom words before event → MayStandAfter words before (place event) × PrivilegeFrom words before (privilege event)
+pub step_parts : (words : Words) (before : Option Event) (event : Event) → StepFrom words before event → MayStandAfter words before (place event) × MayHavePrivilegeAfter words before (privilege event)
 step_parts words None event step = (tt, tt)
 step_parts words (Some before) event step = (step.0, step.1)
 
@@ -124,7 +125,7 @@ module _ (words : Words) (before : Option Event) (addr itype priv : ℕ) where
   -- What judging a retirement on this word answers.
   abbrev pub RetirementOutcome : Option Word → Result Left Why → Type 0
   RetirementOutcome word (Ok left) =
-      RetiresOn word itype priv × IsPrivilege priv × MayStandAfter words before addr × PrivilegeFrom words before priv × (left ≡ left_on addr itype priv word)
+      RetiresOn word itype priv × IsPrivilege priv × MayStandAfter words before addr × MayHavePrivilegeAfter words before priv × (left ≡ left_on addr itype priv word)
   RetirementOutcome word (Err why) =
       AppliesToRetirement words before word addr itype priv why
       × AllByRecursion (λ other. ¬ AppliesToRetirement words before word addr itype priv other) (earlier why)
@@ -141,7 +142,7 @@ module _ (words : Words) (before : Option Event) (addr itype priv : ℕ) where
   abbrev at_never : Word → Bool → Bool → Bool → Bool → Result Left Why
   at_never word never type next test = if never then Err NotRetirable else at_type word type next test
 
-  module _ (word : Word) (never type next test : Bool) (n : Tells never (IsNotRetirable (Some word))) (t : Tells type (IsTypeOf word.0 itype)) (s : Tells next (MayStandAfter words before addr)) (p : Tells test ((IsPrivilege priv × MayRetireAt word.0 priv) × PrivilegeFrom words before priv)) where
+  module _ (word : Word) (never type next test : Bool) (n : Tells never (IsNotRetirable (Some word))) (t : Tells type (IsTypeOf word.0 itype)) (s : Tells next (MayStandAfter words before addr)) (p : Tells test ((IsPrivilege priv × MayRetireAt word.0 priv) × MayHavePrivilegeAfter words before priv)) where
     privilege_judged : ¬ IsNotRetirable (Some word) → IsTypeOf word.0 itype → MayStandAfter words before addr → (v : Bool) → test ≡ v → RetirementOutcome (Some word) (at_privilege word v)
     privilege_judged retires typed stands true e = let h = p.holds e in ((typed, h.0.1), h.0.0, stands, h.1, refl)
     privilege_judged retires typed stands false e =
@@ -159,7 +160,7 @@ module _ (words : Words) (before : Option Event) (addr itype priv : ℕ) where
     never_judged true e = (n.holds e, ((λ e. cc), tt))
     never_judged false e = type_judged (n.fails e) type refl
 
-  at_right_privilege : (word : Word) → Tells (may_retire_at word.0 priv && was_left (left_after words before) priv) ((IsPrivilege priv × MayRetireAt word.0 priv) × PrivilegeFrom words before priv)
+  at_right_privilege : (word : Word) → Tells (may_retire_at word.0 priv && was_left (left_after words before) priv) ((IsPrivilege priv × MayRetireAt word.0 priv) × MayHavePrivilegeAfter words before priv)
   at_right_privilege word =
       tells-same (λ h. ((h.1.0, h.0), h.1.1)) (λ h. (h.0.1, (h.0.0, h.1))) (tells-and (retire_tells word.0 priv) (λ h. left_tells words before priv))
 
@@ -176,7 +177,7 @@ module _ (words : Words) (before : Option Event) (epc priv : ℕ) (interrupt : B
   -- What judging a trap answers.
   abbrev pub TrapOutcome : Result Left Why → Type 0
   TrapOutcome (Ok left) =
-      (epc % 2 ≡ 0) × IsPrivilege priv × ((cause < 64) × (interrupt ≡ true → tval ≡ 0)) × MayStandAfter words before epc × PrivilegeFrom words before priv × (left ≡ left_by_trap priv)
+      (epc % 2 ≡ 0) × IsPrivilege priv × ((cause < 64) × (interrupt ≡ true → tval ≡ 0)) × MayStandAfter words before epc × MayHavePrivilegeAfter words before priv × (left ≡ left_by_trap priv)
   TrapOutcome (Err why) =
       AppliesToTrap words before epc priv interrupt cause tval why
       × AllByRecursion (λ other. ¬ AppliesToTrap words before epc priv interrupt cause tval other) (earlier why)
@@ -190,8 +191,8 @@ module _ (words : Words) (before : Option Event) (epc priv : ℕ) (interrupt : B
   abbrev trap_at_type : Bool → Bool → Bool → Result Left Why
   trap_at_type type test next = if not type then Err WrongType else trap_at_privilege test next
 
-  module _ (type test next : Bool) (t : Tells type ((cause < 64) × (interrupt ≡ true → tval ≡ 0))) (p : Tells test (IsPrivilege priv × PrivilegeFrom words before priv)) (s : Tells next ((epc % 2 ≡ 0) × MayStandAfter words before epc)) where
-    trap_epc_judged : (cause < 64) × (interrupt ≡ true → tval ≡ 0) → IsPrivilege priv × PrivilegeFrom words before priv → (v : Bool) → next ≡ v → TrapOutcome (trap_at_epc v)
+  module _ (type test next : Bool) (t : Tells type ((cause < 64) × (interrupt ≡ true → tval ≡ 0))) (p : Tells test (IsPrivilege priv × MayHavePrivilegeAfter words before priv)) (s : Tells next ((epc % 2 ≡ 0) × MayStandAfter words before epc)) where
+    trap_epc_judged : (cause < 64) × (interrupt ≡ true → tval ≡ 0) → IsPrivilege priv × MayHavePrivilegeAfter words before priv → (v : Bool) → next ≡ v → TrapOutcome (trap_at_epc v)
     trap_epc_judged typed kept true e = let h = s.holds e in (h.0, kept.0, typed, h.1, kept.1, refl)
     trap_epc_judged typed kept false e = (s.fails e, ((λ h. h), ((λ h. h), ((λ n. n typed), ((λ h. h), ((λ n. n kept), tt))))))
 

@@ -9,7 +9,7 @@ use Rattle.legalpath.proofs.JudgingLemmas.{step_parts, Outcome, judged}
 use Rattle.legalpath.specs.Reason.{IsNotRetirable, AppliesToRetirement, Applies, IsReason, earlier}
 use Rattle.retire.specs.InRange.{IsPrivilege}
 use Rattle.legalpath.specs.Right.{RetiresOn, Right}
-use Rattle.legalpath.specs.Step.{MayStandAfter, PrivilegeFrom, StepFrom}
+use Rattle.legalpath.specs.Step.{MayStandAfter, MayHavePrivilegeAfter, StepFrom}
 use Rattle.legalpath.specs.declared.fault.Why.{Why}
 use Rattle.legalpath.specs.declared.fault.Why.TheVariants.{OffProgram, NotRetirable, WrongType, WrongNext, WrongPrivilege, WrongEpc}
 use Rattle.legalpath.specs.declared.judging.Left.{Left}
@@ -24,7 +24,7 @@ retires-not_never (Some (TrapReturn ret, length)) itype priv retires n = n
 retires-not_never (Some (NeverRetires, length)) itype priv retires n = retires.0
 
 -- No reason applies to a retirement that is right and may follow.
-retirement_refused : (words : Words) (before : Option Event) (word : Option Word) (addr itype priv : ℕ) (why : Why) → RetiresOn word itype priv → IsPrivilege priv → MayStandAfter words before addr → PrivilegeFrom words before priv → ¬ AppliesToRetirement words before word addr itype priv why
+retirement_refused : (words : Words) (before : Option Event) (word : Option Word) (addr itype priv : ℕ) (why : Why) → RetiresOn word itype priv → IsPrivilege priv → MayStandAfter words before addr → MayHavePrivilegeAfter words before priv → ¬ AppliesToRetirement words before word addr itype priv why
 retirement_refused words before None addr itype priv why retires is stands kept a = absurd retires
 retirement_refused words before (Some word) addr itype priv OffProgram retires is stands kept a = cc
 retirement_refused words before (Some word) addr itype priv NotRetirable retires is stands kept a = retires-not_never (Some word) itype priv retires a

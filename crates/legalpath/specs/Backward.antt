@@ -1,20 +1,15 @@
 -- Backward jumps.
-use Rattle.std.specs.Prelude.{ℕ, nat_le, Bool, false, Option, Some, None}
+use Rattle.std.specs.Prelude.{ℕ, nat_le, Bool, false, Option, Some}
 use Rattle.retire.specs.Events.{place}
 use Rattle.retire.specs.declared.event.Event.{Event}
 use Rattle.rvclass.specs.Words.{Word, Words}
-use Rattle.rvclass.specs.declared.class.Class.TheVariants.{Plain, Jump, Branch, Uninferable, TrapReturn, NotRetirable}
+use Rattle.rvclass.specs.declared.class.Class.TheVariants.{Jump}
 use Rattle.legalpath.specs.WordOf.{word_of}
 
 -- The word at this address, if there is one, jumps to an address that is not greater.
 abbrev pub jumps_back : ℕ → Option Word → Bool
-jumps_back addr (Some (Plain, length)) = false
 jumps_back addr (Some (Jump to, length)) = nat_le to addr
-jumps_back addr (Some (Branch to, length)) = false
-jumps_back addr (Some (Uninferable, length)) = false
-jumps_back addr (Some (TrapReturn ret, length)) = false
-jumps_back addr (Some (NotRetirable, length)) = false
-jumps_back addr None = false
+jumps_back addr _ = false
 
 -- A backward jump: a retirement of a jump whose target is not greater than its own address.
 abbrev pub is_backward : Words → Event → Bool

@@ -1,19 +1,15 @@
 -- Uninferable discontinuities.
-use Rattle.std.specs.Prelude.{Bool, true, false, Option, Some, None}
+use Rattle.std.specs.Prelude.{Bool, true, false, Option, Some}
 use Rattle.retire.specs.declared.event.Event.{Event}
 use Rattle.rvclass.specs.Words.{Word, Words}
-use Rattle.rvclass.specs.declared.class.Class.TheVariants.{Plain, Jump, Branch, Uninferable, TrapReturn, NotRetirable}
+use Rattle.rvclass.specs.declared.class.Class.TheVariants.{Uninferable, TrapReturn}
 use Rattle.legalpath.specs.WordOf.{word_of}
 
 -- The word, if there is one, leads to an address that it does not tell.
 abbrev pub leaves : Option Word → Bool
-leaves (Some (Plain, length)) = false
-leaves (Some (Jump to, length)) = false
-leaves (Some (Branch to, length)) = false
 leaves (Some (Uninferable, length)) = true
 leaves (Some (TrapReturn ret, length)) = true
-leaves (Some (NotRetirable, length)) = false
-leaves None = false
+leaves _ = false
 
 -- An uninferable discontinuity: a retirement of a jump to an address that a register holds, or of a
 -- return from a trap.

@@ -1,133 +1,25 @@
--- How this crate's code judges a log, event by event: what each leaves to the next, and the tests by
--- that. What a log's answer means is said in the files on legal logs and on first faults.
-use Rattle.std.specs.Prelude.{ℕ, ◌+◌, ◌%◌, ◌==◌, ◌&&◌, ◌||◌, nat_le, nat_lt, not, max, if◌then◌else◌, Bool, true, false, List, [], ◌∷◌, Option, Some, None, Result, Ok, Err}
-use Rattle.retire.specs.declared.event.Event.{Event}
-use Rattle.retire.specs.declared.event.Event.TheVariants.{Retire, Trap}
-use Rattle.rvclass.specs.Words.{Word, Words}
+-- The tests by which a place and a privilege are judged, of which other crates ask too.
+use Rattle.std.specs.Prelude.{ℕ, ◌==◌, nat_le, Bool, true, false}
 use Rattle.rvclass.specs.declared.class.Class.{Class}
-use Rattle.rvclass.specs.declared.class.Class.TheVariants.{Plain, Jump, Branch, Uninferable, TrapReturn, NotRetirable as NeverRetires}
+use Rattle.rvclass.specs.declared.class.Class.TheVariants.{TrapReturn}
 use Rattle.rvclass.specs.declared.class.Return.TheVariants.{Mret, Sret}
-use Rattle.legalpath.specs.Successor.{leads}
-use Rattle.legalpath.specs.declared.fault.PathFault.{PathFault}
-use Rattle.legalpath.specs.declared.fault.Why.{Why}
-use Rattle.legalpath.specs.declared.fault.Why.TheVariants.{OffProgram, NotRetirable, WrongType, WrongNext, WrongPrivilege, WrongEpc}
-use Rattle.legalpath.specs.declared.judging.Left.{Left}
 use Rattle.legalpath.specs.declared.next.Next.{Next}
 use Rattle.legalpath.specs.declared.next.Next.TheVariants.{One, Any, NoneInside}
 
--- The privilege is 0, 1 or 3.
-abbrev pub is_privilege : ℕ → Bool
-is_privilege priv = (priv == 0) || (priv == 1) || (priv == 3)
-
--- A retirement of this class has this type.
-abbrev pub is_type_of : Class → ℕ → Bool
-is_type_of Plain itype = itype == 0
-is_type_of (Jump to) itype = itype == 0
-is_type_of (Branch to) itype = (itype == 4) || (itype == 5)
-is_type_of Uninferable itype = itype == 6
-is_type_of (TrapReturn ret) itype = itype == 3
-is_type_of NeverRetires itype = false
-
--- A word of this class may retire at this privilege, where that is one.
-abbrev pub may_retire_at : Class → ℕ → Bool
-may_retire_at Plain priv = true
-may_retire_at (Jump to) priv = true
-may_retire_at (Branch to) priv = true
-may_retire_at Uninferable priv = true
-may_retire_at (TrapReturn Mret) priv = priv == 3
-may_retire_at (TrapReturn Sret) priv = nat_le 1 priv
-may_retire_at NeverRetires priv = true
-
--- An event may stand at this place.
+-- An event may stand at this place, by where the event before leads.
 abbrev pub may_stand_at : Next → ℕ → Bool
 may_stand_at (One to) at = at == to
 may_stand_at Any at = true
 may_stand_at NoneInside at = false
 
--- This is a privilege, and one that was left.
-abbrev pub was_left : Left → ℕ → Bool
-was_left left priv = is_privilege priv && (nat_le left.least priv && nat_le priv left.greatest)
-
--- What is left to the first event.
-abbrev pub left_at_start : Left
-left_at_start = record { next = Any; least = 0; greatest = 3 }
-
--- The least privilege after a retirement of this class at this one.
-abbrev pub least_after : Class → ℕ → ℕ
-least_after Plain priv = priv
-least_after (Jump to) priv = priv
-least_after (Branch to) priv = priv
-least_after Uninferable priv = priv
-least_after (TrapReturn ret) priv = 0
-least_after NeverRetires priv = priv
+-- A word of this class may retire at this privilege, where that is one.
+abbrev pub may_retire_at : Class → ℕ → Bool
+may_retire_at (TrapReturn Mret) priv = priv == 3
+may_retire_at (TrapReturn Sret) priv = nat_le 1 priv
+may_retire_at _ priv = true
 
 -- The greatest privilege after a retirement of this class at this one.
 abbrev pub greatest_after : Class → ℕ → ℕ
-greatest_after Plain priv = priv
-greatest_after (Jump to) priv = priv
-greatest_after (Branch to) priv = priv
-greatest_after Uninferable priv = priv
 greatest_after (TrapReturn Mret) priv = 3
 greatest_after (TrapReturn Sret) priv = 1
-greatest_after NeverRetires priv = priv
-
--- What a retirement leaves.
-abbrev pub left_by_retirement : ℕ → ℕ → ℕ → Word → Left
-left_by_retirement addr itype priv word = record {
-  next = leads addr itype word.0 word.1;
-  least = least_after word.0 priv;
-  greatest = greatest_after word.0 priv;
-}
-
--- What a trap leaves.
-abbrev pub left_by_trap : ℕ → Left
-left_by_trap priv = record { next = Any; least = max priv 1; greatest = 3 }
-
--- The class of a word that never retires.
-abbrev pub is_never : Class → Bool
-is_never Plain = false
-is_never (Jump to) = false
-is_never (Branch to) = false
-is_never Uninferable = false
-is_never (TrapReturn ret) = false
-is_never NeverRetires = true
-
--- What a retirement on this word, if there is one, leaves after what was left to it, or why it is
--- refused.
-abbrev pub judge_retirement : Left → ℕ → ℕ → ℕ → Option Word → Result Left Why
-judge_retirement left addr itype priv None = Err OffProgram
-judge_retirement left addr itype priv (Some word) =
-    if is_never word.0 then Err NotRetirable else
-    if not (is_type_of word.0 itype) then Err WrongType else
-    if not (may_stand_at left.next addr) then Err WrongNext else
-    if not (may_retire_at word.0 priv && was_left left priv) then Err WrongPrivilege else
-    Ok (left_by_retirement addr itype priv word)
-
--- What a trap leaves after what was left to it, or why it is refused.
-abbrev pub judge_trap : Left → ℕ → ℕ → Bool → ℕ → ℕ → Result Left Why
-judge_trap left epc priv interrupt cause tval =
-    if not (nat_lt cause 64 && (not interrupt || (tval == 0))) then Err WrongType else
-    if not (was_left left priv) then Err WrongPrivilege else
-    if not ((epc % 2 == 0) && may_stand_at left.next epc) then Err WrongEpc else
-    Ok (left_by_trap priv)
-
--- What an event leaves after what was left to it, or why it is refused.
-abbrev pub judge : Words → Left → Event → Result Left Why
-judge words left (Retire addr itype priv) = judge_retirement left addr itype priv (words addr)
-judge words left (Trap epc priv interrupt cause tval) =
-    judge_trap left epc priv interrupt cause tval
-
--- What a log is answered.
-abbrev pub Answer : Type 0
-Answer = Result (Unit {0}) PathFault
-
--- A log's answer once an event at this row was judged, by the answer for what follows it.
-abbrev pub answer_after : ℕ → Result Left Why → (Left → Answer) → Answer
-answer_after row (Err why) follows = Err (record { row = row; why = why })
-answer_after row (Ok left) follows = follows left
-
--- The first fault of events, the first of them at this row and after what was left to it.
-abbrev pub judge_all : Words → Left → ℕ → List Event → Answer
-judge_all words left row [] = Ok tt
-judge_all words left row (event ∷ events) =
-    answer_after row (judge words left event) (λ next. judge_all words next (row + 1) events)
+greatest_after _ priv = priv

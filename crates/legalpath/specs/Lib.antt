@@ -16,3 +16,4 @@ pub mod RunsLaws
 pub mod ReasonLaws
 pub mod ProgramLog
 pub mod Judging
+pub mod steps

@@ -4,22 +4,17 @@ use Rattle.std.specs.List.{AllByRecursion}
 use Rattle.retire.specs.declared.event.Event.{Event}
 use Rattle.retire.specs.declared.event.Event.TheVariants.{Retire, Trap}
 use Rattle.rvclass.specs.Words.{Word, Words}
-use Rattle.rvclass.specs.declared.class.Class.TheVariants.{Plain, Jump, Branch, Uninferable, TrapReturn, NotRetirable as NeverRetires}
+use Rattle.rvclass.specs.declared.class.Class.TheVariants.{NotRetirable as NeverRetires}
 use Rattle.retire.specs.InRange.{IsPrivilege}
 use Rattle.legalpath.specs.Right.{IsTypeOf, MayRetireAt}
-use Rattle.legalpath.specs.Step.{MayStandAfter, PrivilegeFrom}
+use Rattle.legalpath.specs.Step.{MayStandAfter, MayHavePrivilegeAfter}
 use Rattle.legalpath.specs.declared.fault.Why.{Why}
 use Rattle.legalpath.specs.declared.fault.Why.TheVariants.{OffProgram, NotRetirable, WrongType, WrongNext, WrongPrivilege, WrongEpc}
 
 -- There is a word, and it does not retire.
 abbrev pub IsNotRetirable : Option Word → Type 0
-IsNotRetirable (Some (Plain, length)) = ⊥
-IsNotRetirable (Some (Jump to, length)) = ⊥
-IsNotRetirable (Some (Branch to, length)) = ⊥
-IsNotRetirable (Some (Uninferable, length)) = ⊥
-IsNotRetirable (Some (TrapReturn ret, length)) = ⊥
 IsNotRetirable (Some (NeverRetires, length)) = Unit {0}
-IsNotRetirable None = ⊥
+IsNotRetirable _ = ⊥
 
 -- There is a word, and its retirements have this type.
 abbrev pub HasType : Option Word → ℕ → Type 0
@@ -39,7 +34,7 @@ AppliesToRetirement words before word addr itype priv NotRetirable = IsNotRetira
 AppliesToRetirement words before word addr itype priv WrongType = ¬ HasType word itype
 AppliesToRetirement words before word addr itype priv WrongNext = ¬ MayStandAfter words before addr
 AppliesToRetirement words before word addr itype priv WrongPrivilege =
-    ¬ (IsPrivilege priv × MayRetireOn word priv × PrivilegeFrom words before priv)
+    ¬ (IsPrivilege priv × MayRetireOn word priv × MayHavePrivilegeAfter words before priv)
 AppliesToRetirement words before word addr itype priv WrongEpc = ⊥
 
 -- A reason applies to a trap with this exception program counter, privilege, cause and value, after
@@ -51,7 +46,7 @@ AppliesToTrap words before epc priv interrupt cause tval WrongType =
     ¬ ((cause < 64) × (interrupt ≡ true → tval ≡ 0))
 AppliesToTrap words before epc priv interrupt cause tval WrongNext = ⊥
 AppliesToTrap words before epc priv interrupt cause tval WrongPrivilege =
-    ¬ (IsPrivilege priv × PrivilegeFrom words before priv)
+    ¬ (IsPrivilege priv × MayHavePrivilegeAfter words before priv)
 AppliesToTrap words before epc priv interrupt cause tval WrongEpc =
     ¬ ((epc % 2 ≡ 0) × MayStandAfter words before epc)
 

@@ -1,12 +1,12 @@
 -- Which event may follow which: a table of two columns, for the place and for the privilege of the
--- event that follows, with a row for each kind of the event before. The column of places is what
--- `leads` says of each kind.
+-- event that follows, by the kind of the event before. The column of places is what `leads` says of
+-- each kind.
 use Rattle.std.specs.Prelude.{ℕ, ◌≡◌, ◌≤◌, Option, Some, None}
 use Rattle.retire.specs.Events.{place, privilege}
 use Rattle.retire.specs.declared.event.Event.{Event}
 use Rattle.retire.specs.declared.event.Event.TheVariants.{Retire, Trap}
 use Rattle.rvclass.specs.Words.{Word, Words}
-use Rattle.rvclass.specs.declared.class.Class.TheVariants.{Plain, Jump, Branch, Uninferable, TrapReturn, NotRetirable}
+use Rattle.rvclass.specs.declared.class.Class.TheVariants.{TrapReturn}
 use Rattle.rvclass.specs.declared.class.Return.TheVariants.{Mret, Sret}
 use Rattle.legalpath.specs.Successor.{successor}
 use Rattle.legalpath.specs.declared.next.Next.{Next}
@@ -19,16 +19,12 @@ MayStandAt Any at = Unit {0}
 MayStandAt NoneInside at = ⊥
 
 -- The column of privileges after a retirement: on this word, if there is one, it leads from the
--- first privilege to the second. SRET leads to U-mode or S-mode, MRET to any mode.
+-- first privilege to the second. SRET leads to U-mode or S-mode, MRET to any mode; no other word
+-- changes the mode.
 abbrev pub KeepsPrivilege : Option Word → ℕ → ℕ → Type 0
-KeepsPrivilege (Some (Plain, length)) priv after = after ≡ priv
-KeepsPrivilege (Some (Jump to, length)) priv after = after ≡ priv
-KeepsPrivilege (Some (Branch to, length)) priv after = after ≡ priv
-KeepsPrivilege (Some (Uninferable, length)) priv after = after ≡ priv
 KeepsPrivilege (Some (TrapReturn Mret, length)) priv after = Unit {0}
 KeepsPrivilege (Some (TrapReturn Sret, length)) priv after = after ≤ 1
-KeepsPrivilege (Some (NotRetirable, length)) priv after = after ≡ priv
-KeepsPrivilege None priv after = after ≡ priv
+KeepsPrivilege _ priv after = after ≡ priv
 
 -- The column of privileges: an event may have this privilege after another. A trap is handled in
 -- S-mode or M-mode, and in no mode below the one that it was taken from.
@@ -48,9 +44,9 @@ MayStandAfter words None at = Unit {0}
 MayStandAfter words (Some before) at = MayStandAt (successor words before) at
 
 -- An event may have this privilege after the one before; any where there is none.
-abbrev pub PrivilegeFrom : Words → Option Event → ℕ → Type 0
-PrivilegeFrom words None after = Unit {0}
-PrivilegeFrom words (Some before) after = PrivilegeAfter words before after
+abbrev pub MayHavePrivilegeAfter : Words → Option Event → ℕ → Type 0
+MayHavePrivilegeAfter words None after = Unit {0}
+MayHavePrivilegeAfter words (Some before) after = PrivilegeAfter words before after
 
 -- An event may follow the one before; any may where there is none.
 abbrev pub StepFrom : Words → Option Event → Event → Type 0

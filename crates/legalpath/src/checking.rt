@@ -4,7 +4,7 @@ ghost use Rattle.std.specs.Prelude.{◌≡◌, ◌↔◌, ◌^◌, ◌≤◌, Al
 ghost use Rattle.retire.specs.Is64Bit.{Is64Bit};
 ghost use Rattle.rvclass.specs.Fetch.{words_of};
 ghost use Rattle.legalpath.specs.FirstFault.{IsFirstFault};
-ghost use Rattle.legalpath.specs.Judging as judging;
+ghost use Rattle.legalpath.specs.steps.Judging as judging;
 ghost use Rattle.legalpath.specs.Legal.{Legal};
 
 use crate::fault::PathFault;

@@ -1,9 +1,12 @@
 //! One event, judged by what the event before left to it.
 
-ghost use Rattle.std.specs.Prelude.{◌≡◌, ◌+◌, ◌^◌, ◌<◌, ◌≤◌, IfOk, IsTrue};
+ghost use Rattle.std.specs.Prelude.{◌≡◌, ◌↔◌, ◌+◌, ◌^◌, ◌<◌, ◌≤◌, IfOk, IsTrue};
 ghost use Rattle.retire.specs.Is64Bit.{Is64Bit};
 ghost use Rattle.rvclass.specs.Fetch.{words_of};
-ghost use Rattle.legalpath.specs.Judging as judging;
+ghost use Rattle.legalpath.specs.Judging.{greatest_after, may_retire_at, may_stand_at};
+ghost use Rattle.legalpath.specs.Right.{MayRetireAt};
+ghost use Rattle.legalpath.specs.Step.{MayStandAt};
+ghost use Rattle.legalpath.specs.steps.Judging as judging;
 
 use crate::fault::Why;
 use crate::next::{Next, leads};
@@ -139,10 +142,12 @@ fn is_type_of(class: Class, itype: u8) -> bool
     }
 }
 
-/// Whether an event may stand at this place.
+/// Whether an event may stand at this place, by where the event before leads. A trap stands at its exception program
+/// counter.
 #[inline]
 pub fn may_stand_at(next: Next, at: u64) -> bool
-    ensures { result ≡ judging.may_stand_at next at }
+    ensures value { result ≡ may_stand_at next at }
+    ensures stands { IsTrue result ↔ MayStandAt next at }
 {
     match next {
         Next::One(to) => at == to,
@@ -151,10 +156,12 @@ pub fn may_stand_at(next: Next, at: u64) -> bool
     }
 }
 
-/// Whether a word of this class may retire at this privilege.
+/// Whether a word of this class may retire at this privilege: MRET at machine level alone, SRET not at user level, and
+/// any other at each.
 #[inline]
 pub fn may_retire_at(class: Class, privilege: u8) -> bool
-    ensures { result ≡ judging.may_retire_at class privilege }
+    ensures value { result ≡ may_retire_at class privilege }
+    ensures retires { IsTrue result ↔ MayRetireAt class privilege }
 {
     match class {
         Class::TrapReturn(Return::Mret) => privilege == 3,
@@ -183,10 +190,11 @@ fn least_after(class: Class, privilege: u8) -> u8
     }
 }
 
-/// The greatest privilege after a retirement of this class at this one.
+/// The greatest privilege after a retirement of this class at this one: machine level after MRET, supervisor level after
+/// SRET, and the same after any other.
 #[inline]
 pub fn greatest_after(class: Class, privilege: u8) -> u8
-    ensures { result ≡ judging.greatest_after class privilege }
+    ensures { result ≡ greatest_after class privilege }
 {
     match class {
         Class::TrapReturn(Return::Mret) => 3,

@@ -30,7 +30,7 @@ const SRET: u32 = 0x1020_0073;
 
 const ECALL: u32 = 0x0000_0073;
 
-// The program of these words, from the base on.
+/// The program of these words, from the base on.
 fn program_of(alloc: Global, words: &[u32]) -> Result<Program, Fail> {
     let mut bytes = Vec::new(alloc);
     for word in words {
@@ -39,7 +39,7 @@ fn program_of(alloc: Global, words: &[u32]) -> Result<Program, Fail> {
     Ok(Program::new(BASE, bytes)?)
 }
 
-// A retirement so far from the base.
+/// A retirement so far from the base.
 fn retired(offset: u64, itype: u8, privilege: u8) -> Event
     requires { offset < 0x1000 }
 {
@@ -50,7 +50,7 @@ fn retired(offset: u64, itype: u8, privilege: u8) -> Event
     }
 }
 
-// A trap taken at this address, an interrupt or an exception.
+/// A trap taken at this address, an interrupt or an exception.
 fn trap(epc: u64, privilege: u8, interrupt: bool, cause: u8, tval: u64) -> Event {
     Event::Trap {
         epc,

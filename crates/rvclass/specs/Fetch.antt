@@ -7,7 +7,7 @@ use Rattle.rvclass.specs.Word32.{class32}
 use Rattle.rvclass.specs.Words.{Words}
 use Rattle.rvclass.specs.declared.class.Class.TheVariants.{NotRetirable}
 
--- Whether this many bytes stand in the image from an address on.
+-- This many bytes stand in the image from an address on.
 abbrev pub holds : Image → ℕ → ℕ → Bool
 holds p addr count = nat_le p.base addr && nat_le (addr + count) (p.base + length p.bytes)
 
@@ -23,11 +23,11 @@ half_at p addr = byte_at p addr + 2 ^ 8 * byte_at p (addr + 1)
 abbrev pub word_at : Image → ℕ → ℕ
 word_at p addr = half_at p addr + 2 ^ 16 * half_at p (addr + 2)
 
--- Whether 16 bits are a word of their own.
+-- The 16 bits are a word of their own.
 abbrev pub is_compressed : ℕ → Bool
 is_compressed half = not (bits half 1 0 == 0b11)
 
--- Whether 16 bits begin a word of more than 32 bits.
+-- The 16 bits begin a word of more than 32 bits.
 abbrev pub is_longer : ℕ → Bool
 is_longer half = bits half 4 0 == 0b11111
 

@@ -6,29 +6,29 @@ use Rattle.rvclass.specs.Offset.{cb_offset, cj_offset}
 use Rattle.rvclass.specs.declared.class.Class.{Class}
 use Rattle.rvclass.specs.declared.class.Class.TheVariants.{Plain, Jump, Branch, Uninferable, NotRetirable}
 
--- Whether a word stands in this quadrant with this funct3.
+-- The word stands in this quadrant with this funct3.
 abbrev pub is_at : ℕ → ℕ → ℕ → Bool
 is_at quadrant funct w = (bits w 1 0 == quadrant) && (bits w 15 13 == funct)
 
--- C.J.
+-- The word is C.J.
 abbrev pub is_c_j : ℕ → Bool
 is_c_j w = is_at 0b01 0b101 w
 
--- C.BEQZ or C.BNEZ.
+-- The word is C.BEQZ or C.BNEZ.
 abbrev pub is_c_branch : ℕ → Bool
 is_c_branch w = is_at 0b01 0b110 w || is_at 0b01 0b111 w
 
--- C.JR or C.JALR: rs2 is 0 and rs1 is not.
+-- The word is C.JR or C.JALR: rs2 is 0 and rs1 is not.
 abbrev pub is_c_jump_to_register : ℕ → Bool
 is_c_jump_to_register w = is_at 0b10 0b100 w && ((bits w 6 2 == 0) && not (bits w 11 7 == 0))
 
--- C.EBREAK, which raises an exception and does not retire.
+-- The word is C.EBREAK, which raises an exception and does not retire.
 abbrev pub is_c_ebreak : ℕ → Bool
 is_c_ebreak w = w == 0x9002
 
--- The word of 16 zeros, which the ISA defines as an illegal instruction.
-abbrev pub is_illegal : ℕ → Bool
-is_illegal w = w == 0
+-- The word is 16 zeros, which the ISA defines as an illegal instruction.
+abbrev pub is_zeros : ℕ → Bool
+is_zeros w = w == 0
 
 -- The class of a 16-bit word at an address.
 unfoldable pub class16 : ℕ → ℕ → Class
@@ -36,5 +36,5 @@ class16 addr w =
     if is_c_j w then Jump (moved 12 addr (cj_offset w)) else
     if is_c_branch w then Branch (moved 9 addr (cb_offset w)) else
     if is_c_jump_to_register w then Uninferable else
-    if is_c_ebreak w || is_illegal w then NotRetirable else
+    if is_c_ebreak w || is_zeros w then NotRetirable else
     Plain

@@ -19,31 +19,31 @@ funct3 w = bits w 14 12
 abbrev pub rs1 : ℕ → ℕ
 rs1 w = bits w 19 15
 
--- Opcode JAL.
+-- The word has the opcode JAL.
 abbrev pub is_jal : ℕ → Bool
 is_jal w = opcode w == 0b1101111
 
--- Opcode JALR, of which all funct3 but 0 are reserved.
+-- The word has the opcode JALR, of which all funct3 but 0 are reserved.
 abbrev pub is_jalr : ℕ → Bool
 is_jalr w = (opcode w == 0b1100111) && (funct3 w == 0)
 
--- Opcode BRANCH, of which funct3 2 and 3 are reserved.
+-- The word has the opcode BRANCH, of which funct3 2 and 3 are reserved.
 abbrev pub is_branch : ℕ → Bool
 is_branch w = (opcode w == 0b1100011) && (not (funct3 w == 2) && not (funct3 w == 3))
 
--- ECALL, which raises an exception and does not retire.
+-- The word is ECALL, which raises an exception and does not retire.
 abbrev pub is_ecall : ℕ → Bool
 is_ecall w = w == 0x00000073
 
--- EBREAK, which raises an exception and does not retire.
+-- The word is EBREAK, which raises an exception and does not retire.
 abbrev pub is_ebreak : ℕ → Bool
 is_ebreak w = w == 0x00100073
 
--- SRET, the return from a trap into S-mode.
+-- The word is SRET, the return from a trap into S-mode.
 abbrev pub is_sret : ℕ → Bool
 is_sret w = w == 0x10200073
 
--- MRET, the return from a trap into M-mode.
+-- The word is MRET, the return from a trap into M-mode.
 abbrev pub is_mret : ℕ → Bool
 is_mret w = w == 0x30200073
 

@@ -7,6 +7,7 @@ use crate::bits::{bits_of, target};
 use crate::class::Class;
 use crate::offset::{cb_offset_of, cj_offset_of};
 
+/// The word C.EBREAK.
 const C_EBREAK: u32 = 0x9002;
 
 /// The class of a 16-bit word at an address.

@@ -7,20 +7,28 @@ use crate::bits::{bits_of, target};
 use crate::class::{Class, Return};
 use crate::offset::{b_offset_of, i_offset_of, j_offset_of};
 
+/// The opcode of JAL.
 const JAL: u32 = 0b110_1111;
 
+/// The opcode of JALR.
 const JALR: u32 = 0b110_0111;
 
+/// The opcode of conditional branches.
 const BRANCH: u32 = 0b110_0011;
 
+/// The opcode of ECALL, EBREAK and returns from traps.
 const SYSTEM: u32 = 0b111_0011;
 
+/// The word ECALL.
 const ECALL: u32 = 0x0000_0073;
 
+/// The word EBREAK.
 const EBREAK: u32 = 0x0010_0073;
 
+/// The word SRET.
 const SRET: u32 = 0x1020_0073;
 
+/// The word MRET.
 const MRET: u32 = 0x3020_0073;
 
 /// The class of a 32-bit word at an address.

@@ -9,21 +9,21 @@ use rvclass::Program;
 use std::alloc::Global;
 use std::test::Fail;
 
-// A retirement so far from the base, at machine level.
+/// A retirement so far from the base, at machine level.
 fn at(offset: u64, itype: u8) -> Event
     requires { offset < 0x1000 }
 {
     retired(offset, itype, 3)
 }
 
-// The same at supervisor level.
+/// The same at supervisor level.
 fn low(offset: u64, itype: u8) -> Event
     requires { offset < 0x1000 }
 {
     retired(offset, itype, 1)
 }
 
-// What `check` tells of a log, as the program prints it.
+/// What `check` tells of a log, as the program prints it.
 fn told(alloc: Global, program: &Program, log: &[Event]) -> Result<String, Fail>
     requires { length log.now ≤ 100 }
 {

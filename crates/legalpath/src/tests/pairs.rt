@@ -9,15 +9,15 @@ use rvclass::Program;
 use std::process::Abort;
 use std::test::Fail;
 
-// What an event does: it retires a word, with a type, or takes a trap, an interrupt if told so.
+/// What an event does: it retires a word, with a type, or takes a trap, an interrupt if told so.
 #[derive(Clone, Copy)]
 enum Act {
     Retires(u32, u8),
     Traps(bool),
 }
 
-// A row of the table: a kind's name; what it does; how far on from it the next event stands; the
-// privileges that it may have; and those of the next event, where it has privilege 0, 1 and 3.
+/// A row of the table: a kind's name; what it does; how far on from it the next event stands; the
+/// privileges that it may have; and those of the next event, where it has privilege 0, 1 and 3.
 struct Kind(
     &'static str,
     Act,
@@ -26,7 +26,7 @@ struct Kind(
     [&'static [u8]; 3],
 );
 
-// The places that are tried.
+/// The places that are tried.
 const BOTH: &[u64] = &[4, 8];
 
 const ALL: &[u8] = &[0, 1, 3];
@@ -51,7 +51,7 @@ const KINDS: [Kind; 9] = [
     Kind("interrupt", Act::Traps(true), BOTH, ALL, RISEN),
 ];
 
-// The word that an event stands on; a trap may stand on any.
+/// The word that an event stands on; a trap may stand on any.
 fn word_of(act: Act) -> u32 {
     match act {
         Act::Retires(word, _) => word,
@@ -59,7 +59,7 @@ fn word_of(act: Act) -> u32 {
     }
 }
 
-// An event so far from the base.
+/// An event so far from the base.
 fn event_of(act: Act, offset: u64, privilege: u8) -> Event
     requires { offset < 0x1000 }
 {
@@ -69,7 +69,7 @@ fn event_of(act: Act, offset: u64, privilege: u8) -> Event
     }
 }
 
-// What the table says of an event at one privilege, and of one so far on at another.
+/// What the table says of an event at one privilege, and of one so far on at another.
 fn expected(
     first: &Kind,
     privilege: u8,
@@ -101,7 +101,7 @@ fn expected(
     Err(PathFault { row: 2, why })
 }
 
-// Checks a pair at every pair of privileges, at each of the places.
+/// Checks a pair at every pair of privileges, at each of the places.
 fn assert_pair(rt: &impl Abort, program: &Program, first: &Kind, second: &Kind) {
     let Kind(name, act, ..) = first;
     let Kind(next_name, next_act, ..) = second;

@@ -4,7 +4,7 @@ use super::{BASE, BEQ, ECALL, JAL, MRET, NOP, RET, SRET, program_of, retired, tr
 use crate::{Next, successor};
 use std::test::Fail;
 
-// C.NOP, in both halves.
+/// C.NOP, in both halves.
 const SHORT_NOPS: u32 = 0x0001_0001;
 
 #[test]

@@ -1,3 +1,4 @@
+-- What judging the events in turn answers is a law by recursion over the log.
 use Rattle.legalpath.proofs.CheckLemmas.{ok_where_legal, names_first_fault}
 use Rattle.legalpath.proofs.checking.check.Goals as goal
 

@@ -1,7 +1,7 @@
 use Rattle.std.proofs.Common.{◌≡◌, ◌≤◌, ◌+◌, All, drop, take}
 use Rattle.retire.specs.Is64Bit.{Is64Bit}
 use Rattle.rvclass.specs.Fetch.{words_of}
-use Rattle.legalpath.specs.Judging as judging
+use Rattle.legalpath.specs.steps.Judging as judging
 use Rattle.legalpath.proofs.checking.judge_all.Given as goal
 
 -- The answer of the events that are left, after what was left to the first of them, is the whole

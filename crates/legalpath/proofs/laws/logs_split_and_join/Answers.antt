@@ -1,3 +1,4 @@
+-- The law is proved by recursion over the first stretch.
 use Rattle.legalpath.proofs.RunsLemmas.{runs_split, runs_join}
 use Rattle.legalpath.proofs.laws.logs_split_and_join.Goals as goal
 

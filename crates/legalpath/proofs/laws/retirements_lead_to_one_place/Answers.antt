@@ -1,3 +1,4 @@
+-- The laws are proved by cases of the class of the word.
 use Rattle.legalpath.proofs.EventLemmas.{leads_to_one, stand_together, stand_above, keep_privilege}
 use Rattle.legalpath.proofs.laws.retirements_lead_to_one_place.Goals as goal
 

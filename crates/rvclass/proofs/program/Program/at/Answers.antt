@@ -1,3 +1,4 @@
+-- What every program keeps is a lemma about images, which the prover is given with the program's own invariant.
 use Rattle.rvclass.proofs.WordsLemmas.{words_of-IsProgram, words_of-LiesIn}
 use Rattle.rvclass.proofs.program.Program.at.Goals as goal
 

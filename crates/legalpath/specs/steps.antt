@@ -1,0 +1,2 @@
+-- What only private functions cite: the steps of this crate's code.
+pub mod Judging
