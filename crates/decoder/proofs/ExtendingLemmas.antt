@@ -16,7 +16,7 @@ use Rattle.decoder.specs.Fits.{AfterRetirement, FitsAddress, Fits}
 use Rattle.decoder.specs.Order.{Begins, first}
 use Rattle.decoder.specs.Pieces.{reported_after, Pieces}
 use Rattle.decoder.specs.SettledPieces.{piece_unless, settled_pieces}
-use Rattle.decoder.specs.Settling.{Settled, Explicit, Target, Unsettled, settled_by, waits}
+use Rattle.decoder.specs.Settling.{AddressKind, Explicit, Target, Unknown, settled_by, waits}
 use Rattle.decoder.specs.Walk.{End, IsWalkFrom}
 
 -- One list begins with another.
@@ -31,10 +31,10 @@ module _ (words : Words) where
   after_walk (Some before) taken end walk is = is.retirements.0.0
 
   -- And so does every address packet.
-  pub after_address : (before : Option Event) (taken : List Bool) (addr : ℕ) (end : Settled) (piece : List Event) → FitsAddress words before taken addr end piece → AfterRetirement before
+  pub after_address : (before : Option Event) (taken : List Bool) (addr : ℕ) (end : AddressKind) (piece : List Event) → FitsAddress words before taken addr end piece → AfterRetirement before
   after_address before taken addr Explicit piece fits = after_walk before taken _ piece fits
   after_address before taken addr Target piece fits = after_walk before taken _ piece fits
-  after_address before taken addr Unsettled piece fits = fits.0
+  after_address before taken addr Unknown piece fits = fits.0
 
   -- A packet that comes last has its piece, or none where it waits.
   fits_last : (before : Option Event) (reported : ℕ) (p : Packet) (next : Option Packet) (piece : List Event) → Fits words before reported p next piece → Fits words before reported p None (piece_unless (waits p) piece)

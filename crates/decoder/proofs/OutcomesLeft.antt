@@ -4,7 +4,7 @@ use Rattle.std.specs.Prelude.{nat_le, slice_get}
 use Rattle.std.proofs.lemmas.Bool.Decides.{nat_tests}
 use Rattle.rvclass.specs.declared.class.Class.{Class}
 use Rattle.rvclass.specs.declared.class.Class.TheVariants.{Branch}
-use Rattle.decoder.specs.WalkSteps.{is_empty, type_on}
+use Rattle.decoder.specs.steps.WalkSteps.{is_empty, type_on}
 
 -- None is left where as many are used as there are.
 pub is_empty-drop : (taken : List Bool) (count used : ℕ) → count ≡ length taken → nat_le count used ≡ is_empty (drop used taken)

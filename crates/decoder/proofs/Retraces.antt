@@ -6,11 +6,11 @@ use Rattle.legalpath.specs.Backward.{is_backward}
 use Rattle.legalpath.specs.Successor.{successor}
 use Rattle.legalpath.specs.declared.next.Next.{Next}
 use Rattle.legalpath.specs.declared.next.Next.TheVariants.{One, Any, NoneInside}
-use Rattle.decoder.specs.Leads.{may_stay_on}
-use Rattle.decoder.specs.Retracing.{Reaches, Retraces}
+use Rattle.decoder.specs.steps.Leads.{may_stay_on}
+use Rattle.decoder.specs.steps.Retracing.{Reaches, Retraces}
 use Rattle.decoder.specs.Walk.{End, AtTarget}
-use Rattle.decoder.specs.WalkSteps.{Stop, Last, On, retire_on, stops, next_move, last_move, target_move, move_to, advance}
-use Rattle.decoder.specs.Walks.{event_of, end_of, Carries}
+use Rattle.decoder.specs.steps.WalkSteps.{Stop, Last, On, retire_on, stops, next_move, last_move, target_move, move_to, advance}
+use Rattle.decoder.specs.steps.Walks.{event_of, end_of, Carries}
 use Rattle.decoder.specs.declared.stepping.Goal.{Goal}
 use Rattle.decoder.specs.declared.stepping.Goal.TheVariants.{Address, Target, Branch as GoalBranch}
 use Rattle.decoder.specs.declared.stepping.Here.{Here}

@@ -14,12 +14,12 @@ use Rattle.legalpath.specs.Right.{Right}
 use Rattle.payload.specs.Difference.{aim}
 use Rattle.payload.specs.declared.packet.Packet.{Packet}
 use Rattle.payload.specs.declared.packet.Packet.TheVariants as packet
-use Rattle.decoder.proofs.WalkLaws.{walk_same}
+use Rattle.decoder.proofs.OneWalk.{walk_same}
 use Rattle.decoder.specs.Describes.{Describes}
 use Rattle.decoder.specs.Fits.{IsReported, FitsTrap, FitsAddress, Fits}
 use Rattle.decoder.specs.Order.{first}
 use Rattle.decoder.specs.Pieces.{reported_after, Pieces}
-use Rattle.decoder.specs.Settling.{Settled, Explicit, Target, Unsettled, settled}
+use Rattle.decoder.specs.Settling.{AddressKind, Explicit, Target, Unknown, settled}
 use Rattle.decoder.specs.Walk.{AtBranch, AtAddress, AtTarget}
 
 module _ (words : Words) (program : IsProgram words) where
@@ -52,10 +52,10 @@ module _ (words : Words) (program : IsProgram words) where
       let last : event ≡ event' = reported_same taken priv address event event' reported reported' one.2.0 two.2.0 in
       cc
 
-  pub address_same : (before : Option Event) (taken : List Bool) (addr : ℕ) (end : Settled) (piece other : List Event) → FitsAddress words before taken addr end piece → FitsAddress words before taken addr end other → Runs words before piece → Runs words before other → piece ≡ other
+  pub address_same : (before : Option Event) (taken : List Bool) (addr : ℕ) (end : AddressKind) (piece other : List Event) → FitsAddress words before taken addr end piece → FitsAddress words before taken addr end other → Runs words before piece → Runs words before other → piece ≡ other
   address_same before taken addr Explicit piece other fits fits' runs runs' = walk_same words program before taken (AtAddress addr) piece other fits fits' runs runs'
   address_same before taken addr Target piece other fits fits' runs runs' = walk_same words program before taken (AtTarget addr) piece other fits fits' runs runs'
-  address_same before taken addr Unsettled piece other fits fits' runs runs' = fits.1 ∙ sym fits'.1
+  address_same before taken addr Unknown piece other fits fits' runs runs' = fits.1 ∙ sym fits'.1
 
   -- A packet has one piece at most.
   pub fits_same : (before : Option Event) (reported : ℕ) (p : Packet) (next : Option Packet) (piece other : List Event) → Fits words before reported p next piece → Fits words before reported p next other → Runs words before piece → Runs words before other → piece ≡ other

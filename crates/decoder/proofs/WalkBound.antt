@@ -15,7 +15,7 @@ use Rattle.legalpath.specs.NoneOf.{NoneOf}
 use Rattle.legalpath.specs.OnlyLast.{OnlyLast}
 use Rattle.legalpath.specs.Right.{RetiresOn, Right}
 use Rattle.legalpath.specs.Step.{StepFrom}
-use Rattle.decoder.proofs.WalkLaws.{rise_one, all_last}
+use Rattle.decoder.proofs.OneWalk.{rise_one, all_last}
 use Rattle.decoder.specs.Walk.{End, AtBranch, AtAddress, AtTarget, EndsAt, RetiresAt, IsWalk}
 
 -- All words stand at the places of this many halfwords from this address on.

@@ -19,11 +19,11 @@ use Rattle.legalpath.specs.Successor.{leads_from, successor}
 use Rattle.legalpath.specs.WordOf.{word_of}
 use Rattle.legalpath.specs.declared.next.Next.{Next}
 use Rattle.legalpath.specs.declared.next.Next.TheVariants.{One, Any, NoneInside}
-use Rattle.decoder.proofs.WalkLaws.{Side, no_longer, side, straight, further}
-use Rattle.decoder.specs.Leads.{may_stay_on}
+use Rattle.decoder.proofs.OneWalk.{Side, no_longer, side, straight, further}
+use Rattle.decoder.specs.steps.Leads.{may_stay_on}
 use Rattle.decoder.specs.Walk.{End, AtBranch, AtAddress, AtTarget, EndsAt, RetiresAt}
-use Rattle.decoder.specs.WalkSteps.{retire_on, is_empty, stops, Move, Stop, Last, On, next_move, last_move, target_move, move_to, advance, behind, follow, walk_within}
-use Rattle.decoder.specs.Walks.{WalksOn}
+use Rattle.decoder.specs.steps.WalkSteps.{retire_on, is_empty, stops, Move, Stop, Last, On, next_move, last_move, target_move, move_to, advance, behind, follow, walk_within}
+use Rattle.decoder.specs.steps.Walks.{WalksOn}
 
 -- What may retire on a word is found there.
 retire_on-finds : (x p : ℕ) (word : Option Word) (t : ℕ) (w : List Event) → RetiresOn word t p → retire_on x p word (outcomes (Retire x t p ∷ w)) ≡ Some (Retire x t p, outcomes w)

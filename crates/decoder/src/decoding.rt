@@ -8,14 +8,14 @@ ghost use Rattle.payload.specs.declared.packet.Packet.{Packet};
 ghost use Rattle.decoder.specs.Describes.{Describes};
 ghost use Rattle.decoder.specs.Ended.{has_ended};
 ghost use Rattle.decoder.specs.Order.{IsOpen};
-ghost use Rattle.decoder.specs.Parts.{part_count, Suits, SuitsNone};
-ghost use Rattle.decoder.specs.Planning.{MayCome, FitsWaiting, Plans, PlansNone, admitted, decoder_after, reported_past};
+ghost use Rattle.decoder.specs.steps.Stretches.{stretch_count, Suits, SuitsNone};
+ghost use Rattle.decoder.specs.steps.Planning.{MayCome, FitsWaiting, Plans, PlansNone, admitted, decoder_after, reported_past};
 ghost use Rattle.decoder.specs.Stands.{Stands, phase_after, waiting_after};
 ghost use Rattle.decoder.specs.declared.fault.DecodeFault.TheVariants.{NotOpened, AfterClose, Memory};
 
 use crate::fault::DecodeFault;
-use crate::part::Part;
 use crate::settling::{Waiting, own, settle};
+use crate::stretch::Stretch;
 use crate::walking::program_kept;
 use payload::{Packet, Report, Support};
 use retire::Event;
@@ -142,8 +142,8 @@ impl Decoder {
             × (vec_capacity log.old < length other) }
         ensures short { vec_len log.new ≤ vec_len log.old + 2 * (32 * (length program.now.bytes / 2)) + 2 }
     {
-        let mut settled = Part::Nothing;
-        let mut own = Part::Nothing;
+        let mut settled = Stretch::Nothing;
+        let mut own = Stretch::Nothing;
         if let Err(fault) = self.plan(program, packet, &mut settled, &mut own) {
             return Err(fault);
         }
@@ -162,13 +162,13 @@ impl Decoder {
         &self,
         program: &Program,
         packet: &Packet,
-        first: &mut Part,
-        second: &mut Part,
+        first: &mut Stretch,
+        second: &mut Stretch,
     ) -> Result<(), DecodeFault>
         ensures found { OnOk result (Plans (words_of program.now) self.now packet.now first.new second.new) }
         ensures none { IfErr result (λ fault. PlansNone (words_of program.now) self.now packet.now fault) }
         ensures admitted { OnOk result (admitted self.now.phase packet.now ≡ Ok tt) }
-        ensures short { OnOk result (part_count first.new + part_count second.new
+        ensures short { OnOk result (stretch_count first.new + stretch_count second.new
             ≤ 2 * (32 * (length program.now.bytes / 2)) + 2) }
         ensures words { IsProgram (words_of program.now) }
         ensures small { length program.now.bytes ≤ 2 ^ 24 }
@@ -225,19 +225,19 @@ impl Decoder {
         &self,
         program: &Program,
         packet: &Packet,
-        part: &mut Part,
+        stretch: &mut Stretch,
     ) -> Result<(), DecodeFault>
         ensures found { OnOk result (Suits (words_of program.now) self.now.last
-            (FitsWaiting (words_of program.now) self.now.last self.now.reported self.now.waiting packet.now) part.new) }
+            (FitsWaiting (words_of program.now) self.now.last self.now.reported self.now.waiting packet.now) stretch.new) }
         ensures none { IfErr result (λ fault. SuitsNone (words_of program.now) self.now.last
             (FitsWaiting (words_of program.now) self.now.last self.now.reported self.now.waiting packet.now)
             fault) }
-        ensures short { OnOk result (part_count part.new ≤ 32 * (length program.now.bytes / 2)) }
+        ensures short { OnOk result (stretch_count stretch.new ≤ 32 * (length program.now.bytes / 2)) }
     {
         match &self.waiting {
-            Some(waiting) => settle(program, &self.last, self.reported, waiting, packet, part),
+            Some(waiting) => settle(program, &self.last, self.reported, waiting, packet, stretch),
             None => {
-                *part = Part::Nothing;
+                *stretch = Stretch::Nothing;
                 Ok(())
             }
         }
@@ -245,7 +245,7 @@ impl Decoder {
 
     /// The decoder after the packet, with the events that it adds.
     #[inline]
-    fn after(&self, packet: &Packet, settled: &Part, own: &Part) -> Decoder
+    fn after(&self, packet: &Packet, settled: &Stretch, own: &Stretch) -> Decoder
         ensures { result ≡ decoder_after self.now packet.now settled.now own.now }
     {
         let reported = settled.place(self.reported);
@@ -259,6 +259,7 @@ impl Decoder {
 }
 
 impl Default for Decoder {
+    /// A decoder before the first packet.
     fn default() -> Decoder
         ensures { (words : Words) → Stands words [] [] result }
     {

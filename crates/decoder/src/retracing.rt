@@ -2,9 +2,9 @@
 
 ghost use Rattle.std.specs.Prelude.{drop};
 ghost use Rattle.rvclass.specs.Fetch.{words_of};
-ghost use Rattle.decoder.specs.WalkSteps as steps;
-ghost use Rattle.decoder.specs.Retracing.{Reaches, Retraces};
-ghost use Rattle.decoder.specs.Walks.{event_of, end_of, Carries};
+ghost use Rattle.decoder.specs.steps.WalkSteps as steps;
+ghost use Rattle.decoder.specs.steps.Retracing.{Reaches, Retraces};
+ghost use Rattle.decoder.specs.steps.Walks.{event_of, end_of, Carries};
 
 use crate::stepping::{Course, Goal, Here, may_stay, type_of};
 use legalpath::{Next, leads};

@@ -1,3 +1,4 @@
+-- The law is an induction over the walk, which no search makes.
 use Rattle.decoder.proofs.WalkBound.{walk_bound}
 use Rattle.decoder.proofs.laws.walks_are_short.Goals as goal
 

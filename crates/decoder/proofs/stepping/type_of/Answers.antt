@@ -1,3 +1,4 @@
+-- What is left of a list is an induction over the list.
 use Rattle.decoder.proofs.OutcomesLeft.{type_on-taken, type_on-not_taken, type_on-none}
 use Rattle.decoder.proofs.stepping.type_of.Goals as goal
 

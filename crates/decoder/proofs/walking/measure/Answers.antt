@@ -1,8 +1,9 @@
+-- What is said of the steps is said of walks by inductions over them.
 use Rattle.std.proofs.Common.{◌≤◌, length, ap, subst, ◌∙◌}
 use Rattle.rvclass.specs.Fetch.{words_of}
-use Rattle.decoder.proofs.WalkAnswers.{same_walk, measure_finds, measure_short, measure_none}
-use Rattle.decoder.specs.WalkSteps.{summary}
-use Rattle.decoder.specs.Walks.{event_of, end_of}
+use Rattle.decoder.proofs.PassesFindWalks.{same_walk, measure_finds, measure_short, measure_none}
+use Rattle.decoder.specs.steps.WalkSteps.{summary}
+use Rattle.decoder.specs.steps.Walks.{event_of, end_of}
 use Rattle.decoder.proofs.walking.measure.Goals as goal
 
 pub returns-clause-found : goal.returns-clause-found

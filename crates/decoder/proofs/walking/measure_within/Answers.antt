@@ -1,6 +1,7 @@
+-- Each step of the loop is a lemma about the walk that is left, which no search names.
 use Rattle.rvclass.specs.Fetch.{words_of}
-use Rattle.decoder.proofs.WalkPasses.{measure_stops, measure_ends, measure_goes, measure_over}
-use Rattle.decoder.specs.Walks.{end_of}
+use Rattle.decoder.proofs.PassesByStep.{measure_stops, measure_ends, measure_goes, measure_over}
+use Rattle.decoder.specs.steps.Walks.{end_of}
 use Rattle.decoder.proofs.walking.measure_within.Goals as goal
 
 pub returns-in-Ends-clause-told : goal.returns-in-Ends-clause-told

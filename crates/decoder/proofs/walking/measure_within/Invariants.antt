@@ -1,7 +1,8 @@
+-- The loop keeps what the walk that is left adds to the steps that were made.
 use Rattle.std.proofs.Common.{◌≡◌, ◌-◌, drop}
 use Rattle.rvclass.specs.Fetch.{words_of}
-use Rattle.decoder.specs.WalkSteps as steps
-use Rattle.decoder.specs.Walks.{event_of, end_of, Carries}
+use Rattle.decoder.specs.steps.WalkSteps as steps
+use Rattle.decoder.specs.steps.Walks.{event_of, end_of, Carries}
 use Rattle.decoder.proofs.walking.measure_within.Given as goal
 
 abbrev pub invariant-loop-done : goal.invariant-loop-done

@@ -1,8 +1,9 @@
+-- What is said of the steps is said of walks by inductions over them.
 use Rattle.std.proofs.Common.{◌≤◌, length, refl, sym, subst, ◌∙◌}
 use Rattle.rvclass.proofs.WordsLemmas.{words_of-LiesIn}
 use Rattle.rvclass.specs.Fetch.{words_of}
-use Rattle.decoder.proofs.WalkAnswers.{same_walk, write_room, write_adds}
-use Rattle.decoder.specs.Walks.{event_of, end_of}
+use Rattle.decoder.proofs.PassesFindWalks.{same_walk, write_room, write_adds}
+use Rattle.decoder.specs.steps.Walks.{event_of, end_of}
 use Rattle.decoder.proofs.walking.write.Goals as goal
 
 pub write_within-requires-clause-room : goal.write_within-requires-clause-room

@@ -1,5 +1,6 @@
+-- Each step of the loop is a lemma about the walk that is left, which no search names.
 use Rattle.std.proofs.Common.{refl, ◌∙◌}
-use Rattle.decoder.proofs.WalkPasses.{write_starts, write_carries, write_has_room, write_lost, write_over, write_goes}
+use Rattle.decoder.proofs.PassesByStep.{write_starts, write_carries, write_has_room, write_lost, write_over, write_goes}
 use Rattle.decoder.proofs.walking.write_within.Goals as goal
 
 pub loop-init : goal.loop-init

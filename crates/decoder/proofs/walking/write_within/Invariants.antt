@@ -1,7 +1,8 @@
+-- The loop keeps what was written of the walk, and room for the rest.
 use Rattle.std.proofs.Common.{◌≡◌, ◌*◌, ◌-◌, ◌/◌, length, drop, vec_len, vec_capacity}
 use Rattle.rvclass.specs.Fetch.{words_of}
-use Rattle.decoder.specs.Retracing.{Adding}
-use Rattle.decoder.specs.Walks.{event_of, end_of}
+use Rattle.decoder.specs.steps.Retracing.{Adding}
+use Rattle.decoder.specs.steps.Walks.{event_of, end_of}
 use Rattle.decoder.proofs.walking.write_within.Given as goal
 
 abbrev pub invariant-loop : goal.invariant-loop

@@ -1,10 +1,10 @@
--- No search finds what the packets and the parts stand for, from what the plan ensures.
+-- No search finds what the packets and the stretches stand for, from what the plan ensures.
 use Rattle.std.proofs.Common.{[], ◌∷◌, ◌++◌, ◌≡◌, arith, Result, true, is_err, Ok, Err, OnErr, vec_capacity, inr, sym, ap, subst, ◌∙◌, append_assoc}
 use Rattle.rvclass.specs.Fetch.{words_of}
-use Rattle.decoder.proofs.NamedLemmas.{named_not_opened}
-use Rattle.decoder.proofs.StandsLemmas.{stands_right, stands_more, stands_longer, stands_only}
+use Rattle.decoder.proofs.NotOpenedTold.{named_not_opened}
+use Rattle.decoder.proofs.StandsForOneMore.{stands_right, stands_more, stands_longer, stands_only}
 use Rattle.decoder.proofs.UniqueLemmas.{one_log}
-use Rattle.decoder.specs.Planning.{admitted, decoder_after, IsNamed}
+use Rattle.decoder.specs.steps.Planning.{admitted, decoder_after, IsNamed}
 use Rattle.decoder.specs.Stands.{Stands}
 use Rattle.decoder.proofs.decoding.Decoder.feed.Goals as goal
 

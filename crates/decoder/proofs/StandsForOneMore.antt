@@ -15,20 +15,20 @@ use Rattle.payload.specs.declared.packet.Packet.{Packet}
 use Rattle.payload.specs.declared.packet.Packet.TheVariants as packet
 use Rattle.payload.specs.declared.packet.Report.TheVariants as report
 use Rattle.payload.specs.declared.packet.Support.TheVariants as support
-use Rattle.decoder.proofs.FeedLemmas.{Takes, feed_more, feed_only, pieces_split, join-append, begins_more, reported_end-append}
-use Rattle.decoder.proofs.PartLemmas.{last_or-last, part_count-gives, part_last-gives, part_place-gives, right_after}
-use Rattle.decoder.proofs.WaitingLemmas.{Waiting as Held, settle, waiting_only}
+use Rattle.decoder.proofs.OnePacketMore.{Takes, feed_more, feed_only, pieces_split, join-append, begins_more, reported_end-append}
+use Rattle.decoder.proofs.StretchEnds.{last_or-last, stretch_count-gives, stretch_last-gives, stretch_place-gives, right_after}
+use Rattle.decoder.proofs.AfterWaiting.{Waiting as Held, settle, waiting_only}
 use Rattle.decoder.specs.Describes.{Describes}
 use Rattle.decoder.specs.Fits.{AfterRetirement, FitsAddress, Fits}
 use Rattle.decoder.specs.Order.{MayFollow, MayPrecede, IsOpen, Begins}
-use Rattle.decoder.specs.Parts.{part_count, part_last, part_place, Gives, RightBefore}
+use Rattle.decoder.specs.steps.Stretches.{stretch_count, stretch_last, stretch_place, Gives, RightBefore}
 use Rattle.decoder.specs.Pieces.{reported_after, reported_end, Pieces}
-use Rattle.decoder.specs.Planning.{MayCome, FitsWaiting, CanFollow, CanFollowAt, admitted, admitted_first, decoder_after, reported_past}
+use Rattle.decoder.specs.steps.Planning.{MayCome, FitsWaiting, CanFollow, CanFollowAt, admitted, admitted_first, decoder_after, reported_past}
 use Rattle.decoder.specs.Settling.{settled_by, waits}
 use Rattle.decoder.specs.Stands.{Stands, phase_after, waiting_after, running_or_closed}
 use Rattle.decoder.specs.declared.decoding.Decoder.{Decoder}
 use Rattle.decoder.specs.declared.decoding.Phase.TheVariants.{Unopened, Running}
-use Rattle.decoder.specs.declared.part.Part.{Part}
+use Rattle.decoder.specs.declared.stretch.Stretch.{Stretch}
 use Rattle.decoder.specs.declared.settling.Waiting.{Waiting}
 
 -- Packets with a last one.
@@ -147,16 +147,16 @@ module _ (words : Words) where
       subst (λ x. CanFollow words d.phase d.waiting d.last x p piece more) (sym s.reported) three
 
   -- What the decoder remembers after one packet more is what is to be remembered of it.
-  remembered : (packets after : List Packet) (log : List Event) (d : Decoder) (p : Packet) (settled own : Part) (piece more : List Event) → Stands words packets log d → Gives words settled piece → Gives words own more → last_or None after ≡ Some p → (new : Describes words after (log ++ (piece ++ more))) → reported_end 0 after new.pieces ≡ reported_after p (last_place d.reported piece) more → Stands words after (log ++ (piece ++ more)) (decoder_after d p settled own)
+  remembered : (packets after : List Packet) (log : List Event) (d : Decoder) (p : Packet) (settled own : Stretch) (piece more : List Event) → Stands words packets log d → Gives words settled piece → Gives words own more → last_or None after ≡ Some p → (new : Describes words after (log ++ (piece ++ more))) → reported_end 0 after new.pieces ≡ reported_after p (last_place d.reported piece) more → Stands words after (log ++ (piece ++ more)) (decoder_after d p settled own)
   remembered packets after log d p settled own piece more s one two last new reported =
-      let at = part_place-gives words d.reported settled piece one in
-      let before = part_last-gives words d.last settled piece one in
+      let at = stretch_place-gives words d.reported settled piece one in
+      let before = stretch_last-gives words d.last settled piece one in
       record {
         described = new;
         phase = ap phase_after (sym last);
         waiting = ap waiting_after (sym last);
-        last = ap (λ b. part_last b own) before ∙ part_last-gives words (last_or d.last piece) own more two ∙ sym (last_or-append d.last piece more) ∙ ap (λ b. last_or b (piece ++ more)) s.last ∙ sym (last_or-append None log (piece ++ more));
-        reported = ap (λ r. reported_past p r (part_place r own)) at ∙ ap (λ r. reported_past p (last_place d.reported piece) r) (part_place-gives words (last_place d.reported piece) own more two) ∙ reported_past-after p (last_place d.reported piece) more ∙ sym reported;
+        last = ap (λ b. stretch_last b own) before ∙ stretch_last-gives words (last_or d.last piece) own more two ∙ sym (last_or-append d.last piece more) ∙ ap (λ b. last_or b (piece ++ more)) s.last ∙ sym (last_or-append None log (piece ++ more));
+        reported = ap (λ r. reported_past p r (stretch_place r own)) at ∙ ap (λ r. reported_past p (last_place d.reported piece) r) (stretch_place-gives words (last_place d.reported piece) own more two) ∙ reported_past-after p (last_place d.reported piece) more ∙ sym reported;
       }
 
   -- The last packet does not wait, and the next may come after it.
@@ -168,7 +168,7 @@ module _ (words : Words) where
   begins_with [] p begins admits = opens_only p admits
   begins_with (q ∷ packets) p begins admits = begins_more q packets (p ∷ []) begins
 
-  more_settled : (packets : List Packet) (log : List Event) (d : Decoder) (p : Packet) (settled own : Part) (more : List Event) → Stands words packets log d → waiting_after (last_or None packets) ≡ None → Gives words settled [] → Gives words own more → CanFollowAt words d p [] more → Stands words (packets ++ p ∷ []) (log ++ more) (decoder_after d p settled own)
+  more_settled : (packets : List Packet) (log : List Event) (d : Decoder) (p : Packet) (settled own : Stretch) (more : List Event) → Stands words packets log d → waiting_after (last_or None packets) ≡ None → Gives words settled [] → Gives words own more → CanFollowAt words d p [] more → Stands words (packets ++ p ∷ []) (log ++ more) (decoder_after d p settled own)
   more_settled packets log d p settled own more s none one two can =
       let c = recalled s can in
       let new = feed_more words packets p log more s.described (begins_with packets p s.described.begins c.admits) (takes (last_or None packets) p c.admits c.comes none) c.fits c.runs in
@@ -227,7 +227,7 @@ module _ (words : Words) where
       let one = subst (λ x. CanFollow words x (Some waiting) d.last d.reported p piece more) (sym (s.phase ∙ ap phase_after last)) can in
       subst (λ x. CanFollow words d.phase x d.last d.reported p piece more) (sym (s.waiting ∙ ap waiting_after last)) one
 
-  more_waiting : (front : List Packet) (waiting : Waiting) (log : List Event) (d : Decoder) (p : Packet) (settled own : Part) (piece more : List Event) → Stands words (front ++ plain waiting ∷ []) log d → Gives words settled piece → Gives words own more → CanFollowAt words d p piece more → Stands words ((front ++ plain waiting ∷ []) ++ p ∷ []) (log ++ (piece ++ more)) (decoder_after d p settled own)
+  more_waiting : (front : List Packet) (waiting : Waiting) (log : List Event) (d : Decoder) (p : Packet) (settled own : Stretch) (piece more : List Event) → Stands words (front ++ plain waiting ∷ []) log d → Gives words settled piece → Gives words own more → CanFollowAt words d p piece more → Stands words ((front ++ plain waiting ∷ []) ++ p ∷ []) (log ++ (piece ++ more)) (decoder_after d p settled own)
   more_waiting front waiting log d p settled own piece more s one two can =
       let c = after_waiting front waiting s can in
       let b = behind front waiting log d s in
@@ -246,7 +246,7 @@ module _ (words : Words) where
       subst (λ l. Stands words l (log ++ (piece ++ more)) (decoder_after d p settled own)) (sym assoc) stands
 
   -- A decoder stands for one packet more with the events that can follow.
-  pub stands_more : (packets : List Packet) (log : List Event) (d : Decoder) (p : Packet) (settled own : Part) (piece more : List Event) → Stands words packets log d → Gives words settled piece → Gives words own more → CanFollowAt words d p piece more → Stands words (packets ++ p ∷ []) (log ++ (piece ++ more)) (decoder_after d p settled own)
+  pub stands_more : (packets : List Packet) (log : List Event) (d : Decoder) (p : Packet) (settled own : Stretch) (piece more : List Event) → Stands words packets log d → Gives words settled piece → Gives words own more → CanFollowAt words d p piece more → Stands words (packets ++ p ∷ []) (log ++ (piece ++ more)) (decoder_after d p settled own)
   stands_more packets log d p settled own piece more s one two can = by_waiting (waiting_after (last_or None packets)) refl (ending packets)
     where
       by_waiting : (waiting : Option Waiting) → waiting_after (last_or None packets) ≡ waiting → (packets ≡ []) ⊎ Ending packets → Stands words (packets ++ p ∷ []) (log ++ (piece ++ more)) (decoder_after d p settled own)
@@ -263,11 +263,11 @@ module _ (words : Words) where
           subst (λ l. Stands words (l ++ p ∷ []) (log ++ (piece ++ more)) (decoder_after d p settled own)) (sym whole) (more_waiting e.front waiting log d p settled own piece more (subst (λ l. Stands words l log d) whole s) one two can)
 
   -- Where they do not fit behind the log, a log is described that is longer than what there is room for.
-  pub stands_longer : (packets : List Packet) (log : List Event) (d : Decoder) (p : Packet) (settled own : Part) (piece more : List Event) (room : ℕ) → Stands words packets log d → Gives words settled piece → Gives words own more → CanFollowAt words d p piece more → room < length log + (part_count settled + part_count own) → (other : List Event) × Describes words (packets ++ p ∷ []) other × (room < length other)
+  pub stands_longer : (packets : List Packet) (log : List Event) (d : Decoder) (p : Packet) (settled own : Stretch) (piece more : List Event) (room : ℕ) → Stands words packets log d → Gives words settled piece → Gives words own more → CanFollowAt words d p piece more → room < length log + (stretch_count settled + stretch_count own) → (other : List Event) × Describes words (packets ++ p ∷ []) other × (room < length other)
   stands_longer packets log d p settled own piece more room s one two can full =
       let new = stands_more packets log d p settled own piece more s one two can in
-      let counted = part_count-gives words settled piece one in
-      let counted' = part_count-gives words own more two in
+      let counted = stretch_count-gives words settled piece one in
+      let counted' = stretch_count-gives words own more two in
       let long : room < length (log ++ (piece ++ more)) = omega (arith, full, counted, counted', length-append log (piece ++ more), length-append piece more) in
       (log ++ (piece ++ more), new.described, long)
 

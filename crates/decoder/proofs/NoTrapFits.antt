@@ -6,8 +6,8 @@ use Rattle.rvclass.specs.Words.{Words}
 use Rattle.legalpath.proofs.EventLemmas.{stand_together, keep_privilege}
 use Rattle.legalpath.specs.Legal.{Runs}
 use Rattle.decoder.specs.Fits.{FitsSync}
-use Rattle.decoder.specs.Parts.{SuitsOne, SuitsNone}
-use Rattle.decoder.specs.Reporting.{FitsTold, IsHandled}
+use Rattle.decoder.specs.steps.Stretches.{SuitsOne, SuitsNone}
+use Rattle.decoder.specs.steps.Reporting.{FitsTold, IsHandled}
 use Rattle.decoder.specs.declared.fault.DecodeFault.{DecodeFault}
 use Rattle.decoder.specs.declared.reporting.Cause.{Cause}
 use Rattle.decoder.specs.declared.reporting.Told.{Told}

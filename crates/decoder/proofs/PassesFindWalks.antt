@@ -8,9 +8,9 @@ use Rattle.rvclass.specs.Words.{Words, IsProgram, LiesIn}
 use Rattle.decoder.proofs.WalkBound.{walk_bound}
 use Rattle.decoder.proofs.WalkFinding.{walk_sound, walk_complete}
 use Rattle.decoder.specs.Walk.{End}
-use Rattle.decoder.specs.Retracing.{HasRoomWithin, AddsWithin}
-use Rattle.decoder.specs.WalkSteps.{walk_within, summary, summary_of}
-use Rattle.decoder.specs.Walks.{event_of, end_of, IsHere, WalksOn, Finds, FindsNone, HasRoom, Adds}
+use Rattle.decoder.specs.steps.Retracing.{HasRoomWithin, AddsWithin}
+use Rattle.decoder.specs.steps.WalkSteps.{walk_within, summary, summary_of}
+use Rattle.decoder.specs.steps.Walks.{event_of, end_of, IsHere, WalksOn, Finds, FindsNone, HasRoom, Adds}
 use Rattle.decoder.specs.declared.fault.DecodeFault.{DecodeFault}
 use Rattle.decoder.specs.declared.stepping.Goal.{Goal}
 use Rattle.decoder.specs.declared.stepping.Here.{Here}

@@ -4,9 +4,9 @@ use Rattle.std.specs.List.{last_or}
 use Rattle.retire.specs.declared.event.Event.{Event}
 use Rattle.rvclass.specs.Words.{Words}
 use Rattle.decoder.specs.Walk.{End}
-use Rattle.decoder.specs.Retracing.{Retraces, HasRoomWithin, AddsWithin, IsAhead, Adding}
-use Rattle.decoder.specs.WalkSteps.{Move, Stop, Last, On, advance, follow, behind, walk_within, summary, plus}
-use Rattle.decoder.specs.Walks.{event_of, Carries}
+use Rattle.decoder.specs.steps.Retracing.{Retraces, HasRoomWithin, AddsWithin, IsAhead, Adding}
+use Rattle.decoder.specs.steps.WalkSteps.{Move, Stop, Last, On, advance, follow, behind, walk_within, summary, plus}
+use Rattle.decoder.specs.steps.Walks.{event_of, Carries}
 use Rattle.decoder.specs.declared.stepping.Here.{Here}
 
 one_move : (words : Words) (n : ℕ) (e : Event) (taken : List Bool) (end : End) (mv : Move) → mv ≡ advance words e taken end → walk_within words (suc n) e taken end ≡ follow mv (λ f left. walk_within words n f left end)

@@ -1,5 +1,5 @@
 -- One packet more, where an address packet with plain bits waits.
-use Rattle.std.proofs.Common.{◌≡◌, ℕ, Bool, List, [], ◌∷◌, ◌++◌, Some, None, refl, sym, ap, subst, ◌∙◌}
+use Rattle.std.proofs.Common.{◌≡◌, ℕ, Bool, List, [], ◌∷◌, ◌++◌, Some, None, sym, ap, subst, ◌∙◌}
 use Rattle.std.proofs.lemmas.List.{append-nil}
 use Rattle.std.specs.List.{last_or}
 use Rattle.retire.specs.declared.event.Event.{Event}
@@ -12,7 +12,7 @@ use Rattle.payload.specs.Difference.{aim}
 use Rattle.payload.specs.declared.packet.Packet.{Packet}
 use Rattle.payload.specs.declared.packet.Packet.TheVariants.{Address}
 use Rattle.payload.specs.declared.packet.Report.TheVariants.{Plain}
-use Rattle.decoder.proofs.FeedLemmas.{join-append, pieces_split, pieces_join}
+use Rattle.decoder.proofs.OnePacketMore.{join-append, pieces_split, pieces_join}
 use Rattle.decoder.proofs.UniqueLemmas.{pieces_same}
 use Rattle.decoder.specs.Describes.{Describes}
 use Rattle.decoder.specs.Fits.{AfterRetirement, FitsAddress, Fits}
@@ -29,18 +29,6 @@ module _ (words : Words) where
     pub legal : Legal words log
     pub each : Pieces words None 0 packets (Some (Address taken delta Plain)) pieces
     pub after : AfterRetirement (last_or None log)
-
-  -- With it they describe the log.
-  pub waiting_describes : (packets : List Packet) (taken : List Bool) (delta : ℕ) (log : List Event) → Waiting packets taken delta log → Describes words (packets ++ Address taken delta Plain ∷ []) log
-  waiting_describes packets taken delta log w =
-      let after : AfterRetirement (last_or None (join w.pieces)) = subst (λ l. AfterRetirement (last_or None l)) w.whole w.after in
-      record {
-        begins = w.begins;
-        pieces = w.pieces ++ [] ∷ [];
-        whole = w.whole ∙ sym (append-nil (join w.pieces)) ∙ sym (join-append w.pieces ([] ∷ []));
-        legal = w.legal;
-        each = pieces_join words None 0 packets (Address taken delta Plain ∷ []) None w.pieces ([] ∷ []) w.each (tt, (after, refl), tt);
-      }
 
   -- The log that the waiting packet and one more describe, with the pieces of both.
   abbrev pub settle : (packets : List Packet) (taken : List Bool) (delta : ℕ) (p : Packet) (log piece more : List Event) →
