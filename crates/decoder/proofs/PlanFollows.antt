@@ -20,13 +20,21 @@ use Rattle.decoder.specs.declared.stretch.Stretch.{Stretch}
 use Rattle.decoder.specs.declared.settling.Waiting.{Waiting}
 
 -- What waits has one piece at most.
-waiting_same : (words : Words) → IsProgram words → (before : Option Event) (reported : ℕ) (waiting : Option Waiting) (p : Packet) (piece other : List Event) → FitsWaiting words before reported waiting p piece → FitsWaiting words before reported waiting p other → Runs words before piece → Runs words before other → piece ≡ other
+waiting_same : (words : Words) → IsProgram words → (before : Option Event) (reported : ℕ) (waiting : Option Waiting)
+    (p : Packet) (piece other : List Event) → FitsWaiting words before reported waiting p piece →
+    FitsWaiting words before reported waiting p other → Runs words before piece → Runs words before other →
+    piece ≡ other
 waiting_same words program before reported None p piece other fits fits' runs runs' = fits ∙ sym fits'
 waiting_same words program before reported (Some waiting) p piece other fits fits' runs runs' =
-    address_same words program before waiting.outcomes (aim reported waiting.delta) (settled_by (Some p)) piece other fits fits' runs runs'
+    address_same words program before waiting.outcomes (aim reported waiting.delta) (settled_by (Some p)) piece other
+    fits fits' runs runs'
 
 module _ (words : Words) (d : Decoder) (p : Packet) where
-  pub plans : (settled own : Stretch) (r : Result Unit DecodeFault) → admitted d.phase p ≡ Ok tt → MayCome d.phase d.waiting p → Suits words d.last (FitsWaiting words d.last d.reported d.waiting p) settled → OnOk r (Suits words (stretch_last d.last settled) (Fits words (stretch_last d.last settled) (stretch_place d.reported settled) p None) own) → OnOk r (Plans words d p settled own)
+  pub plans : (settled own : Stretch) (r : Result Unit DecodeFault) → admitted d.phase p ≡ Ok tt →
+      MayCome d.phase d.waiting p → Suits words d.last (FitsWaiting words d.last d.reported d.waiting p) settled →
+      OnOk r (Suits words (stretch_last d.last settled)
+      (Fits words (stretch_last d.last settled) (stretch_place d.reported settled) p None) own) →
+      OnOk r (Plans words d p settled own)
   plans settled own (Err fault) admits comes first second = tt
   plans settled own (Ok done) admits comes first second =
       let last = stretch_last-gives words d.last settled first.events first.gives in
@@ -38,7 +46,8 @@ module _ (words : Words) (d : Decoder) (p : Packet) where
         gives_own = second.gives;
         can = λ right.
             let one = first.fits right in
-            let two = second.fits (subst (RightBefore words) (sym last) (right_after words d.last first.events right one.1)) in
+            let two = second.fits (subst (RightBefore words) (sym last)
+            (right_after words d.last first.events right one.1)) in
             let fits = subst (λ l. Fits words l (stretch_place d.reported settled) p None second.events) last two.0 in
             record {
               admits = admits;
@@ -50,7 +59,11 @@ module _ (words : Words) (d : Decoder) (p : Packet) where
             };
       }
 
-  pub plans_none : IsProgram words → (settled : Stretch) (r : Result Unit DecodeFault) → admitted d.phase p ≡ Ok tt → Suits words d.last (FitsWaiting words d.last d.reported d.waiting p) settled → IfErr r (SuitsNone words (stretch_last d.last settled) (Fits words (stretch_last d.last settled) (stretch_place d.reported settled) p None)) → IfErr r (PlansNone words d p)
+  pub plans_none : IsProgram words → (settled : Stretch) (r : Result Unit DecodeFault) → admitted d.phase p ≡ Ok tt →
+      Suits words d.last (FitsWaiting words d.last d.reported d.waiting p) settled →
+      IfErr r (SuitsNone words (stretch_last d.last settled)
+      (Fits words (stretch_last d.last settled) (stretch_place d.reported settled) p None)) →
+      IfErr r (PlansNone words d p)
   plans_none program settled (Ok done) admits first none = tt
   plans_none program settled (Err fault) admits first none =
       let last = stretch_last-gives words d.last settled first.events first.gives in
@@ -59,9 +72,13 @@ module _ (words : Words) (d : Decoder) (p : Packet) where
         named = subst (λ a. IsNamed a fault) (sym admits) none.named;
         none = λ right piece own can.
             let one = first.fits right in
-            let same : piece ≡ first.events = waiting_same words program d.last d.reported d.waiting p piece first.events can.settles one.0 can.settled_runs one.1 in
+            let same : piece ≡ first.events = waiting_same words program d.last d.reported d.waiting p piece
+            first.events can.settles one.0 can.settled_runs one.1 in
             let before : last_or d.last piece ≡ stretch_last d.last settled = ap (last_or d.last) same ∙ sym last in
-            let reported : last_place d.reported piece ≡ stretch_place d.reported settled = ap (last_place d.reported) same ∙ sym at in
+            let reported : last_place d.reported piece ≡ stretch_place d.reported settled =
+            ap (last_place d.reported) same ∙ sym at in
             let fits = subst (λ l. Fits words l (last_place d.reported piece) p None own) before can.fits in
-            none.none (subst (RightBefore words) (sym last) (right_after words d.last first.events right one.1)) own (subst (λ r. Fits words (stretch_last d.last settled) r p None own) reported fits) (subst (λ l. Runs words l own) before can.runs);
+            none.none (subst (RightBefore words) (sym last) (right_after words d.last first.events right one.1)) own
+            (subst (λ r. Fits words (stretch_last d.last settled) r p None own) reported fits)
+            (subst (λ l. Runs words l own) before can.runs);
       }

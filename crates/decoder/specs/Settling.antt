@@ -34,8 +34,8 @@ abbrev pub settled_by : Option Packet → AddressKind
 settled_by None = Unknown
 settled_by (Some next) = explicit_or_target (makes_explicit next)
 
--- What the address of an address packet with these report bits is, before this packet. With `updiscon` flipped it is the
--- target of a discontinuity at once, with `notify` flipped it is explicit at once.
+-- What the address of an address packet with these report bits is, before this packet. With `updiscon` flipped it is
+-- the target of a discontinuity at once, with `notify` flipped it is explicit at once.
 abbrev pub settled : Report → Option Packet → AddressKind
 settled report.Plain next = settled_by next
 settled report.Updiscon next = Target

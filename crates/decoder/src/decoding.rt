@@ -1,6 +1,7 @@
 //! The decoder.
 
-ghost use Rattle.std.specs.Prelude.{◌≡◌, ◌↔◌, ◌⊎◌, ◌+◌, ◌*◌, ◌/◌, ◌^◌, ◌≤◌, ◌<◌, List, [], ◌∷◌, ◌++◌, true, Some, Ok, Err, length, vec_len, vec_capacity, IfErr, OnOk, IsTrue};
+ghost use Rattle.std.specs.Prelude.{◌≡◌, ◌↔◌, ◌⊎◌, ◌+◌, ◌*◌, ◌/◌, ◌^◌, ◌≤◌, ◌<◌, List, [], ◌∷◌, ◌++◌, true, Some, Ok};
+ghost use Rattle.std.specs.Prelude.{Err, length, vec_len, vec_capacity, IfErr, OnOk, IsTrue};
 ghost use Rattle.retire.specs.declared.event.Event.{Event};
 ghost use Rattle.rvclass.specs.Fetch.{words_of};
 ghost use Rattle.rvclass.specs.Words.{Words, IsProgram};
@@ -9,7 +10,8 @@ ghost use Rattle.decoder.specs.Describes.{Describes};
 ghost use Rattle.decoder.specs.Ended.{has_ended};
 ghost use Rattle.decoder.specs.Order.{IsOpen};
 ghost use Rattle.decoder.specs.steps.Stretches.{stretch_count, Suits, SuitsNone};
-ghost use Rattle.decoder.specs.steps.Planning.{MayCome, FitsWaiting, Plans, PlansNone, admitted, decoder_after, reported_past};
+ghost use Rattle.decoder.specs.steps.Planning.{MayCome, FitsWaiting, Plans, PlansNone, admitted, decoder_after};
+ghost use Rattle.decoder.specs.steps.Planning.{reported_past};
 ghost use Rattle.decoder.specs.Stands.{Stands, phase_after, waiting_after};
 ghost use Rattle.decoder.specs.declared.fault.DecodeFault.TheVariants.{NotOpened, AfterClose, Memory};
 
@@ -35,8 +37,8 @@ enum Phase {
 
 /// A decoder of one hart's trace: it takes the packets in their order, and adds to a log the events that they describe.
 ///
-/// An address packet with plain bits is not settled before the next packet, so the events of such a packet come with the
-/// one that follows it. The events of all other packets come at once.
+/// An address packet with plain bits is not settled before the next packet, so the events of such a packet come with
+/// the one that follows it. The events of all other packets come at once.
 #[derive(Clone, Copy, Debug)]
 pub struct Decoder {
     phase: Phase,
@@ -111,11 +113,11 @@ impl Decoder {
         self.phase == Phase::Closed
     }
 
-    /// Takes the next packet, and adds to the log the events that are known by it. The program is the one of the packets
-    /// before, and the log the one that they gave.
+    /// Takes the next packet, and adds to the log the events that are known by it. The program is the one of the
+    /// packets before, and the log the one that they gave.
     ///
-    /// Room for all of them is reserved first, so that a fault leaves the decoder and the log as they were: the packet may
-    /// be fed again where memory was refused.
+    /// Room for all of them is reserved first, so that a fault leaves the decoder and the log as they were: the packet
+    /// may be fed again where memory was refused.
     pub fn feed<A: Allocator>(
         &mut self,
         program: &Program,
@@ -138,7 +140,8 @@ impl Decoder {
         ensures not_opened { (packets : List Packet) → Stands (words_of program.now) packets log.old.items self.old
             → (result ≡ Err NotOpened) ↔ ((packets ≡ []) × ¬ IsOpen packet.now) }
         ensures memory { (packets : List Packet) → Stands (words_of program.now) packets log.old.items self.old
-            → result ≡ Err Memory → (other : List Event) × Describes (words_of program.now) (packets ++ packet.now ∷ []) other
+            → result ≡ Err Memory
+            → (other : List Event) × Describes (words_of program.now) (packets ++ packet.now ∷ []) other
             × (vec_capacity log.old < length other) }
         ensures short { vec_len log.new ≤ vec_len log.old + 2 * (32 * (length program.now.bytes / 2)) + 2 }
     {
@@ -206,8 +209,8 @@ impl Decoder {
         }
     }
 
-    /// Whether the packet may come next by its kind: the packet that opens the trace comes first alone, and the one that
-    /// tells that the last instruction was reported follows an address packet that waits.
+    /// Whether the packet may come next by its kind: the packet that opens the trace comes first alone, and the one
+    /// that tells that the last instruction was reported follows an address packet that waits.
     #[inline]
     fn may_come(&self, packet: &Packet) -> bool
         ensures { IsTrue result ↔ MayCome self.now.phase self.now.waiting packet.now }
@@ -228,7 +231,8 @@ impl Decoder {
         stretch: &mut Stretch,
     ) -> Result<(), DecodeFault>
         ensures found { OnOk result (Suits (words_of program.now) self.now.last
-            (FitsWaiting (words_of program.now) self.now.last self.now.reported self.now.waiting packet.now) stretch.new) }
+            (FitsWaiting (words_of program.now) self.now.last self.now.reported self.now.waiting packet.now)
+            stretch.new) }
         ensures none { IfErr result (λ fault. SuitsNone (words_of program.now) self.now.last
             (FitsWaiting (words_of program.now) self.now.last self.now.reported self.now.waiting packet.now)
             fault) }

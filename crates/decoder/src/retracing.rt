@@ -17,7 +17,8 @@ pub fn retrace(program: &Program, here: &mut Here, used: &mut usize, course: &Co
     requires here { Carries (words_of program.now) here.old }
     requires course { steps.IsCourse course.now }
     ensures { Retraces (words_of program.now) course.now.outcomes here.new used.new result
-        (steps.advance (words_of program.now) (event_of here.old) (drop used.old course.now.outcomes) (end_of course.now.goal)) }
+        (steps.advance (words_of program.now) (event_of here.old) (drop used.old course.now.outcomes)
+        (end_of course.now.goal)) }
 {
     match here.next {
         Next::One(addr) => reach(program, addr, here, used, course),

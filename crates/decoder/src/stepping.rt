@@ -87,7 +87,8 @@ pub fn step_from(program: &Program, here: &mut Here, used: &mut usize, course: &
     requires here { Carries (words_of program.now) here.old }
     requires course { steps.IsCourse course.now }
     ensures step { steps.move_of course.now.outcomes here.new used.new result
-        ≡ steps.advance (words_of program.now) (event_of here.old) (drop used.old course.now.outcomes) (end_of course.now.goal) }
+        ≡ steps.advance (words_of program.now) (event_of here.old) (drop used.old course.now.outcomes)
+        (end_of course.now.goal) }
     ensures carries { steps.StepCarries (words_of program.now) here.new result }
 {
     match here.next {
@@ -188,7 +189,8 @@ fn step_last(program: &Program, here: &mut Here, used: &mut usize, course: &Cour
 #[inline]
 pub fn type_of(class: Class, used: &mut usize, course: &Course) -> Result<u8, DecodeFault>
     requires { steps.IsCourse course.now }
-    ensures told { steps.type_told course.now.outcomes used.new result ≡ steps.type_on class (drop used.old course.now.outcomes) }
+    ensures told { steps.type_told course.now.outcomes used.new result ≡ steps.type_on class
+        (drop used.old course.now.outcomes) }
     ensures named { IfErr result IsOnTheWay }
 {
     match class {
@@ -231,7 +233,8 @@ fn are_used(used: usize, course: &Course) -> bool
 #[inline]
 fn ends(addr: u64, itype: u8, used: usize, course: &Course) -> bool
     requires { steps.IsCourse course.now }
-    ensures { (priv : ℕ) → result ≡ steps.stops (end_of course.now.goal) (Retire addr itype priv) (drop used course.now.outcomes) }
+    ensures { (priv : ℕ) → result ≡ steps.stops (end_of course.now.goal) (Retire addr itype priv)
+        (drop used course.now.outcomes) }
 {
     match course.goal {
         Goal::Branch => (itype == 4 || itype == 5) && are_used(used, course),

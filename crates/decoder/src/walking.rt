@@ -129,9 +129,11 @@ fn write_within<A: Allocator>(
 )
     requires from { Carries (words_of program.now) from }
     requires course { steps.IsCourse course.now }
-    requires room { HasRoomWithin (words_of program.now) (32 * (length program.now.bytes / 2)) (event_of from) course.now.outcomes
+    requires room { HasRoomWithin (words_of program.now) (32 * (length program.now.bytes / 2)) (event_of from)
+        course.now.outcomes
         (end_of course.now.goal) count (vec_len log.old) (vec_capacity log.old) }
-    ensures walk { AddsWithin (words_of program.now) (32 * (length program.now.bytes / 2)) (event_of from) course.now.outcomes
+    ensures walk { AddsWithin (words_of program.now) (32 * (length program.now.bytes / 2)) (event_of from)
+        course.now.outcomes
         (end_of course.now.goal) log.old.items log.new.items }
     ensures room { vec_capacity log.new ≡ vec_capacity log.old }
 {

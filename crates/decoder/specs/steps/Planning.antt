@@ -64,7 +64,8 @@ reported_past (packet.Map taken) reported at = reported
 
 -- The events of what waits, and then those of the packet itself, after this event and this last reported
 -- address.
-pub record CanFollow (words : Words) (phase : Phase) (waiting : Option Waiting) (last : Option Event) (reported : ℕ) (packet : Packet) (settled own : List Event) : Type 0 where
+pub record CanFollow (words : Words) (phase : Phase) (waiting : Option Waiting) (last : Option Event) (reported : ℕ)
+    (packet : Packet) (settled own : List Event) : Type 0 where
   pub admits : admitted phase packet ≡ Ok tt
   pub comes : MayCome phase waiting packet
   pub settles : FitsWaiting words last reported waiting packet settled
@@ -84,7 +85,8 @@ decoder_after decoder packet settled own = record {
   waiting = waiting_after (Some packet);
   last = stretch_last (stretch_last decoder.last settled) own;
   reported =
-      reported_past packet (stretch_place decoder.reported settled) (stretch_place (stretch_place decoder.reported settled) own);
+      reported_past packet (stretch_place decoder.reported settled)
+      (stretch_place (stretch_place decoder.reported settled) own);
 }
 
 -- The stretches have the events that can follow.

@@ -1,5 +1,6 @@
 -- How this crate's code goes along a walk that was measured.
-use Rattle.std.specs.Prelude.{◌≡◌, ℕ, ◌+◌, ◌≤◌, Bool, true, false, List, [], ◌∷◌, ◌++◌, drop, length, Option, Some, None}
+use Rattle.std.specs.Prelude.{◌≡◌, ℕ, ◌+◌, ◌≤◌, Bool, true, false, List, [], ◌∷◌, ◌++◌, drop, length, Option, Some}
+use Rattle.std.specs.Prelude.{None}
 use Rattle.retire.specs.declared.event.Event.{Event}
 use Rattle.rvclass.specs.Words.{Words}
 use Rattle.decoder.specs.Walk.{End}
@@ -46,7 +47,8 @@ IsAhead words here left end (event ∷ back) =
     Carries words here × (steps : ℕ) × (walk_within words steps (event_of here) left end ≡ Some (event ∷ back))
 
 -- The first events of the walk were added, so many retirements are left, and there is room for them.
-pub record Adding (words : Words) (steps : ℕ) (from : Event) (taken : List Bool) (end : End) (old : List Event) (ahead : ℕ) (here : Here) (left : List Bool) (new : List Event) (len capacity : ℕ) : Type 0 where
+pub record Adding (words : Words) (steps : ℕ) (from : Event) (taken : List Bool) (end : End) (old : List Event)
+    (ahead : ℕ) (here : Here) (left : List Bool) (new : List Event) (len capacity : ℕ) : Type 0 where
   pub whole : List Event
   pub back : List Event
   pub found : walk_within words steps from taken end ≡ Some whole

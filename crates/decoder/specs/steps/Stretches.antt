@@ -59,7 +59,8 @@ abbrev pub SuitsOne : Words → Option Event → (List Event → Type 0) → Lis
 SuitsOne words before Fit events = RightBefore words before → Fit events × Runs words before events
 
 -- No events fit and may follow the event before, and the fault is of a kind that tells so.
-pub record SuitsNone (words : Words) (before : Option Event) (Fit : List Event → Type 0) (fault : DecodeFault) : Type 0 where
+pub record SuitsNone (words : Words) (before : Option Event) (Fit : List Event → Type 0) (fault : DecodeFault) : Type
+    0 where
   pub named : IsOnTheWay fault
   pub none : RightBefore words before → (events : List Event) → Fit events → Runs words before events → ⊥
 

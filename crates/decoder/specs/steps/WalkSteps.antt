@@ -1,6 +1,7 @@
 -- How this crate's code finds a walk, one retirement after the other. What a walk is is said in the
 -- file on walks.
-use Rattle.std.specs.Prelude.{ℕ, zero, suc, ◌+◌, ◌≡◌, ◌≤◌, ◌==◌, ◌&&◌, if◌then◌else◌, Bool, true, false, List, [], ◌∷◌, length, drop, Option, Some, None, Result, Ok, Err}
+use Rattle.std.specs.Prelude.{ℕ, zero, suc, ◌+◌, ◌≡◌, ◌≤◌, ◌==◌, ◌&&◌, if◌then◌else◌, Bool, true, false, List, [], ◌∷◌}
+use Rattle.std.specs.Prelude.{length, drop, Option, Some, None, Result, Ok, Err}
 use Rattle.std.specs.List.{last_or}
 use Rattle.retire.specs.Events.{place, privilege, is_branch}
 use Rattle.retire.specs.declared.event.Event.{Event}

@@ -9,4 +9,5 @@ returns-in-Err-clause-none c =
 
 pub returns-in-Err-reported-clause-none : goal.returns-in-Err-reported-clause-none
 returns-in-Err-reported-clause-none c =
-    no_handler (words_of c.args.program.now) c.args.before c.args.told c.args.cause c.in-Ok.trap _ c.in-Ok.ensures.found c.in-Err-reported.ensures.none
+    no_handler (words_of c.args.program.now) c.args.before c.args.told c.args.cause c.in-Ok.trap _ c.in-Ok.ensures.found
+    c.in-Err-reported.ensures.none
