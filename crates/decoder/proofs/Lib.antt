@@ -1,5 +1,6 @@
 pub mod OneWalk
 pub mod OutcomesLeft
+pub mod OnOneWord
 pub mod WalkFinding
 pub mod PassesByStep
 pub mod Retraces
@@ -12,5 +13,6 @@ pub mod AfterWaiting
 pub mod NoTrapFits
 pub mod StretchEnds
 pub mod PlanFollows
+pub mod NextPacket
 pub mod StandsForOneMore
 pub mod NotOpenedTold

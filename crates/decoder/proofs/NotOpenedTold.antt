@@ -7,7 +7,7 @@ use Rattle.payload.specs.declared.packet.Packet.{Packet}
 use Rattle.payload.specs.declared.packet.Packet.TheVariants as packet
 use Rattle.payload.specs.declared.packet.Support.TheVariants as support
 use Rattle.decoder.proofs.StretchEnds.{last_or-last}
-use Rattle.decoder.proofs.StandsForOneMore.{Ending, ending}
+use Rattle.decoder.proofs.NextPacket.{Ending, ending}
 use Rattle.decoder.specs.Order.{IsOpen}
 use Rattle.decoder.specs.steps.Planning.{admitted, admitted_first, IsNamed}
 use Rattle.decoder.specs.Stands.{phase_after, running_or_closed}

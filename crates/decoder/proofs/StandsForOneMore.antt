@@ -1,5 +1,5 @@
 -- What a decoder stands for after one packet more.
-use Rattle.std.proofs.Common.{◌≡◌, ◌⊎◌, inl, inr, ℕ, ◌+◌, ◌<◌, Bool, true, false, List, [], ◌∷◌, ◌++◌, Option, Some}
+use Rattle.std.proofs.Common.{◌≡◌, ◌⊎◌, inl, inr, ℕ, ◌+◌, ◌<◌, List, [], ◌∷◌, ◌++◌, Option, Some}
 use Rattle.std.proofs.Common.{None, refl, sym, ap, subst, ◌∙◌, append_assoc, length, length-append, arith}
 use Rattle.std.proofs.lemmas.List.{append-nil}
 use Rattle.std.specs.List.{last_or}
@@ -10,12 +10,10 @@ use Rattle.legalpath.proofs.RunsLemmas.{runs_split, runs_join, last_or-append}
 use Rattle.legalpath.specs.Join.{join}
 use Rattle.legalpath.specs.LastPlace.{last_place}
 use Rattle.legalpath.specs.Legal.{Runs}
-use Rattle.payload.specs.Closing.{is_closing_packet}
 use Rattle.payload.specs.Difference.{aim}
 use Rattle.payload.specs.declared.packet.Packet.{Packet}
 use Rattle.payload.specs.declared.packet.Packet.TheVariants as packet
 use Rattle.payload.specs.declared.packet.Report.TheVariants as report
-use Rattle.payload.specs.declared.packet.Support.TheVariants as support
 use Rattle.decoder.proofs.OnePacketMore.{Takes, feed_more, feed_only, pieces_split, join-append, begins_more}
 use Rattle.decoder.proofs.OnePacketMore.{reported_end-append}
 use Rattle.decoder.proofs.StretchEnds.{last_or-last, stretch_count-gives, stretch_last-gives, stretch_place-gives}
@@ -23,117 +21,17 @@ use Rattle.decoder.proofs.StretchEnds.{right_after}
 use Rattle.decoder.proofs.AfterWaiting.{Waiting as Held, settle, waiting_only}
 use Rattle.decoder.specs.Describes.{Describes}
 use Rattle.decoder.specs.Fits.{AfterRetirement, FitsAddress, Fits}
-use Rattle.decoder.specs.Order.{MayFollow, MayPrecede, IsOpen, Begins}
+use Rattle.decoder.specs.Order.{MayPrecede, IsOpen, Begins}
 use Rattle.decoder.specs.steps.Stretches.{stretch_count, stretch_last, stretch_place, Gives, RightBefore}
 use Rattle.decoder.specs.Pieces.{reported_after, reported_end, Pieces}
-use Rattle.decoder.specs.steps.Planning.{MayCome, FitsWaiting, CanFollow, CanFollowAt, admitted, admitted_first}
+use Rattle.decoder.specs.steps.Planning.{MayCome, FitsWaiting, CanFollow, CanFollowAt, admitted}
 use Rattle.decoder.specs.steps.Planning.{decoder_after, reported_past}
-use Rattle.decoder.specs.Settling.{settled_by, waits}
-use Rattle.decoder.specs.Stands.{Stands, phase_after, waiting_after, running_or_closed}
+use Rattle.decoder.specs.Settling.{settled_by}
+use Rattle.decoder.specs.Stands.{Stands, phase_after, waiting_after}
 use Rattle.decoder.specs.declared.decoding.Decoder.{Decoder}
-use Rattle.decoder.specs.declared.decoding.Phase.TheVariants.{Unopened, Running}
 use Rattle.decoder.specs.declared.stretch.Stretch.{Stretch}
 use Rattle.decoder.specs.declared.settling.Waiting.{Waiting}
-
--- Packets with a last one.
-pub record Ending (packets : List Packet) : Type 0 where
-  pub front : List Packet
-  pub last : Packet
-  pub is : packets ≡ front ++ last ∷ []
-
--- There are no packets, or there is a last one.
-pub ending : (packets : List Packet) → (packets ≡ []) ⊎ Ending packets
-ending [] = inl refl
-ending (p ∷ []) = inr (record { front = []; last = p; is = refl })
-ending (p ∷ q ∷ packets) = more (ending (q ∷ packets))
-  where
-    more : (q ∷ packets ≡ []) ⊎ Ending (q ∷ packets) → (p ∷ q ∷ packets ≡ []) ⊎ Ending (p ∷ q ∷ packets)
-    more (inl none) = cc
-    more (inr e) = inr (record { front = p ∷ e.front; last = e.last; is = ap (λ l. p ∷ l) e.is })
-
--- The first packet is admitted where it opens the trace, and then it may come.
-opens : (p : Packet) → IsOpen p → (admitted_first p ≡ Ok tt) × MayCome Unopened None p
-opens (packet.Sync taken priv address) is = absurd is
-opens (packet.Trap taken priv cause interrupt handler address tval) is = absurd is
-opens (packet.Support support.Open) is = (refl, refl)
-opens (packet.Support support.EndedRep) is = absurd is
-opens (packet.Support support.EndedNtr) is = absurd is
-opens (packet.Address taken delta report) is = absurd is
-opens (packet.Map taken) is = absurd is
-
-pub opens_only : (p : Packet) → admitted_first p ≡ Ok tt → IsOpen p
-opens_only (packet.Sync taken priv address) admits = cc
-opens_only (packet.Trap taken priv cause interrupt handler address tval) admits = cc
-opens_only (packet.Support support.Open) admits = tt
-opens_only (packet.Support support.EndedRep) admits = cc
-opens_only (packet.Support support.EndedNtr) admits = cc
-opens_only (packet.Address taken delta report) admits = cc
-opens_only (packet.Map taken) admits = cc
-
--- A packet waits exactly where something waits after it.
-waits_for : (q : Packet) → is_some (waiting_after (Some q)) ≡ waits q
-waits_for (packet.Sync taken priv address) = refl
-waits_for (packet.Trap taken priv cause interrupt handler address tval) = refl
-waits_for (packet.Support support) = refl
-waits_for (packet.Address taken delta report.Plain) = refl
-waits_for (packet.Address taken delta report.Updiscon) = refl
-waits_for (packet.Address taken delta report.Notify) = refl
-waits_for (packet.Map taken) = refl
-
-waits_plain : (q : Packet) (waiting : Waiting) → waiting_after (Some q) ≡ Some waiting →
-    q ≡ packet.Address waiting.outcomes waiting.delta report.Plain
-waits_plain (packet.Sync taken priv address) waiting is = cc
-waits_plain (packet.Trap taken priv cause interrupt handler address tval) waiting is = cc
-waits_plain (packet.Support support) waiting is = cc
-waits_plain (packet.Address taken delta report.Plain) waiting is = cc
-waits_plain (packet.Address taken delta report.Updiscon) waiting is = cc
-waits_plain (packet.Address taken delta report.Notify) waiting is = cc
-waits_plain (packet.Map taken) waiting is = cc
-
--- A packet may come after another in an open trace exactly where it may follow it.
-follows : (closing : Bool) (q p : Packet) → MayCome (running_or_closed closing) (waiting_after (Some q)) p →
-    MayFollow q p
-follows closing q (packet.Sync taken priv address) comes = tt
-follows closing q (packet.Trap taken priv cause interrupt handler address tval) comes = tt
-follows true q (packet.Support support.Open) comes = cc
-follows false q (packet.Support support.Open) comes = cc
-follows closing q (packet.Support support.EndedRep) comes = sym (waits_for q) ∙ comes
-follows closing q (packet.Support support.EndedNtr) comes = tt
-follows closing q (packet.Address taken delta report) comes = tt
-follows closing q (packet.Map taken) comes = tt
-
-precedes : (q p : Packet) → admitted (phase_after (Some q)) p ≡ Ok tt →
-    MayCome (phase_after (Some q)) (waiting_after (Some q)) p → MayPrecede q (Some p)
-precedes q p admits comes = (running (is_closing_packet q) admits, follows (is_closing_packet q) q p comes)
-  where
-    running : (closing : Bool) → admitted (running_or_closed closing) p ≡ Ok tt → closing ≡ false
-    running true admits = cc
-    running false admits = refl
-
-comes_after : (q p : Packet) → MayFollow q p → MayCome Running (waiting_after (Some q)) p
-comes_after q (packet.Sync taken priv address) follows = tt
-comes_after q (packet.Trap taken priv cause interrupt handler address tval) follows = tt
-comes_after q (packet.Support support.Open) follows = absurd follows
-comes_after q (packet.Support support.EndedRep) follows = waits_for q ∙ follows
-comes_after q (packet.Support support.EndedNtr) follows = tt
-comes_after q (packet.Address taken delta report) follows = tt
-comes_after q (packet.Map taken) follows = tt
-
--- A packet that may follow another is admitted after it.
-admits_after : (q p : Packet) → MayPrecede q (Some p) → (admitted (phase_after (Some q)) p ≡ Ok tt) ×
-    MayCome (phase_after (Some q)) (waiting_after (Some q)) p
-admits_after q p may =
-    let running : running_or_closed false ≡ phase_after (Some q) = ap running_or_closed (sym may.0) in
-    subst (λ phase. (admitted phase p ≡ Ok tt) × MayCome phase (waiting_after (Some q)) p) running
-    (refl, comes_after q p may.1)
-
-reported_past-after : (p : Packet) (reported : ℕ) (piece : List Event) →
-    reported_past p reported (last_place reported piece) ≡ reported_after p reported piece
-reported_past-after (packet.Sync taken priv address) reported piece = refl
-reported_past-after (packet.Trap taken priv cause interrupt handler address tval) reported piece = refl
-reported_past-after (packet.Support support) reported piece = refl
-reported_past-after (packet.Address taken delta report) reported piece = refl
-reported_past-after (packet.Map taken) reported piece = refl
+use Rattle.decoder.proofs.NextPacket.{Ending, ending, opens, opens_only, waits_for, waits_plain, precedes, admits_after, reported_past-after}
 
 module _ (words : Words) where
   -- The last event of a log that a decoder stands for is right.
