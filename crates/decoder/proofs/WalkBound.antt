@@ -1,5 +1,7 @@
 -- How long a walk can be.
-use Rattle.std.proofs.Common.{◌≡◌, ◌≢◌, ℕ, zero, suc, ◌+◌, ◌-◌, ◌*◌, ◌/◌, ◌%◌, ◌<◌, ◌≤◌, Bool, true, false, ◌||◌, ◌==◌, List, [], ◌∷◌, ◌++◌, length, Option, Some, None, refl, sym, ap, subst, ◌∙◌, arith, length-append}
+use Rattle.std.proofs.Common.{◌≡◌, ◌≢◌, ℕ, zero, suc, ◌+◌, ◌-◌, ◌*◌, ◌/◌, ◌%◌, ◌<◌, ◌≤◌, Bool, true, false, ◌||◌, ◌==◌}
+use Rattle.std.proofs.Common.{List, [], ◌∷◌, ◌++◌, length, Option, Some, None, refl, sym, ap, subst, ◌∙◌, arith}
+use Rattle.std.proofs.Common.{length-append}
 use Rattle.std.specs.List.{AllByRecursion}
 use Rattle.retire.proofs.OutcomesLemmas.{outcomes-branch, outcomes-other, outcomes-append}
 use Rattle.retire.specs.Events.{place, privilege, is_retirement, is_branch, outcomes}
@@ -15,7 +17,7 @@ use Rattle.legalpath.specs.NoneOf.{NoneOf}
 use Rattle.legalpath.specs.OnlyLast.{OnlyLast}
 use Rattle.legalpath.specs.Right.{RetiresOn, Right}
 use Rattle.legalpath.specs.Step.{StepFrom}
-use Rattle.decoder.proofs.WalkLaws.{rise_one, all_last}
+use Rattle.decoder.proofs.OneWalk.{rise_one, all_last}
 use Rattle.decoder.specs.Walk.{End, AtBranch, AtAddress, AtTarget, EndsAt, RetiresAt, IsWalk}
 
 -- All words stand at the places of this many halfwords from this address on.
@@ -23,7 +25,8 @@ record Places (words : Words) (start half : ℕ) : Type 0 where
   at : (a : ℕ) (w : Word) → words a ≡ Some w → (i : ℕ) × (a ≡ start + (i + i)) × (i < half)
 
 -- Places are counted from the first even address.
-places_of : (words : Words) (base count : ℕ) → IsProgram words → LiesIn words base count → Places words (base + base % 2) (count / 2)
+places_of : (words : Words) (base count : ℕ) → IsProgram words → LiesIn words base count →
+    Places words (base + base % 2) (count / 2)
 places_of words base count good lies = record {
   at = λ a w is.
       let even = good.even a w is in
@@ -59,14 +62,16 @@ module _ (words : Words) (good : IsProgram words) (start half : ℕ) (lies : Pla
     forward : NoneOf (is_backward words) front
     stays : NoneOf (is_discontinuity words) front
 
-  later : {b : Option Event} {e : Event} {front : List Event} {l : Event} → Stretch b (e ∷ front) l → Stretch (Some e) front l
+  later : {b : Option Event} {e : Event} {front : List Event} {l : Event} → Stretch b (e ∷ front) l →
+      Stretch (Some e) front l
   later s = record { runs = s.runs.2; all = s.all.1; forward = s.forward.1; stays = s.stays.1 }
 
   abbrev head_of : List Event → Event → Event
   head_of [] l = l
   head_of (e ∷ es) l = e
 
-  head_right : (b : Option Event) (front : List Event) (l : Event) → Stretch b front l → Right words (head_of front l) × (is_retirement (head_of front l) ≡ true) × StepFrom words b (head_of front l)
+  head_right : (b : Option Event) (front : List Event) (l : Event) → Stretch b front l →
+      Right words (head_of front l) × (is_retirement (head_of front l) ≡ true) × StepFrom words b (head_of front l)
   head_right b [] l s = (s.runs.0, s.all.0, s.runs.1)
   head_right b (e ∷ front) l s = (s.runs.0, s.all.0, s.runs.1)
 
@@ -79,26 +84,32 @@ module _ (words : Words) (good : IsProgram words) (start half : ℕ) (lies : Pla
   same_count : (e : Event) (w : List Event) → is_branch e ≡ false → branches (e ∷ w) ≡ branches w
   same_count e w h = ap length (outcomes-other e w h)
 
-  up : (b : Option Event) (e : Event) (front : List Event) (l : Event) (i j : ℕ) → Stretch b (e ∷ front) l → is_branch e ≡ false → At e i → At (head_of front l) j → i < j
+  up : (b : Option Event) (e : Event) (front : List Event) (l : Event) (i j : ℕ) → Stretch b (e ∷ front) l →
+      is_branch e ≡ false → At e i → At (head_of front l) j → i < j
   up b e front l i j s br hi hj =
       let h = head_right (Some e) front l (later s) in
-      let r : place e < place (head_of front l) = rise_one words good e (head_of front l) s.runs.0 s.all.0 br s.forward.0 s.stays.0 h.2 in
+      let r : place e < place (head_of front l) = rise_one words good e (head_of front l) s.runs.0 s.all.0 br
+      s.forward.0 s.stays.0 h.2 in
       let x = hi.0 in
       let y = hj.0 in
       omega arith
 
   -- Each branch pays for one way through the program.
-  long : (b : Option Event) (front : List Event) (l : Event) (i : ℕ) → Stretch b front l → At (head_of front l) i → length front + 1 + i ≤ branches front * half + half
+  long : (b : Option Event) (front : List Event) (l : Event) (i : ℕ) → Stretch b front l → At (head_of front l) i →
+      length front + 1 + i ≤ branches front * half + half
   long b [] l i s h = let k = h.1 in omega arith
   long b (e ∷ front) l i s h =
       let r = head_right (Some e) front l (later s) in
       let n = stands (head_of front l) r.0 r.1 in
       go (is_branch e) refl n.0 n.1 (long (Some e) front l n.0 (later s) n.1)
     where
-      go : (x : Bool) → is_branch e ≡ x → (j : ℕ) → At (head_of front l) j → length front + 1 + j ≤ branches front * half + half → length (e ∷ front) + 1 + i ≤ branches (e ∷ front) * half + half
+      go : (x : Bool) → is_branch e ≡ x → (j : ℕ) → At (head_of front l) j →
+          length front + 1 + j ≤ branches front * half + half → length (e ∷ front) + 1 + i ≤ branches (e ∷ front) * half
+          + half
       go true br j at ih =
           let c : branches (e ∷ front) ≡ suc (branches front) = one_more e front br in
-          let k : suc (length front) + 1 + i ≤ suc (branches front) * half + half = pay (length front) (branches front) half i j ih h.1 in
+          let k : suc (length front) + 1 + i ≤ suc (branches front) * half + half =
+          pay (length front) (branches front) half i j ih h.1 in
           subst (λ n. suc (length front) + 1 + i ≤ n * half + half) (sym c) k
       go false br j at ih =
           let c : branches (e ∷ front) ≡ branches front = same_count e front br in
@@ -107,14 +118,16 @@ module _ (words : Words) (good : IsProgram words) (start half : ℕ) (lies : Pla
           subst (λ n. suc (length front) + 1 + i ≤ n * half + half) (sym c) k
 
   -- With no branch before its end it rises with each step.
-  rise_all : (b : Option Event) (front : List Event) (l : Event) (i k : ℕ) → Stretch b front l → At (head_of front l) i → At l k → branches front ≡ 0 → length front + i ≤ k
+  rise_all : (b : Option Event) (front : List Event) (l : Event) (i k : ℕ) → Stretch b front l →
+      At (head_of front l) i → At l k → branches front ≡ 0 → length front + i ≤ k
   rise_all b [] l i k s h at z = let x = h.0 in let y = at.0 in omega arith
   rise_all b (e ∷ front) l i k s h at z =
       let r = head_right (Some e) front l (later s) in
       let n = stands (head_of front l) r.0 r.1 in
       go (is_branch e) refl n.0 n.1 (λ m. rise_all (Some e) front l n.0 k (later s) n.1 at m)
     where
-      go : (x : Bool) → is_branch e ≡ x → (j : ℕ) → At (head_of front l) j → (branches front ≡ 0 → length front + j ≤ k) → length (e ∷ front) + i ≤ k
+      go : (x : Bool) → is_branch e ≡ x → (j : ℕ) → At (head_of front l) j →
+          (branches front ≡ 0 → length front + j ≤ k) → length (e ∷ front) + i ≤ k
       go true br j here ih = let c = one_more e front br in absurd (omega arith)
       go false br j here ih =
           let c = same_count e front br in
@@ -138,14 +151,17 @@ module _ (words : Words) (good : IsProgram words) (start half : ℕ) (lies : Pla
       go (Some (NotRetirable, n)) m k br = cc
 
   -- One less where it ends at a discontinuity and has a branch.
-  shorter : (b : Option Event) (front : List Event) (l : Event) (i : ℕ) → Stretch b front l → At (head_of front l) i → is_discontinuity words l ≡ true → 1 ≤ branches front → length front + 2 + i ≤ branches front * half + half
+  shorter : (b : Option Event) (front : List Event) (l : Event) (i : ℕ) → Stretch b front l → At (head_of front l) i →
+      is_discontinuity words l ≡ true → 1 ≤ branches front → length front + 2 + i ≤ branches front * half + half
   shorter b [] l i s h d one = absurd (omega arith)
   shorter b (e ∷ front) l i s h d one =
       let r = head_right (Some e) front l (later s) in
       let n = stands (head_of front l) r.0 r.1 in
       go (is_branch e) refl n.0 n.1 (branches front) refl (λ m. shorter (Some e) front l n.0 (later s) n.1 d m)
     where
-      go : (x : Bool) → is_branch e ≡ x → (j : ℕ) → At (head_of front l) j → (m : ℕ) → branches front ≡ m → (1 ≤ branches front → length front + 2 + j ≤ branches front * half + half) → length (e ∷ front) + 2 + i ≤ branches (e ∷ front) * half + half
+      go : (x : Bool) → is_branch e ≡ x → (j : ℕ) → At (head_of front l) j → (m : ℕ) → branches front ≡ m →
+          (1 ≤ branches front → length front + 2 + j ≤ branches front * half + half) →
+          length (e ∷ front) + 2 + i ≤ branches (e ∷ front) * half + half
       go false br j at m eq ih =
           let c : branches (e ∷ front) ≡ branches front = same_count e front br in
           let lt = up b e front l i j s br h at in
@@ -155,7 +171,8 @@ module _ (words : Words) (good : IsProgram words) (start half : ℕ) (lies : Pla
       go true br j at (suc m) eq ih =
           let c : branches (e ∷ front) ≡ suc (branches front) = one_more e front br in
           let k = ih (omega arith) in
-          let z : suc (length front) + 2 + i ≤ suc (branches front) * half + half = pay_two (length front) (branches front) half i j k h.1 in
+          let z : suc (length front) + 2 + i ≤ suc (branches front) * half + half =
+          pay_two (length front) (branches front) half i j k h.1 in
           subst (λ n. suc (length front) + 2 + i ≤ n * half + half) (sym c) z
       go true br j at zero eq ih =
           let c : branches (e ∷ front) ≡ 1 = one_more e front br ∙ ap suc eq in
@@ -169,13 +186,15 @@ module _ (words : Words) (good : IsProgram words) (start half : ℕ) (lies : Pla
           let z : suc (length front) + 2 + i ≤ 1 * half + half = omega arith in
           subst (λ n. suc (length front) + 2 + i ≤ n * half + half) (sym c) z
 
-  only_last : (test : Event → Bool) (e : Event) (es : List Event) → OnlyLast test (e ∷ es) → (g : List Event) × (d : Event) × (e ∷ es ≡ g ++ d ∷ []) × NoneOf test g × (test d ≡ true)
+  only_last : (test : Event → Bool) (e : Event) (es : List Event) → OnlyLast test (e ∷ es) →
+      (g : List Event) × (d : Event) × (e ∷ es ≡ g ++ d ∷ []) × NoneOf test g × (test d ≡ true)
   only_last test e [] h = ([], e, refl, tt, h)
   only_last test e (f ∷ es) h =
       let r = only_last test f es h.1 in
       (e ∷ r.0, r.1, ap (λ l. e ∷ l) r.2, (h.0, r.3), r.4)
 
-  retire_front : (p : ℕ) (w : List Event) → AllByRecursion (RetiresAt p) w → AllByRecursion (λ e. is_retirement e ≡ true) w
+  retire_front : (p : ℕ) (w : List Event) → AllByRecursion (RetiresAt p) w →
+      AllByRecursion (λ e. is_retirement e ≡ true) w
   retire_front p [] h = tt
   retire_front p (e ∷ w) h = (h.0.0, retire_front p w h.1)
 
@@ -186,12 +205,14 @@ module _ (words : Words) (good : IsProgram words) (start half : ℕ) (lies : Pla
   times : (B H : ℕ) → B ≤ 31 → B * H ≤ 31 * H
   times B H h = grind arith
 
-  fewer : (front : List Event) (l : Event) (taken : List Bool) → outcomes (front ++ l ∷ []) ≡ taken → length taken ≤ 31 → branches front ≤ 31
+  fewer : (front : List Event) (l : Event) (taken : List Bool) → outcomes (front ++ l ∷ []) ≡ taken →
+      length taken ≤ 31 → branches front ≤ 31
   fewer front l taken e h =
       let k = ap length (sym (outcomes-append front (l ∷ [])) ∙ e) in
       omega (arith, length-append (outcomes front) (outcomes (l ∷ [])), k)
 
-  straight_bound : (b : Option Event) (front : List Event) (l : Event) → Stretch b front l → branches front ≤ 31 → length (front ++ l ∷ []) ≤ 32 * half
+  straight_bound : (b : Option Event) (front : List Event) (l : Event) → Stretch b front l → branches front ≤ 31 →
+      length (front ++ l ∷ []) ≤ 32 * half
   straight_bound b front l s h =
       let r = head_right b front l s in
       let n = stands (head_of front l) r.0 r.1 in
@@ -199,7 +220,8 @@ module _ (words : Words) (good : IsProgram words) (start half : ℕ) (lies : Pla
       let t = times (branches front) half h in
       omega (arith, length-append front (l ∷ []))
 
-  target_bound : (b : Option Event) (g : List Event) (d l : Event) → Stretch b g d → is_discontinuity words d ≡ true → branches g ≤ 31 → length ((g ++ d ∷ []) ++ l ∷ []) ≤ 32 * half
+  target_bound : (b : Option Event) (g : List Event) (d l : Event) → Stretch b g d → is_discontinuity words d ≡ true →
+      branches g ≤ 31 → length ((g ++ d ∷ []) ++ l ∷ []) ≤ 32 * half
   target_bound b g d l s disc h =
       let r = head_right b g d s in
       let n = stands (head_of g d) r.0 r.1 in
@@ -220,29 +242,49 @@ module _ (words : Words) (good : IsProgram words) (start half : ℕ) (lies : Pla
           let q = lengths in
           omega arith
 
-  walk_bound_by : (e : Event) (taken : List Bool) (end : End) (w : List Event) → IsWalk words e taken end w → Runs words (Some e) w → length taken ≤ 31 → length w ≤ 32 * half
+  walk_bound_by : (e : Event) (taken : List Bool) (end : End) (w : List Event) → IsWalk words e taken end w →
+      Runs words (Some e) w → length taken ≤ 31 → length w ≤ 32 * half
   walk_bound_by e taken end w walk runs h =
       let runs2 = subst (Runs words (Some e)) walk.whole runs in
-      let all2 = retire_front (privilege e) (walk.front ++ walk.last ∷ []) (subst (AllByRecursion (RetiresAt (privilege e))) walk.whole walk.retirements.1) in
+      let all2 = retire_front (privilege e) (walk.front ++ walk.last ∷ [])
+      (subst (AllByRecursion (RetiresAt (privilege e))) walk.whole walk.retirements.1) in
       let taken2 = ap outcomes (sym walk.whole) ∙ walk.branches in
       let few = fewer walk.front walk.last taken taken2 h in
-      subst (λ x. length x ≤ 32 * half) (sym walk.whole) (by_end end walk.front walk.last runs2 all2 walk.forward few walk.ends)
+      subst (λ x. length x ≤ 32 * half) (sym walk.whole)
+      (by_end end walk.front walk.last runs2 all2 walk.forward few walk.ends)
     where
-      by_end : (end : End) (front : List Event) (l : Event) → Runs words (Some e) (front ++ l ∷ []) → AllByRecursion (λ e. is_retirement e ≡ true) (front ++ l ∷ []) → NoneOf (is_backward words) front → branches front ≤ 31 → EndsAt words end e front l → length (front ++ l ∷ []) ≤ 32 * half
-      by_end AtBranch front l r a f few ends = straight_bound (Some e) front l (record { runs = r; all = a; forward = f; stays = ends.0.1 }) few
-      by_end (AtAddress x) front l r a f few ends = straight_bound (Some e) front l (record { runs = r; all = a; forward = f; stays = ends.0.1 }) few
-      by_end (AtTarget x) [] l r a f few ends = straight_bound (Some e) [] l (record { runs = r; all = a; forward = f; stays = tt }) few
-      by_end (AtTarget x) (g ∷ front) l r a f few ends = on_target (g ∷ front) (only_last (is_discontinuity words) g front ends.0.1) r a f few
+      by_end : (end : End) (front : List Event) (l : Event) → Runs words (Some e) (front ++ l ∷ []) →
+          AllByRecursion (λ e. is_retirement e ≡ true) (front ++ l ∷ []) → NoneOf (is_backward words) front →
+          branches front ≤ 31 → EndsAt words end e front l → length (front ++ l ∷ []) ≤ 32 * half
+      by_end AtBranch front l r a f few ends = straight_bound (Some e) front l
+          (record { runs = r; all = a; forward = f; stays = ends.0.1 }) few
+      by_end (AtAddress x) front l r a f few ends = straight_bound (Some e) front l
+          (record { runs = r; all = a; forward = f; stays = ends.0.1 }) few
+      by_end (AtTarget x) [] l r a f few ends = straight_bound (Some e) [] l
+          (record { runs = r; all = a; forward = f; stays = tt }) few
+      by_end (AtTarget x) (g ∷ front) l r a f few ends = on_target (g ∷ front)
+          (only_last (is_discontinuity words) g front ends.0.1) r a f few
         where
-          on_target : (front : List Event) → (g : List Event) × (d : Event) × (front ≡ g ++ d ∷ []) × NoneOf (is_discontinuity words) g × (is_discontinuity words d ≡ true) → Runs words (Some e) (front ++ l ∷ []) → AllByRecursion (λ e. is_retirement e ≡ true) (front ++ l ∷ []) → NoneOf (is_backward words) front → branches front ≤ 31 → length (front ++ l ∷ []) ≤ 32 * half
+          on_target : (front : List Event) → (g : List Event) × (d : Event) × (front ≡ g ++ d ∷ []) ×
+              NoneOf (is_discontinuity words) g × (is_discontinuity words d ≡ true) →
+              Runs words (Some e) (front ++ l ∷ []) → AllByRecursion (λ e. is_retirement e ≡ true) (front ++ l ∷ []) →
+              NoneOf (is_backward words) front → branches front ≤ 31 → length (front ++ l ∷ []) ≤ 32 * half
           on_target front (g, d, is, none, leaving) r a f few =
-              let r2 = (runs_split words (Some e) (g ++ d ∷ []) (l ∷ []) (subst (λ x. Runs words (Some e) (x ++ l ∷ [])) is r)).0 in
-              let a2 = all_front (λ e. is_retirement e ≡ true) (g ++ d ∷ []) (l ∷ []) (subst (λ x. AllByRecursion (λ e. is_retirement e ≡ true) (x ++ l ∷ [])) is a) in
-              let f2 = all_front (λ e. is_backward words e ≡ false) g (d ∷ []) (subst (NoneOf (is_backward words)) is f) in
+              let r2 = (runs_split words (Some e) (g ++ d ∷ []) (l ∷ [])
+              (subst (λ x. Runs words (Some e) (x ++ l ∷ [])) is r)).0 in
+              let a2 = all_front (λ e. is_retirement e ≡ true) (g ++ d ∷ []) (l ∷ [])
+              (subst (λ x. AllByRecursion (λ e. is_retirement e ≡ true) (x ++ l ∷ [])) is a) in
+              let f2 = all_front (λ e. is_backward words e ≡ false) g (d ∷ [])
+              (subst (NoneOf (is_backward words)) is f) in
               let few2 = fewer g d (outcomes front) (sym (ap outcomes is)) few in
-              subst (λ x. length (x ++ l ∷ []) ≤ 32 * half) (sym is) (target_bound (Some e) g d l (record { runs = r2; all = a2; forward = f2; stays = none }) leaving few2)
+              subst (λ x. length (x ++ l ∷ []) ≤ 32 * half) (sym is)
+              (target_bound (Some e) g d l (record { runs = r2; all = a2; forward = f2; stays = none }) leaving
+              few2)
 
 -- A walk has at most 32 retirements for each halfword of the program.
-pub walk_bound : (words : Words) (base count : ℕ) → IsProgram words → LiesIn words base count → (e : Event) (taken : List Bool) (end : End) (w : List Event) → length taken ≤ 31 → IsWalk words e taken end w → Runs words (Some e) w → length w ≤ 32 * (count / 2)
+pub walk_bound : (words : Words) (base count : ℕ) → IsProgram words → LiesIn words base count →
+    (e : Event) (taken : List Bool) (end : End) (w : List Event) → length taken ≤ 31 → IsWalk words e taken end w →
+    Runs words (Some e) w → length w ≤ 32 * (count / 2)
 walk_bound words base count good lies e taken end w few walk runs =
-    walk_bound_by words good (base + base % 2) (count / 2) (places_of words base count good lies) e taken end w walk runs few
+    walk_bound_by words good (base + base % 2) (count / 2) (places_of words base count good lies) e taken end w walk
+    runs few

@@ -1,167 +1,43 @@
 -- Each walk that runs is found step by step, and what is found is a walk that runs.
-use Rattle.std.proofs.Common.{◌≡◌, ℕ, zero, suc, ◌≤◌, Bool, true, false, ◌||◌, ◌&&◌, ◌==◌, cond, List, [], ◌∷◌, ◌++◌, length, Option, Some, None, refl, sym, ap, subst, ◌∙◌, inl, inr, arith, length-append}
-use Rattle.std.specs.Prelude.{nat_le}
+use Rattle.std.proofs.Common.{◌≡◌, ℕ, zero, suc, ◌≤◌, Bool, true, false, ◌==◌, cond, List, [], ◌∷◌, ◌++◌}
+use Rattle.std.proofs.Common.{length, Option, Some, None, refl, sym, ap, subst, ◌∙◌, arith, length-append}
 use Rattle.std.specs.List.{AllByRecursion}
 use Rattle.std.proofs.lemmas.Bool.Decides.{nat_tests}
-use Rattle.retire.proofs.OutcomesLemmas.{outcomes-branch, outcomes-other}
-use Rattle.retire.specs.Events.{place, privilege, is_retirement, is_branch, is_taken, outcomes}
+use Rattle.retire.specs.Events.{place, privilege, is_retirement, is_branch, outcomes}
 use Rattle.retire.specs.declared.event.Event.{Event}
 use Rattle.retire.specs.declared.event.Event.TheVariants.{Retire, Trap}
-use Rattle.rvclass.specs.Words.{Word, Words, IsProgram}
-use Rattle.rvclass.specs.declared.class.Class.TheVariants.{Plain, Jump, Branch, Uninferable, TrapReturn, NotRetirable}
-use Rattle.rvclass.specs.declared.class.Return.TheVariants.{Mret, Sret}
+use Rattle.rvclass.specs.Words.{Words, IsProgram}
 use Rattle.legalpath.specs.Backward.{is_backward}
-use Rattle.legalpath.specs.Discontinuity.{leaves, is_discontinuity}
+use Rattle.legalpath.specs.Discontinuity.{is_discontinuity}
 use Rattle.retire.specs.InRange.{IsPrivilege}
-use Rattle.legalpath.specs.Right.{RetiresOn, Right}
-use Rattle.legalpath.specs.Step.{MayStandAt, KeepsPrivilege, PrivilegeAfter, Step}
+use Rattle.legalpath.specs.Right.{Right}
+use Rattle.legalpath.specs.Step.{MayStandAt, PrivilegeAfter, Step}
 use Rattle.legalpath.specs.Successor.{leads_from, successor}
 use Rattle.legalpath.specs.WordOf.{word_of}
 use Rattle.legalpath.specs.declared.next.Next.{Next}
 use Rattle.legalpath.specs.declared.next.Next.TheVariants.{One, Any, NoneInside}
-use Rattle.decoder.proofs.WalkLaws.{Side, no_longer, side, straight, further}
-use Rattle.decoder.specs.Leads.{may_stay_on}
+use Rattle.decoder.proofs.OneWalk.{Side, no_longer, side, straight, further}
+use Rattle.decoder.specs.steps.Leads.{may_stay_on}
 use Rattle.decoder.specs.Walk.{End, AtBranch, AtAddress, AtTarget, EndsAt, RetiresAt}
-use Rattle.decoder.specs.WalkSteps.{retire_on, is_empty, stops, Move, Stop, Last, On, next_move, last_move, target_move, move_to, advance, behind, follow, walk_within}
-use Rattle.decoder.specs.Walks.{WalksOn}
-
--- What may retire on a word is found there.
-retire_on-finds : (x p : ℕ) (word : Option Word) (t : ℕ) (w : List Event) → RetiresOn word t p → retire_on x p word (outcomes (Retire x t p ∷ w)) ≡ Some (Retire x t p, outcomes w)
-retire_on-finds x p None t w r = absurd r
-retire_on-finds x p (Some (Plain, n)) t w r = rw r.0 refl
-retire_on-finds x p (Some (Jump to, n)) t w r = rw r.0 refl
-retire_on-finds x p (Some (Branch to, n)) t w r = elim r.0 [ inl e ↦ (rw e refl) | inr e ↦ (rw e refl) ]
-retire_on-finds x p (Some (Uninferable, n)) t w r = rw r.0 refl
-retire_on-finds x p (Some (TrapReturn Mret, n)) t w r = rw (r.0, r.1) refl
-retire_on-finds x p (Some (TrapReturn Sret, n)) t w r = let may : nat_le 1 p ≡ true = grind (arith, nat_tests, r.1) in rw (r.0, may) refl
-retire_on-finds x p (Some (NotRetirable, n)) t w r = absurd r.0
-
--- A retirement that was found on a word may retire there.
-record Found (word : Option Word) (x p : ℕ) (taken : List Bool) (r : Event × List Bool) : Type 0 where
-  itype : ℕ
-  is : r.0 ≡ Retire x itype p
-  stands : RetiresOn word itype p
-  -- The outcomes that it has, before any that follow.
-  spent : (w : List Event) → outcomes w ≡ r.1 → outcomes (r.0 ∷ w) ≡ taken
-
-found_plain : (word : Option Word) (x p t : ℕ) (taken : List Bool) (r : Event × List Bool) → RetiresOn word t p → ((t == 4) || (t == 5)) ≡ false → Some (Retire x t p, taken) ≡ Some r → Found word x p taken r
-found_plain word x p t taken r stands b e =
-    let is : (Retire x t p, taken) ≡ r = cc in
-    subst (Found word x p taken) is (record { itype = t; is = refl; stands = stands; spent = λ w h. outcomes-other (Retire x t p) w b ∙ h })
-
-found_if : (word : Option Word) (x p : ℕ) (taken : List Bool) (r : Event × List Bool) (b : Bool) → (b ≡ true → RetiresOn word 3 p) → cond b (Some (Retire x 3 p, taken)) None ≡ Some r → Found word x p taken r
-found_if word x p taken r true f e = found_plain word x p 3 taken r (f refl) refl e
-found_if word x p taken r false f e = cc
-
-found_branch : (word : Option Word) (x p t : ℕ) (b : Bool) (taken : List Bool) (r : Event × List Bool) → RetiresOn word t p → ((t == 4) || (t == 5)) ≡ true → (t == 5) ≡ b → Some (Retire x t p, taken) ≡ Some r → Found word x p (b ∷ taken) r
-found_branch word x p t b taken r stands br tk e =
-    let is : (Retire x t p, taken) ≡ r = cc in
-    subst (Found word x p (b ∷ taken)) is (record { itype = t; is = refl; stands = stands; spent = λ w h. let k = outcomes-branch (Retire x t p) w br in cc })
-
-retire_on-found : (x p : ℕ) (word : Option Word) (taken : List Bool) (r : Event × List Bool) → retire_on x p word taken ≡ Some r → Found word x p taken r
-retire_on-found x p None taken r e = cc
-retire_on-found x p (Some (Plain, n)) taken r e = found_plain _ x p 0 taken r (refl, tt) refl e
-retire_on-found x p (Some (Jump to, n)) taken r e = found_plain _ x p 0 taken r (refl, tt) refl e
-retire_on-found x p (Some (Branch to, n)) [] r e = cc
-retire_on-found x p (Some (Branch to, n)) (true ∷ taken) r e = found_branch _ x p 5 true taken r (inr refl, tt) refl refl e
-retire_on-found x p (Some (Branch to, n)) (false ∷ taken) r e = found_branch _ x p 4 false taken r (inl refl, tt) refl refl e
-retire_on-found x p (Some (Uninferable, n)) taken r e = found_plain _ x p 6 taken r (refl, tt) refl e
-retire_on-found x p (Some (TrapReturn Mret, n)) taken r e = found_if _ x p taken r (p == 3) (λ h. (refl, grind (arith, nat_tests))) e
-retire_on-found x p (Some (TrapReturn Sret, n)) taken r e = found_if _ x p taken r (nat_le 1 p) (λ h. (refl, grind (arith, nat_tests))) e
-retire_on-found x p (Some (NotRetirable, n)) taken r e = cc
-
-empty_is : (o : List Bool) → is_empty o ≡ true → [] ≡ o
-empty_is [] h = refl
-empty_is (x ∷ o) h = cc
-
-and_both : (x y : Bool) → (x && y) ≡ true → (x ≡ true) × (y ≡ true)
-and_both true y h = (refl, h)
-and_both false y h = cc
-
-same_front : (f : Event) (w v : List Event) → outcomes w ≡ outcomes v → outcomes (f ∷ w) ≡ outcomes (f ∷ v)
-same_front f w v o = go (is_branch f) refl
-  where
-    go : (b : Bool) → is_branch f ≡ b → outcomes (f ∷ w) ≡ outcomes (f ∷ v)
-    go true b = outcomes-branch f w b ∙ ap (λ l. is_taken f ∷ l) o ∙ sym (outcomes-branch f v b)
-    go false b = outcomes-other f w b ∙ o ∙ sym (outcomes-other f v b)
-
--- By a word: where its retirements lead, and the privilege that they leave.
-leads_one : (word : Option Word) (a t x : ℕ) → leaves word ≡ false → MayStandAt (leads_from a t word) x → leads_from a t word ≡ One x
-leads_one None a t x l m = absurd m
-leads_one (Some (Plain, n)) a t x l m = ap One (sym m)
-leads_one (Some (Jump to, n)) a t x l m = ap One (sym m)
-leads_one (Some (Branch to, n)) a t x l m = ap One (sym m)
-leads_one (Some (Uninferable, n)) a t x l m = cc
-leads_one (Some (TrapReturn y, n)) a t x l m = cc
-leads_one (Some (NotRetirable, n)) a t x l m = absurd m
-
-leads_any : (word : Option Word) (a t : ℕ) → leaves word ≡ true → leads_from a t word ≡ Any
-leads_any None a t l = cc
-leads_any (Some (Plain, n)) a t l = cc
-leads_any (Some (Jump to, n)) a t l = cc
-leads_any (Some (Branch to, n)) a t l = cc
-leads_any (Some (Uninferable, n)) a t l = refl
-leads_any (Some (TrapReturn y, n)) a t l = refl
-leads_any (Some (NotRetirable, n)) a t l = cc
-
-one_stays : (word : Option Word) (a t x : ℕ) → leads_from a t word ≡ One x → leaves word ≡ false
-one_stays None a t x l = cc
-one_stays (Some (Plain, n)) a t x l = refl
-one_stays (Some (Jump to, n)) a t x l = refl
-one_stays (Some (Branch to, n)) a t x l = refl
-one_stays (Some (Uninferable, n)) a t x l = cc
-one_stays (Some (TrapReturn y, n)) a t x l = cc
-one_stays (Some (NotRetirable, n)) a t x l = cc
-
-any_leaves : (word : Option Word) (a t : ℕ) → leads_from a t word ≡ Any → leaves word ≡ true
-any_leaves None a t l = cc
-any_leaves (Some (Plain, n)) a t l = cc
-any_leaves (Some (Jump to, n)) a t l = cc
-any_leaves (Some (Branch to, n)) a t l = cc
-any_leaves (Some (Uninferable, n)) a t l = refl
-any_leaves (Some (TrapReturn y, n)) a t l = refl
-any_leaves (Some (NotRetirable, n)) a t l = cc
-
-stays : (word : Option Word) (p q : ℕ) → IsPrivilege p → KeepsPrivilege word p q → q ≡ p → may_stay_on word p ≡ true
-stays None p q level k e = refl
-stays (Some (Plain, n)) p q level k e = grind (arith, nat_tests)
-stays (Some (Jump to, n)) p q level k e = grind (arith, nat_tests)
-stays (Some (Branch to, n)) p q level k e = grind (arith, nat_tests)
-stays (Some (Uninferable, n)) p q level k e = grind (arith, nat_tests)
-stays (Some (TrapReturn Mret, n)) p q level k e = grind (arith, nat_tests, level.0)
-stays (Some (TrapReturn Sret, n)) p q level k e = grind (arith, nat_tests)
-stays (Some (NotRetirable, n)) p q level k e = grind (arith, nat_tests)
-
-kept : (word : Option Word) (p : ℕ) → leaves word ≡ false → KeepsPrivilege word p p
-kept None p l = refl
-kept (Some (Plain, n)) p l = refl
-kept (Some (Jump to, n)) p l = refl
-kept (Some (Branch to, n)) p l = refl
-kept (Some (Uninferable, n)) p l = refl
-kept (Some (TrapReturn y, n)) p l = cc
-kept (Some (NotRetirable, n)) p l = refl
-
-kept_stays : (word : Option Word) (p : ℕ) → may_stay_on word p ≡ true → KeepsPrivilege word p p
-kept_stays None p l = refl
-kept_stays (Some (Plain, n)) p l = refl
-kept_stays (Some (Jump to, n)) p l = refl
-kept_stays (Some (Branch to, n)) p l = refl
-kept_stays (Some (Uninferable, n)) p l = refl
-kept_stays (Some (TrapReturn Mret, n)) p l = tt
-kept_stays (Some (TrapReturn Sret, n)) p l = grind (arith, nat_tests)
-kept_stays (Some (NotRetirable, n)) p l = refl
+use Rattle.decoder.specs.steps.WalkSteps.{retire_on, is_empty, stops, Move, Stop, Last, On, next_move, last_move}
+use Rattle.decoder.specs.steps.WalkSteps.{target_move, move_to, advance, behind, follow, walk_within}
+use Rattle.decoder.specs.steps.Walks.{WalksOn}
+use Rattle.decoder.proofs.OnOneWord.{retire_on-finds, retire_on-found, empty_is, and_both, same_front, leads_one, leads_any, one_stays, any_leaves, stays, kept, kept_stays}
 
 module _ (words : Words) (good : IsProgram words) where
   -- A step from a retirement with one successor, and from a discontinuity.
-  advance_one : (e : Event) (taken : List Bool) (end : End) (x : ℕ) → successor words e ≡ One x → advance words e taken end ≡ next_move words end (retire_on x (privilege e) (words x) taken)
+  advance_one : (e : Event) (taken : List Bool) (end : End) (x : ℕ) → successor words e ≡ One x →
+      advance words e taken end ≡ next_move words end (retire_on x (privilege e) (words x) taken)
   unfolding advance
   advance_one e taken end x at = ap (move_to words e taken end) at
 
-  advance_any : (e : Event) (taken : List Bool) (end : End) → successor words e ≡ Any → advance words e taken end ≡ target_move words (word_of words e) (privilege e) taken end
+  advance_any : (e : Event) (taken : List Bool) (end : End) → successor words e ≡ Any →
+      advance words e taken end ≡ target_move words (word_of words e) (privilege e) taken end
   unfolding advance
   advance_any e taken end at = ap (move_to words e taken end) at
 
-  one_step : (e f : Event) → is_retirement e ≡ true → is_discontinuity words e ≡ false → Step words e f → successor words e ≡ One (place f)
+  one_step : (e f : Event) → is_retirement e ≡ true → is_discontinuity words e ≡ false → Step words e f →
+      successor words e ≡ One (place f)
   one_step (Retire a t p) f r d s = leads_one (words a) a t (place f) d s.0
   one_step (Trap x p i c v) f r d s = cc
 
@@ -170,7 +46,9 @@ module _ (words : Words) (good : IsProgram words) where
   any_step (Trap x p i c v) r d = cc
 
   -- The first retirement of a walk is found.
-  next_finds : (p : ℕ) (e f : Event) (w : List Event) (end : End) → RetiresAt p e → RetiresAt p f → is_discontinuity words e ≡ false → Right words f → Step words e f → advance words e (outcomes (f ∷ w)) end ≡ next_move words end (Some (f, outcomes w))
+  next_finds : (p : ℕ) (e f : Event) (w : List Event) (end : End) → RetiresAt p e → RetiresAt p f →
+      is_discontinuity words e ≡ false → Right words f → Step words e f →
+      advance words e (outcomes (f ∷ w)) end ≡ next_move words end (Some (f, outcomes w))
   next_finds p e (Trap x q i c v) w end h k d r s = let z : false ≡ true = k.0 in cc
   next_finds p e (Retire x t q) w end h k d r s =
       let level : privilege e ≡ q = h.1 ∙ sym k.1 in
@@ -178,33 +56,54 @@ module _ (words : Words) (good : IsProgram words) where
       ∙ ap (λ l. next_move words end (retire_on x l (words x) (outcomes (Retire x t q ∷ w)))) level
       ∙ ap (next_move words end) (retire_on-finds x q (words x) t w r.0)
 
-  target_finds : (p a : ℕ) (e l : Event) → RetiresAt p e → RetiresAt p l → is_discontinuity words e ≡ true → Right words l → Step words e l → place l ≡ a → advance words e (outcomes (l ∷ [])) (AtTarget a) ≡ Last l
+  target_finds : (p a : ℕ) (e l : Event) → RetiresAt p e → RetiresAt p l → is_discontinuity words e ≡ true →
+      Right words l → Step words e l → place l ≡ a → advance words e (outcomes (l ∷ [])) (AtTarget a) ≡ Last l
   target_finds p a (Trap x q i c v) l h k d r s at = let z : false ≡ true = h.0 in cc
   target_finds p a (Retire y u z) (Trap x q i c v) h k d r s at = let z : false ≡ true = k.0 in cc
   target_finds p a (Retire y u z) (Retire x t q) h k d r s at =
       let level : q ≡ z = k.1 ∙ sym h.1 in
       let stay = stays (words y) z q (subst IsPrivilege level r.1) s.1 level in
       let there : retire_on a z (words a) (outcomes (Retire x t q ∷ [])) ≡ Some (Retire x t q, []) =
-      ap (λ m. retire_on m z (words m) (outcomes (Retire x t q ∷ []))) (sym at) ∙ ap (λ m. retire_on x m (words x) (outcomes (Retire x t q ∷ []))) (sym level) ∙ retire_on-finds x q (words x) t [] r.0 in
+      ap (λ m. retire_on m z (words m) (outcomes (Retire x t q ∷ []))) (sym at)
+      ∙ ap (λ m. retire_on x m (words x) (outcomes (Retire x t q ∷ []))) (sym level)
+      ∙ retire_on-finds x q (words x) t [] r.0 in
       advance_any (Retire y u z) (outcomes (Retire x t q ∷ [])) (AtTarget a) (any_step (Retire y u z) h.0 d)
       ∙ ap (λ b. cond b (last_move (retire_on a z (words a) (outcomes (Retire x t q ∷ [])))) Stop) stay
       ∙ ap last_move there
 
   -- A walk that goes on does not stop.
-  not_yet : (p : ℕ) (end : End) (e f : Event) (front : List Event) (l : Event) → Side words good p end e (f ∷ front) l → stops end f (outcomes (front ++ l ∷ [])) ≡ false
+  not_yet : (p : ℕ) (end : End) (e f : Event) (front : List Event) (l : Event) → Side words good p end e (f ∷ front) l →
+      stops end f (outcomes (front ++ l ∷ [])) ≡ false
   not_yet p end e f front l s = go (stops end f (outcomes (front ++ l ∷ []))) refl
     where
-      stopped : (end : End) → Side words good p end e (f ∷ front) l → stops end f (outcomes (front ++ l ∷ [])) ≡ true → ⊥
+      stopped : (end : End) → Side words good p end e (f ∷ front) l → stops end f (outcomes (front ++ l ∷ [])) ≡ true →
+          ⊥
       stopped AtBranch s h =
           let k = and_both (is_branch f) (is_empty (outcomes (front ++ l ∷ []))) h in
           let o = empty_is (outcomes (front ++ l ∷ [])) k.1 in
-          let now : Side words good p AtBranch e [] f = record { before = s.before; runs = (s.runs.0, s.runs.1, tt); retirements = (s.retirements.0, tt); forward = tt; ends = ((s.ends.0.0, tt), k.0) } in
+          let now : Side words good p AtBranch e [] f =
+          record {
+            before = s.before;
+            runs = (s.runs.0, s.runs.1, tt);
+            retirements =
+                (s.retirements.0, tt);
+            forward = tt;
+            ends = ((s.ends.0.0, tt), k.0);
+          } in
           no_longer words good p AtBranch e f f front l now s (same_front f [] (front ++ l ∷ []) o)
       stopped (AtAddress a) s h =
           let k = and_both (place f == a) (is_empty (outcomes (front ++ l ∷ []))) h in
           let o = empty_is (outcomes (front ++ l ∷ [])) k.1 in
           let at : place f ≡ a = grind (arith, nat_tests, k.0) in
-          let now : Side words good p (AtAddress a) e [] f = record { before = s.before; runs = (s.runs.0, s.runs.1, tt); retirements = (s.retirements.0, tt); forward = tt; ends = ((s.ends.0.0, tt), at) } in
+          let now : Side words good p (AtAddress a) e [] f =
+          record {
+            before = s.before;
+            runs = (s.runs.0, s.runs.1, tt);
+            retirements =
+                (s.retirements.0, tt);
+            forward = tt;
+            ends = ((s.ends.0.0, tt), at);
+          } in
           no_longer words good p (AtAddress a) e f f front l now s (same_front f [] (front ++ l ∷ []) o)
       stopped (AtTarget a) s h = cc
 
@@ -213,11 +112,13 @@ module _ (words : Words) (good : IsProgram words) where
       go false h = h
 
   -- One step more of a walk.
-  within_more : (n : ℕ) (e : Event) (taken : List Bool) (end : End) (mv : Move) → advance words e taken end ≡ mv → walk_within words (suc n) e taken end ≡ follow mv (λ f left. walk_within words n f left end)
+  within_more : (n : ℕ) (e : Event) (taken : List Bool) (end : End) (mv : Move) → advance words e taken end ≡ mv →
+      walk_within words (suc n) e taken end ≡ follow mv (λ f left. walk_within words n f left end)
   unfolding walk_within
   within_more n e taken end mv h = ap (λ m. follow m (λ f left. walk_within words n f left end)) h
 
-  last_finds : (p : ℕ) (end : End) (e l : Event) → Side words good p end e [] l → advance words e (outcomes (l ∷ [])) end ≡ Last l
+  last_finds : (p : ℕ) (end : End) (e l : Event) → Side words good p end e [] l →
+      advance words e (outcomes (l ∷ [])) end ≡ Last l
   last_finds p AtBranch e l s =
       next_finds p e l [] AtBranch s.before s.retirements.0 s.ends.0.0 s.runs.0 s.runs.1 ∙ rw s.ends.1 refl
   last_finds p (AtAddress a) e l s =
@@ -225,25 +126,30 @@ module _ (words : Words) (good : IsProgram words) where
       next_finds p e l [] (AtAddress a) s.before s.retirements.0 s.ends.0.0 s.runs.0 s.runs.1 ∙ rw at refl
   last_finds p (AtTarget a) e l s = target_finds p a e l s.before s.retirements.0 s.ends.0 s.runs.0 s.runs.1 s.ends.1
 
-  side_finds : (p : ℕ) (end : End) (front : List Event) (e l : Event) (n : ℕ) → Side words good p end e front l → length front ≤ n → walk_within words (suc n) e (outcomes (front ++ l ∷ [])) end ≡ Some (front ++ l ∷ [])
+  side_finds : (p : ℕ) (end : End) (front : List Event) (e l : Event) (n : ℕ) → Side words good p end e front l →
+      length front ≤ n → walk_within words (suc n) e (outcomes (front ++ l ∷ [])) end ≡ Some (front ++ l ∷ [])
   side_finds p end [] e l n s le = within_more n e _ end (Last l) (last_finds p end e l s)
   side_finds p end (f ∷ front) e l zero s le = absurd (omega arith)
   side_finds p end (f ∷ front) e l (suc n) s le =
       let d = straight words good end e f front l s.ends in
       let moves : advance words e (outcomes (f ∷ front ++ l ∷ [])) end ≡ On f (outcomes (front ++ l ∷ [])) =
-      next_finds p e f (front ++ l ∷ []) end s.before s.retirements.0 d s.runs.0 s.runs.1 ∙ rw (not_yet p end e f front l s, s.forward.0) refl in
+      next_finds p e f (front ++ l ∷ []) end s.before s.retirements.0 d s.runs.0 s.runs.1
+      ∙ rw (not_yet p end e f front l s, s.forward.0) refl in
       within_more (suc n) e (outcomes (f ∷ front ++ l ∷ [])) end (On f (outcomes (front ++ l ∷ []))) moves
       ∙ ap (behind f) (side_finds p end front f l n (further words good s) (omega arith))
 
   -- Each walk that runs is found, in as many steps as it is long or more.
-  pub walk_complete : (e : Event) (taken : List Bool) (end : End) (w : List Event) (n : ℕ) → WalksOn words e taken end w → length w ≤ n → walk_within words n e taken end ≡ Some w
-  walk_complete e taken end w zero h le = absurd (omega (arith, length-append h.fits.front (h.fits.last ∷ []), ap length h.fits.whole))
+  pub walk_complete : (e : Event) (taken : List Bool) (end : End) (w : List Event) (n : ℕ) →
+      WalksOn words e taken end w → length w ≤ n → walk_within words n e taken end ≡ Some w
+  walk_complete e taken end w zero h le =
+      absurd (omega (arith, length-append h.fits.front (h.fits.last ∷ []), ap length h.fits.whole))
   walk_complete e taken end w (suc n) h le =
       let s = side words good e taken end w h.fits h.runs in
       let k = ap length h.fits.whole in
       let o : outcomes (h.fits.front ++ h.fits.last ∷ []) ≡ taken = sym (ap outcomes h.fits.whole) ∙ h.fits.branches in
       let short : length h.fits.front ≤ n = omega (arith, length-append h.fits.front (h.fits.last ∷ []), k) in
-      ap (λ l. walk_within words (suc n) e l end) (sym o) ∙ side_finds (privilege e) end h.fits.front e h.fits.last n s short ∙ ap Some (sym h.fits.whole)
+      ap (λ l. walk_within words (suc n) e l end) (sym o) ∙ side_finds (privilege e) end h.fits.front e h.fits.last n s
+      short ∙ ap Some (sym h.fits.whole)
 
   -- One retirement that was found after e.
   record Stepped (e : Event) (taken : List Bool) (f : Event) (left : List Bool) : Type 0 where
@@ -252,7 +158,9 @@ module _ (words : Words) (good : IsProgram words) where
     here : RetiresAt (privilege e) f
     spent : (w : List Event) → outcomes w ≡ left → outcomes (f ∷ w) ≡ taken
 
-  stepped : (e : Event) (x : ℕ) (taken : List Bool) (f : Event) (left : List Bool) → is_retirement e ≡ true → IsPrivilege (privilege e) → MayStandAt (successor words e) x → PrivilegeAfter words e (privilege e) → retire_on x (privilege e) (words x) taken ≡ Some (f, left) → Stepped e taken f left
+  stepped : (e : Event) (x : ℕ) (taken : List Bool) (f : Event) (left : List Bool) → is_retirement e ≡ true →
+      IsPrivilege (privilege e) → MayStandAt (successor words e) x → PrivilegeAfter words e (privilege e) →
+      retire_on x (privilege e) (words x) taken ≡ Some (f, left) → Stepped e taken f left
   stepped e x taken f left r p at level h =
       let found = retire_on-found x (privilege e) (words x) taken (f, left) h in
       let is : Retire x found.itype (privilege e) ≡ f = sym found.is in
@@ -264,19 +172,32 @@ module _ (words : Words) (good : IsProgram words) where
       }
 
   -- A walk of one retirement.
-  walk_one : (e f : Event) (taken : List Bool) (end : End) → is_retirement e ≡ true → Stepped e taken f [] → EndsAt words end e [] f → WalksOn words e taken end (f ∷ [])
+  walk_one : (e f : Event) (taken : List Bool) (end : End) → is_retirement e ≡ true → Stepped e taken f [] →
+      EndsAt words end e [] f → WalksOn words e taken end (f ∷ [])
   walk_one e f taken end r s ends = record {
-    fits = record { front = []; last = f; whole = refl; retirements = ((r, refl), (s.here, tt)); branches = s.spent [] refl; forward = tt; ends = ends };
+    fits = record {
+      front = [];
+      last = f;
+      whole = refl;
+      retirements = ((r, refl), (s.here, tt));
+      branches =
+          s.spent [] refl;
+      forward = tt;
+      ends = ends;
+    };
     runs = (s.right, s.step, tt);
   }
 
-  on_front : (end : End) (e f : Event) (front : List Event) (l : Event) → is_discontinuity words e ≡ false → EndsAt words end f front l → EndsAt words end e (f ∷ front) l
+  on_front : (end : End) (e f : Event) (front : List Event) (l : Event) → is_discontinuity words e ≡ false →
+      EndsAt words end f front l → EndsAt words end e (f ∷ front) l
   on_front AtBranch e f front l d h = ((d, h.0), h.1)
   on_front (AtAddress a) e f front l d h = ((d, h.0), h.1)
   on_front (AtTarget a) e f front l d h = ((d, h.0), h.1)
 
   -- A walk of one retirement more.
-  walk_more : (e f : Event) (taken left : List Bool) (end : End) (w : List Event) → is_retirement e ≡ true → is_discontinuity words e ≡ false → is_backward words f ≡ false → Stepped e taken f left → WalksOn words f left end w → WalksOn words e taken end (f ∷ w)
+  walk_more : (e f : Event) (taken left : List Bool) (end : End) (w : List Event) → is_retirement e ≡ true →
+      is_discontinuity words e ≡ false → is_backward words f ≡ false → Stepped e taken f left →
+      WalksOn words f left end w → WalksOn words e taken end (f ∷ w)
   walk_more e f taken left end w r d b s h = record {
     fits = record {
       front = f ∷ h.fits.front;
@@ -290,39 +211,51 @@ module _ (words : Words) (good : IsProgram words) where
     runs = (s.right, s.step, h.runs);
   }
 
-  stop_sound : (end : End) (e f : Event) (left : List Bool) → is_discontinuity words e ≡ false → stops end f left ≡ true → EndsAt words end e [] f × ([] ≡ left)
-  stop_sound AtBranch e f left d h = let k = and_both (is_branch f) (is_empty left) h in (((d, tt), k.0), empty_is left k.1)
-  stop_sound (AtAddress a) e f left d h = let k = and_both (place f == a) (is_empty left) h in (((d, tt), grind (arith, nat_tests, k.0)), empty_is left k.1)
+  stop_sound : (end : End) (e f : Event) (left : List Bool) → is_discontinuity words e ≡ false →
+      stops end f left ≡ true → EndsAt words end e [] f × ([] ≡ left)
+  stop_sound AtBranch e f left d h = let k = and_both (is_branch f) (is_empty left) h in
+      (((d, tt), k.0), empty_is left k.1)
+  stop_sound (AtAddress a) e f left d h = let k = and_both (place f == a) (is_empty left) h in
+      (((d, tt), grind (arith, nat_tests, k.0)), empty_is left k.1)
   stop_sound (AtTarget a) e f left d h = cc
 
   -- What a step tells of the walks from e.
   abbrev Tells : Event → List Bool → End → Move → Type 0
   Tells e taken end Stop = Unit {0}
   Tells e taken end (Last f) = WalksOn words e taken end (f ∷ [])
-  Tells e taken end (On f left) = (is_discontinuity words e ≡ false) × (is_backward words f ≡ false) × Stepped e taken f left
+  Tells e taken end (On f left) = (is_discontinuity words e ≡ false) × (is_backward words f ≡ false) ×
+      Stepped e taken f left
 
-  next_sound : (e : Event) (taken : List Bool) (end : End) (x : ℕ) → is_retirement e ≡ true → IsPrivilege (privilege e) → is_discontinuity words e ≡ false → successor words e ≡ One x → Tells e taken end (next_move words end (retire_on x (privilege e) (words x) taken))
+  next_sound : (e : Event) (taken : List Bool) (end : End) (x : ℕ) → is_retirement e ≡ true →
+      IsPrivilege (privilege e) → is_discontinuity words e ≡ false → successor words e ≡ One x →
+      Tells e taken end (next_move words end (retire_on x (privilege e) (words x) taken))
   next_sound e taken end x r p d at = go (retire_on x (privilege e) (words x) taken) refl
     where
       there : MayStandAt (successor words e) x
       there = subst (λ n. MayStandAt n x) (sym at) refl
 
-      level : (e : Event) → is_retirement e ≡ true → is_discontinuity words e ≡ false → PrivilegeAfter words e (privilege e)
+      level : (e : Event) → is_retirement e ≡ true → is_discontinuity words e ≡ false →
+          PrivilegeAfter words e (privilege e)
       level (Retire a t q) r d = kept (words a) q d
       level (Trap y q i c v) r d = cc
 
-      on_tests : (f : Event) (left : List Bool) → Stepped e taken f left → (stop back : Bool) → stops end f left ≡ stop → is_backward words f ≡ back → Tells e taken end (cond stop (Last f) (cond back Stop (On f left)))
+      on_tests : (f : Event) (left : List Bool) → Stepped e taken f left → (stop back : Bool) →
+          stops end f left ≡ stop → is_backward words f ≡ back → Tells e taken end
+          (cond stop (Last f) (cond back Stop (On f left)))
       on_tests f left s true back h b =
           let stop = stop_sound end e f left d h in
           walk_one e f taken end r (subst (Stepped e taken f) (sym stop.1) s) stop.0
       on_tests f left s false true h b = tt
       on_tests f left s false false h b = (d, b, s)
 
-      go : (o : Option (Event × List Bool)) → retire_on x (privilege e) (words x) taken ≡ o → Tells e taken end (next_move words end o)
+      go : (o : Option (Event × List Bool)) → retire_on x (privilege e) (words x) taken ≡ o →
+          Tells e taken end (next_move words end o)
       go None h = tt
-      go (Some (f, left)) h = on_tests f left (stepped e x taken f left r p there (level e r d) h) (stops end f left) (is_backward words f) refl refl
+      go (Some (f, left)) h = on_tests f left (stepped e x taken f left r p there (level e r d) h) (stops end f left)
+          (is_backward words f) refl refl
 
-  target_sound : (e : Event) (taken : List Bool) (end : End) → is_retirement e ≡ true → IsPrivilege (privilege e) → is_discontinuity words e ≡ true → Tells e taken end (target_move words (word_of words e) (privilege e) taken end)
+  target_sound : (e : Event) (taken : List Bool) (end : End) → is_retirement e ≡ true → IsPrivilege (privilege e) →
+      is_discontinuity words e ≡ true → Tells e taken end (target_move words (word_of words e) (privilege e) taken end)
   target_sound e taken AtBranch r p d = tt
   target_sound e taken (AtAddress a) r p d = tt
   target_sound (Trap y q i c v) taken (AtTarget a) r p d = cc
@@ -334,7 +267,8 @@ module _ (words : Words) (good : IsProgram words) where
       there : MayStandAt (successor words e) a
       there = subst (λ n. MayStandAt n a) (sym (leads_any (words y) y t d)) tt
 
-      only : (o : Option (Event × List Bool)) → retire_on a q (words a) taken ≡ o → may_stay_on (words y) q ≡ true → Tells e taken (AtTarget a) (last_move o)
+      only : (o : Option (Event × List Bool)) → retire_on a q (words a) taken ≡ o → may_stay_on (words y) q ≡ true →
+          Tells e taken (AtTarget a) (last_move o)
       only None h m = tt
       only (Some (f, o ∷ left)) h m = tt
       only (Some (f, [])) h m =
@@ -342,30 +276,38 @@ module _ (words : Words) (good : IsProgram words) where
           let at : place f ≡ a = ap place (retire_on-found a q (words a) taken (f, []) h).is in
           walk_one e f taken (AtTarget a) r s (d, at)
 
-      go : (b : Bool) → may_stay_on (words y) q ≡ b → Tells e taken (AtTarget a) (cond b (last_move (retire_on a q (words a) taken)) Stop)
+      go : (b : Bool) → may_stay_on (words y) q ≡ b → Tells e taken (AtTarget a)
+          (cond b (last_move (retire_on a q (words a) taken)) Stop)
       go false m = tt
       go true m = only (retire_on a q (words a) taken) refl m
 
-  advance_sound : (e : Event) (taken : List Bool) (end : End) → is_retirement e ≡ true → IsPrivilege (privilege e) → Tells e taken end (advance words e taken end)
+  advance_sound : (e : Event) (taken : List Bool) (end : End) → is_retirement e ≡ true → IsPrivilege (privilege e) →
+      Tells e taken end (advance words e taken end)
   unfolding advance
   advance_sound (Trap y q i c v) taken end r p = cc
   advance_sound (Retire a t q) taken end r p = go (leads_from a t (words a)) refl
     where
-      go : (n : Next) → leads_from a t (words a) ≡ n → Tells (Retire a t q) taken end (move_to words (Retire a t q) taken end n)
+      go : (n : Next) → leads_from a t (words a) ≡ n → Tells (Retire a t q) taken end
+          (move_to words (Retire a t q) taken end n)
       go (One x) h = next_sound (Retire a t q) taken end x r p (one_stays (words a) a t x h) h
       go Any h = target_sound (Retire a t q) taken end r p (any_leaves (words a) a t h)
       go NoneInside h = tt
 
   -- What is found is a walk that runs.
-  pub walk_sound : (n : ℕ) (e : Event) (taken : List Bool) (end : End) (w : List Event) → is_retirement e ≡ true → IsPrivilege (privilege e) → walk_within words n e taken end ≡ Some w → WalksOn words e taken end w
+  pub walk_sound : (n : ℕ) (e : Event) (taken : List Bool) (end : End) (w : List Event) → is_retirement e ≡ true →
+      IsPrivilege (privilege e) → walk_within words n e taken end ≡ Some w → WalksOn words e taken end w
   unfolding walk_within
   walk_sound zero e taken end w r p h = cc
-  walk_sound (suc n) e taken end w r p h = go (advance words e taken end) (advance_sound e taken end r p) h (λ f v left k q. walk_sound n f left end v k.0 q)
+  walk_sound (suc n) e taken end w r p h = go (advance words e taken end) (advance_sound e taken end r p) h
+      (λ f v left k q. walk_sound n f left end v k.0 q)
     where
       Later : Type 0
-      Later = (f : Event) (v : List Event) (left : List Bool) → RetiresAt (privilege e) f → IsPrivilege (privilege f) → walk_within words n f left end ≡ Some v → WalksOn words f left end v
+      Later = (f : Event) (v : List Event) (left : List Bool) → RetiresAt (privilege e) f → IsPrivilege (privilege f) →
+          walk_within words n f left end ≡ Some v → WalksOn words f left end v
 
-      on_rest : (f : Event) (left : List Bool) → (is_discontinuity words e ≡ false) × (is_backward words f ≡ false) × Stepped e taken f left → (o : Option (List Event)) → walk_within words n f left end ≡ o → behind f o ≡ Some w → Later → WalksOn words e taken end w
+      on_rest : (f : Event) (left : List Bool) → (is_discontinuity words e ≡ false) × (is_backward words f ≡ false) ×
+          Stepped e taken f left → (o : Option (List Event)) → walk_within words n f left end ≡ o →
+          behind f o ≡ Some w → Later → WalksOn words e taken end w
       on_rest f left s None k h later = cc
       on_rest f left s (Some v) k h later =
           let q : IsPrivilege (privilege f) = subst IsPrivilege (sym s.2.here.1) p in
@@ -373,7 +315,8 @@ module _ (words : Words) (good : IsProgram words) where
           let is : f ∷ v ≡ w = cc in
           subst (WalksOn words e taken end) is (walk_more e f taken left end v r s.0 s.1 s.2 rest)
 
-      go : (mv : Move) → Tells e taken end mv → follow mv (λ f left. walk_within words n f left end) ≡ Some w → Later → WalksOn words e taken end w
+      go : (mv : Move) → Tells e taken end mv → follow mv (λ f left. walk_within words n f left end) ≡ Some w → Later →
+          WalksOn words e taken end w
       go Stop s h later = cc
       go (Last f) s h later = let is : f ∷ [] ≡ w = cc in subst (WalksOn words e taken end) is s
       go (On f left) s h later = on_rest f left s (walk_within words n f left end) refl h later

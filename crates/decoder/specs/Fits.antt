@@ -8,7 +8,7 @@ use Rattle.legalpath.specs.Discontinuity.{is_discontinuity}
 use Rattle.payload.specs.Difference.{aim}
 use Rattle.payload.specs.declared.packet.Packet.{Packet}
 use Rattle.payload.specs.declared.packet.Packet.TheVariants as packet
-use Rattle.decoder.specs.Settling.{Settled, Explicit, Target, Unsettled, settled}
+use Rattle.decoder.specs.Settling.{AddressKind, Explicit, Target, Unknown, settled}
 use Rattle.decoder.specs.Walk.{AtBranch, AtAddress, AtTarget, IsWalkFrom}
 
 -- The event before is a retirement.
@@ -45,10 +45,10 @@ FitsTrap words before taken priv cause interrupt true address tval piece =
 
 -- The events of an address packet with these outcomes and this address: a walk, or none as long as it
 -- is not settled how the walk ends.
-abbrev pub FitsAddress : Words → Option Event → List Bool → ℕ → Settled → List Event → Type 0
+abbrev pub FitsAddress : Words → Option Event → List Bool → ℕ → AddressKind → List Event → Type 0
 FitsAddress words before taken addr Explicit piece = IsWalkFrom words before taken (AtAddress addr) piece
 FitsAddress words before taken addr Target piece = IsWalkFrom words before taken (AtTarget addr) piece
-FitsAddress words before taken addr Unsettled piece = AfterRetirement before × (piece ≡ [])
+FitsAddress words before taken addr Unknown piece = AfterRetirement before × (piece ≡ [])
 
 -- The events of a packet, after this event and this last reported address, and before this packet. A
 -- support packet has none.

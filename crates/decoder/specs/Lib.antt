@@ -6,11 +6,4 @@ pub mod Pieces
 pub mod Describes
 pub mod SettledPieces
 pub mod Stands
-pub mod Faults
-pub mod Leads
-pub mod Walks
-pub mod WalkSteps
-pub mod Retracing
-pub mod Parts
-pub mod Reporting
-pub mod Planning
+pub mod steps

@@ -6,12 +6,12 @@ use Rattle.payload.specs.declared.packet.Report.{Report}
 use Rattle.payload.specs.declared.packet.Report.TheVariants as report
 use Rattle.payload.specs.declared.packet.Support.TheVariants as support
 
--- An address packet reports an address on the way, or the target of an uninferable discontinuity, or
--- it is not settled yet which.
-pub data Settled : Type 0 where
-  Explicit : Settled
-  Target : Settled
-  Unsettled : Settled
+-- The address of an address packet is explicit, one on the way; or it is the target of an uninferable
+-- discontinuity; or it is not known yet which.
+pub data AddressKind : Type 0 where
+  Explicit : AddressKind
+  Target : AddressKind
+  Unknown : AddressKind
 
 -- Before this packet an address packet with plain bits is explicit: a synchronisation, a trap, or the
 -- support packet that tells that the last instruction was reported.
@@ -24,18 +24,19 @@ makes_explicit (packet.Support support.EndedNtr) = false
 makes_explicit (packet.Address outcomes delta bits) = false
 makes_explicit (packet.Map outcomes) = false
 
-abbrev pub explicit_or_target : Bool → Settled
+-- Explicit where this says so, and else a target.
+abbrev pub explicit_or_target : Bool → AddressKind
 explicit_or_target true = Explicit
 explicit_or_target false = Target
 
--- An address packet with plain bits waits for the packet that follows it.
-abbrev pub settled_by : Option Packet → Settled
-settled_by None = Unsettled
+-- What the packet that follows, if one does, makes of an address packet with plain bits.
+abbrev pub settled_by : Option Packet → AddressKind
+settled_by None = Unknown
 settled_by (Some next) = explicit_or_target (makes_explicit next)
 
--- An address packet with these report bits, before this packet. With `updiscon` flipped it is the
--- target of a discontinuity at once, with `notify` flipped it is explicit at once.
-abbrev pub settled : Report → Option Packet → Settled
+-- What the address of an address packet with these report bits is, before this packet. With `updiscon` flipped it is
+-- the target of a discontinuity at once, with `notify` flipped it is explicit at once.
+abbrev pub settled : Report → Option Packet → AddressKind
 settled report.Plain next = settled_by next
 settled report.Updiscon next = Target
 settled report.Notify next = Explicit

@@ -14,6 +14,7 @@ use Rattle.decoder.specs.declared.decoding.Phase.{Phase}
 use Rattle.decoder.specs.declared.decoding.Phase.TheVariants.{Unopened, Running, Closed}
 use Rattle.decoder.specs.declared.settling.Waiting.{Waiting}
 
+-- A trace is closed where this says so, and else it runs.
 abbrev pub running_or_closed : Bool → Phase
 running_or_closed true = Closed
 running_or_closed false = Running

@@ -1,6 +1,7 @@
 //! The decoder.
 
-ghost use Rattle.std.specs.Prelude.{◌≡◌, ◌↔◌, ◌⊎◌, ◌+◌, ◌*◌, ◌/◌, ◌^◌, ◌≤◌, ◌<◌, List, [], ◌∷◌, ◌++◌, true, Some, Ok, Err, length, vec_len, vec_capacity, IfErr, OnOk, IsTrue};
+ghost use Rattle.std.specs.Prelude.{◌≡◌, ◌↔◌, ◌⊎◌, ◌+◌, ◌*◌, ◌/◌, ◌^◌, ◌≤◌, ◌<◌, List, [], ◌∷◌, ◌++◌, true, Some, Ok};
+ghost use Rattle.std.specs.Prelude.{Err, length, vec_len, vec_capacity, IfErr, OnOk, IsTrue};
 ghost use Rattle.retire.specs.declared.event.Event.{Event};
 ghost use Rattle.rvclass.specs.Fetch.{words_of};
 ghost use Rattle.rvclass.specs.Words.{Words, IsProgram};
@@ -8,14 +9,15 @@ ghost use Rattle.payload.specs.Ended.{has_ended};
 ghost use Rattle.payload.specs.declared.packet.Packet.{Packet};
 ghost use Rattle.decoder.specs.Describes.{Describes};
 ghost use Rattle.decoder.specs.Order.{IsOpen};
-ghost use Rattle.decoder.specs.Parts.{part_count, Suits, SuitsNone};
-ghost use Rattle.decoder.specs.Planning.{MayCome, FitsWaiting, Plans, PlansNone, admitted, decoder_after, reported_past};
+ghost use Rattle.decoder.specs.steps.Stretches.{stretch_count, Suits, SuitsNone};
+ghost use Rattle.decoder.specs.steps.Planning.{MayCome, FitsWaiting, Plans, PlansNone, admitted, decoder_after};
+ghost use Rattle.decoder.specs.steps.Planning.{reported_past};
 ghost use Rattle.decoder.specs.Stands.{Stands, phase_after, waiting_after};
 ghost use Rattle.decoder.specs.declared.fault.DecodeFault.TheVariants.{NotOpened, AfterClose, Memory};
 
 use crate::fault::DecodeFault;
-use crate::part::Part;
 use crate::settling::{Waiting, own, settle};
+use crate::stretch::Stretch;
 use crate::walking::program_kept;
 use payload::{Packet, Report, Support};
 use retire::Event;
@@ -35,8 +37,8 @@ enum Phase {
 
 /// A decoder of one hart's trace: it takes the packets in their order, and adds to a log the events that they describe.
 ///
-/// An address packet with plain bits is not settled before the next packet, so the events of such a packet come with the
-/// one that follows it. The events of all other packets come at once.
+/// An address packet with plain bits is not settled before the next packet, so the events of such a packet come with
+/// the one that follows it. The events of all other packets come at once.
 #[derive(Clone, Copy, Debug)]
 pub struct Decoder {
     phase: Phase,
@@ -111,11 +113,11 @@ impl Decoder {
         self.phase == Phase::Closed
     }
 
-    /// Takes the next packet, and adds to the log the events that are known by it. The program is the one of the packets
-    /// before, and the log the one that they gave.
+    /// Takes the next packet, and adds to the log the events that are known by it. The program is the one of the
+    /// packets before, and the log the one that they gave.
     ///
-    /// Room for all of them is reserved first, so that a fault leaves the decoder and the log as they were: the packet may
-    /// be fed again where memory was refused.
+    /// Room for all of them is reserved first, so that a fault leaves the decoder and the log as they were: the packet
+    /// may be fed again where memory was refused.
     pub fn feed<A: Allocator>(
         &mut self,
         program: &Program,
@@ -138,12 +140,13 @@ impl Decoder {
         ensures not_opened { (packets : List Packet) → Stands (words_of program.now) packets log.old.items self.old
             → (result ≡ Err NotOpened) ↔ ((packets ≡ []) × ¬ IsOpen packet.now) }
         ensures memory { (packets : List Packet) → Stands (words_of program.now) packets log.old.items self.old
-            → result ≡ Err Memory → (other : List Event) × Describes (words_of program.now) (packets ++ packet.now ∷ []) other
+            → result ≡ Err Memory
+            → (other : List Event) × Describes (words_of program.now) (packets ++ packet.now ∷ []) other
             × (vec_capacity log.old < length other) }
         ensures short { vec_len log.new ≤ vec_len log.old + 2 * (32 * (length program.now.bytes / 2)) + 2 }
     {
-        let mut settled = Part::Nothing;
-        let mut own = Part::Nothing;
+        let mut settled = Stretch::Nothing;
+        let mut own = Stretch::Nothing;
         if let Err(fault) = self.plan(program, packet, &mut settled, &mut own) {
             return Err(fault);
         }
@@ -162,13 +165,13 @@ impl Decoder {
         &self,
         program: &Program,
         packet: &Packet,
-        first: &mut Part,
-        second: &mut Part,
+        first: &mut Stretch,
+        second: &mut Stretch,
     ) -> Result<(), DecodeFault>
         ensures found { OnOk result (Plans (words_of program.now) self.now packet.now first.new second.new) }
         ensures none { IfErr result (λ fault. PlansNone (words_of program.now) self.now packet.now fault) }
         ensures admitted { OnOk result (admitted self.now.phase packet.now ≡ Ok tt) }
-        ensures short { OnOk result (part_count first.new + part_count second.new
+        ensures short { OnOk result (stretch_count first.new + stretch_count second.new
             ≤ 2 * (32 * (length program.now.bytes / 2)) + 2) }
         ensures words { IsProgram (words_of program.now) }
         ensures small { length program.now.bytes ≤ 2 ^ 24 }
@@ -206,8 +209,8 @@ impl Decoder {
         }
     }
 
-    /// Whether the packet may come next by its kind: the packet that opens the trace comes first alone, and the one that
-    /// tells that the last instruction was reported follows an address packet that waits.
+    /// Whether the packet may come next by its kind: the packet that opens the trace comes first alone, and the one
+    /// that tells that the last instruction was reported follows an address packet that waits.
     #[inline]
     fn may_come(&self, packet: &Packet) -> bool
         ensures { IsTrue result ↔ MayCome self.now.phase self.now.waiting packet.now }
@@ -225,19 +228,20 @@ impl Decoder {
         &self,
         program: &Program,
         packet: &Packet,
-        part: &mut Part,
+        stretch: &mut Stretch,
     ) -> Result<(), DecodeFault>
         ensures found { OnOk result (Suits (words_of program.now) self.now.last
-            (FitsWaiting (words_of program.now) self.now.last self.now.reported self.now.waiting packet.now) part.new) }
+            (FitsWaiting (words_of program.now) self.now.last self.now.reported self.now.waiting packet.now)
+            stretch.new) }
         ensures none { IfErr result (λ fault. SuitsNone (words_of program.now) self.now.last
             (FitsWaiting (words_of program.now) self.now.last self.now.reported self.now.waiting packet.now)
             fault) }
-        ensures short { OnOk result (part_count part.new ≤ 32 * (length program.now.bytes / 2)) }
+        ensures short { OnOk result (stretch_count stretch.new ≤ 32 * (length program.now.bytes / 2)) }
     {
         match &self.waiting {
-            Some(waiting) => settle(program, &self.last, self.reported, waiting, packet, part),
+            Some(waiting) => settle(program, &self.last, self.reported, waiting, packet, stretch),
             None => {
-                *part = Part::Nothing;
+                *stretch = Stretch::Nothing;
                 Ok(())
             }
         }
@@ -245,7 +249,7 @@ impl Decoder {
 
     /// The decoder after the packet, with the events that it adds.
     #[inline]
-    fn after(&self, packet: &Packet, settled: &Part, own: &Part) -> Decoder
+    fn after(&self, packet: &Packet, settled: &Stretch, own: &Stretch) -> Decoder
         ensures { result ≡ decoder_after self.now packet.now settled.now own.now }
     {
         let reported = settled.place(self.reported);
@@ -259,6 +263,7 @@ impl Decoder {
 }
 
 impl Default for Decoder {
+    /// A decoder before the first packet.
     fn default() -> Decoder
         ensures { (words : Words) → Stands words [] [] result }
     {

@@ -4,8 +4,8 @@ use thiserror::Error;
 
 /// Why a packet is not decoded. Each leaves the decoder and the list of events as they were.
 ///
-/// Where a packet opens no trace or comes after its end, that is told. Else it is the first thing on the way, the events
-/// of a packet that waited before those of the new one; and at one event the first in this order that applies.
+/// Where a packet opens no trace or comes after its end, that is told. Else it is the first thing on the way, the
+/// events of a packet that waited before those of the new one; and at one event the first in this order that applies.
 #[derive(Clone, Copy, Debug, PartialEq, Eq, Error)]
 pub enum DecodeFault {
     /// Another packet than Open comes first.
@@ -22,8 +22,8 @@ pub enum DecodeFault {
     #[error("not decoded: Branches")]
     Branches,
     /// Open comes again; or an address or a full map follows no retirement; or a handler's trap follows no retirement
-    /// that leads to one address; or EndedRep follows no address packet that waits; or a walk that is no target's meets an
-    /// uninferable discontinuity; or a synchronisation or a trap stands where the event before does not lead.
+    /// that leads to one address; or EndedRep follows no address packet that waits; or a walk that is no target's meets
+    /// an uninferable discontinuity; or a synchronisation or a trap stands where the event before does not lead.
     #[error("not decoded: WrongPlace")]
     WrongPlace,
     /// A word does not retire at the privilege, or the event before does not lead to it.

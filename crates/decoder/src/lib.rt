@@ -5,11 +5,11 @@
 mod decoding;
 mod fault;
 mod laws;
-mod part;
 mod reporting;
 mod retracing;
 mod settling;
 mod stepping;
+mod stretch;
 mod walking;
 
 pub use decoding::Decoder;

@@ -6,15 +6,15 @@ ghost use Rattle.retire.specs.declared.event.Event.TheVariants.{Trap};
 ghost use Rattle.rvclass.specs.Fetch.{words_of};
 ghost use Rattle.legalpath.specs.Legal.{Runs};
 ghost use Rattle.legalpath.specs.Step.{MayStandAfter};
-ghost use Rattle.decoder.specs.Faults.{IsOnTheWay};
+ghost use Rattle.decoder.specs.steps.Faults.{IsOnTheWay};
 ghost use Rattle.decoder.specs.Fits.{AfterRetirement, FitsSync};
-ghost use Rattle.decoder.specs.Parts.{RightBefore, Suits, SuitsOne, SuitsNone, part_count};
-ghost use Rattle.decoder.specs.Reporting as reporting;
-ghost use Rattle.decoder.specs.Walks.{event_of, IsHere};
+ghost use Rattle.decoder.specs.steps.Stretches.{RightBefore, Suits, SuitsOne, SuitsNone, stretch_count};
+ghost use Rattle.decoder.specs.steps.Reporting as reporting;
+ghost use Rattle.decoder.specs.steps.Walks.{event_of, IsHere};
 
 use crate::fault::DecodeFault;
-use crate::part::Part;
 use crate::stepping::{Course, Goal, Here, may_stay, type_of};
+use crate::stretch::Stretch;
 use legalpath::{Next, Why, check, leads, may_stand_at, successor};
 use payload::Outcomes;
 use retire::Event;
@@ -115,8 +115,11 @@ impl Told {
 /// What a packet tells of why a trap was taken.
 #[derive(Clone, Copy)]
 pub struct Cause {
+    /// Whether it was an interrupt.
     pub interrupt: bool,
+    /// The cause's code.
     pub cause: u8,
+    /// The trap value.
     pub tval: u64,
 }
 
@@ -205,12 +208,12 @@ fn trap_alone(
     before: Option<Event>,
     told: Told,
     cause: Cause,
-) -> Result<Part, DecodeFault>
-    ensures found { IfOk result (λ part. Suits (words_of program.now) before
-        (reporting.FitsTold (words_of program.now) before told cause false) part) }
+) -> Result<Stretch, DecodeFault>
+    ensures found { IfOk result (λ stretch. Suits (words_of program.now) before
+        (reporting.FitsTold (words_of program.now) before told cause false) stretch) }
     ensures none { IfErr result (λ fault. SuitsNone (words_of program.now) before
         (reporting.FitsTold (words_of program.now) before told cause false) fault) }
-    ensures short { IfOk result (λ part. part_count part ≤ 2) }
+    ensures short { IfOk result (λ stretch. stretch_count stretch ≤ 2) }
 {
     if told.taken {
         return Err(DecodeFault::Branches);
@@ -220,7 +223,7 @@ fn trap_alone(
     }
     let trap = cause.trap(told.addr, told.privilege);
     match follows(program, before, trap) {
-        Ok(()) => Ok(Part::One(trap)),
+        Ok(()) => Ok(Stretch::One(trap)),
         Err(fault) => Err(fault),
     }
 }
@@ -258,19 +261,19 @@ fn trap_and_handler(
     before: Option<Event>,
     told: Told,
     cause: Cause,
-) -> Result<Part, DecodeFault>
-    ensures found { IfOk result (λ part. Suits (words_of program.now) before
-        (reporting.FitsTold (words_of program.now) before told cause true) part) }
+) -> Result<Stretch, DecodeFault>
+    ensures found { IfOk result (λ stretch. Suits (words_of program.now) before
+        (reporting.FitsTold (words_of program.now) before told cause true) stretch) }
     ensures none { IfErr result (λ fault. SuitsNone (words_of program.now) before
         (reporting.FitsTold (words_of program.now) before told cause true) fault) }
-    ensures short { IfOk result (λ part. part_count part ≤ 2) }
+    ensures short { IfOk result (λ stretch. stretch_count stretch ≤ 2) }
 {
     let trap = match trap_handled(program, before, cause) {
         Ok(trap) => trap,
         Err(fault) => return Err(fault),
     };
     match reported(program, Some(trap), told) {
-        Ok(event) => Ok(Part::Two(trap, event)),
+        Ok(event) => Ok(Stretch::Two(trap, event)),
         Err(fault) => Err(fault),
     }
 }
@@ -282,13 +285,13 @@ pub fn trap(
     told: Told,
     cause: Cause,
     handler: bool,
-    part: &mut Part,
+    stretch: &mut Stretch,
 ) -> Result<(), DecodeFault>
     ensures found { OnOk result (Suits (words_of program.now) before.now
-        (reporting.FitsTold (words_of program.now) before.now told cause handler) part.new) }
+        (reporting.FitsTold (words_of program.now) before.now told cause handler) stretch.new) }
     ensures none { IfErr result (λ fault. SuitsNone (words_of program.now) before.now
         (reporting.FitsTold (words_of program.now) before.now told cause handler) fault) }
-    ensures short { OnOk result (part_count part.new ≤ 2) }
+    ensures short { OnOk result (stretch_count stretch.new ≤ 2) }
 {
     let found = if handler {
         trap_and_handler(program, *before, told, cause)
@@ -297,7 +300,7 @@ pub fn trap(
     };
     match found {
         Ok(found) => {
-            *part = found;
+            *stretch = found;
             Ok(())
         }
         Err(fault) => Err(fault),

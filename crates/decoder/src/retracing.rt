@@ -2,9 +2,9 @@
 
 ghost use Rattle.std.specs.Prelude.{drop};
 ghost use Rattle.rvclass.specs.Fetch.{words_of};
-ghost use Rattle.decoder.specs.WalkSteps as steps;
-ghost use Rattle.decoder.specs.Retracing.{Reaches, Retraces};
-ghost use Rattle.decoder.specs.Walks.{event_of, end_of, Carries};
+ghost use Rattle.decoder.specs.steps.WalkSteps as steps;
+ghost use Rattle.decoder.specs.steps.Retracing.{Reaches, Retraces};
+ghost use Rattle.decoder.specs.steps.Walks.{event_of, end_of, Carries};
 
 use crate::stepping::{Course, Goal, Here, may_stay, type_of};
 use legalpath::{Next, leads};
@@ -17,7 +17,8 @@ pub fn retrace(program: &Program, here: &mut Here, used: &mut usize, course: &Co
     requires here { Carries (words_of program.now) here.old }
     requires course { steps.IsCourse course.now }
     ensures { Retraces (words_of program.now) course.now.outcomes here.new used.new result
-        (steps.advance (words_of program.now) (event_of here.old) (drop used.old course.now.outcomes) (end_of course.now.goal)) }
+        (steps.advance (words_of program.now) (event_of here.old) (drop used.old course.now.outcomes)
+        (end_of course.now.goal)) }
 {
     match here.next {
         Next::One(addr) => reach(program, addr, here, used, course),

@@ -3,16 +3,16 @@
 ghost use Rattle.std.specs.Prelude.{◌≡◌, ◌+◌, ◌*◌, ◌/◌, ◌≤◌, None, Some, length, IfErr, OnOk};
 ghost use Rattle.rvclass.specs.Fetch.{words_of};
 ghost use Rattle.decoder.specs.Fits.{Fits, FitsAddress, FitsSync};
-ghost use Rattle.decoder.specs.Parts.{Suits, SuitsNone, part_count};
-ghost use Rattle.decoder.specs.Planning.{FitsWaiting};
+ghost use Rattle.decoder.specs.steps.Stretches.{Suits, SuitsNone, stretch_count};
+ghost use Rattle.decoder.specs.steps.Planning.{FitsWaiting};
 ghost use Rattle.decoder.specs.Settling.{makes_explicit, settled};
 ghost use Rattle.decoder.specs.Walk.{IsWalkFrom};
-ghost use Rattle.decoder.specs.Walks.{end_of};
+ghost use Rattle.decoder.specs.steps.Walks.{end_of};
 
 use crate::fault::DecodeFault;
-use crate::part::{MeasuredWalk, Part};
 use crate::reporting::{Cause, Told, reported, start, trap};
 use crate::stepping::Goal;
+use crate::stretch::{MeasuredWalk, Stretch};
 use crate::walking::measure;
 use payload::{Outcomes, Packet, Report, Support};
 use retire::Event;
@@ -21,7 +21,9 @@ use rvclass::Program;
 /// An address packet with plain bits, which waits for the packet that follows it.
 #[derive(Clone, Copy, Debug)]
 pub struct Waiting {
+    /// The outcomes of its branches.
     pub outcomes: Outcomes,
+    /// Its address, less the last reported one.
     pub delta: u64,
 }
 
@@ -32,13 +34,13 @@ fn walk(
     before: &Option<Event>,
     outcomes: &Outcomes,
     goal: Goal,
-    part: &mut Part,
+    stretch: &mut Stretch,
 ) -> Result<(), DecodeFault>
     ensures found { OnOk result (Suits (words_of program.now) before.now
-        (IsWalkFrom (words_of program.now) before.now outcomes.now (end_of goal)) part.new) }
+        (IsWalkFrom (words_of program.now) before.now outcomes.now (end_of goal)) stretch.new) }
     ensures none { IfErr result (λ fault. SuitsNone (words_of program.now) before.now
         (IsWalkFrom (words_of program.now) before.now outcomes.now (end_of goal)) fault) }
-    ensures short { OnOk result (part_count part.new ≤ 32 * (length program.now.bytes / 2)) }
+    ensures short { OnOk result (stretch_count stretch.new ≤ 32 * (length program.now.bytes / 2)) }
 {
     let from = match start(program, before) {
         Ok(from) => from,
@@ -46,7 +48,7 @@ fn walk(
     };
     match measure(program, from, outcomes, goal) {
         Ok(walked) => {
-            *part = Part::Walk(MeasuredWalk {
+            *stretch = Stretch::Walk(MeasuredWalk {
                 from,
                 outcomes: *outcomes,
                 goal,
@@ -76,13 +78,13 @@ pub fn settle(
     reported: u64,
     waiting: &Waiting,
     packet: &Packet,
-    part: &mut Part,
+    stretch: &mut Stretch,
 ) -> Result<(), DecodeFault>
     ensures found { OnOk result (Suits (words_of program.now) before.now
-        (FitsWaiting (words_of program.now) before.now reported (Some waiting.now) packet.now) part.new) }
+        (FitsWaiting (words_of program.now) before.now reported (Some waiting.now) packet.now) stretch.new) }
     ensures none { IfErr result (λ fault. SuitsNone (words_of program.now) before.now
         (FitsWaiting (words_of program.now) before.now reported (Some waiting.now) packet.now) fault) }
-    ensures short { OnOk result (part_count part.new ≤ 32 * (length program.now.bytes / 2)) }
+    ensures short { OnOk result (stretch_count stretch.new ≤ 32 * (length program.now.bytes / 2)) }
 {
     let addr = reported.wrapping_add(waiting.delta);
     let goal = if makes_explicit(packet) {
@@ -90,7 +92,7 @@ pub fn settle(
     } else {
         Goal::Target(addr)
     };
-    walk(program, before, &waiting.outcomes, goal, part)
+    walk(program, before, &waiting.outcomes, goal, stretch)
 }
 
 /// The events of an address packet at its address, as long as no other follows.
@@ -101,24 +103,24 @@ fn address(
     outcomes: &Outcomes,
     addr: u64,
     report: Report,
-    part: &mut Part,
+    stretch: &mut Stretch,
 ) -> Result<(), DecodeFault>
     ensures found { OnOk result (Suits (words_of program.now) before.now
-        (FitsAddress (words_of program.now) before.now outcomes.now addr (settled report None)) part.new) }
+        (FitsAddress (words_of program.now) before.now outcomes.now addr (settled report None)) stretch.new) }
     ensures none { IfErr result (λ fault. SuitsNone (words_of program.now) before.now
         (FitsAddress (words_of program.now) before.now outcomes.now addr (settled report None)) fault) }
-    ensures short { OnOk result (part_count part.new ≤ 32 * (length program.now.bytes / 2)) }
+    ensures short { OnOk result (stretch_count stretch.new ≤ 32 * (length program.now.bytes / 2)) }
 {
     match report {
         Report::Plain => match before {
             Some(Event::Retire { .. }) => {
-                *part = Part::Nothing;
+                *stretch = Stretch::Nothing;
                 Ok(())
             }
             _ => Err(DecodeFault::WrongPlace),
         },
-        Report::Updiscon => walk(program, before, outcomes, Goal::Target(addr), part),
-        Report::Notify => walk(program, before, outcomes, Goal::Address(addr), part),
+        Report::Updiscon => walk(program, before, outcomes, Goal::Target(addr), stretch),
+        Report::Notify => walk(program, before, outcomes, Goal::Address(addr), stretch),
     }
 }
 
@@ -127,17 +129,17 @@ fn sync(
     program: &Program,
     before: &Option<Event>,
     told: Told,
-    part: &mut Part,
+    stretch: &mut Stretch,
 ) -> Result<(), DecodeFault>
     ensures found { OnOk result (Suits (words_of program.now) before.now
-        (FitsSync told.taken told.privilege told.addr) part.new) }
+        (FitsSync told.taken told.privilege told.addr) stretch.new) }
     ensures none { IfErr result (λ fault. SuitsNone (words_of program.now) before.now
         (FitsSync told.taken told.privilege told.addr) fault) }
-    ensures short { OnOk result (part_count part.new ≤ 2) }
+    ensures short { OnOk result (stretch_count stretch.new ≤ 2) }
 {
     match reported(program, *before, told) {
         Ok(event) => {
-            *part = Part::One(event);
+            *stretch = Stretch::One(event);
             Ok(())
         }
         Err(fault) => Err(fault),
@@ -151,13 +153,13 @@ pub fn own(
     before: &Option<Event>,
     last_reported: u64,
     packet: &Packet,
-    part: &mut Part,
+    stretch: &mut Stretch,
 ) -> Result<(), DecodeFault>
     ensures found { OnOk result (Suits (words_of program.now) before.now
-        (Fits (words_of program.now) before.now last_reported packet.now None) part.new) }
+        (Fits (words_of program.now) before.now last_reported packet.now None) stretch.new) }
     ensures none { IfErr result (λ fault. SuitsNone (words_of program.now) before.now
         (Fits (words_of program.now) before.now last_reported packet.now None) fault) }
-    ensures short { OnOk result (part_count part.new ≤ 32 * (length program.now.bytes / 2) + 2) }
+    ensures short { OnOk result (stretch_count stretch.new ≤ 32 * (length program.now.bytes / 2) + 2) }
 {
     match packet {
         Packet::Sync {
@@ -168,7 +170,7 @@ pub fn own(
             program,
             before,
             Told::new(*taken, *privilege, *address),
-            part,
+            stretch,
         ),
         Packet::Trap {
             taken,
@@ -181,10 +183,10 @@ pub fn own(
         } => {
             let told = Told::new(*taken, *privilege, *address);
             let cause = Cause::new(*interrupt, *cause, *tval);
-            trap(program, before, told, cause, *handler, part)
+            trap(program, before, told, cause, *handler, stretch)
         }
         Packet::Support(_) => {
-            *part = Part::Nothing;
+            *stretch = Stretch::Nothing;
             Ok(())
         }
         Packet::Address {
@@ -193,8 +195,8 @@ pub fn own(
             report,
         } => {
             let addr = last_reported.wrapping_add(*delta);
-            address(program, before, outcomes, addr, *report, part)
+            address(program, before, outcomes, addr, *report, stretch)
         }
-        Packet::Map(outcomes) => walk(program, before, outcomes, Goal::Branch, part),
+        Packet::Map(outcomes) => walk(program, before, outcomes, Goal::Branch, stretch),
     }
 }

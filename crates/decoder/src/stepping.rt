@@ -6,10 +6,10 @@ ghost use Rattle.legalpath.specs.Backward.{jumps_back};
 ghost use Rattle.rvclass.specs.Fetch.{words_of};
 ghost use Rattle.rvclass.specs.Words.{IsProgram, Word, Words};
 ghost use Rattle.rvclass.specs.declared.class.Class.TheVariants.{Plain};
-ghost use Rattle.decoder.specs.Faults.{IsOnTheWay};
-ghost use Rattle.decoder.specs.Leads.{may_stay, may_stay_on};
-ghost use Rattle.decoder.specs.WalkSteps as steps;
-ghost use Rattle.decoder.specs.Walks.{event_of, end_of, Carries};
+ghost use Rattle.decoder.specs.steps.Faults.{IsOnTheWay};
+ghost use Rattle.decoder.specs.steps.Leads.{may_stay, may_stay_on};
+ghost use Rattle.decoder.specs.steps.WalkSteps as steps;
+ghost use Rattle.decoder.specs.steps.Walks.{event_of, end_of, Carries};
 
 use crate::fault::DecodeFault;
 use legalpath::{Next, greatest_after, leads, may_retire_at};
@@ -45,12 +45,16 @@ pub enum Goal {
 /// What a packet tells of its walk: the outcomes of the branches, how many they are, and where it ends.
 #[derive(Clone, Copy)]
 pub struct Course {
+    /// The outcomes, the oldest first.
     pub outcomes: Outcomes,
+    /// How many they are.
     pub count: usize,
+    /// Where the walk ends.
     pub goal: Goal,
 }
 
 impl Course {
+    /// The course of a walk with these outcomes to this goal.
     pub fn new(outcomes: &Outcomes, goal: Goal) -> Course
         ensures course { steps.IsCourse result }
         ensures outcomes { result.outcomes ≡ outcomes.now }
@@ -77,13 +81,14 @@ pub enum Step {
 
 /// A step from a retirement, where so many outcomes are used, to the next one.
 #[inline(always)]
-#[tactic(auto, unfolding(crate::specs::WalkSteps::advance))]
+#[tactic(auto, unfolding(crate::specs::steps::WalkSteps::advance))]
 pub fn step_from(program: &Program, here: &mut Here, used: &mut usize, course: &Course) -> Step
     requires program { IsProgram (words_of program.now) }
     requires here { Carries (words_of program.now) here.old }
     requires course { steps.IsCourse course.now }
     ensures step { steps.move_of course.now.outcomes here.new used.new result
-        ≡ steps.advance (words_of program.now) (event_of here.old) (drop used.old course.now.outcomes) (end_of course.now.goal) }
+        ≡ steps.advance (words_of program.now) (event_of here.old) (drop used.old course.now.outcomes)
+        (end_of course.now.goal) }
     ensures carries { steps.StepCarries (words_of program.now) here.new result }
 {
     match here.next {
@@ -184,7 +189,8 @@ fn step_last(program: &Program, here: &mut Here, used: &mut usize, course: &Cour
 #[inline]
 pub fn type_of(class: Class, used: &mut usize, course: &Course) -> Result<u8, DecodeFault>
     requires { steps.IsCourse course.now }
-    ensures told { steps.type_told course.now.outcomes used.new result ≡ steps.type_on class (drop used.old course.now.outcomes) }
+    ensures told { steps.type_told course.now.outcomes used.new result ≡ steps.type_on class
+        (drop used.old course.now.outcomes) }
     ensures named { IfErr result IsOnTheWay }
 {
     match class {
@@ -227,7 +233,8 @@ fn are_used(used: usize, course: &Course) -> bool
 #[inline]
 fn ends(addr: u64, itype: u8, used: usize, course: &Course) -> bool
     requires { steps.IsCourse course.now }
-    ensures { (priv : ℕ) → result ≡ steps.stops (end_of course.now.goal) (Retire addr itype priv) (drop used course.now.outcomes) }
+    ensures { (priv : ℕ) → result ≡ steps.stops (end_of course.now.goal) (Retire addr itype priv)
+        (drop used course.now.outcomes) }
 {
     match course.goal {
         Goal::Branch => (itype == 4 || itype == 5) && are_used(used, course),

@@ -3,10 +3,10 @@
 ghost use Rattle.std.specs.Prelude.{◌≡◌, ◌+◌, ◌*◌, ◌/◌, ◌^◌, ◌≤◌, length, vec_len, vec_capacity, IsOk, IfOk, IfErr};
 ghost use Rattle.rvclass.specs.Fetch.{words_of};
 ghost use Rattle.rvclass.specs.Words.{IsProgram, LiesIn};
-ghost use Rattle.decoder.specs.Faults.{IsOnTheWay};
-ghost use Rattle.decoder.specs.Retracing.{HasRoomWithin, AddsWithin};
-ghost use Rattle.decoder.specs.WalkSteps as steps;
-ghost use Rattle.decoder.specs.Walks.{event_of, end_of, Carries, IsHere, Finds, FindsNone, HasRoom, Adds};
+ghost use Rattle.decoder.specs.steps.Faults.{IsOnTheWay};
+ghost use Rattle.decoder.specs.steps.Retracing.{HasRoomWithin, AddsWithin};
+ghost use Rattle.decoder.specs.steps.WalkSteps as steps;
+ghost use Rattle.decoder.specs.steps.Walks.{event_of, end_of, Carries, IsHere, Finds, FindsNone, HasRoom, Adds};
 
 use crate::fault::DecodeFault;
 use crate::retracing::retrace;
@@ -19,7 +19,9 @@ use std::alloc::Allocator;
 /// How many retirements a walk has, and the last of them.
 #[derive(Clone, Copy)]
 pub struct Walked {
+    /// How many retirements it has.
     pub count: usize,
+    /// The last of them.
     pub last: Event,
 }
 
@@ -127,9 +129,11 @@ fn write_within<A: Allocator>(
 )
     requires from { Carries (words_of program.now) from }
     requires course { steps.IsCourse course.now }
-    requires room { HasRoomWithin (words_of program.now) (32 * (length program.now.bytes / 2)) (event_of from) course.now.outcomes
+    requires room { HasRoomWithin (words_of program.now) (32 * (length program.now.bytes / 2)) (event_of from)
+        course.now.outcomes
         (end_of course.now.goal) count (vec_len log.old) (vec_capacity log.old) }
-    ensures walk { AddsWithin (words_of program.now) (32 * (length program.now.bytes / 2)) (event_of from) course.now.outcomes
+    ensures walk { AddsWithin (words_of program.now) (32 * (length program.now.bytes / 2)) (event_of from)
+        course.now.outcomes
         (end_of course.now.goal) log.old.items log.new.items }
     ensures room { vec_capacity log.new ≡ vec_capacity log.old }
 {

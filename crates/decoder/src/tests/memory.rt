@@ -11,8 +11,8 @@ use rvclass::Program;
 use std::alloc::Global;
 use std::test::Fail;
 
-// Feeds packets to a list with so many bytes of memory. Each is taken, and adds what it adds where memory is ample; or it
-// is refused for want of memory and adds nothing, and the decoder then takes it with a list in ample memory. Answers
+// Feeds packets to a list with so many bytes of memory. Each is taken, and adds what it adds where memory is ample; or
+// it is refused for want of memory and adds nothing, and the decoder then takes it with a list in ample memory. Answers
 // whether one was refused.
 fn is_refused(
     alloc: Global,

@@ -2,7 +2,7 @@
 
 ghost use Rattle.std.specs.Prelude.{◌<◌, IfSome};
 ghost use Rattle.rvclass.specs.Fetch.{words_of};
-ghost use Rattle.decoder.specs.Walks.{IsHere};
+ghost use Rattle.decoder.specs.steps.Walks.{IsHere};
 
 use super::{BASE, BEQ, BRANCH_LOOP, ECALL, JUMP_LOOP, MRET, NOP, RET, SRET, program_of};
 use crate::DecodeFault::{self, Branches, MissedNotify, OffProgram, WrongPlace, WrongPrivilege};

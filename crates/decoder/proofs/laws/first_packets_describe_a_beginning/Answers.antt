@@ -1,3 +1,4 @@
+-- The law is an induction over the packets, which no search makes.
 use Rattle.decoder.proofs.ExtendingLemmas.{front_describes}
 use Rattle.decoder.proofs.laws.first_packets_describe_a_beginning.Goals as goal
 

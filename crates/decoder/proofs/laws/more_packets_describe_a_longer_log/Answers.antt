@@ -1,3 +1,4 @@
+-- The law is an induction over the packets, which no search makes.
 use Rattle.decoder.proofs.ExtendingLemmas.{log_goes_on}
 use Rattle.decoder.proofs.laws.more_packets_describe_a_longer_log.Goals as goal
 

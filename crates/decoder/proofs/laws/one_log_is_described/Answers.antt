@@ -1,3 +1,4 @@
+-- The law is an induction over the packets, which no search makes.
 use Rattle.decoder.proofs.UniqueLemmas.{one_log}
 use Rattle.decoder.proofs.laws.one_log_is_described.Goals as goal
 

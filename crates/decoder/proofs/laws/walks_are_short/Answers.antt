@@ -1,5 +1,7 @@
+-- The law is an induction over the walk, which no search makes.
 use Rattle.decoder.proofs.WalkBound.{walk_bound}
 use Rattle.decoder.proofs.laws.walks_are_short.Goals as goal
 
 pub returns : goal.returns
-returns c = λ words base count before taken end walk program lies few walks runs. walk_bound words base count program lies before taken end walk few walks runs
+returns c = λ words base count before taken end walk program lies few walks runs. walk_bound words base count program
+    lies before taken end walk few walks runs

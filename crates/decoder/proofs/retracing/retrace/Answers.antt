@@ -2,7 +2,7 @@
 use Rattle.std.proofs.Common.{false, drop}
 use Rattle.rvclass.specs.Fetch.{words_of}
 use Rattle.decoder.proofs.Retraces.{retraces_to, retraces_any, retraces_nothing, retraces_nowhere}
-use Rattle.decoder.specs.Walks.{end_of}
+use Rattle.decoder.specs.steps.Walks.{end_of}
 use Rattle.decoder.proofs.retracing.retrace.Goals as goal
 
 pub returns-in-One : goal.returns-in-One

@@ -1,3 +1,4 @@
+-- That nothing is left of a list is an induction over the list.
 use Rattle.decoder.proofs.OutcomesLeft.{is_empty-drop}
 use Rattle.decoder.proofs.stepping.are_used.Goals as goal
 

@@ -1,3 +1,4 @@
+-- The clauses of a plain step are asked for a word, which no search names.
 use Rattle.std.proofs.Common.{◌≡◌, Some}
 use Rattle.rvclass.specs.Fetch.{words_of}
 use Rattle.rvclass.specs.declared.class.Class.TheVariants.{Plain}

@@ -1,3 +1,4 @@
+-- What every program keeps are laws of the crate of programs, which no search looks up.
 use Rattle.rvclass.proofs.WordsLemmas.{words_of-IsProgram}
 use Rattle.decoder.proofs.walking.program_kept.Goals as goal
 

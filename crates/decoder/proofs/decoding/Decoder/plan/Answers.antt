@@ -1,10 +1,11 @@
+-- What is said of the stretch that was found is not yet said of the place and the event that it ends with.
 use Rattle.std.proofs.Common.{◌≡◌, None, sym, subst}
 use Rattle.std.specs.Prelude.{Ok, OnOk, IfErr}
 use Rattle.rvclass.specs.Fetch.{words_of}
-use Rattle.decoder.proofs.PlanLemmas.{plans, plans_none}
+use Rattle.decoder.proofs.PlanFollows.{plans, plans_none}
 use Rattle.decoder.specs.Fits.{Fits}
-use Rattle.decoder.specs.Parts.{part_last, Suits, SuitsNone}
-use Rattle.decoder.specs.Planning.{admitted}
+use Rattle.decoder.specs.steps.Stretches.{stretch_last, Suits, SuitsNone}
+use Rattle.decoder.specs.steps.Planning.{admitted}
 use Rattle.decoder.proofs.decoding.Decoder.plan.Goals as goal
 
 pub returns-clause-found : goal.returns-clause-found
@@ -12,20 +13,27 @@ returns-clause-found c =
     let w = words_of c.args.program.now in
     let d = c.args.self.now in
     let p = c.args.packet.now in
-    let first = c.settled.new.part in
-    let second = c.own.new.part in
-    let own = subst (λ l. OnOk c.own.result (Suits w l (Fits w l c.place-reported.result p None) second)) c.last-last.ensures c.own.ensures.found in
-    let own' = subst (λ r. OnOk c.own.result (Suits w (part_last d.last first) (Fits w (part_last d.last first) r p None) second)) c.place-reported.ensures own in
+    let first = c.settled.new.stretch in
+    let second = c.own.new.stretch in
+    let own = subst (λ l. OnOk c.own.result (Suits w l (Fits w l c.place-reported.result p None) second))
+    c.last-last.ensures c.own.ensures.found in
+    let own' = subst (λ r. OnOk c.own.result
+    (Suits w (stretch_last d.last first) (Fits w (stretch_last d.last first) r p None) second))
+    c.place-reported.ensures own in
     let admits : admitted d.phase p ≡ Ok tt = sym c.in_default.ensures in
-    plans w d p first second c.own.result admits (c.if-not-may_come.ensures.0 cc) c.in_default-settled.ensures.found own'
+    plans w d p first second c.own.result admits (c.if-not-may_come.ensures.0 cc) c.in_default-settled.ensures.found
+    own'
 
 pub returns-clause-none : goal.returns-clause-none
 returns-clause-none c =
     let w = words_of c.args.program.now in
     let d = c.args.self.now in
     let p = c.args.packet.now in
-    let first = c.settled.new.part in
-    let none = subst (λ l. IfErr c.own.result (SuitsNone w l (Fits w l c.place-reported.result p None))) c.last-last.ensures c.own.ensures.none in
-    let none' = subst (λ r. IfErr c.own.result (SuitsNone w (part_last d.last first) (Fits w (part_last d.last first) r p None))) c.place-reported.ensures none in
+    let first = c.settled.new.stretch in
+    let none = subst (λ l. IfErr c.own.result (SuitsNone w l (Fits w l c.place-reported.result p None)))
+    c.last-last.ensures c.own.ensures.none in
+    let none' = subst (λ r. IfErr c.own.result
+    (SuitsNone w (stretch_last d.last first) (Fits w (stretch_last d.last first) r p None)))
+    c.place-reported.ensures none in
     let admits : admitted d.phase p ≡ Ok tt = sym c.in_default.ensures in
     plans_none w d p c.program_kept.ensures.words first c.own.result admits c.in_default-settled.ensures.found none'

@@ -3,7 +3,7 @@
 ghost use Rattle.std.specs.Prelude.{◌≡◌, vec_len, vec_capacity};
 ghost use Rattle.rvclass.specs.Fetch.{words_of};
 ghost use Rattle.rvclass.specs.Words.{IsProgram};
-ghost use Rattle.decoder.specs.Parts.{part_count, part_last, part_place, HasRoomFor, AddsPart};
+ghost use Rattle.decoder.specs.steps.Stretches.{stretch_count, stretch_last, stretch_place, HasRoomFor, AddsStretch};
 
 use crate::stepping::{Goal, Here};
 use crate::walking::{Walked, write};
@@ -15,15 +15,19 @@ use std::alloc::Allocator;
 /// A walk that was measured.
 #[derive(Clone, Copy)]
 pub struct MeasuredWalk {
+    /// The retirement that it starts from.
     pub from: Here,
+    /// The outcomes of its branches.
     pub outcomes: Outcomes,
+    /// Where it ends.
     pub goal: Goal,
+    /// What was measured.
     pub walked: Walked,
 }
 
-/// Events that a packet adds to a log. What finds a part writes it in place, since it is large to hand back.
+/// Events that a packet adds to a log. What finds a stretch writes it in place, since it is large to hand back.
 #[derive(Clone, Copy)]
-pub enum Part {
+pub enum Stretch {
     /// None.
     Nothing,
     /// One event.
@@ -34,41 +38,41 @@ pub enum Part {
     Walk(MeasuredWalk),
 }
 
-impl Part {
+impl Stretch {
     /// How many events there are.
     #[inline]
     pub fn count(&self) -> usize
-        ensures { result ≡ part_count self.now }
+        ensures { result ≡ stretch_count self.now }
     {
         match self {
-            Part::Nothing => 0,
-            Part::One(_) => 1,
-            Part::Two(_, _) => 2,
-            Part::Walk(walk) => walk.walked.count,
+            Stretch::Nothing => 0,
+            Stretch::One(_) => 1,
+            Stretch::Two(_, _) => 2,
+            Stretch::Walk(walk) => walk.walked.count,
         }
     }
 
     /// The last event after them, where this was the last before.
     #[inline]
     pub fn last(&self, before: &Option<Event>) -> Option<Event>
-        ensures { result ≡ part_last before.now self.now }
+        ensures { result ≡ stretch_last before.now self.now }
     {
         match self {
-            Part::Nothing => *before,
-            Part::One(event) | Part::Two(_, event) => Some(*event),
-            Part::Walk(walk) => Some(walk.walked.last),
+            Stretch::Nothing => *before,
+            Stretch::One(event) | Stretch::Two(_, event) => Some(*event),
+            Stretch::Walk(walk) => Some(walk.walked.last),
         }
     }
 
     /// The place of the last of them, or this one where there is none.
     #[inline]
     pub fn place(&self, at: u64) -> u64
-        ensures { result ≡ part_place at self.now }
+        ensures { result ≡ stretch_place at self.now }
     {
         match self {
-            Part::Nothing => at,
-            Part::One(event) | Part::Two(_, event) => event.place(),
-            Part::Walk(walk) => walk.walked.last.place(),
+            Stretch::Nothing => at,
+            Stretch::One(event) | Stretch::Two(_, event) => event.place(),
+            Stretch::Walk(walk) => walk.walked.last.place(),
         }
     }
 
@@ -76,17 +80,17 @@ impl Part {
     pub fn write<A: Allocator>(&self, program: &Program, log: &mut Vec<Event, A>)
         requires program { IsProgram (words_of program.now) }
         requires room { HasRoomFor (words_of program.now) self.now (vec_len log.old) (vec_capacity log.old) }
-        ensures adds { AddsPart (words_of program.now) self.now log.old.items log.new.items }
+        ensures adds { AddsStretch (words_of program.now) self.now log.old.items log.new.items }
         ensures room { vec_capacity log.new ≡ vec_capacity log.old }
     {
         match self {
-            Part::Nothing => {}
-            Part::One(event) => log.push_reserved(*event),
-            Part::Two(trap, event) => {
+            Stretch::Nothing => {}
+            Stretch::One(event) => log.push_reserved(*event),
+            Stretch::Two(trap, event) => {
                 log.push_reserved(*trap);
                 log.push_reserved(*event);
             }
-            Part::Walk(walk) => {
+            Stretch::Walk(walk) => {
                 let count = walk.walked.count;
                 write(program, walk.from, &walk.outcomes, walk.goal, count, log);
             }

@@ -7,7 +7,7 @@ use Rattle.rvclass.specs.Words.{Word, Words}
 use Rattle.legalpath.specs.declared.fault.Why.{Why}
 use Rattle.legalpath.specs.declared.fault.Why.TheVariants as why
 use Rattle.decoder.specs.Fits.{AfterInferable, FitsTrap}
-use Rattle.decoder.specs.WalkSteps.{type_on}
+use Rattle.decoder.specs.steps.WalkSteps.{type_on}
 use Rattle.decoder.specs.declared.fault.DecodeFault.{DecodeFault}
 use Rattle.decoder.specs.declared.fault.DecodeFault.TheVariants as fault
 use Rattle.decoder.specs.declared.reporting.Cause.{Cause}

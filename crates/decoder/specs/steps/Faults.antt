@@ -1,6 +1,7 @@
 -- Faults that are found on the way.
 use Rattle.decoder.specs.declared.fault.DecodeFault.{DecodeFault}
-use Rattle.decoder.specs.declared.fault.DecodeFault.TheVariants.{NotOpened, OffProgram, MissedNotify, Branches, WrongPlace, WrongPrivilege, AfterClose, Memory}
+use Rattle.decoder.specs.declared.fault.DecodeFault.TheVariants.{NotOpened, OffProgram, MissedNotify, Branches}
+use Rattle.decoder.specs.declared.fault.DecodeFault.TheVariants.{WrongPlace, WrongPrivilege, AfterClose, Memory}
 
 -- The fault is one of the events that a packet reports: the trace is open, and no room was refused.
 abbrev pub IsOnTheWay : DecodeFault → Type 0

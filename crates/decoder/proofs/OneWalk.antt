@@ -1,5 +1,6 @@
 -- Two walks from one event, with the same outcomes and the same end, are one walk.
-use Rattle.std.proofs.Common.{◌≡◌, ℕ, ◌<◌, Bool, true, false, ◌||◌, ◌==◌, List, [], ◌∷◌, ◌++◌, Option, Some, None, refl, sym, ap, subst, ◌∙◌, arith}
+use Rattle.std.proofs.Common.{◌≡◌, ℕ, ◌<◌, Bool, true, false, ◌||◌, ◌==◌, List, [], ◌∷◌, ◌++◌, Option, Some, None, refl}
+use Rattle.std.proofs.Common.{sym, ap, subst, ◌∙◌, arith}
 use Rattle.std.specs.List.{AllByRecursion}
 use Rattle.retire.proofs.OutcomesLemmas.{outcomes-branch, outcomes-other, no_outcomes, no_last_outcome}
 use Rattle.retire.specs.Events.{place, privilege, is_retirement, is_branch, is_taken, outcomes}
@@ -32,18 +33,21 @@ module _ (words : Words) (good : IsProgram words) where
     pub ends : EndsAt words end from front last
 
   -- A walk of more than one retirement starts at no discontinuity.
-  pub straight : (end : End) (before event : Event) (front : List Event) (last : Event) → EndsAt words end before (event ∷ front) last → is_discontinuity words before ≡ false
+  pub straight : (end : End) (before event : Event) (front : List Event) (last : Event) →
+      EndsAt words end before (event ∷ front) last → is_discontinuity words before ≡ false
   straight AtBranch before event front last h = h.0.0
   straight (AtAddress addr) before event front last h = h.0.0
   straight (AtTarget addr) before event front last h = h.0.0
 
   -- And what follows its first retirement ends as it does.
-  pub onward : (end : End) (before event : Event) (front : List Event) (last : Event) → EndsAt words end before (event ∷ front) last → EndsAt words end event front last
+  pub onward : (end : End) (before event : Event) (front : List Event) (last : Event) →
+      EndsAt words end before (event ∷ front) last → EndsAt words end event front last
   onward AtBranch before event front last h = (h.0.1, h.1)
   onward (AtAddress addr) before event front last h = (h.0.1, h.1)
   onward (AtTarget addr) before event front last h = (h.0.1, h.1)
 
-  pub further : {priv : ℕ} {end : End} {before event : Event} {front : List Event} {last : Event} → Side priv end before (event ∷ front) last → Side priv end event front last
+  pub further : {priv : ℕ} {end : End} {before event : Event} {front : List Event} {last : Event} →
+      Side priv end before (event ∷ front) last → Side priv end event front last
   further {priv} {end} {before} {event} {front} {last} s = record {
     before = s.retirements.0;
     runs = s.runs.2;
@@ -53,68 +57,87 @@ module _ (words : Words) (good : IsProgram words) where
   }
 
   -- Two retirements at one place, of one privilege, with the same outcomes from them on are one.
-  pub next_same : (priv : ℕ) (e f : Event) (w v : List Event) → RetiresAt priv e → RetiresAt priv f → Right words e → Right words f → place e ≡ place f → outcomes (e ∷ w) ≡ outcomes (f ∷ v) → (e ≡ f) × (outcomes w ≡ outcomes v)
+  pub next_same : (priv : ℕ) (e f : Event) (w v : List Event) → RetiresAt priv e → RetiresAt priv f → Right words e →
+      Right words f → place e ≡ place f → outcomes (e ∷ w) ≡ outcomes (f ∷ v) → (e ≡ f) × (outcomes w ≡ outcomes v)
   next_same priv (Trap x q i c t) f w v he hf re rf at o = let no : false ≡ true = he.0 in cc
   next_same priv (Retire a t p) (Trap x q i c u) w v he hf re rf at o = let no : false ≡ true = hf.0 in cc
   next_same priv (Retire a t p) (Retire b u q) w v he hf re rf at o =
       let there : RetiresOn (words a) u q = rw at rf.0 in
       by_branch (is_branch (Retire a t p)) refl (branch_type (words a) t u p q re.0 there) there
     where
-      by_branch : (branch : Bool) → is_branch (Retire a t p) ≡ branch → ((t == 4) || (t == 5)) ≡ ((u == 4) || (u == 5)) → RetiresOn (words a) u q → (Retire a t p ≡ Retire b u q) × (outcomes w ≡ outcomes v)
+      by_branch : (branch : Bool) → is_branch (Retire a t p) ≡ branch →
+          ((t == 4) || (t == 5)) ≡ ((u == 4) || (u == 5)) → RetiresOn (words a) u q →
+          (Retire a t p ≡ Retire b u q) × (outcomes w ≡ outcomes v)
       by_branch true is kind there =
           let too : is_branch (Retire b u q) ≡ true = sym kind ∙ is in
-          let all : is_taken (Retire a t p) ∷ outcomes w ≡ is_taken (Retire b u q) ∷ outcomes v = sym (outcomes-branch (Retire a t p) w is) ∙ o ∙ outcomes-branch (Retire b u q) v too in
+          let all : is_taken (Retire a t p) ∷ outcomes w ≡ is_taken (Retire b u q) ∷ outcomes v =
+          sym (outcomes-branch (Retire a t p) w is) ∙ o ∙ outcomes-branch (Retire b u q) v too in
           let taken : (t == 5) ≡ (u == 5) = cc in
           let itype : t ≡ u = same_type (words a) t u p q re.0 there taken in
           let level : p ≡ q = he.1 ∙ sym hf.1 in
           (cc, cc)
       by_branch false is kind there =
           let too : is_branch (Retire b u q) ≡ false = sym kind ∙ is in
-          let rest : outcomes w ≡ outcomes v = sym (outcomes-other (Retire a t p) w is) ∙ o ∙ outcomes-other (Retire b u q) v too in
+          let rest : outcomes w ≡ outcomes v = sym (outcomes-other (Retire a t p) w is) ∙ o
+          ∙ outcomes-other (Retire b u q) v too in
           let taken : (t == 5) ≡ (u == 5) = grind (arith) in
           let itype : t ≡ u = same_type (words a) t u p q re.0 there taken in
           let level : p ≡ q = he.1 ∙ sym hf.1 in
           (cc, rest)
 
   -- What follows a retirement that is no branch, backward jump or discontinuity stands above it.
-  pub rise_one : (e f : Event) → Right words e → is_retirement e ≡ true → is_branch e ≡ false → is_backward words e ≡ false → is_discontinuity words e ≡ false → Step words e f → place e < place f
+  pub rise_one : (e f : Event) → Right words e → is_retirement e ≡ true → is_branch e ≡ false →
+      is_backward words e ≡ false → is_discontinuity words e ≡ false → Step words e f → place e < place f
   rise_one e f right retired branch back stays step = stand_above words e f good retired branch back stays right step
 
   -- So a stretch of such retirements never comes back to its first place.
-  pub no_return : (priv : ℕ) (e : Event) (front : List Event) (last : Event) → Right words e → RetiresAt priv e → is_branch e ≡ false → Runs words (Some e) (front ++ last ∷ []) → AllByRecursion (RetiresAt priv) (front ++ last ∷ []) → outcomes (front ++ last ∷ []) ≡ [] → NoneOf (is_backward words) (e ∷ front) → NoneOf (is_discontinuity words) (e ∷ front) → place e < place last
+  pub no_return : (priv : ℕ) (e : Event) (front : List Event) (last : Event) → Right words e → RetiresAt priv e →
+      is_branch e ≡ false → Runs words (Some e) (front ++ last ∷ []) →
+      AllByRecursion (RetiresAt priv) (front ++ last ∷ []) → outcomes (front ++ last ∷ []) ≡ [] →
+      NoneOf (is_backward words) (e ∷ front) → NoneOf (is_discontinuity words) (e ∷ front) → place e < place last
   no_return priv e [] last right at branch runs all none back stays =
       rise_one e last right at.0 branch back.0 stays.0 runs.1
   no_return priv e (f ∷ front) last right at branch runs all none back stays =
       let here : place e < place f = rise_one e f right at.0 branch back.0 stays.0 runs.1 in
       let rest = no_outcomes f (front ++ last ∷ []) none in
-      let there : place f < place last = no_return priv f front last runs.0 all.0 rest.0 runs.2 all.1 rest.1 back.1 stays.1 in
+      let there : place f < place last = no_return priv f front last runs.0 all.0 rest.0 runs.2 all.1 rest.1 back.1
+      stays.1 in
       omega arith
 
   -- Two retirements at one place are both branches or neither is.
-  pub same_branch : (priv : ℕ) (e f : Event) → RetiresAt priv e → RetiresAt priv f → Right words e → Right words f → place e ≡ place f → is_branch e ≡ is_branch f
+  pub same_branch : (priv : ℕ) (e f : Event) → RetiresAt priv e → RetiresAt priv f → Right words e → Right words f →
+      place e ≡ place f → is_branch e ≡ is_branch f
   same_branch priv (Trap x q i c t) f he hf re rf at = let no : false ≡ true = he.0 in cc
   same_branch priv (Retire a t p) (Trap x q i c u) he hf re rf at = let no : false ≡ true = hf.0 in cc
   same_branch priv (Retire a t p) (Retire b u q) he hf re rf at = branch_type (words a) t u p q re.0 (rw at rf.0)
 
   -- After a retirement with one successor the first event of a walk is known.
-  pub first_same : (priv : ℕ) (before e f : Event) (w v : List Event) → RetiresAt priv before → is_discontinuity words before ≡ false → Runs words (Some before) (e ∷ w) → Runs words (Some before) (f ∷ v) → RetiresAt priv e → RetiresAt priv f → outcomes (e ∷ w) ≡ outcomes (f ∷ v) → (e ≡ f) × (outcomes w ≡ outcomes v)
+  pub first_same : (priv : ℕ) (before e f : Event) (w v : List Event) → RetiresAt priv before →
+      is_discontinuity words before ≡ false → Runs words (Some before) (e ∷ w) → Runs words (Some before) (f ∷ v) →
+      RetiresAt priv e → RetiresAt priv f → outcomes (e ∷ w) ≡ outcomes (f ∷ v) → (e ≡ f) × (outcomes w ≡ outcomes v)
   first_same priv before e f w v at stays runs other he hf o =
       next_same priv e f w v he hf runs.0 other.0 (stand_together words before e f at.0 stays runs.1 other.1) o
 
   -- A walk that may end at its first retirement does not go on.
-  pub no_longer : (priv : ℕ) (end : End) (before last e : Event) (front : List Event) (other : Event) → Side priv end before [] last → Side priv end before (e ∷ front) other → outcomes (last ∷ []) ≡ outcomes (e ∷ front ++ other ∷ []) → ⊥
+  pub no_longer : (priv : ℕ) (end : End) (before last e : Event) (front : List Event) (other : Event) →
+      Side priv end before [] last → Side priv end before (e ∷ front) other →
+      outcomes (last ∷ []) ≡ outcomes (e ∷ front ++ other ∷ []) → ⊥
   no_longer priv AtBranch before last e front other s t o =
-      let one = first_same priv before last e [] (front ++ other ∷ []) s.before s.ends.0.0 s.runs t.runs s.retirements.0 t.retirements.0 o in
+      let one = first_same priv before last e [] (front ++ other ∷ []) s.before s.ends.0.0 s.runs t.runs s.retirements.0
+      t.retirements.0 o in
       let none : is_branch other ≡ false = no_last_outcome front other (sym one.1) in
       let branch : is_branch other ≡ true = t.ends.1 in
       cc
   no_longer priv (AtAddress addr) before last e front other s t o =
-      let one = first_same priv before last e [] (front ++ other ∷ []) s.before s.ends.0.0 s.runs t.runs s.retirements.0 t.retirements.0 o in
+      let one = first_same priv before last e [] (front ++ other ∷ []) s.before s.ends.0.0 s.runs t.runs s.retirements.0
+      t.retirements.0 o in
       let none : is_branch other ≡ false = no_last_outcome front other (sym one.1) in
       let at : place e ≡ place other = ap place (sym one.0) ∙ s.ends.1 ∙ sym t.ends.1 in
       let right = (runs_split words (Some before) (e ∷ front) (other ∷ []) t.runs).1.0 in
-      let plain = same_branch priv e other t.retirements.0 (all_last (RetiresAt priv) (e ∷ front) other t.retirements) t.runs.0 right at ∙ none in
-      let up : place e < place other = no_return priv e front other t.runs.0 t.retirements.0 plain t.runs.2 t.retirements.1 (sym one.1) t.forward t.ends.0.1 in
+      let plain = same_branch priv e other t.retirements.0 (all_last (RetiresAt priv) (e ∷ front) other t.retirements)
+      t.runs.0 right at ∙ none in
+      let up : place e < place other = no_return priv e front other t.runs.0 t.retirements.0 plain t.runs.2
+      t.retirements.1 (sym one.1) t.forward t.ends.0.1 in
       omega arith
   no_longer priv (AtTarget addr) before last e front other s t o =
       let leaves : is_discontinuity words before ≡ true = s.ends.0 in
@@ -122,26 +145,37 @@ module _ (words : Words) (good : IsProgram words) where
       cc
 
   -- Two walks of one retirement end at one place.
-  pub same_end : (priv : ℕ) (end : End) (before last other : Event) → Side priv end before [] last → Side priv end before [] other → place last ≡ place other
-  same_end priv AtBranch before last other s t = stand_together words before last other s.before.0 s.ends.0.0 s.runs.1 t.runs.1
+  pub same_end : (priv : ℕ) (end : End) (before last other : Event) → Side priv end before [] last →
+      Side priv end before [] other → place last ≡ place other
+  same_end priv AtBranch before last other s t = stand_together words before last other s.before.0 s.ends.0.0 s.runs.1
+      t.runs.1
   same_end priv (AtAddress addr) before last other s t = s.ends.1 ∙ sym t.ends.1
   same_end priv (AtTarget addr) before last other s t = s.ends.1 ∙ sym t.ends.1
 
-  pub walks_same : (priv : ℕ) (end : End) (before : Event) (front : List Event) (last : Event) (beginning : List Event) (other : Event) → Side priv end before front last → Side priv end before beginning other → outcomes (front ++ last ∷ []) ≡ outcomes (beginning ++ other ∷ []) → front ++ last ∷ [] ≡ beginning ++ other ∷ []
+  pub walks_same : (priv : ℕ) (end : End) (before : Event) (front : List Event) (last : Event) (beginning : List Event)
+      (other : Event) → Side priv end before front last → Side priv end before beginning other →
+      outcomes (front ++ last ∷ []) ≡ outcomes (beginning ++ other ∷ []) → front ++ last ∷ [] ≡ beginning ++ other ∷ []
   walks_same priv end before [] last [] other s t o =
-      let one = next_same priv last other [] [] s.retirements.0 t.retirements.0 s.runs.0 t.runs.0 (same_end priv end before last other s t) o in
+      let one = next_same priv last other [] [] s.retirements.0 t.retirements.0 s.runs.0 t.runs.0
+      (same_end priv end before last other s t) o in
       ap (λ e. e ∷ []) one.0
-  walks_same priv end before [] last (f ∷ beginning) other s t o = absurd (no_longer priv end before last f beginning other s t o)
-  walks_same priv end before (e ∷ front) last [] other s t o = absurd (no_longer priv end before other e front last t s (sym o))
+  walks_same priv end before [] last (f ∷ beginning) other s t o = absurd
+      (no_longer priv end before last f beginning other s t o)
+  walks_same priv end before (e ∷ front) last [] other s t o =
+      absurd (no_longer priv end before other e front last t s (sym o))
   walks_same priv end before (e ∷ front) last (f ∷ beginning) other s t o =
       let stays = straight end before e front last s.ends in
-      let one = first_same priv before e f (front ++ last ∷ []) (beginning ++ other ∷ []) s.before stays s.runs t.runs s.retirements.0 t.retirements.0 o in
-      let later : Side priv end e beginning other = subst (λ x. Side priv end x beginning other) (sym one.0) (further t) in
+      let one = first_same priv before e f (front ++ last ∷ []) (beginning ++ other ∷ []) s.before stays s.runs t.runs
+      s.retirements.0 t.retirements.0 o in
+      let later : Side priv end e beginning other = subst (λ x. Side priv end x beginning other) (sym one.0)
+      (further t) in
       let rest = walks_same priv end e front last beginning other (further s) later one.1 in
       cc
 
   -- A walk that runs, taken apart.
-  pub side : (before : Event) (taken : List Bool) (end : End) (w : List Event) → (walk : IsWalk words before taken end w) → Runs words (Some before) w → Side (privilege before) end before walk.front walk.last
+  pub side : (before : Event) (taken : List Bool) (end : End) (w : List Event) →
+      (walk : IsWalk words before taken end w) → Runs words (Some before) w →
+      Side (privilege before) end before walk.front walk.last
   side before taken end w walk runs = record {
     before = walk.retirements.0;
     runs = subst (Runs words (Some before)) walk.whole runs;
@@ -151,8 +185,11 @@ module _ (words : Words) (good : IsProgram words) where
   }
 
   -- Two walks from one event, if there is one, are one walk.
-  pub walk_same : (before : Option Event) (taken : List Bool) (end : End) (w v : List Event) → IsWalkFrom words before taken end w → IsWalkFrom words before taken end v → Runs words before w → Runs words before v → w ≡ v
+  pub walk_same : (before : Option Event) (taken : List Bool) (end : End) (w v : List Event) →
+      IsWalkFrom words before taken end w → IsWalkFrom words before taken end v → Runs words before w →
+      Runs words before v → w ≡ v
   walk_same None taken end w v h k runs other = absurd h
   walk_same (Some before) taken end w v h k runs other =
       let o = ap outcomes (sym h.whole) ∙ h.branches ∙ sym k.branches ∙ ap outcomes k.whole in
-      h.whole ∙ walks_same (privilege before) end before h.front h.last k.front k.last (side before taken end w h runs) (side before taken end v k other) o ∙ sym k.whole
+      h.whole ∙ walks_same (privilege before) end before h.front h.last k.front k.last (side before taken end w h runs)
+      (side before taken end v k other) o ∙ sym k.whole

@@ -9,9 +9,9 @@ use Rattle.payload.specs.Difference.{aim}
 use Rattle.payload.specs.declared.packet.Packet.{Packet}
 use Rattle.payload.specs.declared.packet.Packet.TheVariants as packet
 use Rattle.payload.specs.declared.packet.Support.TheVariants as support
-use Rattle.decoder.specs.Faults.{IsOnTheWay}
+use Rattle.decoder.specs.steps.Faults.{IsOnTheWay}
 use Rattle.decoder.specs.Fits.{FitsAddress, Fits}
-use Rattle.decoder.specs.Parts.{part_last, part_place, Gives, RightBefore}
+use Rattle.decoder.specs.steps.Stretches.{stretch_last, stretch_place, Gives, RightBefore}
 use Rattle.decoder.specs.Settling.{settled_by}
 use Rattle.decoder.specs.Stands.{phase_after, waiting_after}
 use Rattle.decoder.specs.declared.decoding.Decoder.{Decoder}
@@ -19,7 +19,7 @@ use Rattle.decoder.specs.declared.decoding.Phase.{Phase}
 use Rattle.decoder.specs.declared.decoding.Phase.TheVariants.{Unopened, Running, Closed}
 use Rattle.decoder.specs.declared.fault.DecodeFault.{DecodeFault}
 use Rattle.decoder.specs.declared.fault.DecodeFault.TheVariants.{NotOpened, AfterClose}
-use Rattle.decoder.specs.declared.part.Part.{Part}
+use Rattle.decoder.specs.declared.stretch.Stretch.{Stretch}
 use Rattle.decoder.specs.declared.settling.Waiting.{Waiting}
 
 -- The packet may come in this phase of a trace, by its kind and by what waits.
@@ -64,7 +64,8 @@ reported_past (packet.Map taken) reported at = reported
 
 -- The events of what waits, and then those of the packet itself, after this event and this last reported
 -- address.
-pub record CanFollow (words : Words) (phase : Phase) (waiting : Option Waiting) (last : Option Event) (reported : ℕ) (packet : Packet) (settled own : List Event) : Type 0 where
+pub record CanFollow (words : Words) (phase : Phase) (waiting : Option Waiting) (last : Option Event) (reported : ℕ)
+    (packet : Packet) (settled own : List Event) : Type 0 where
   pub admits : admitted phase packet ≡ Ok tt
   pub comes : MayCome phase waiting packet
   pub settles : FitsWaiting words last reported waiting packet settled
@@ -77,18 +78,19 @@ abbrev pub CanFollowAt : Words → Decoder → Packet → List Event → List Ev
 CanFollowAt words decoder packet settled own =
     CanFollow words decoder.phase decoder.waiting decoder.last decoder.reported packet settled own
 
--- The decoder after the packet, with these parts.
-abbrev pub decoder_after : Decoder → Packet → Part → Part → Decoder
+-- The decoder after the packet, with these stretches.
+abbrev pub decoder_after : Decoder → Packet → Stretch → Stretch → Decoder
 decoder_after decoder packet settled own = record {
   phase = phase_after (Some packet);
   waiting = waiting_after (Some packet);
-  last = part_last (part_last decoder.last settled) own;
+  last = stretch_last (stretch_last decoder.last settled) own;
   reported =
-      reported_past packet (part_place decoder.reported settled) (part_place (part_place decoder.reported settled) own);
+      reported_past packet (stretch_place decoder.reported settled)
+      (stretch_place (stretch_place decoder.reported settled) own);
 }
 
--- The parts have the events that can follow.
-pub record Plans (words : Words) (decoder : Decoder) (packet : Packet) (first second : Part) : Type 0 where
+-- The stretches have the events that can follow.
+pub record Plans (words : Words) (decoder : Decoder) (packet : Packet) (first second : Stretch) : Type 0 where
   pub settled : List Event
   pub own : List Event
   pub gives_settled : Gives words first settled

@@ -1,6 +1,7 @@
 -- How this crate's code finds a walk, one retirement after the other. What a walk is is said in the
 -- file on walks.
-use Rattle.std.specs.Prelude.{ℕ, zero, suc, ◌+◌, ◌≡◌, ◌≤◌, ◌==◌, ◌&&◌, nat_le, if◌then◌else◌, Bool, true, false, List, [], ◌∷◌, length, drop, Option, Some, None, Result, Ok, Err}
+use Rattle.std.specs.Prelude.{ℕ, zero, suc, ◌+◌, ◌≡◌, ◌≤◌, ◌==◌, ◌&&◌, if◌then◌else◌, Bool, true, false, List, [], ◌∷◌}
+use Rattle.std.specs.Prelude.{length, drop, Option, Some, None, Result, Ok, Err}
 use Rattle.std.specs.List.{last_or}
 use Rattle.retire.specs.Events.{place, privilege, is_branch}
 use Rattle.retire.specs.declared.event.Event.{Event}
@@ -14,10 +15,10 @@ use Rattle.legalpath.specs.Successor.{successor}
 use Rattle.legalpath.specs.WordOf.{word_of}
 use Rattle.legalpath.specs.declared.next.Next.{Next}
 use Rattle.legalpath.specs.declared.next.Next.TheVariants.{One, Any, NoneInside}
-use Rattle.decoder.specs.Faults.{IsOnTheWay}
-use Rattle.decoder.specs.Leads.{may_stay_on}
+use Rattle.decoder.specs.steps.Faults.{IsOnTheWay}
+use Rattle.decoder.specs.steps.Leads.{may_stay_on}
 use Rattle.decoder.specs.Walk.{End, AtBranch, AtAddress, AtTarget}
-use Rattle.decoder.specs.Walks.{event_of, Carries}
+use Rattle.decoder.specs.steps.Walks.{event_of, Carries}
 use Rattle.decoder.specs.declared.fault.DecodeFault.{DecodeFault}
 use Rattle.decoder.specs.declared.stepping.Course.{Course}
 use Rattle.decoder.specs.declared.stepping.Here.{Here}
@@ -37,6 +38,7 @@ type_on Uninferable taken = Some (6, taken)
 type_on (TrapReturn ret) taken = Some (3, taken)
 type_on NotRetirable taken = None
 
+-- The retirement of this type, if there is one, with the outcomes that it leaves.
 abbrev pub retirement : ℕ → ℕ → Option (ℕ × List Bool) → Option (Event × List Bool)
 retirement addr priv None = None
 retirement addr priv (Some (itype, taken)) = Some (Retire addr itype priv, taken)
@@ -47,6 +49,7 @@ retire_on addr priv None taken = None
 retire_on addr priv (Some word) taken =
     if may_retire_at word.0 priv then retirement addr priv (type_on word.0 taken) else None
 
+-- No outcome is left.
 abbrev pub is_empty : List Bool → Bool
 is_empty [] = true
 is_empty (taken ∷ rest) = false
@@ -72,6 +75,7 @@ next_move words end (Some (event, taken)) =
     if is_backward words event then Stop else
     On event taken
 
+-- A step to this retirement, if there is one, which is the last: no outcome is left.
 abbrev pub last_move : Option (Event × List Bool) → Move
 last_move None = Stop
 last_move (Some (event, [])) = Last event
@@ -95,10 +99,12 @@ move_to words event taken end NoneInside = Stop
 unfoldable pub advance : Words → Event → List Bool → End → Move
 advance words event taken end = move_to words event taken end (successor words event)
 
+-- The event and then the walk, if there is one.
 abbrev pub behind : Event → Option (List Event) → Option (List Event)
 behind event None = None
 behind event (Some walk) = Some (event ∷ walk)
 
+-- The walk that begins with this step, and goes on so.
 abbrev pub follow : Move → (Event → List Bool → Option (List Event)) → Option (List Event)
 follow Stop rest = None
 follow (Last event) rest = Some (event ∷ [])

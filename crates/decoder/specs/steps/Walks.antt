@@ -7,7 +7,7 @@ use Rattle.retire.specs.declared.event.Event.TheVariants.{Retire}
 use Rattle.rvclass.specs.Words.{Words}
 use Rattle.legalpath.specs.Legal.{Runs}
 use Rattle.legalpath.specs.Successor.{leads_from}
-use Rattle.decoder.specs.Leads.{may_stay_on}
+use Rattle.decoder.specs.steps.Leads.{may_stay_on}
 use Rattle.decoder.specs.Walk.{End, AtBranch, AtAddress, AtTarget, IsWalk}
 use Rattle.decoder.specs.declared.stepping.Goal.{Goal}
 use Rattle.decoder.specs.declared.stepping.Goal.TheVariants as goal

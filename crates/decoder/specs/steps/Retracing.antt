@@ -1,10 +1,11 @@
 -- How this crate's code goes along a walk that was measured.
-use Rattle.std.specs.Prelude.{◌≡◌, ℕ, ◌+◌, ◌≤◌, Bool, true, false, List, [], ◌∷◌, ◌++◌, drop, length, Option, Some, None}
+use Rattle.std.specs.Prelude.{◌≡◌, ℕ, ◌+◌, ◌≤◌, Bool, true, false, List, [], ◌∷◌, ◌++◌, drop, length, Option, Some}
+use Rattle.std.specs.Prelude.{None}
 use Rattle.retire.specs.declared.event.Event.{Event}
 use Rattle.rvclass.specs.Words.{Words}
 use Rattle.decoder.specs.Walk.{End}
-use Rattle.decoder.specs.WalkSteps.{Move, Stop, Last, On, walk_within}
-use Rattle.decoder.specs.Walks.{event_of, Carries}
+use Rattle.decoder.specs.steps.WalkSteps.{Move, Stop, Last, On, walk_within}
+use Rattle.decoder.specs.steps.Walks.{event_of, Carries}
 use Rattle.decoder.specs.declared.stepping.Here.{Here}
 
 -- The retirement with the outcomes that it leaves, if there is one, is the one that was reached where
@@ -45,8 +46,9 @@ IsAhead words here left end [] = Unit {0}
 IsAhead words here left end (event ∷ back) =
     Carries words here × (steps : ℕ) × (walk_within words steps (event_of here) left end ≡ Some (event ∷ back))
 
--- A part of the walk was added, so many retirements are left, and there is room for them.
-pub record Adding (words : Words) (steps : ℕ) (from : Event) (taken : List Bool) (end : End) (old : List Event) (ahead : ℕ) (here : Here) (left : List Bool) (new : List Event) (len capacity : ℕ) : Type 0 where
+-- The first events of the walk were added, so many retirements are left, and there is room for them.
+pub record Adding (words : Words) (steps : ℕ) (from : Event) (taken : List Bool) (end : End) (old : List Event)
+    (ahead : ℕ) (here : Here) (left : List Bool) (new : List Event) (len capacity : ℕ) : Type 0 where
   pub whole : List Event
   pub back : List Event
   pub found : walk_within words steps from taken end ≡ Some whole

@@ -1,0 +1,9 @@
+-- What only the private functions of this crate cite: how its code finds what the definitions beside say.
+pub mod Faults
+pub mod Leads
+pub mod Walks
+pub mod WalkSteps
+pub mod Retracing
+pub mod Stretches
+pub mod Reporting
+pub mod Planning

@@ -1,0 +1,74 @@
+-- The events that a packet adds to a log, as this crate's code holds them.
+use Rattle.std.specs.Prelude.{◌≡◌, ℕ, ◌+◌, ◌≤◌, List, [], ◌∷◌, ◌++◌, length, Option, Some, None}
+use Rattle.std.specs.List.{last_or}
+use Rattle.retire.specs.Events.{place}
+use Rattle.retire.specs.declared.event.Event.{Event}
+use Rattle.rvclass.specs.Words.{Words}
+use Rattle.legalpath.specs.Legal.{Runs}
+use Rattle.legalpath.specs.Right.{Right}
+use Rattle.decoder.specs.steps.Faults.{IsOnTheWay}
+use Rattle.decoder.specs.steps.Walks.{event_of, end_of, IsHere, WalksOn}
+use Rattle.decoder.specs.declared.fault.DecodeFault.{DecodeFault}
+use Rattle.decoder.specs.declared.stretch.Stretch.{Stretch}
+use Rattle.decoder.specs.declared.stretch.Stretch.TheVariants.{Nothing, One, Two, Walk}
+
+-- How many events the stretch has.
+abbrev pub stretch_count : Stretch → ℕ
+stretch_count Nothing = 0
+stretch_count (One event) = 1
+stretch_count (Two trap event) = 2
+stretch_count (Walk walk) = walk.walked.count
+
+-- The last event after the stretch, where this was the last before it.
+abbrev pub stretch_last : Option Event → Stretch → Option Event
+stretch_last before Nothing = before
+stretch_last before (One event) = Some event
+stretch_last before (Two trap event) = Some event
+stretch_last before (Walk walk) = Some walk.walked.last
+
+-- The place of the last event of the stretch, or this one where it has none.
+abbrev pub stretch_place : ℕ → Stretch → ℕ
+stretch_place at Nothing = at
+stretch_place at (One event) = place event
+stretch_place at (Two trap event) = place event
+stretch_place at (Walk walk) = place walk.walked.last
+
+-- These are the events of the stretch.
+abbrev pub Gives : Words → Stretch → List Event → Type 0
+Gives words Nothing events = events ≡ []
+Gives words (One event) events = events ≡ event ∷ []
+Gives words (Two trap event) events = events ≡ trap ∷ event ∷ []
+Gives words (Walk walk) events =
+    IsHere words walk.from × WalksOn words (event_of walk.from) walk.outcomes (end_of walk.goal) events ×
+    (walk.walked.count ≡ length events) ×
+    (last_or (Some (event_of walk.from)) events ≡ Some walk.walked.last)
+
+-- The event before, if there is one, is right.
+abbrev pub RightBefore : Words → Option Event → Type 0
+RightBefore words None = Unit {0}
+RightBefore words (Some before) = Right words before
+
+-- The stretch has events that fit and may follow the event before.
+pub record Suits (words : Words) (before : Option Event) (Fit : List Event → Type 0) (stretch : Stretch) : Type 0 where
+  pub events : List Event
+  pub gives : Gives words stretch events
+  pub fits : RightBefore words before → Fit events × Runs words before events
+
+-- These events fit and may follow the event before.
+abbrev pub SuitsOne : Words → Option Event → (List Event → Type 0) → List Event → Type 0
+SuitsOne words before Fit events = RightBefore words before → Fit events × Runs words before events
+
+-- No events fit and may follow the event before, and the fault is of a kind that tells so.
+pub record SuitsNone (words : Words) (before : Option Event) (Fit : List Event → Type 0) (fault : DecodeFault) : Type
+    0 where
+  pub named : IsOnTheWay fault
+  pub none : RightBefore words before → (events : List Event) → Fit events → Runs words before events → ⊥
+
+-- There is room for the events of the stretch.
+abbrev pub HasRoomFor : Words → Stretch → ℕ → ℕ → Type 0
+HasRoomFor words stretch len capacity =
+    (events : List Event) × Gives words stretch events × (len + length events ≤ capacity)
+
+-- The events of the stretch were added.
+abbrev pub AddsStretch : Words → Stretch → List Event → List Event → Type 0
+AddsStretch words stretch old new = (events : List Event) → Gives words stretch events → new ≡ old ++ events
