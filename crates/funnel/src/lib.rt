@@ -11,6 +11,8 @@ mod outlet;
 mod port;
 mod receipt;
 mod rule;
+#[cfg(test)]
+mod tests;
 
 pub use fault::{Ended, OpenFault, SendFault};
 pub use limits::{MOST_CAPACITY, MOST_HARTS};
