@@ -10,7 +10,7 @@ use Rattle.funnel.specs.declared.rule.View.TheVariants as V
 use Rattle.funnel.specs.Order.{AreInOrder}
 use Rattle.funnel.specs.Rule.{Kept, handed_out, next_port, told_of, TakesOne, Compares, SendsOn, SendsLast}
 use Rattle.funnel.specs.Ends.{has_closing, is_finished}
-use Rattle.funnel.specs.Passes.{IsPort, IsOutlet, sent_of, taken_of}
+use Rattle.funnel.specs.steps.Passes.{IsPort, IsOutlet, sent_of, taken_of}
 use Rattle.funnel.proofs.OrderLemmas.{or_false, none_closes, has_closing-next}
 use Rattle.funnel.proofs.RuleSteps.{sends_on, sends_last, takes, forks, merges, learns}
 

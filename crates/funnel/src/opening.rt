@@ -5,7 +5,7 @@ ghost use Rattle.crossbeam_channel.specs.Ends.{sends_on};
 ghost use Rattle.funnel.specs.Limits.{limit_fault};
 ghost use Rattle.funnel.specs.declared.fault.OpenFault.{OpenFault as AnyFault};
 ghost use Rattle.funnel.specs.Ends.{new_port, AreNewPorts};
-ghost use Rattle.funnel.specs.Passes.{id_of, knows, taken_of, IsOutlet};
+ghost use Rattle.funnel.specs.steps.Passes.{id_of, knows, taken_of, IsOutlet};
 
 use crate::limits::fault_of;
 use crate::rule::{HandOut, Law, Sender, Ticket, View};

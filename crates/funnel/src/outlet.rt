@@ -4,7 +4,7 @@ ghost use Rattle.crossbeam_channel.specs.Claims.{IsSeatAt};
 ghost use Rattle.crossbeam_channel.specs.Ends.{sends_on, receives_on, ruled_capacity};
 ghost use Rattle.message.specs.OfHart.{of_hart};
 ghost use Rattle.funnel.specs.Ends.{OutletView, IsBeginning, EndsClosing};
-ghost use Rattle.funnel.specs.Passes.{id_of, knows, sent_of, taken_of, IsPort, IsOutlet};
+ghost use Rattle.funnel.specs.steps.Passes.{id_of, knows, sent_of, taken_of, IsPort, IsOutlet};
 
 use crate::Ended;
 use crate::receipt::{Receipt, Settled};

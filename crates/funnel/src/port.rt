@@ -5,7 +5,7 @@ ghost use Rattle.crossbeam_channel.specs.Ends.{sends_on};
 ghost use Rattle.payload.specs.Closing.{is_closing};
 ghost use Rattle.funnel.specs.declared.rule.View.TheVariants as V;
 ghost use Rattle.funnel.specs.Ends.{PortView, has_closing, is_finished, after_sending};
-ghost use Rattle.funnel.specs.Passes.{id_of, knows, sent_of, IsPort};
+ghost use Rattle.funnel.specs.steps.Passes.{id_of, knows, sent_of, IsPort};
 ghost use Rattle.funnel.specs.Refusals.{payload_of};
 
 use crate::SendFault;

@@ -3,7 +3,7 @@ ghost use Rattle.std.specs.Prelude.{◌≡◌, length};
 ghost use Rattle.crossbeam_channel.specs.Claims.{IsSeatAt};
 ghost use Rattle.crossbeam_channel.specs.Ends.{sends_on};
 ghost use Rattle.funnel.specs.Ends.{PortView};
-ghost use Rattle.funnel.specs.Passes.{id_of, knows, sent_of, IsPort};
+ghost use Rattle.funnel.specs.steps.Passes.{id_of, knows, sent_of, IsPort};
 
 use crate::rule::{Sender, Ticket};
 use std::alloc::{Allocator, Global};

@@ -1,7 +1,13 @@
 //! Numbers of harts and of messages within the limits and beyond them.
 
-use crate::{Core, OpenFault};
+use crate::{Core, OpenFault, open};
+use std::alloc::Global;
 use std::test::Fail;
+
+/// Why no channel of these numbers is opened.
+fn open_fault(alloc: Global, harts: u16, capacity: u32) -> Option<OpenFault> {
+    open(alloc, harts, capacity).err()
+}
 
 #[test]
 fn lowest_fault_is_told(rt: HostRuntime) -> Result<(), Fail> {
@@ -26,6 +32,8 @@ fn lowest_fault_is_told(rt: HostRuntime) -> Result<(), Fail> {
             Err(fault) => Some(fault),
         };
         assert_eq!(rt; answer, fault, "{harts} harts, capacity {capacity}");
+        let opened = open_fault(rt.alloc(), harts, capacity);
+        assert_eq!(rt; opened, fault, "a channel of {harts} harts, capacity {capacity}");
     }
     Ok(())
 }

@@ -2,7 +2,7 @@ use Rattle.std.proofs.Common.{◌≡◌, ◌≤◌, []}
 use Rattle.crossbeam_channel.specs.Claims.{IsSeatAt}
 use Rattle.crossbeam_channel.specs.Ends.{sends_on}
 use Rattle.funnel.specs.Ends.{AreNewPorts}
-use Rattle.funnel.specs.Passes.{id_of, knows, taken_of, IsOutlet}
+use Rattle.funnel.specs.steps.Passes.{id_of, knows, taken_of, IsOutlet}
 use Rattle.funnel.proofs.opening.opened.Given as goal
 
 abbrev pub invariant-loop-hart : goal.invariant-loop-hart
