@@ -1,13 +1,13 @@
 -- Reading bytes as numbers.
-use Rattle.std.proofs.Common.{◌≡◌, ℕ, zero, suc, ◌+◌, ◌-◌, ◌*◌, ◌^◌, ◌<◌, ◌≤◌, ◌⊎◌, inl, inr, List, [], ◌∷◌, ◌++◌, length, take, drop, get_or, replicate, refl, sym, ap, ◌∙◌, arith, append_assoc, length-drop}
-use Rattle.std.proofs.Math.Nat.{pow-suc}
+use Rattle.std.proofs.Common.{◌≡◌, ℕ, zero, suc, ◌+◌, ◌-◌, ◌*◌, ◌/◌, ◌%◌, ◌^◌, ◌<◌, ◌≤◌, ◌⊎◌, inl, inr, List, [], ◌∷◌, ◌++◌, length, take, drop, get_or, replicate, refl, sym, ap, ◌∙◌, arith, append_assoc, length-drop}
+use Rattle.std.proofs.Math.Nat.{pow-suc, pow-le-pow_right, mul_comm, div-div-eq-div-mul, zero-div}
 use Rattle.std.proofs.lemmas.Nat.{pow-add}
-use Rattle.std.proofs.lemmas.List.{replicate-append-replicate, length-append, length-replicate, drop-replicate, append-nil, take-append-drop}
+use Rattle.std.proofs.lemmas.List.{length-append, length-replicate, drop-replicate, append-nil, take-append-drop, drop-drop}
 use Rattle.std.proofs.Math.Seq.{take-suc}
-use Rattle.std.specs.Int.{byte_worth, sum_through, from_le_bytes, w128}
+use Rattle.std.specs.Int.{byte_worth, sum_through, from_le_bytes, w16, w32, w64, w128}
 use Rattle.payload.specs.Bytes.{number, IsBytes}
 use Rattle.payload.specs.Faults.{bits_of}
-use Rattle.payload.proofs.ByteLists.{power}
+use Rattle.payload.proofs.ByteLists.{power, number-lt}
 use Rattle.payload.proofs.Extending.{extended_low, extended_high}
 
 pub number-append : (xs ys : List ℕ) → number (xs ++ ys) ≡ number xs + 2 ^ (8 * length xs) * number ys
@@ -116,21 +116,6 @@ padded_16 bytes new fill same few =
     ∙ from_le_16 (bytes ++ replicate (16 - length bytes) fill) size
 
 -- A number from its two parts.
-pub whole_short : (bytes : List ℕ) (fill low high : ℕ) → length bytes ≤ 16
-    → low ≡ number (bytes ++ replicate (16 - length bytes) fill) → high ≡ number (replicate 2 fill)
-    → low + 2 ^ 128 * high ≡ number (bytes ++ replicate (18 - length bytes) fill)
-whole_short bytes fill low high few is_low is_high =
-    let size : length (bytes ++ replicate (16 - length bytes) fill) ≡ 16 =
-    rw (length-append bytes (replicate (16 - length bytes) fill), length-replicate (16 - length bytes) fill)
-    (omega arith) in
-    let count : 18 - length bytes ≡ 16 - length bytes + 2 = omega arith in
-    let lists : bytes ++ replicate (18 - length bytes) fill ≡ (bytes ++ replicate (16 - length bytes) fill)
-    ++ replicate 2 fill =
-    rw (count, ← replicate-append-replicate (16 - length bytes) 2 fill)
-    (sym (append_assoc bytes (replicate (16 - length bytes) fill) (replicate 2 fill))) in
-    rw (lists, number-append (bytes ++ replicate (16 - length bytes) fill) (replicate 2 fill), size, is_low, is_high)
-    refl
-
 pub whole_long : (bytes : List ℕ) (fill low high : ℕ) → 16 ≤ length bytes → length bytes ≤ 18
     → low ≡ number (take 16 bytes ++ replicate (16 - length (take 16 bytes)) fill)
     → high ≡ number (take (length bytes - 16) (drop 16 bytes)
@@ -158,6 +143,63 @@ whole_long bytes fill low high many few is_low is_high =
       all,
       count,
     ) refl
+
+-- What the first bytes leave of a number.
+bytes-drop : (j : ℕ) (xs : List ℕ) → IsBytes xs → IsBytes (drop j xs)
+bytes-drop zero xs h = h
+bytes-drop (suc j) [] h = tt
+bytes-drop (suc j) (x ∷ xs) h = bytes-drop j xs h.1
+
+number-drop : (j : ℕ) (xs : List ℕ) → IsBytes xs → number (drop j xs) ≡ number xs / 2 ^ (8 * j)
+number-drop zero xs h = omega arith
+number-drop (suc j) [] h = sym (zero-div (2 ^ (8 * suc j)))
+number-drop (suc j) (x ∷ xs) h =
+    let here : x < 256 = h.0 in
+    let one : (x + 256 * number xs) / 256 ≡ number xs = omega arith in
+    number-drop j xs h.1 ∙ ap (λ n. n / 2 ^ (8 * j)) (sym one)
+    ∙ div-div-eq-div-mul (x + 256 * number xs) 256 (2 ^ (8 * j))
+    ∙ ap (λ p. (x + 256 * number xs) / p) (sym (power j))
+
+-- Two stretches of so many bytes make the number, where they meet or overlap.
+pub overlapped : (k : ℕ) (xs : List ℕ) → IsBytes xs → k ≤ length xs → length xs ≤ 2 * k
+    → number (take k xs) + 2 ^ (8 * k) * (number (take k (drop (length xs - k) xs)) / 2 ^ (8 * (2 * k - length xs)))
+    ≡ number xs
+overlapped k xs h some few =
+    let j = 2 * k - length xs in
+    let last = drop (length xs - k) xs in
+    let size : length last ≡ k = length-drop (length xs - k) xs ∙ omega arith in
+    let count : length xs - k + j ≡ k = omega arith in
+    let behind : drop j last ≡ drop k xs = drop-drop j (length xs - k) xs ∙ ap (λ n. drop n xs) count in
+    let part : number (take k last) / 2 ^ (8 * j) ≡ number (drop k xs) =
+    ap (λ l. number l / 2 ^ (8 * j)) (take_whole last k size) ∙ sym (number-drop j last (bytes-drop (length xs - k) xs h))
+    ∙ ap number behind in
+    ap (λ n. number (take k xs) + 2 ^ (8 * k) * n) part
+    ∙ ap (λ n. number (take k xs) + 2 ^ (8 * n) * number (drop k xs)) (sym (take_length xs k some))
+    ∙ sym (number-append (take k xs) (drop k xs)) ∙ ap number (take-append-drop k xs)
+
+small_sum : (a p q n w : ℕ) → a + p ≡ n → q ≡ p → n < w → w ≤ 2 ^ 128 → a + q % 2 ^ 128 ≡ n
+small_sum a p q n w sum same less wide = omega (arith, sum, same, less, wide)
+
+-- The same as the code computes it, in 128 bits.
+pub two_parts : (k : ℕ) (xs : List ℕ) (a b : ℕ) → IsBytes xs → k ≤ length xs → length xs ≤ 2 * k → length xs ≤ 16
+    → a ≡ number (take k xs) → b ≡ number (take k (drop (length xs - k) xs))
+    → a + b / 2 ^ (8 * (2 * k - length xs)) * 2 ^ (8 * k) % 2 ^ 128 ≡ number xs
+two_parts k xs a b h some few short is_a is_b =
+    let x = b / 2 ^ (8 * (2 * k - length xs)) in
+    let whole : a + 2 ^ (8 * k) * x ≡ number xs = rw (is_a, is_b) (overlapped k xs h some few) in
+    let wide : 2 ^ (8 * length xs) ≤ 2 ^ 128 = pow-le-pow_right {n = 2} (omega arith) {j = 128} (omega (arith, short)) in
+    small_sum a (2 ^ (8 * k) * x) (x * 2 ^ (8 * k)) (number xs) (2 ^ (8 * length xs)) whole (mul_comm x (2 ^ (8 * k)))
+    (number-lt xs h) wide
+
+-- The sums that `from_le_bytes` makes of the bytes of a word.
+pub from_le_8 : (xs : List ℕ) → length xs ≡ 8 → from_le_bytes w64 xs ≡ number xs
+from_le_8 xs h = summed 7 xs (omega arith) ∙ ap number (take_whole xs 8 h)
+
+pub from_le_4 : (xs : List ℕ) → length xs ≡ 4 → from_le_bytes w32 xs ≡ number xs
+from_le_4 xs h = summed 3 xs (omega arith) ∙ ap number (take_whole xs 4 h)
+
+pub from_le_2 : (xs : List ℕ) → length xs ≡ 2 → from_le_bytes w16 xs ≡ number xs
+from_le_2 xs h = summed 1 xs (omega arith) ∙ ap number (take_whole xs 2 h)
 
 -- Bytes, from a bound at each index.
 pub bytes_from_each : (xs : List ℕ) → ((i : ℕ) → get_or xs i 0 < 256) → IsBytes xs

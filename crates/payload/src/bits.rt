@@ -1,7 +1,7 @@
 //! The bits that bytes spell, which go on with copies of the last byte's top bit.
-ghost use Rattle.std.specs.Prelude.{◌≡◌, ◌+◌, ◌-◌, ◌*◌, ◌/◌, ◌%◌, ◌^◌, ◌<◌, ◌≤◌, ◌++◌, nat_lt, length, replicate, ℕ};
+ghost use Rattle.std.specs.Prelude.{◌≡◌, ◌+◌, ◌-◌, ◌*◌, ◌/◌, ◌%◌, ◌^◌, ◌<◌, ◌≤◌, ◌++◌, nat_lt, length, replicate, take, drop, ℕ};
 ghost use Rattle.payload.specs.Bytes.{number};
-ghost use Rattle.payload.specs.Extension.{magnitude};
+ghost use Rattle.payload.specs.Extension.{extended, magnitude};
 ghost use Rattle.payload.specs.Faults.{bits_of, part, field_at};
 ghost use Rattle.payload.specs.Layout.{tval_at, exception_width};
 
@@ -25,8 +25,43 @@ impl Model for Bits {
 
 impl Bits {
     /// The bits of 1 to 18 bytes.
+    #[inline(always)]
     pub(crate) fn read(bytes: &[u8]) -> Bits
         requires some { 1 ≤ length bytes.now }
+        requires few { length bytes.now ≤ 18 }
+        ensures { result ≡ bits_of bytes.now }
+    {
+        if bytes.len() < 16 {
+            Bits::going_on(bytes.len(), number_below_16(bytes))
+        } else {
+            Bits::read_long(bytes)
+        }
+    }
+
+    /// The bits of a number of so many bytes, which go on with copies of its top bit.
+    #[inline(always)]
+    #[tactic(auto, unfolding(crate::specs::Extension::extended))]
+    fn going_on(count: usize, n: u128) -> Bits
+        requires some { 1 ≤ count }
+        requires few { count ≤ 15 }
+        requires fits { n < 2 ^ (8 * count) }
+        ensures { result ≡ extended (8 * count) n }
+    {
+        let width = 8 * count as u32;
+        if n < 1 << (width - 1) {
+            Bits { low: n, high: 0 }
+        } else {
+            Bits {
+                low: n + (u128::MAX - ((1 << width) - 1)),
+                high: u16::MAX,
+            }
+        }
+    }
+
+    /// The bits of 16 to 18 bytes.
+    #[inline(never)]
+    fn read_long(bytes: &[u8]) -> Bits
+        requires some { 16 ≤ length bytes.now }
         requires few { length bytes.now ≤ 18 }
         ensures { result ≡ bits_of bytes.now }
     {
@@ -35,16 +70,9 @@ impl Bits {
         } else {
             0xff
         };
-        if bytes.len() <= 16 {
-            Bits {
-                low: number_of_16(bytes, fill),
-                high: number_of_2(&[], fill),
-            }
-        } else {
-            Bits {
-                low: number_of_16(&bytes[..16], fill),
-                high: number_of_2(&bytes[16..], fill),
-            }
+        Bits {
+            low: number_of_16(&bytes[..16], fill),
+            high: number_of_2(&bytes[16..], fill),
         }
     }
 
@@ -101,6 +129,62 @@ impl Bits {
         let top = self.high >> 13;
         top == 0b000 || top == 0b111
     }
+}
+
+/// The number that up to 15 bytes spell, by two words of them at most, which overlap where the count is no power of 2.
+#[inline(always)]
+fn number_below_16(bytes: &[u8]) -> u128
+    requires some { 1 ≤ length bytes.now }
+    requires few { length bytes.now ≤ 15 }
+    ensures value { result ≡ number bytes.now }
+    ensures below { result < 2 ^ (8 * length bytes.now) }
+{
+    let count = bytes.len();
+    if count >= 8 {
+        u128::from(word(bytes, 0))
+            + ((u128::from(word(bytes, count - 8)) >> (8 * (16 - count))) << 64)
+    } else if count >= 4 {
+        u128::from(half(bytes, 0))
+            + ((u128::from(half(bytes, count - 4)) >> (8 * (8 - count))) << 32)
+    } else if count >= 2 {
+        u128::from(pair(bytes, 0))
+            + ((u128::from(pair(bytes, count - 2)) >> (8 * (4 - count))) << 16)
+    } else {
+        u128::from(bytes[0])
+    }
+}
+
+/// The number that 8 bytes spell, from this one on.
+#[inline(always)]
+fn word(bytes: &[u8], from: usize) -> u64
+    requires { from + 8 ≤ length bytes.now }
+    ensures { result ≡ number (take 8 (drop from bytes.now)) }
+{
+    let mut part = [0; 8];
+    part.copy_from_slice(&bytes[from..from + 8]);
+    u64::from_le_bytes(part)
+}
+
+/// The number that 4 bytes spell, from this one on.
+#[inline(always)]
+fn half(bytes: &[u8], from: usize) -> u32
+    requires { from + 4 ≤ length bytes.now }
+    ensures { result ≡ number (take 4 (drop from bytes.now)) }
+{
+    let mut part = [0; 4];
+    part.copy_from_slice(&bytes[from..from + 4]);
+    u32::from_le_bytes(part)
+}
+
+/// The number that 2 bytes spell, from this one on.
+#[inline(always)]
+fn pair(bytes: &[u8], from: usize) -> u16
+    requires { from + 2 ≤ length bytes.now }
+    ensures { result ≡ number (take 2 (drop from bytes.now)) }
+{
+    let mut part = [0; 2];
+    part.copy_from_slice(&bytes[from..from + 2]);
+    u16::from_le_bytes(part)
 }
 
 /// The number that 16 bytes spell, the last of them copies of `fill`.

@@ -21,8 +21,8 @@ impl Model for Outcomes {
     ghost inverse = { λ l. record { map = map_of l; count = length l } };
 
     ghost inverse_ok = { λ o h i. record {
-        map = map_outcomes o.count o.map h.1 i;
-        count = length_outcomes o.count o.map i;
+      map = map_outcomes o.count o.map h.1 i;
+      count = length_outcomes o.count o.map i;
     } };
 
     ghost invariant = { λ o. (o.count ≤ 31) × (o.map < 2 ^ o.count) };
