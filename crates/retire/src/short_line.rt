@@ -8,17 +8,19 @@ ghost use Rattle.retire.specs.declared.event.Event.TheVariants.{Retire};
 /// How many bytes such a line has.
 pub(crate) const SHORT_LINE: usize = 15;
 
+// The lower-case digits.
+#[rattlefmt::skip]
+static DIGITS: [u8; 16] = [
+    b'0', b'1', b'2', b'3', b'4', b'5', b'6', b'7', b'8', b'9', b'a', b'b', b'c', b'd', b'e', b'f',
+];
+
 /// The lower-case digit of a value.
 #[inline(always)]
 pub(crate) fn digit_of(value: u8) -> u8
     requires { value < 16 }
     ensures { result ≡ digit_glyph false value }
 {
-    if value < 10 {
-        b'0' + value
-    } else {
-        b'a' - 10 + value
-    }
+    DIGITS[usize::from(value)]
 }
 
 /// The line of a retirement; none where its address has not eight digits, or its type or privilege more than one.
