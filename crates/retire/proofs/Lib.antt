@@ -1,9 +1,11 @@
+pub mod TableLemmas
 pub mod NumberLemmas
 pub mod RowLemmas
 pub mod RecordsLemmas
 pub mod EventsLemmas
 pub mod HexLemmas
 pub mod LineLemmas
+pub mod ShortLineLemmas
 pub mod WriteLemmas
 pub mod RoundTrip
 pub mod RangeLemmas
@@ -11,4 +13,5 @@ pub mod OutcomesLemmas
 pub mod PlainLemmas
 pub mod FieldLemmas
 pub mod PlainRowLemmas
+pub mod ShortRowLemmas
 pub mod PlainLogLemmas

@@ -12,6 +12,8 @@ mod line;
 mod plain;
 mod read;
 mod row;
+mod short_line;
+mod short_row;
 mod write;
 
 pub use event::Event;

@@ -13,17 +13,11 @@ use crate::fault::LogFault;
 use crate::field::{cell, field_before};
 use crate::read::ROWS;
 use crate::row::event_of_numbers;
+use crate::short_row::{PlainRow, short_row};
 use std::alloc::Allocator;
 
 // The bytes of a short row, for a guess at how many rows a text has.
 const ROW_BYTES: usize = 12;
-
-// A row at the front of a text, and what follows its line.
-#[derive(Clone, Copy)]
-struct PlainRow<'a> {
-    event: Event,
-    rest: &'a [u8],
-}
 
 /// What follows the end of a line.
 #[inline(always)]
@@ -39,9 +33,9 @@ fn line_end(text: &[u8]) -> Option<&[u8]>
     }
 }
 
-/// The row of this number at the front of a text; none where its line is not plain, or faulty.
+/// The row of this number at the front of a text, of any form; none where its line is not plain, or faulty.
 #[inline(always)]
-fn row_before(row: u32, text: &[u8]) -> Option<PlainRow<'_>>
+fn long_row(row: u32, text: &[u8]) -> Option<PlainRow<'_>>
     ensures row { IfSome result (λ r. HasRow row text.now r.event r.rest.now) }
     ensures reads { (rest : List ℕ) → IsPlainRow row text.now rest → IsSomeAnd result (λ r. r.rest.now ≡ rest) }
 {
@@ -57,6 +51,18 @@ fn row_before(row: u32, text: &[u8]) -> Option<PlainRow<'_>>
     match event_of_numbers(row, first, second, third, cause.number, tval.number) {
         Ok(event) => Some(PlainRow { event, rest }),
         Err(_) => None,
+    }
+}
+
+/// The row of this number at the front of a text; none where its line is not plain, or faulty.
+#[inline(always)]
+fn row_before(row: u32, text: &[u8]) -> Option<PlainRow<'_>>
+    ensures row { IfSome result (λ r. HasRow row text.now r.event r.rest.now) }
+    ensures reads { (rest : List ℕ) → IsPlainRow row text.now rest → IsSomeAnd result (λ r. r.rest.now ≡ rest) }
+{
+    match short_row(row, text) {
+        Some(plain) => Some(plain),
+        None => long_row(row, text),
     }
 }
 

@@ -2,7 +2,7 @@
 use Rattle.std.proofs.Common.{◌∙◌, sym}
 use Rattle.retire.proofs.FieldLemmas.{same_cell, same_number}
 use Rattle.retire.proofs.PlainRowLemmas.{cell-on, field-on, line-ends, line-on, no_fault, row-fields}
-use Rattle.retire.proofs.plain.row_before.Goals as goal
+use Rattle.retire.proofs.plain.long_row.Goals as goal
 
 pub returns-in_err-addr-clause-reads : goal.returns-in_err-addr-clause-reads
 returns-in_err-addr-clause-reads c = λ rest p. absurd (c.in_err-addr.ensures.reads _ _ p.first)

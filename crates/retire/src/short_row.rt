@@ -1,0 +1,86 @@
+//! The row of a retirement at an address of eight digits, which most are.
+
+ghost use Rattle.std.specs.Prelude.{◌≡◌, ◌∷◌, ℕ, List, IfSome};
+ghost use Rattle.retire.specs.steps.PlainRow.{HasDigits, HasRow, IsPlainRow};
+
+use crate::event::Event;
+use crate::hex::{NO_DIGIT, value_of};
+use crate::row::event_of_numbers;
+
+/// A row at the front of a text, and what follows its line.
+#[derive(Clone, Copy)]
+pub struct PlainRow<'a> {
+    /// The row's event.
+    pub event: Event,
+    /// What follows the row's line.
+    pub rest: &'a [u8],
+}
+
+// The digits of a type and of a privilege behind an address, and what follows the line.
+#[derive(Clone, Copy)]
+struct Tail<'a> {
+    itype: u8,
+    privilege: u8,
+    rest: &'a [u8],
+}
+
+/// The number of eight digits.
+#[inline(always)]
+fn eight_digits(digits: &[u8; 8]) -> Option<u64>
+    ensures { IfSome result (λ value. HasDigits digits.now value 8) }
+{
+    let mut value = 0u64;
+    for byte in digits {
+        let digit = value_of(*byte);
+        if digit == NO_DIGIT {
+            return None;
+        }
+        value = value * 16 + u64::from(digit);
+    }
+    Some(value)
+}
+
+/// What stands behind the address of a row whose type and privilege are one byte each, and whose other fields are empty.
+#[inline(always)]
+fn tail_of(text: &[u8]) -> Option<Tail<'_>>
+    ensures { IfSome result (λ r. text.now ≡ 44 ∷ r.itype ∷ 44 ∷ r.privilege ∷ 44 ∷ 44 ∷ 10 ∷ r.rest.now) }
+{
+    match text {
+        [b',', itype, b',', privilege, b',', b',', b'\n', rest @ ..] => Some(Tail {
+            itype: *itype,
+            privilege: *privilege,
+            rest,
+        }),
+        _ => None,
+    }
+}
+
+/// The row of this number at the front of a text, where it is such a row with no fault.
+#[inline(always)]
+pub fn short_row(row: u32, text: &[u8]) -> Option<PlainRow<'_>>
+    ensures row { IfSome result (λ r. HasRow row text.now r.event r.rest.now) }
+    ensures only { IfSome result (λ r. (rest : List ℕ) → IsPlainRow row text.now rest → r.rest.now ≡ rest) }
+{
+    let (digits, behind) = text.split_first_chunk::<8>()?;
+    let tail = tail_of(behind)?;
+    let addr = eight_digits(digits)?;
+    let itype = value_of(tail.itype);
+    let privilege = value_of(tail.privilege);
+    if itype == NO_DIGIT || privilege == NO_DIGIT {
+        return None;
+    }
+    match event_of_numbers(
+        row,
+        addr,
+        u64::from(itype),
+        u64::from(privilege),
+        None,
+        None,
+    ) {
+        Ok(event) => Some(PlainRow {
+            event,
+            rest: tail.rest,
+        }),
+        Err(_) => None,
+    }
+}
