@@ -11,17 +11,20 @@ use Rattle.decoder.proofs.UniqueLemmas.{one_log}
 use Rattle.decoder.specs.Describes.{Describes}
 use Rattle.decoder.specs.declared.fault.DecodeFault.{DecodeFault}
 use Rattle.decoder.specs.declared.fault.DecodeFault.TheVariants.{Memory}
+use Rattle.message.specs.Accepted.{AreAccepted, newcomers}
 use Rattle.message.specs.Capture.{capture}
 use Rattle.message.specs.Cut.{IsMessage, IsCut, HasBadLength}
 use Rattle.message.specs.declared.fault.DemuxFault.{DemuxFault}
 use Rattle.message.specs.declared.fault.MessageFault.TheVariants as message
 use Rattle.message.specs.declared.message.Message.{Message}
+use Rattle.receiver.specs.Holds.{AreDecoded}
+use Rattle.receiver.specs.declared.fault.ReceiveFault.TheVariants as receiving
 use Rattle.captures.proofs.CapturesSplit.{capture_split, capture_none, capture_not_cut, capture_not_bad, capture_first}
 use Rattle.captures.proofs.Elements.{All-behind}
 use Rattle.captures.proofs.NextMessages.{all_ranges, program_image, log_described, log_ended, next_message}
-use Rattle.captures.specs.Decoded.{AreDecoded, IsRefused, IsNotDecoded, Stops, IsDecoded}
+use Rattle.captures.specs.Decoded.{BeginsRefused, Stops, IsDecoded}
 use Rattle.captures.specs.Messages.{messages_of_harts}
-use Rattle.captures.specs.OfHart.{packets_of}
+use Rattle.message.specs.OfHart.{packets_of}
 use Rattle.captures.specs.Returned.{IsCaptureOf, AreReturned}
 use Rattle.captures.specs.declared.outcome.CaptureFault.{CaptureFault}
 use Rattle.captures.specs.declared.outcome.CaptureFault.TheVariants as fault
@@ -31,7 +34,7 @@ module _ (program : Image) (period : ℕ) (logs : List ProgramLog) (bytes : List
   all = messages_of_harts period 0 logs
 
   -- Of all messages the lists are the events of the logs.
-  lists_same : (lists : List (List Event)) (closed : List Bool) → AreDecoded (words_of program) (length logs) all lists closed → lists ≡ map (λ (log : ProgramLog). log.events) logs
+  lists_same : (lists : List (List Event)) (closed : List Bool) → AreDecoded (λ hart. words_of program) (length logs) all lists closed → lists ≡ map (λ (log : ProgramLog). log.events) logs
   lists_same lists closed decoded =
       let events = λ (log : ProgramLog). log.events in
       let count = decoded.lists_count in
@@ -47,7 +50,7 @@ module _ (program : Image) (period : ℕ) (logs : List ProgramLog) (bytes : List
       ∙ sym (get_or-map events logs k (log_of program d) d known))
 
   -- And every hart is closed.
-  closed_same : (lists : List (List Event)) (closed : List Bool) → AreDecoded (words_of program) (length logs) all lists closed → closed ≡ replicate (length logs) true
+  closed_same : (lists : List (List Event)) (closed : List Bool) → AreDecoded (λ hart. words_of program) (length logs) all lists closed → closed ≡ replicate (length logs) true
   closed_same lists closed decoded =
       let count = decoded.closed_count in
       same_lists closed (replicate (length logs) true) (count ∙ sym (length-replicate (length logs) true))
@@ -59,38 +62,39 @@ module _ (program : Image) (period : ℕ) (logs : List ProgramLog) (bytes : List
       ∙ sym (get_or-replicate (length logs) k true d known))
 
   -- No message behind the first ones is refused.
-  not_refused : (messages later : List Message) (rest : List ℕ) (why : DemuxFault) → all ≡ messages ++ later → rest ≡ capture later → All IsMessage later → IsRefused (length logs) messages rest why → ⊥
-  not_refused messages later rest why whole same ranges refused =
+  not_refused : (messages later : List Message) (rest : List ℕ) (why : DemuxFault) → all ≡ messages ++ later → rest ≡ capture later → All IsMessage later
+      → BeginsRefused (words_of program) (length logs) messages rest (receiving.Demux why) → AreAccepted (newcomers (length logs)) messages → ⊥
+  not_refused messages later rest why whole same ranges refused accepted =
       let first = capture_first later refused.message refused.rest ranges refused.ranges (sym same ∙ refused.begins) in
       let next = next_message program period logs bytes sent few messages refused.message first.0 (whole ∙ ap (λ l. messages ++ l) first.1) in
-      let taken = next.taken refused.expected refused.accepted in
+      let taken = next.taken accepted in
       let answer = refused.refused in
       cc
 
   -- A packet of theirs that is not decoded lacks memory.
   not_decoded : (messages later : List Message) (rest : List ℕ) (why : DecodeFault) → all ≡ messages ++ later → rest ≡ capture later → All IsMessage later
-      → IsNotDecoded (words_of program) (length logs) messages rest why → why ≡ Memory
-  not_decoded messages later rest why whole same ranges left =
+      → BeginsRefused (words_of program) (length logs) messages rest (receiving.Decode why) → AreAccepted (newcomers (length logs)) messages → why ≡ Memory
+  not_decoded messages later rest why whole same ranges left accepted =
       let first = capture_first later left.message left.rest ranges left.ranges (sym same ∙ left.begins) in
       let next = next_message program period logs bytes sent few messages left.message first.0 (whole ∙ ap (λ l. messages ++ l) first.1) in
-      let packet : next.packet ≡ left.packet = let one = next.taken left.expected left.accepted in let other = left.unpacked in cc in
+      let packet : next.packet ≡ left.refused.packet = let one = next.taken accepted in let other = left.refused.accepted in cc in
       let described = subst (λ p. Describes (words_of program) (packets_of left.message.hart messages ++ p ∷ []) next.log) packet next.described in
-      ⊎_elim (λ memory. memory) (λ none. absurd (none next.log described)) left.reason
+      ⊎_elim (λ memory. memory.0) (λ none. absurd (none next.log described)) left.refused.not_decoded.reason
 
   -- What decoding up to a stop gives.
   returned : (lists : List (List Event)) (closed : List Bool) (stop : Option (ℕ × CaptureFault)) (messages later : List Message) (rest : List ℕ) → all ≡ messages ++ later → rest ≡ capture later → All IsMessage later
-      → AreDecoded (words_of program) (length logs) messages lists closed → Stops (words_of program) (length logs) messages rest stop → AreReturned logs lists closed stop
-  returned lists closed None messages later rest whole same ranges decoded stops =
+      → AreDecoded (λ hart. words_of program) (length logs) messages lists closed → AreAccepted (newcomers (length logs)) messages → Stops (words_of program) (length logs) messages rest stop → AreReturned logs lists closed stop
+  returned lists closed None messages later rest whole same ranges decoded accepted stops =
       let none = capture_none later (sym same ∙ stops) in
       let every : messages ≡ all = sym (whole ∙ ap (λ l. messages ++ l) none ∙ append-nil messages) in
-      let done = subst (λ ms. AreDecoded (words_of program) (length logs) ms lists closed) every decoded in
+      let done = subst (λ ms. AreDecoded (λ hart. words_of program) (length logs) ms lists closed) every decoded in
       (lists_same lists closed done, closed_same lists closed done)
-  returned lists closed (Some (count, fault.Message message.Short)) messages later rest whole same ranges decoded stops = absurd (capture_not_cut later ranges (subst IsCut same stops.1))
-  returned lists closed (Some (count, fault.Message message.BadLength)) messages later rest whole same ranges decoded stops = absurd (capture_not_bad later ranges (subst HasBadLength same stops.1))
-  returned lists closed (Some (count, fault.Message message.Read)) messages later rest whole same ranges decoded stops = absurd stops.1
-  returned lists closed (Some (count, fault.Message message.Write)) messages later rest whole same ranges decoded stops = absurd stops.1
-  returned lists closed (Some (count, fault.Demux why)) messages later rest whole same ranges decoded stops = absurd (not_refused messages later rest why whole same ranges stops.1)
-  returned lists closed (Some (count, fault.Decode why)) messages later rest whole same ranges decoded stops = not_decoded messages later rest why whole same ranges stops.1
+  returned lists closed (Some (count, fault.Message message.Short)) messages later rest whole same ranges decoded accepted stops = absurd (capture_not_cut later ranges (subst IsCut same stops.1))
+  returned lists closed (Some (count, fault.Message message.BadLength)) messages later rest whole same ranges decoded accepted stops = absurd (capture_not_bad later ranges (subst HasBadLength same stops.1))
+  returned lists closed (Some (count, fault.Message message.Read)) messages later rest whole same ranges decoded accepted stops = absurd stops.1
+  returned lists closed (Some (count, fault.Message message.Write)) messages later rest whole same ranges decoded accepted stops = absurd stops.1
+  returned lists closed (Some (count, fault.Demux why)) messages later rest whole same ranges decoded accepted stops = absurd (not_refused messages later rest why whole same ranges stops.1 accepted)
+  returned lists closed (Some (count, fault.Decode why)) messages later rest whole same ranges decoded accepted stops = not_decoded messages later rest why whole same ranges stops.1 accepted
 
 -- A capture of legal logs decodes to those logs, with every hart closed, unless memory was refused.
 pub captures_return : (program : Image) (period harts : ℕ) (logs : List ProgramLog) (bytes : List ℕ) (lists : List (List Event)) (closed : List Bool) (stop : Option (ℕ × CaptureFault))
@@ -101,4 +105,4 @@ captures_return program period harts logs bytes lists closed stop sent count roo
     let ranges = all_ranges program period logs bytes sent few in
     let split = capture_split (messages_of_harts period 0 logs) here.messages here.rest ranges here.ranges (sym sent.whole ∙ here.whole) in
     let later = All-behind IsMessage here.messages split.later (subst (All IsMessage) split.whole ranges) in
-    returned program period logs bytes sent few lists closed stop here.messages split.later here.rest split.whole split.bytes later here.decoded here.stops
+    returned program period logs bytes sent few lists closed stop here.messages split.later here.rest split.whole split.bytes later here.decoded here.accepted here.stops

@@ -1,12 +1,9 @@
 pub mod MessageTexts
 pub mod Elements
-pub mod HartMessages
 pub mod CapturesSplit
 pub mod SoundLogs
 pub mod LogMessages
 pub mod NextMessages
 pub mod CapturesReturn
-pub mod CollectLemmas
 pub mod Reaching
-pub mod Outcomes
 pub mod ToldMessages

@@ -14,11 +14,11 @@ use Rattle.encoder.specs.Packets.{packets}
 use Rattle.message.specs.Cut.{IsMessage}
 use Rattle.message.specs.declared.message.Message.{Message}
 use Rattle.message.proofs.OfHartLemmas.{of_hart-append, of_hart-own, of_hart-others}
-use Rattle.message.specs.OfHart.{of_hart}
-use Rattle.captures.proofs.HartMessages.{packets_in-cons}
+use Rattle.message.proofs.HartMessages.{packets_in-cons}
 use Rattle.captures.proofs.SoundLogs.{IsSound}
-use Rattle.captures.specs.Messages.{messages_from, messages_of_harts}
-use Rattle.captures.specs.OfHart.{packets_in, packets_of}
+use Rattle.message.specs.Numbered.{messages_from}
+use Rattle.captures.specs.Messages.{messages_of_harts}
+use Rattle.message.specs.OfHart.{of_hart, packets_in, packets_of}
 use Rattle.encoder.specs.Payloads.{payloads}
 
 -- A message as harts of this number send it: it is within its ranges, its number below what a demultiplexer takes, and

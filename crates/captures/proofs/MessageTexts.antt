@@ -14,7 +14,8 @@ use Rattle.encoder.specs.Payloads.{payloads}
 use Rattle.encoder.proofs.CountLemmas.{few_packets}
 use Rattle.message.specs.Capture.{capture, message_bytes}
 use Rattle.message.specs.declared.message.Message.{Message}
-use Rattle.captures.specs.Messages.{messages_from, messages_of_harts}
+use Rattle.message.specs.Numbered.{messages_from}
+use Rattle.captures.specs.Messages.{messages_of_harts}
 
 pub capture_is : (messages : List Message) → capture messages ≡ flat_map message_bytes messages
 capture_is [] = refl

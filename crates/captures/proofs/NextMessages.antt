@@ -18,21 +18,20 @@ use Rattle.decoder.proofs.ExtendingLemmas.{front_describes}
 use Rattle.decoder.specs.Describes.{Describes}
 use Rattle.payload.specs.Ended.{has_ended}
 use Rattle.decoder.specs.Pieces.{reported_after, Pieces}
+use Rattle.message.proofs.AcceptedLemmas.{accepted_counted}
 use Rattle.message.proofs.Answering.{answer-next}
+use Rattle.message.specs.Accepted.{AreAccepted, expected_after, newcomers}
 use Rattle.message.specs.Accepting.{answer_of, accepting}
 use Rattle.message.specs.Cut.{IsMessage}
-use Rattle.message.specs.Harts.{Harts}
 use Rattle.message.specs.declared.message.Message.{Message}
 use Rattle.captures.proofs.Elements.{All_at, All-middle}
 use Rattle.roundtrip.proofs.FirstPackets.{packets_describe}
 use Rattle.message.proofs.OfHartLemmas.{of_hart-append, of_hart-own}
-use Rattle.message.specs.OfHart.{of_hart}
-use Rattle.captures.proofs.HartMessages.{packets_in-cons, packets_of-append}
+use Rattle.message.proofs.HartMessages.{expected_of, packets_in-cons, packets_of-append}
 use Rattle.captures.proofs.LogMessages.{IsSent, all_sent, of_hart-log, packets_of-log, number-front}
 use Rattle.captures.proofs.SoundLogs.{IsSound, sound_logs, packets_end}
-use Rattle.captures.specs.Decoded.{HasAccepted}
 use Rattle.captures.specs.Messages.{messages_of_harts}
-use Rattle.captures.specs.OfHart.{packets_in, packets_of, expected_after}
+use Rattle.message.specs.OfHart.{of_hart, packets_in, packets_of}
 use Rattle.encoder.specs.Payloads.{payloads}
 use Rattle.captures.specs.Returned.{IsCaptureOf}
 
@@ -48,7 +47,7 @@ not_ended words before reported (p ∷ q ∷ front) packet rest next (piece ∷ 
 -- A demultiplexer takes the message, and the packets of its hart with this one describe a log.
 pub record IsNext (words : Words) (harts : ℕ) (messages : List Message) (message : Message) : Type 0 where
   pub packet : Packet
-  pub taken : (expected : Harts) → HasAccepted harts messages expected → accepting expected message ≡ Ok packet
+  pub taken : AreAccepted (newcomers harts) messages → accepting (expected_after (newcomers harts) messages) message ≡ Ok packet
   pub log : List Event
   pub described : Describes words (packets_of message.hart messages ++ packet ∷ []) log
 
@@ -90,10 +89,10 @@ module _ (program : Image) (period : ℕ) (logs : List ProgramLog) (bytes : List
   log_ended hart log at = ap has_ended (packets_at hart log at) ∙ packets_end (words_of program) period log.events
 
   -- A demultiplexer that accepted the messages before takes the one behind them.
-  takes : (messages : List Message) (message : Message) (later : List Message) (packet : Packet) (expected : Harts) → all ≡ messages ++ message ∷ later
+  takes : (messages : List Message) (message : Message) (later : List Message) (packet : Packet) → all ≡ messages ++ message ∷ later
       → IsSent (length logs) message → reading message.payload ≡ Ok packet → has_ended (packets_of message.hart messages) ≡ false
-      → HasAccepted (length logs) messages expected → accepting expected message ≡ Ok packet
-  takes messages message later packet expected whole is read going accepted =
+      → AreAccepted (newcomers (length logs)) messages → accepting (expected_after (newcomers (length logs)) messages) message ≡ Ok packet
+  takes messages message later packet whole is read going accepted =
       let hart = message.hart in
       let log = get_or logs hart (log_of program []) in
       let at = slice_get-get_or logs hart (log_of program []) is.known in
@@ -101,8 +100,9 @@ module _ (program : Image) (period : ℕ) (logs : List ProgramLog) (bytes : List
       ∙ ap (λ l. of_hart hart messages ++ l) (of_hart-own message later) in
       let number = number-front hart 0 (payloads period log) (of_hart hart messages) message (of_hart hart later) own in
       let few = is.few in
-      ap (λ h. answer_of h message) (accepted.each hart is.known)
-      ∙ answer-next (expected_after hart messages) message packet going (omega (arith, number, few)) (omega (arith, number)) read
+      let counted = accepted_counted (length logs) messages accepted in
+      ap (λ h. answer_of h message) (counted.each hart is.known)
+      ∙ answer-next (expected_of hart messages) message packet going (omega (arith, number, few)) (omega (arith, number)) read
 
   -- The message behind the first ones.
   pub next_message : (messages : List Message) (message : Message) (later : List Message) → all ≡ messages ++ message ∷ later → IsNext (words_of program) (length logs) messages message
@@ -121,7 +121,7 @@ module _ (program : Image) (period : ℕ) (logs : List ProgramLog) (bytes : List
       let going = not_ended (words_of program) None 0 before is.packet rest None described.pieces (subst (λ ps. Pieces (words_of program) None 0 ps None described.pieces) split described.each) in
       record {
         packet = is.packet;
-        taken = λ expected accepted. takes messages message later is.packet expected whole is is.read going accepted;
+        taken = λ accepted. takes messages message later is.packet whole is is.read going accepted;
         log = _;
         described = front;
       }

@@ -1,10 +1,8 @@
 pub mod HexLines
 pub mod Messages
-pub mod OfHart
 pub mod NoMessage
 pub mod Decoded
 pub mod Returned
-pub mod Collected
-pub mod Collecting
 pub mod PacketText
 pub mod Dump
+pub mod steps

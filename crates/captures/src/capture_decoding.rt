@@ -2,21 +2,18 @@
 
 ghost use Rattle.std.specs.Prelude.{ℕ, ◌≡◌, List, [], IfOk, length};
 ghost use Rattle.rvclass.specs.Fetch.{words_of};
-ghost use Rattle.rvclass.specs.Image.{IsImage};
 ghost use Rattle.legalpath.specs.ProgramLog.{ProgramLog};
-ghost use Rattle.captures.specs.Collected.{events_in};
-ghost use Rattle.captures.specs.Collecting.{HasCollected, HasTaken};
+ghost use Rattle.receiver.specs.Holds.{HasReceived};
+ghost use Rattle.receiver.specs.Received.{events_in};
 ghost use Rattle.captures.specs.Decoded.{IsDecoded};
 ghost use Rattle.captures.specs.Returned.{AreReturned, IsCaptureOf};
+ghost use Rattle.captures.specs.steps.Collecting.{HasCollected, told};
 
-use crate::collector::Collector;
 use crate::outcome::{CaptureFault, CaptureOutcome};
-use message::message_at;
+use message::Messages;
+use receiver::{ReceiveFault, Receiver};
 use rvclass::Program;
 use std::alloc::{AllocError, Allocator};
-
-/// The fewest bytes of a message.
-const SHORTEST: u64 = 12;
 
 /// Reads the messages of a capture, parts them by hart, and decodes each hart's, up to the first fault.
 ///
@@ -36,43 +33,49 @@ pub fn decode_capture<A: Allocator + Copy>(
     ensures whole { (period : ℕ) (logs : List ProgramLog) → IsCaptureOf program.now period logs bytes.now → length logs ≡ harts
         → IfOk result (λ outcome. AreReturned logs (events_in outcome.harts.items) outcome.closed.items outcome.fault) }
 {
-    program_kept(program);
-    let mut collector = match Collector::new(alloc, harts) {
-        Ok(collector) => collector,
+    let mut receiver = match Receiver::new(alloc, harts) {
+        Ok(receiver) => receiver,
         Err(fault) => return Err(fault),
     };
-    let fault = collect(&mut collector, program, bytes);
-    Ok(collector.finish(fault))
+    let fault = collect(&mut receiver, program, bytes);
+    let (harts, closed) = receiver.into_parts();
+    Ok(CaptureOutcome {
+        harts,
+        closed,
+        fault,
+    })
 }
 
-/// Does nothing. Its contract hands to a caller what every program keeps.
-fn program_kept(program: &Program)
-    ensures { IsImage program.now }
-{
-    let _ = program.byte_count();
-}
-
-/// Takes in the messages of a capture, and tells where that stops before its end.
+/// Receives the messages of a capture, and tells where that stops before its end.
 fn collect<A: Allocator + Copy>(
-    collector: &mut Collector<A>,
+    receiver: &mut Receiver<A>,
     program: &Program,
     bytes: &[u8],
 ) -> Option<(u64, CaptureFault)>
-    ensures { (harts : ℕ) → HasTaken (words_of program.now) harts [] collector.old
-        → HasCollected (words_of program.now) harts bytes.now collector.new result }
+    ensures { (harts : ℕ) → HasReceived (λ hart. words_of program.now) harts [] receiver.old
+        → HasCollected (words_of program.now) harts bytes.now receiver.new result }
 {
-    let mut place = 0;
-    for number in 0..bytes.len() as u64 / SHORTEST + 1 {
-        let message = match message_at(bytes, place) {
+    let mut messages = Messages::new(bytes);
+    let mut number = 0;
+    loop {
+        let message = match messages.next() {
             Ok(Some(message)) => message,
             Ok(None) => return None,
             Err(fault) => return Some((number, CaptureFault::Message(fault))),
         };
-        match collector.take_in(program, &message) {
-            Ok(()) => {}
-            Err(fault) => return Some((number, fault)),
+        match receiver.receive(program, &message) {
+            Ok(()) => number += 1,
+            Err(fault) => return Some((number, told(fault))),
         }
-        place += message.size();
     }
-    unreachable!()
+}
+
+/// What is told of a capture whose next message is not received.
+fn told(fault: ReceiveFault) -> CaptureFault
+    ensures { result ≡ told fault }
+{
+    match fault {
+        ReceiveFault::Demux(why) => CaptureFault::Demux(why),
+        ReceiveFault::Decode(why) => CaptureFault::Decode(why),
+    }
 }

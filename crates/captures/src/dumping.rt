@@ -1,12 +1,11 @@
 //! Captures as text.
 
-ghost use Rattle.std.specs.Prelude.{◌≡◌, IfErr, IfOk, false};
+ghost use Rattle.std.specs.Prelude.{◌≡◌, IfErr, IfOk, OnOk};
 ghost use Rattle.std.specs.Io.KnownBytes.{Appends};
-ghost use Rattle.payload.specs.Reading.{reading};
 ghost use Rattle.captures.specs.Dump.{IsDump, is_refused, line_of};
 
-use crate::packet_text::PacketText;
-use message::{Message, MessageFault, message_at};
+use crate::packet_text::ReadingText;
+use message::{Message, MessageFault, Messages};
 use payload::unpack;
 use retire::WriteFault;
 use std::io::Write;
@@ -30,17 +29,16 @@ pub fn dump_capture<W: Write>(capture: &[u8], sink: &mut W) -> Result<Dumped, Wr
     ensures dumped { IfOk result (λ dumped. IsDump capture.now dumped.bad dumped.fault (W.contents sink.old) (W.contents sink.new)) }
     ensures fault { IfErr result (λ fault. fault ≡ WriteFault.Write) }
 {
-    let mut place = 0;
+    let mut messages = Messages::new(capture);
     let mut count = 0;
     let mut bad = false;
     loop {
-        match message_at(capture, place) {
+        match messages.next() {
             Ok(Some(message)) => {
                 match write_message_line(sink, &message) {
                     Ok(refused) => bad |= refused,
                     Err(fault) => return Err(fault),
                 }
-                place += message.size();
                 count += 1;
             }
             Ok(None) => return Ok(Dumped { bad, fault: None }),
@@ -57,18 +55,13 @@ pub fn dump_capture<W: Write>(capture: &[u8], sink: &mut W) -> Result<Dumped, Wr
 /// Writes the line of a message, and answers whether its payload is no packet.
 fn write_message_line<W: Write>(sink: &mut W, message: &Message) -> Result<bool, WriteFault>
     ensures refused { IfOk result (λ refused. refused ≡ is_refused message.now) }
-    ensures text { IfOk result (λ refused. refused ≡ false
-        → Appends (W.contents sink.old) (W.contents sink.new) (line_of message.now (reading message.now.payload))) }
+    ensures text { OnOk result (Appends (W.contents sink.old) (W.contents sink.new) (line_of message.now)) }
     ensures fault { IfErr result (λ fault. fault ≡ WriteFault.Write) }
 {
     let hart = message.hart;
     let number = message.number;
     let unpacked = unpack(message.payload.bytes());
-    let written = match &unpacked {
-        Ok(packet) => writeln!(sink, "{hart} {number} {}", PacketText(packet)),
-        Err(why) => writeln!(sink, "{hart} {number} bad {why}"),
-    };
-    match written {
+    match writeln!(sink, "{hart} {number} {}", ReadingText(&unpacked)) {
         Ok(()) => Ok(unpacked.is_err()),
         Err(_) => Err(WriteFault::Write),
     }

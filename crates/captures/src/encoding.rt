@@ -5,7 +5,8 @@ ghost use Rattle.std.specs.Io.KnownBytes.{Appends};
 ghost use Rattle.std.specs.List.{flat_map};
 ghost use Rattle.message.specs.Capture.{capture};
 ghost use Rattle.captures.specs.HexLines.{hex_text};
-ghost use Rattle.captures.specs.Messages.{messages_from, messages_of_harts};
+ghost use Rattle.message.specs.Numbered.{messages_from};
+ghost use Rattle.captures.specs.Messages.{messages_of_harts};
 ghost use Rattle.encoder.specs.Payloads.{payloads};
 
 use crate::form::{Capture, Form, Lines};

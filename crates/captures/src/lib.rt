@@ -6,7 +6,6 @@
 #![tactic(auto)]
 
 mod capture_decoding;
-mod collector;
 mod dumping;
 mod encoding;
 mod form;

@@ -1,14 +1,29 @@
 //! Packets as text.
 
 ghost use Rattle.std.specs.Prelude.{◌≡◌, Some, codes};
-ghost use Rattle.captures.specs.PacketText.{branch_text, cause_text, map_text, packet_text, place_text, report_text, support_text};
+ghost use Rattle.captures.specs.PacketText.{branch_text, cause_text, fault_text, map_text, packet_text, place_text, reading_text, report_text, support_text};
 
-use payload::{Outcomes, Packet, Report, Support};
+use payload::{Outcomes, PackFault, Packet, Report, Support};
 use std::fmt;
+
+/// The text of what a payload is: that of its packet, or `bad` and why it is none.
+#[derive(Clone, Copy)]
+pub(crate) struct ReadingText<'a>(pub(crate) &'a Result<Packet, PackFault>);
+
+impl fmt::Display for ReadingText<'_> {
+    ghost output = { λ text. Some (reading_text text.0.now) };
+
+    fn fmt<W: fmt::Write>(&self, f: &mut fmt::Formatter<W>) -> fmt::Result {
+        match self.0 {
+            Ok(packet) => write!(f, "{}", PacketText(packet)),
+            Err(why) => write!(f, "bad {}", fault_text(*why)),
+        }
+    }
+}
 
 /// The text of a packet: its kind and its fields by name, their numbers in lower-case hexadecimal.
 #[derive(Clone, Copy)]
-pub(crate) struct PacketText<'a>(pub(crate) &'a Packet);
+struct PacketText<'a>(&'a Packet);
 
 impl fmt::Display for PacketText<'_> {
     ghost output = { λ text. Some (packet_text text.0.now) };
@@ -135,5 +150,19 @@ fn report_text(report: Report) -> &'static str
         Report::Plain => "plain",
         Report::Updiscon => "updiscon",
         Report::Notify => "notify",
+    }
+}
+
+/// The name of the reason why bytes are no payload.
+fn fault_text(why: PackFault) -> &'static str
+    ensures { result.now ≡ fault_text why }
+{
+    match why {
+        PackFault::Empty => "Empty",
+        PackFault::TooLong => "TooLong",
+        PackFault::BadPad => "BadPad",
+        PackFault::Unsupported => "Unsupported",
+        PackFault::BadPrivilege => "BadPrivilege",
+        PackFault::BadReport => "BadReport",
     }
 }

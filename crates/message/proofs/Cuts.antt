@@ -7,7 +7,7 @@ use Rattle.byteorder.specs.Numbers.{little_from-lt}
 use Rattle.payload.proofs.NumbersOfBytes.{bytes_from_each}
 use Rattle.message.specs.steps.Filling.{AreBytes}
 use Rattle.message.specs.Cut.{IsCut, IsMessage}
-use Rattle.message.specs.Front.{message_of}
+use Rattle.message.specs.steps.Front.{message_of}
 use Rattle.message.proofs.Heads.{AreBytes-drop, head_bytes-read, numbers-read}
 
 -- The message of a head and a payload is within its ranges.

@@ -6,7 +6,7 @@ use lib.Seq.{take-append_seam}
 use Rattle.message.specs.Capture.{message_bytes}
 use Rattle.message.specs.Cut.{IsCut, IsMessage, IsBadLength}
 use Rattle.message.specs.steps.Filling.{AreBytes}
-use Rattle.message.specs.Front.{message_of, first_message}
+use Rattle.message.specs.steps.Front.{message_of, first_message}
 use Rattle.message.specs.declared.message.Message.{Message}
 use Rattle.message.specs.declared.fault.MessageFault.{MessageFault}
 use Rattle.message.specs.declared.fault.MessageFault.TheVariants as fault
@@ -162,20 +162,6 @@ first_message-stands bytes are = by_tests bytes (Stands bytes)
         let behind : drop 11 bytes ≡ take count (drop 11 bytes) ++ drop (11 + length m.payload) bytes = sym (take-append-drop count (drop 11 bytes)) ∙ ap (λ (l : List ℕ). take count (drop 11 bytes) ++ l) (drop-drop count 11 bytes ∙ ap (λ n. drop (11 + n) bytes) (sym long)) in
         let whole : bytes ≡ take 11 bytes ++ (take count (drop 11 bytes) ++ drop (11 + length m.payload) bytes) = sym (take-append-drop 11 bytes) ∙ ap (λ (l : List ℕ). take 11 bytes ++ l) behind in
         (whole ∙ ap (λ (l : List ℕ). l ++ (m.payload ++ drop (11 + length m.payload) bytes)) (sym head), omega (arith, long, fits))
-
--- The message that stands at a place of a capture, and what stands behind it.
-pub first_message-at : (capture : List ℕ) (place : ℕ) → AreBytes capture → (r : Answer) → r ≡ first_message (drop place capture)
-    → IfOk r (λ found. IfSome found (λ m. (drop place capture ≡ message_bytes m ++ drop (place + 11 + length m.payload) capture) × (place + 11 + length m.payload ≤ length capture)))
-first_message-at capture place are r is = move r (subst (Stands (drop place capture)) (sym is) (first_message-stands (drop place capture) (AreBytes-drop place capture are)))
-  where
-    move : (r : Answer) → Stands (drop place capture) r → IfOk r (λ found. IfSome found (λ m. (drop place capture ≡ message_bytes m ++ drop (place + 11 + length m.payload) capture) × (place + 11 + length m.payload ≤ length capture)))
-    move (Err why) stands = tt
-    move (Ok None) stands = tt
-    move (Ok (Some m)) stands =
-        let left = length-drop place capture in
-        let within = stands.1 in
-        let behind : place + (11 + length m.payload) ≡ place + 11 + length m.payload = omega arith in
-        (stands.0 ∙ ap (λ (l : List ℕ). message_bytes m ++ l) (drop-drop (11 + length m.payload) place capture ∙ ap (λ n. drop n capture) behind), omega (arith, left, within))
 
 -- A message that bytes begin with is what they begin with.
 pub first_message-reads_back : (m : Message) (rest : List ℕ) → IsMessage m → first_message (message_bytes m ++ rest) ≡ Ok (Some m)

@@ -4,7 +4,7 @@ use Rattle.std.proofs.lemmas.List.{length-append}
 use Rattle.message.specs.steps.Filling.{AreBytes}
 use Rattle.message.specs.Capture.{message_bytes}
 use Rattle.message.specs.Cut.{IsMessage}
-use Rattle.message.specs.Front.{first_message}
+use Rattle.message.specs.steps.Front.{first_message}
 use Rattle.message.specs.steps.Passing.{left_by}
 use Rattle.message.specs.declared.fault.MessageFault.{MessageFault}
 use Rattle.message.specs.declared.message.Message.{Message}

@@ -6,7 +6,7 @@ use lib.Seq.{take-append_seam}
 use Rattle.byteorder.specs.Numbers.{little_number-reads_back}
 use Rattle.message.specs.Capture.{head_bytes, message_bytes}
 use Rattle.message.specs.Cut.{IsCut, IsMessage, HasBadLength}
-use Rattle.message.specs.Front.{message_of}
+use Rattle.message.specs.steps.Front.{message_of}
 use Rattle.message.specs.declared.message.Message.{Message}
 use Rattle.message.specs.declared.fault.MessageFault.{MessageFault}
 use Rattle.message.specs.declared.fault.MessageFault.TheVariants as fault

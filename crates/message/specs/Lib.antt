@@ -2,7 +2,6 @@ pub mod OfHart
 pub mod Numbered
 pub mod Capture
 pub mod Cut
-pub mod Front
 pub mod Harts
 pub mod Accepting
 pub mod Accepted

@@ -1,2 +1,3 @@
 pub mod Filling
+pub mod Front
 pub mod Passing

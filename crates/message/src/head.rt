@@ -2,7 +2,7 @@
 
 ghost use Rattle.std.specs.Prelude.{◌≡◌, ◌≤◌, length, slice_index, IfOk, IfErr};
 ghost use Rattle.message.specs.Cut.{IsBadLength, IsMessage};
-ghost use Rattle.message.specs.Front.{message_of};
+ghost use Rattle.message.specs.steps.Front.{message_of};
 
 use crate::{Message, MessageFault};
 use byteorder::{ByteOrder, LittleEndian};

@@ -1,10 +1,10 @@
 //! Bytes in memory to messages.
 
-ghost use Rattle.std.specs.Prelude.{◌≡◌, ◌⊎◌, ◌↔◌, ◌≤◌, ◌<◌, ◌+◌, ◌++◌, ℕ, List, [], length, drop, Ok, Err, Some, None, IfOk, IfErr, IfSome};
+ghost use Rattle.std.specs.Prelude.{◌≡◌, ◌⊎◌, ◌↔◌, ◌<◌, ◌++◌, ℕ, List, [], length, Ok, Err, Some, None, IfOk, IfErr, IfSome};
 ghost use Rattle.message.specs.steps.Filling.{AreBytes};
 ghost use Rattle.message.specs.Capture.{message_bytes};
 ghost use Rattle.message.specs.Cut.{IsCut, IsMessage, HasBadLength};
-ghost use Rattle.message.specs.Front.{first_message};
+ghost use Rattle.message.specs.steps.Front.{first_message};
 ghost use Rattle.message.specs.steps.Passing.{left_by};
 ghost use Rattle.message.specs.declared.message.Message.{Message as AnyMessage};
 
@@ -32,8 +32,8 @@ impl<'a> Messages<'a> {
         Messages { rest: capture }
     }
 
-    /// The message that the bytes begin with, or `None` at their end. Only a message is passed over: what is found
-    /// elsewise is found again.
+    /// The message that the bytes begin with, or `None` at their end. Only a message is passed over: an end or a fault
+    /// is found again by the next call.
     ///
     /// [`MessageFault::Short`] comes where the bytes end inside the message, [`MessageFault::BadLength`] where the byte
     /// for the payload's length is 0 or above 18, and no other fault. No memory is taken.
@@ -66,43 +66,6 @@ impl<'a> Messages<'a> {
             self.rest = &self.rest[message.size()..];
         }
         found
-    }
-}
-
-/// The message that stands at a place of a capture, or `None` at its end or behind it. A message takes 11 bytes and
-/// those of its payload.
-///
-/// [`MessageFault::Short`] comes where the capture ends inside the message, [`MessageFault::BadLength`] where the byte
-/// for the payload's length is 0 or above 18, and no other fault. No memory is taken.
-pub fn message_at(capture: &[u8], place: usize) -> Result<Option<Message>, MessageFault>
-    ensures ranges { IfOk result (λ found. IfSome found (λ message. IsMessage message)) }
-    ensures message { IfOk result (λ found. IfSome found (λ message.
-        drop place capture.now ≡ message_bytes message ++ drop (place + 11 + length message.payload) capture.now)) }
-    ensures within { IfOk result (λ found. IfSome found (λ message.
-        place + 11 + length message.payload ≤ length capture.now)) }
-    ensures end { (result ≡ Ok None) ↔ (length capture.now ≤ place) }
-    ensures short { (result ≡ Err MessageFault.Short) ↔ IsCut (drop place capture.now) }
-    ensures bad_length { (result ≡ Err MessageFault.BadLength) ↔ HasBadLength (drop place capture.now) }
-    ensures fault { IfErr result (λ fault. (fault ≡ MessageFault.Short) ⊎ (fault ≡ MessageFault.BadLength)) }
-
-    // A message that stands there is read.
-    ensures reads_back { (message : AnyMessage) (rest : List ℕ) → IsMessage message → drop place capture.now ≡ message_bytes message ++ rest
-        → result ≡ Ok (Some message) }
-
-    // What is answered is a function of the bytes from the place on.
-    ensures value { result ≡ first_message (drop place capture.now) }
-{
-    message_from(capture, place)
-}
-
-/// The message that stands at a place.
-fn message_from(capture: &[u8], place: usize) -> Result<Option<Message>, MessageFault>
-    ensures value { result ≡ first_message (drop place capture.now) }
-    ensures ranges { IfOk result (λ found. IfSome found (λ message. IsMessage message)) }
-{
-    match capture.get(place..) {
-        Some(bytes) => message_in_front(bytes),
-        None => Ok(None),
     }
 }
 

@@ -1,7 +1,7 @@
 //! The messages of a capture, and the demultiplexer that parts them by hart.
 //!
 //! A [`Message`] is one payload of one hart with its number. [`write_message`] and [`read_message`] are the two ways of
-//! a capture, which is messages one after the other; [`message_at`] reads one that is in memory. [`Demux`] takes the
+//! a capture, which is messages one after the other; [`Messages`] gives those of bytes in memory. [`Demux`] takes the
 //! messages of several harts and lets through just those that come in each hart's order. Only [`Demux::new`] takes memory.
 #![tactic(auto)]
 
@@ -18,7 +18,7 @@ mod writing;
 
 pub use demux::Demux;
 pub use fault::{DemuxFault, MessageFault};
-pub use in_memory::{Messages, message_at};
+pub use in_memory::Messages;
 pub use message::Message;
 pub use reading::read_message;
 pub use writing::write_message;

@@ -18,7 +18,7 @@ pub struct Message {
 
 impl Message {
     /// How many bytes of a capture the message takes: 11, and those of its payload.
-    pub fn size(&self) -> usize
+    pub(crate) fn size(&self) -> usize
         ensures { result ≡ 11 + length self.now.payload }
     {
         HEAD + self.payload.bytes().len()

@@ -1,5 +1,5 @@
 -- What a receiver accepted, with one message more.
-use Rattle.std.proofs.Common.{◌≡◌, ◌<◌, ℕ, Bool, List, [], ◌∷◌, ◌++◌, Option, Some, None, Result, Ok, Err, IfOk, OnOk, slice_get, refl, sym, ap, ◌∙◌, arith}
+use Rattle.std.proofs.Common.{◌≡◌, ◌<◌, ℕ, Bool, List, [], ◌∷◌, ◌++◌, Option, Some, None, Result, Ok, Err, IfOk, OnOk, slice_get, refl, sym, ap, inl, inr, ⊎_elim, ◌∙◌, arith}
 use Rattle.std.specs.Prelude.{IsFalse, IsSomeAnd, ◌↔◌, ◌⊎◌, ◌^◌, nat_lt, not, true, false}
 use Rattle.std.proofs.lemmas.Bool.{or_parts}
 use Rattle.std.proofs.lemmas.Option.{slice_get_within, same_Some}
@@ -84,8 +84,9 @@ pub undecoded : (words : Words) (harts : ℕ) (messages : List Message) (message
     → (refusal why ≡ Err NotOpened) ↔ ((packets_of message.hart messages ≡ []) × ¬ IsOpen packet)
     → (refusal why ≡ Err AfterClose) ↔ (has_ended (packets_of message.hart messages) ≡ true)
     → (why ≡ Memory) ⊎ ((log : List Event) → ¬ Describes words (packets_of message.hart messages ++ packet ∷ []) log)
+    → (refusal why ≡ Err Memory → (log : List Event) × Describes words (packets_of message.hart messages ++ packet ∷ []) log)
     → IsUndecoded words harts messages message why
-undecoded words harts messages message packet why all answer not_opened ended reason =
+undecoded words harts messages message packet why all answer not_opened ended either described =
     let open_yet = going harts messages message packet all answer in
     record {
       packet = packet;
@@ -93,6 +94,6 @@ undecoded words harts messages message packet why all answer not_opened ended re
       not_decoded = record {
         not_opened = (λ same. not_opened.0 (ap refusal same), λ first. let told = not_opened.1 first in cc);
         not_ended = λ same. let over = ended.0 (ap refusal same) in cc;
-        reason = reason;
+        reason = ⊎_elim (λ memory. let found = described (ap refusal memory) in inl (memory, found.0, found.1)) inr either;
       };
     }

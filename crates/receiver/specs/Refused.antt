@@ -14,12 +14,13 @@ use Rattle.message.specs.declared.message.Message.{Message}
 use Rattle.receiver.specs.declared.fault.ReceiveFault.{ReceiveFault}
 use Rattle.receiver.specs.declared.fault.ReceiveFault.TheVariants as fault
 
--- Why a packet is not decoded after packets that have not ended: it comes first and opens no trace, memory was refused,
--- or no log is described by them and it.
+-- Why a packet is not decoded after packets that have not ended: it comes first and opens no trace, or no log is described
+-- by them and it, or one is and memory was refused.
 pub record IsNotDecoded (words : Words) (packets : List Packet) (packet : Packet) (why : DecodeFault) : Type 0 where
   pub not_opened : (why ≡ NotOpened) ↔ ((packets ≡ []) × ¬ IsOpen packet)
   pub not_ended : ¬ (why ≡ AfterClose)
-  pub reason : (why ≡ Memory) ⊎ ((log : List Event) → ¬ Describes words (packets ++ packet ∷ []) log)
+  pub reason : ((why ≡ Memory) × (log : List Event) × Describes words (packets ++ packet ∷ []) log)
+      ⊎ ((log : List Event) → ¬ Describes words (packets ++ packet ∷ []) log)
 
 -- The message is accepted after these messages, and its packet is not decoded.
 pub record IsUndecoded (words : Words) (harts : ℕ) (messages : List Message) (message : Message) (why : DecodeFault) : Type 0 where

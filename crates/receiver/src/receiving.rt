@@ -91,6 +91,10 @@ impl<A: Allocator + Copy> Receiver<A> {
             → programs hart ≡ words_of program.now → Holds programs harts messages self.old
             → IfErr result (λ fault. (fault ≡ Memory)
             ⊎ ((log : List AnyEvent) → ¬ Describes (words_of program.now) (packets_of hart messages ++ packet.now ∷ []) log)) }
+        ensures memory { (programs : ℕ → Words) (harts : ℕ) (messages : List AnyMessage)
+            → programs hart ≡ words_of program.now → Holds programs harts messages self.old
+            → result ≡ Err Memory
+            → (log : List AnyEvent) × Describes (words_of program.now) (packets_of hart messages ++ packet.now ∷ []) log }
         ensures not_opened { (programs : ℕ → Words) (harts : ℕ) (messages : List AnyMessage)
             → programs hart ≡ words_of program.now → Holds programs harts messages self.old
             → (result ≡ Err NotOpened) ↔ ((packets_of hart messages ≡ []) × ¬ IsOpen packet.now) }

@@ -6,7 +6,7 @@ use crate::{CaptureFault, CaptureOutcome, decode_capture, encode_capture};
 use decoder::DecodeFault;
 use legalpath::LegalLog;
 use linked_list_allocator::LocalHeap;
-use message::{message_at, write_message};
+use message::{Messages, write_message};
 use rvclass::Program;
 use std::alloc::{Allocator, Global};
 use std::test::Fail;
@@ -114,15 +114,12 @@ fn sixty_four_logs(rt: HostRuntime) -> Result<(), Fail> {
     Ok(())
 }
 
-/// Copies the message at a place to a capture, if one stands there, and answers the place behind it.
-fn copy_message(capture: &[u8], place: usize, copy: &mut Vec<u8>) -> Result<usize, Fail> {
-    match message_at(capture, place)? {
-        Some(message) => {
-            write_message(copy, &message)?;
-            Ok(place.saturating_add(message.size()))
-        }
-        None => Ok(place),
+/// Copies the next of these messages to a capture, if there is one more.
+fn copy_message(messages: &mut Messages<'_>, copy: &mut Vec<u8>) -> Result<(), Fail> {
+    if let Some(message) = messages.next()? {
+        write_message(copy, &message)?;
     }
+    Ok(())
 }
 
 /// The messages of two harts in turn give the same as those of one after the other.
@@ -134,11 +131,11 @@ fn harts_in_turn(rt: HostRuntime) -> Result<(), Fail> {
     let first = capture_of(rt.alloc(), &alone, 31)?;
     let both = capture_of(rt.alloc(), &logs, 31)?;
     let mut in_turn = Vec::new(rt.alloc());
-    let mut of_first = 0;
-    let mut of_second = first.len();
+    let mut of_first = Messages::new(&first);
+    let mut of_second = Messages::new(&both[first.len().min(both.len())..]);
     for _ in 0..both.len() {
-        of_first = copy_message(&first, of_first, &mut in_turn)?;
-        of_second = copy_message(&both, of_second, &mut in_turn)?;
+        copy_message(&mut of_first, &mut in_turn)?;
+        copy_message(&mut of_second, &mut in_turn)?;
     }
     assert_eq!(rt; in_turn.len(), both.len());
     assert!(rt; in_turn.as_slice() != both.as_slice());

@@ -1,7 +1,7 @@
 //! Worked captures, whole and cut.
 
 use super::message;
-use crate::{Message, MessageFault, Messages, message_at, read_message, write_message};
+use crate::{Message, MessageFault, Messages, read_message, write_message};
 use std::test::Fail;
 
 // A capture with a gap: messages 0, 1 and 3 of hart 0, of 12, 16 and 12 bytes.
@@ -102,21 +102,6 @@ fn length_is_1_to_18(rt: HostRuntime) -> Result<(), Fail> {
 }
 
 #[test]
-fn capture_in_memory(rt: HostRuntime) -> Result<(), Fail> {
-    let mut place = 0;
-    for message in gap()? {
-        let size = message.size();
-        assert_eq!(rt; message_at(&GAP, place), Ok(Some(message)), "{place}");
-        place += size;
-    }
-    assert_eq!(rt; place, 40);
-    for behind in [40, 41, usize::MAX] {
-        assert_eq!(rt; message_at(&GAP, behind), Ok(None), "{behind}");
-    }
-    Ok(())
-}
-
-#[test]
 fn messages_come_one_at_a_time(rt: HostRuntime) -> Result<(), Fail> {
     let mut messages = Messages::new(&GAP[..39]);
     let [first, second, _] = gap()?;
@@ -136,17 +121,21 @@ fn messages_come_one_at_a_time(rt: HostRuntime) -> Result<(), Fail> {
 #[test]
 fn cut_capture_in_memory_is_short(rt: HostRuntime) -> Result<(), Fail> {
     for length in 0..40usize {
-        let place = match length {
+        let mut messages = Messages::new(&GAP[..length]);
+        let whole = match length {
             0..12 => 0,
-            12..28 => 12,
-            _ => 28,
+            12..28 => 1,
+            _ => 2,
         };
-        let wanted = if length == place {
+        for _message in 0..whole {
+            assert!(rt; messages.next()?.is_some());
+        }
+        let wanted = if matches!(length, 0 | 12 | 28) {
             Ok(None)
         } else {
             Err(MessageFault::Short)
         };
-        assert_eq!(rt; message_at(&GAP[..length], place), wanted, "{length}");
+        assert_eq!(rt; messages.next(), wanted, "{length}");
     }
     Ok(())
 }
@@ -154,17 +143,18 @@ fn cut_capture_in_memory_is_short(rt: HostRuntime) -> Result<(), Fail> {
 #[test]
 fn length_in_memory_is_1_to_18(rt: HostRuntime) -> Result<(), Fail> {
     for length in 0..=255u8 {
-        let mut bytes = [7; 31];
-        bytes[12] = length;
-        let answer = message_at(&bytes, 2);
+        let mut bytes = [7; 29];
+        bytes[10] = length;
+        let answer = Messages::new(&bytes).next();
         if (1..=18).contains(&length) {
-            let payload = &bytes[13..13 + usize::from(length)];
+            let payload = &bytes[11..11 + usize::from(length)];
             let sent = message(0x0707, 0x0707_0707_0707_0707, payload)?;
             assert_eq!(rt; answer, Ok(Some(sent)));
         } else {
             assert_eq!(rt; answer, Err(MessageFault::BadLength));
             // It is told where no byte of the payload stands.
-            assert_eq!(rt; message_at(&bytes[..13], 2), Err(MessageFault::BadLength));
+            let cut = Messages::new(&bytes[..11]).next();
+            assert_eq!(rt; cut, Err(MessageFault::BadLength));
         }
     }
     Ok(())

@@ -1,11 +1,15 @@
-use Rattle.std.proofs.Common.{ℕ, ◌*◌, ◌≤◌, [], length}
+use Rattle.std.proofs.Common.{ℕ, ◌+◌, ◌≤◌, [], length}
 use Rattle.rvclass.specs.Fetch.{words_of}
 use Rattle.captures.proofs.Reaching.{Reaches}
-use Rattle.captures.specs.Collecting.{HasTaken}
+use Rattle.receiver.specs.Holds.{HasReceived}
 use Rattle.captures.proofs.capture_decoding.collect.Given as goal
 
--- The messages so far were taken in, each of 12 bytes at least.
-abbrev pub invariant-loop-number : goal.invariant-loop-number
-invariant-loop-number g l =
-    ((harts : ℕ) → HasTaken (words_of l.program) harts [] l.fn.collector → Reaches (words_of l.program) harts l.bytes l.place l.number l.collector)
-    × (12 * l.number ≤ l.place) × (l.place ≤ length l.bytes)
+-- The messages so far were received, each of a byte at least.
+abbrev pub invariant-loop-message : goal.invariant-loop-message
+invariant-loop-message g l =
+    ((harts : ℕ) → HasReceived (λ hart. words_of l.program) harts [] l.fn.receiver
+    → Reaches (words_of l.program) harts l.bytes l.messages l.number l.receiver)
+    × (l.number + length l.messages ≤ length l.bytes)
+
+abbrev pub decreases-loop-message : goal.decreases-loop-message
+decreases-loop-message g l = length l.messages

@@ -1,10 +1,10 @@
 -- The messages so far are told.
-use Rattle.std.proofs.Common.{◌-◌, length}
+use Rattle.std.proofs.Common.{length}
 use Rattle.captures.proofs.ToldMessages.{HasTold}
 use Rattle.captures.proofs.dumping.dump_capture.Given as goal
 
 abbrev pub invariant-loop-message : goal.invariant-loop-message
-invariant-loop-message g l = HasTold l.capture l.place l.count l.bad (g.W.Write.contents l.initial.sink) (g.W.Write.contents l.sink)
+invariant-loop-message g l = HasTold l.capture l.messages l.count l.bad (g.W.Write.contents l.initial.sink) (g.W.Write.contents l.sink)
 
 abbrev pub decreases-loop-message : goal.decreases-loop-message
-decreases-loop-message g l = length l.capture - l.place
+decreases-loop-message g l = length l.messages

@@ -3,7 +3,8 @@ use Rattle.std.specs.Io.KnownBytes.{Appends}
 use Rattle.std.specs.List.{flat_map}
 use Rattle.std.proofs.KnownBytes.{Appends-trans}
 use Rattle.captures.proofs.MessageTexts.{text-take_more_harts}
-use Rattle.captures.specs.Messages.{messages_from, messages_of_harts}
+use Rattle.message.specs.Numbered.{messages_from}
+use Rattle.captures.specs.Messages.{messages_of_harts}
 use Rattle.encoder.specs.Payloads.{payloads}
 use Rattle.captures.proofs.encoding.encode.Goals as goal
 

@@ -1,7 +1,7 @@
 use Rattle.std.proofs.Common.{take}
 use Rattle.std.specs.Io.KnownBytes.{Appends}
 use Rattle.std.specs.List.{flat_map}
-use Rattle.captures.specs.Messages.{messages_from}
+use Rattle.message.specs.Numbered.{messages_from}
 use Rattle.encoder.specs.Payloads.{payloads}
 use Rattle.encoder.specs.SourceAt.{IsAt}
 use Rattle.captures.proofs.encoding.encode_log.Given as goal

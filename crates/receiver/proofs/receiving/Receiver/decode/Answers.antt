@@ -17,6 +17,15 @@ returns-in-Err-clause-none g c = λ programs harts messages program given.
     (words_of c.args.program.now) c.args.hart c.from-hart.result c.index_mut.result.now c.index_mut-2.result.now holds program c.from-hart.ensures known c.index_mut.ensures.value c.index_mut-2.ensures.value in
     c.in-Err.ensures.none (packets_of c.args.hart messages) stands
 
+pub returns-in-Err-clause-memory : goal.returns-in-Err-clause-memory
+returns-in-Err-clause-memory g c = λ programs harts messages program given is.
+    let holds = subst (Holds programs harts messages) (sym c.self.view_is) given in
+    let known = subst (λ r. c.args.hart < length r.lists) (sym c.self.view_is) c.requires.known in
+    let stands = stands_at programs harts messages c.self.inside.demux c.self.inside.decoders.items c.self.inside.lists.items c.self.inside.closed.items
+    (words_of c.args.program.now) c.args.hart c.from-hart.result c.index_mut.result.now c.index_mut-2.result.now holds program c.from-hart.ensures known c.index_mut.ensures.value c.index_mut-2.ensures.value in
+    let found = c.in-Err.ensures.memory (packets_of c.args.hart messages) stands is in
+    (found.0, found.1)
+
 pub returns-in-Err-clause-not_opened : goal.returns-in-Err-clause-not_opened
 returns-in-Err-clause-not_opened g c = λ programs harts messages program given.
     let holds = subst (Holds programs harts messages) (sym c.self.view_is) given in
@@ -57,6 +66,15 @@ returns-clause-decoded g c = λ programs harts messages message program own read
     held_more programs harts messages message c.args.packet.now c.self.inside.demux c.self.inside.decoders.items c.self.inside.lists.items c.self.inside.closed.items
     words c.args.hart c.from-hart.result c.feed.new.self c.feed.new.log c.is_closing.result holds read program own c.from-hart.ensures c.is_closing.ensures
     (c.in-Ok.ensures.stands (packets_of c.args.hart messages) stands)
+
+pub returns-clause-memory : goal.returns-clause-memory
+returns-clause-memory g c = λ programs harts messages program given is.
+    let holds = subst (Holds programs harts messages) (sym c.self.view_is) given in
+    let known = subst (λ r. c.args.hart < length r.lists) (sym c.self.view_is) c.requires.known in
+    let stands = stands_at programs harts messages c.self.inside.demux c.self.inside.decoders.items c.self.inside.lists.items c.self.inside.closed.items
+    (words_of c.args.program.now) c.args.hart c.from-hart.result c.index_mut.result.now c.index_mut-2.result.now holds program c.from-hart.ensures known c.index_mut.ensures.value c.index_mut-2.ensures.value in
+    let found = c.in-Ok.ensures.memory (packets_of c.args.hart messages) stands is in
+    (found.0, found.1)
 
 pub returns-clause-not_opened : goal.returns-clause-not_opened
 returns-clause-not_opened g c = λ programs harts messages program given.

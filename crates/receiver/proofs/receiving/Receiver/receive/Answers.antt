@@ -27,3 +27,4 @@ returns-in-Err-decode-clause-refused g c = λ programs harts messages program gi
     (c.in-Err-decode.ensures.not_opened programs harts messages program holds)
     (c.in-Err-decode.ensures.ended programs harts messages program holds)
     (c.in-Err-decode.ensures.none programs harts messages program holds)
+    (c.in-Err-decode.ensures.memory programs harts messages program holds)

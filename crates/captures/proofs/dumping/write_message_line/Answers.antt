@@ -1,0 +1,11 @@
+-- What was unpacked is what the payload's reading gives: the equation goes into the text, where no tactic puts it.
+use Rattle.std.proofs.Common.{◌≡◌, ap, subst, ◌∙◌}
+use Rattle.std.specs.Io.KnownBytes.{Appends}
+use Rattle.payload.specs.Reading.{reading}
+use Rattle.captures.specs.Dump.{line_with}
+use Rattle.captures.proofs.dumping.write_message_line.Goals as goal
+
+pub returns-in-Ok-clause-text : goal.returns-in-Ok-clause-text
+returns-in-Ok-clause-text g c =
+    let same : c.unpack-unpacked.result ≡ reading c.args.message.now.payload = c.unpack-unpacked.ensures.value ∙ ap reading c.bytes.ensures.same in
+    subst (λ read. Appends (g.W.Write.contents c.args.sink.now) (g.W.Write.contents c.writeln.new.self) (line_with c.args.message.now read)) same c.in-Ok.ensures.bytes
