@@ -1,0 +1,2 @@
+pub mod AlikeLemmas
+pub mod ReportLemmas

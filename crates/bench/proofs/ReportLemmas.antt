@@ -1,0 +1,88 @@
+-- The lines of first harts, and whether their logs came back whole, with one hart more.
+use Rattle.std.proofs.Common.{◌≡◌, ◌<◌, ◌≤◌, ◌+◌, ℕ, zero, suc, Bool, List, [], ◌∷◌, ◌++◌, Some, get_or, length, map, take, slice_get, refl, sym, ap, ◌∙◌, arith}
+use Rattle.std.specs.Option.{option_map}
+use Rattle.std.specs.Prelude.{◌&&◌, true, false, is_none, is_some, not, Option, None}
+use Rattle.std.proofs.lemmas.List.{append_assoc, append-nil, length-map, take_all}
+use Rattle.std.proofs.lemmas.Option.{same_Some, slice_get-map, slice_get_read}
+use Rattle.legalpath.specs.ProgramLog.{ProgramLog}
+use Rattle.bench.specs.Got.{Got, got_of}
+use Rattle.bench.specs.Report.{are_whole, hart_line, hart_lines, is_whole_verdict}
+use Rattle.bench.specs.Verdict.{verdict}
+use Rattle.bench.specs.declared.outcome.HartOutcome.{HartOutcome}
+use Rattle.bench.specs.declared.stop.Stop.{Stop}
+
+-- The lines of first harts, the first of them this one, and of the next.
+pub hart_lines-next : (hart : ℕ) (gots : List Got) (logs : List ProgramLog) (k : ℕ) (got : Got) (log : ProgramLog)
+    → slice_get gots k ≡ Some got → slice_get logs k ≡ Some log
+    → hart_lines hart (take (suc k) gots) (take (suc k) logs)
+    ≡ hart_lines hart (take k gots) (take k logs) ++ hart_line (hart + k) got log
+hart_lines-next hart [] logs k got log at there = cc
+hart_lines-next hart (g ∷ gots) [] k got log at there = cc
+hart_lines-next hart (g ∷ gots) (l ∷ logs) zero got log at there =
+    let here : hart + 0 ≡ hart = omega arith in
+    append-nil (hart_line hart g l)
+    ∙ ap (λ h. hart_line h g l) (sym here)
+    ∙ ap (λ (one : Got). hart_line (hart + 0) one l) (same_Some g got at)
+    ∙ ap (λ (one : ProgramLog). hart_line (hart + 0) got one) (same_Some l log there)
+hart_lines-next hart (g ∷ gots) (l ∷ logs) (suc k) got log at there =
+    let place : hart + 1 + k ≡ hart + suc k = omega arith in
+    ap (λ rest. hart_line hart g l ++ rest) (hart_lines-next (hart + 1) gots logs k got log at there)
+    ∙ sym (append_assoc (hart_line hart g l) (hart_lines (hart + 1) (take k gots) (take k logs))
+    (hart_line (hart + 1 + k) got log))
+    ∙ ap (λ h. hart_line hart g l ++ hart_lines (hart + 1) (take k gots) (take k logs) ++ hart_line h got log) place
+
+-- The element at a place, of which a hart's outcome tells the rest.
+pub got_at : {A : Type 0} (harts : List (HartOutcome A)) (k : ℕ) (hart : HartOutcome A) → k < length harts
+    → hart ≡ get_or harts k hart
+    → slice_get (map got_of harts) k ≡ Some (got_of hart)
+got_at harts k hart within is =
+    slice_get-map got_of harts k ∙ ap (option_map got_of) (slice_get_read harts (length harts) k hart refl within is)
+
+-- Whether a hart's log came back whole.
+abbrev pub came_back : Got → ProgramLog → Bool
+came_back got log = is_whole_verdict (verdict got.closed got.decoded log.events)
+
+and_assoc : (a b c : Bool) → (a && (b && c)) ≡ (a && b && c)
+and_assoc true b c = refl
+and_assoc false b c = refl
+
+and_true : (a : Bool) → (a && true) ≡ a
+and_true true = refl
+and_true false = refl
+
+-- Whether the logs of first harts and of the next came back whole.
+pub are_whole-next : (gots : List Got) (logs : List ProgramLog) (k : ℕ) (got : Got) (log : ProgramLog)
+    → slice_get gots k ≡ Some got → slice_get logs k ≡ Some log
+    → are_whole (take (suc k) gots) (take (suc k) logs) ≡ (are_whole (take k gots) (take k logs) && came_back got log)
+are_whole-next [] logs k got log at there = cc
+are_whole-next (g ∷ gots) [] k got log at there = cc
+are_whole-next (g ∷ gots) (l ∷ logs) zero got log at there =
+    and_true (came_back g l)
+    ∙ ap (λ (one : Got). came_back one l) (same_Some g got at)
+    ∙ ap (λ (one : ProgramLog). came_back got one) (same_Some l log there)
+are_whole-next (g ∷ gots) (l ∷ logs) (suc k) got log at there =
+    ap (λ rest. came_back g l && rest) (are_whole-next gots logs k got log at there)
+    ∙ and_assoc (came_back g l) (are_whole (take k gots) (take k logs)) (came_back got log)
+
+-- There are as many as harts.
+pub length-gots : {A : Type 0} (harts : List (HartOutcome A)) → length (map got_of harts) ≡ length harts
+length-gots harts = length-map harts got_of
+
+module _ (gots : List Got) (logs : List ProgramLog) (k : ℕ) (over : length gots ≤ k) (over_logs : length logs ≤ k) where
+  -- The first harts, as many as there are, are all.
+  pub are_whole-all : are_whole (take k gots) (take k logs) ≡ are_whole gots logs
+  are_whole-all =
+      ap (λ first. are_whole first (take k logs)) (take_all k gots over)
+      ∙ ap (are_whole gots) (take_all k logs over_logs)
+
+  pub hart_lines-all : hart_lines 0 (take k gots) (take k logs) ≡ hart_lines 0 gots logs
+  hart_lines-all =
+      ap (λ first. hart_lines 0 first (take k logs)) (take_all k gots over)
+      ∙ ap (hart_lines 0 gots) (take_all k logs over_logs)
+
+-- Whether there is a stop.
+pub none_of : (why : Option Stop) (none : Bool) → is_some why ≡ not none → none ≡ is_none why
+none_of None true is = refl
+none_of None false is = cc
+none_of (Some why) true is = cc
+none_of (Some why) false is = refl

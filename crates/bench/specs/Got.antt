@@ -1,0 +1,48 @@
+-- What came of a hart.
+use Rattle.std.specs.Prelude.{◌≡◌, ◌≤◌, ◌==◌, ℕ, Bool, if◌then◌else◌, List, [], length, map, take, sum}
+use Rattle.retire.specs.declared.event.Event.{Event}
+use Rattle.rvclass.specs.Fetch.{words_of}
+use Rattle.legalpath.specs.ProgramLog.{ProgramLog}
+use Rattle.payload.specs.declared.packet.Packet.{Packet}
+use Rattle.encoder.specs.Packets.{packets}
+use Rattle.encoder.specs.Payloads.{payloads}
+use Rattle.roundtrip.specs.Reach.{reach}
+use Rattle.bench.specs.declared.outcome.HartOutcome.{HartOutcome}
+
+-- The packets of a hart, how many they are, how many bytes their payloads have, what they decode to, and whether the
+-- closing one is among them.
+pub record Got : Type 0 where
+  pub packets : List Packet
+  pub taken : ℕ
+  pub bytes : ℕ
+  pub decoded : List Event
+  pub closed : Bool
+
+-- What an outcome says of a hart, but for whether memory was refused.
+abbrev pub got_of : {A : Type 0} → HartOutcome A → Got
+got_of hart = record {
+  packets = hart.packets.items;
+  taken = hart.taken;
+  bytes = hart.bytes;
+  decoded = hart.decoded.items;
+  closed = hart.closed;
+}
+
+-- What comes of a hart of which the first packets of its log were taken, this many, at this period.
+abbrev pub got_after : ℕ → ProgramLog → ℕ → Got
+got_after period log count = record {
+  packets = take count (packets (words_of log.program) period log.events);
+  taken = count;
+  bytes = sum (map length (take count (payloads period log)));
+  decoded = take (reach (words_of log.program) period log.events count) log.events;
+  closed = count == length (packets (words_of log.program) period log.events);
+}
+
+-- The same with the packets left out where they are not kept.
+abbrev pub kept : Bool → Got → Got
+kept keep got = record got { packets = if keep then got.packets else [] }
+
+-- What came of a hart is what comes of it after so many of its packets, of which it has that many.
+pub record HasGot (period : ℕ) (keep : Bool) (log : ProgramLog) (count : ℕ) (got : Got) : Type 0 where
+  pub few : count ≤ length (packets (words_of log.program) period log.events)
+  pub same : got ≡ kept keep (got_after period log count)

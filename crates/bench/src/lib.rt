@@ -1,0 +1,22 @@
+//! The bench: logs of harts through the funnel, what was decoded of them again, and the report that compares both.
+//!
+//! [`Config`] says how harts send and what is kept; [`Outcome`] is what came of each hart. [`report`] writes it as
+//! text.
+#![tactic(auto)]
+
+mod config;
+mod hart_line;
+mod outcome;
+mod reporting;
+mod setup;
+mod stop;
+#[cfg(test)]
+mod tests;
+mod verdict;
+
+pub use config::Config;
+pub use outcome::{HartOutcome, Outcome};
+pub use reporting::{is_whole, report};
+pub use setup::Setup;
+pub use stop::Stop;
+pub use verdict::{Verdict, compare};

@@ -1,0 +1,32 @@
+//! What came of each hart.
+
+use crate::stop::Stop;
+use payload::Packet;
+use retire::Event;
+use std::alloc::{Allocator, Global};
+
+/// What came of a hart.
+#[derive(Debug, Drop)]
+pub struct HartOutcome<A: Allocator = Global> {
+    /// The packets that were demultiplexed, where they are kept, and else none.
+    pub packets: Vec<Packet, A>,
+    /// How many packets were demultiplexed.
+    pub taken: u64,
+    /// How many bytes their payloads had.
+    pub bytes: u64,
+    /// The events that they decode to.
+    pub decoded: Vec<Event, A>,
+    /// Whether the closing packet was decoded.
+    pub closed: bool,
+    /// Whether memory for this hart, or the start of its worker, was refused.
+    pub refused: bool,
+}
+
+/// What came of all harts.
+#[derive(Debug, Drop)]
+pub struct Outcome<A: Allocator = Global> {
+    /// What came of each hart, at the hart's place.
+    pub harts: Vec<HartOutcome<A>, A>,
+    /// Why some hart's packets were not all decoded, where that is so.
+    pub stop: Option<Stop>,
+}

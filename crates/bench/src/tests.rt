@@ -1,0 +1,4 @@
+//! Reports of outcomes that were made by hand.
+
+mod made;
+mod report;

@@ -1,0 +1,60 @@
+//! A program of four words, and the logs of two harts that run it.
+
+use legalpath::LegalLog;
+use retire::Event;
+use rvclass::Program;
+use std::alloc::{AllocError, Global};
+use std::test::Fail;
+
+/// Where the program stands.
+const BASE: u64 = 0x8000_0000;
+
+/// Two words `nop`, a jump to the address in `ra`, and a branch to itself.
+const WORDS: [u32; 4] = [0x0000_0013, 0x0000_0013, 0x0000_8067, 0x0000_0063];
+
+/// The retirement of a word at an offset, at machine level.
+pub(super) fn retired(offset: u64, itype: u8) -> Event {
+    Event::Retire {
+        addr: BASE.wrapping_add(offset),
+        itype,
+        privilege: 3,
+    }
+}
+
+/// The program.
+pub(super) fn program(alloc: Global) -> Result<Program, Fail> {
+    let mut image = Vec::new(alloc);
+    for word in WORDS {
+        image.extend_from_slice(&word.to_le_bytes())?;
+    }
+    Ok(Program::new(BASE, image)?)
+}
+
+/// The events of the hart that takes the branch 33 times.
+pub(super) fn branches(alloc: Global) -> Result<Vec<Event>, AllocError> {
+    vec![in alloc; retired(12, 5); 33]
+}
+
+/// The events of the hart that goes on at the second word after the jump.
+pub(super) fn returns(alloc: Global) -> Result<Vec<Event>, Fail> {
+    Ok(vec![in alloc; retired(0, 0), retired(4, 0), retired(8, 6), retired(4, 0)]?)
+}
+
+/// The log of these events, which are legal for the program.
+fn legal_log<'p>(program: &'p Program, events: Vec<Event>) -> Result<LegalLog<'p>, Fail> {
+    if events.len() > 1 << 24 {
+        return Err(Fail::new("too many events"));
+    }
+    match LegalLog::new(program, events) {
+        Ok(log) => Ok(log),
+        Err((why, _)) => Err(Fail::new(why)),
+    }
+}
+
+/// The logs of both harts.
+pub(super) fn logs<'p>(alloc: Global, program: &'p Program) -> Result<[LegalLog<'p>; 2], Fail> {
+    Ok([
+        legal_log(program, branches(alloc)?)?,
+        legal_log(program, returns(alloc)?)?,
+    ])
+}

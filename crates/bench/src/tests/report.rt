@@ -1,0 +1,201 @@
+//! The text of reports.
+
+use super::made::{branches, logs, program, retired, returns};
+use crate::{HartOutcome, Outcome, Stop, is_whole, report};
+use legalpath::LegalLog;
+use retire::{Event, WriteFault};
+use std::alloc::Global;
+use std::io;
+use std::io::{ErrorKind, Write};
+use std::test::Fail;
+
+/// What came of a hart whose events these are, with so many packets of so many payload bytes.
+fn hart(alloc: Global, decoded: Vec<Event>, taken: u64, bytes: u64, closed: bool) -> HartOutcome {
+    HartOutcome {
+        packets: Vec::new(alloc),
+        taken,
+        bytes,
+        decoded,
+        closed,
+        refused: false,
+    }
+}
+
+/// What came of these two harts.
+fn outcome_of(
+    alloc: Global,
+    first: HartOutcome,
+    second: HartOutcome,
+    stop: Option<Stop>,
+) -> Result<Outcome, Fail> {
+    Ok(Outcome {
+        harts: vec![in alloc; first, second]?,
+        stop,
+    })
+}
+
+/// Writes a report where the outcome has as many harts as there are logs.
+fn told<W: Write>(
+    outcome: &Outcome,
+    logs: &[LegalLog<'_>],
+    sink: &mut W,
+) -> Result<Result<bool, WriteFault>, Fail> {
+    if logs.len() != outcome.harts.len() {
+        return Err(Fail::new("another number of harts"));
+    }
+    match report(outcome, logs, sink) {
+        Ok(()) => Ok(Ok(is_whole(outcome, logs))),
+        Err(fault) => Ok(Err(fault)),
+    }
+}
+
+/// The text of a report, which is told to be whole or not.
+fn text_of(
+    alloc: Global,
+    outcome: &Outcome,
+    logs: &[LegalLog<'_>],
+    whole: bool,
+) -> Result<Vec<u8>, Fail> {
+    let mut text = Vec::new(alloc);
+    if told(outcome, logs, &mut text)? != Ok(whole) {
+        return Err(Fail::new("told otherwise"));
+    }
+    Ok(text)
+}
+
+#[test]
+fn all_came_back(rt: HostRuntime) -> Result<(), Fail> {
+    let alloc = rt.alloc();
+    let program = program(alloc)?;
+    let logs = logs(alloc, &program)?;
+    let first = hart(alloc, branches(alloc)?, 5, 9, true);
+    let second = hart(alloc, returns(alloc)?, 4, 9, true);
+    let outcome = outcome_of(alloc, first, second, None)?;
+    let text = text_of(alloc, &outcome, &logs, true)?;
+    let want = "hart 0: 33 events, 5 packets, 9 payload bytes, decoded 33, whole\n\
+        hart 1: 4 events, 4 packets, 9 payload bytes, decoded 4, whole\n\
+        result: whole\n";
+    assert!(rt; text.as_slice() == want.as_bytes());
+    Ok(())
+}
+
+#[test]
+fn beginnings(rt: HostRuntime) -> Result<(), Fail> {
+    let alloc = rt.alloc();
+    let program = program(alloc)?;
+    let logs = logs(alloc, &program)?;
+    let first = hart(alloc, Vec::new(alloc), 1, 1, false);
+    let second = hart(alloc, Vec::new(alloc), 0, 0, false);
+    let outcome = outcome_of(alloc, first, second, None)?;
+    let text = text_of(alloc, &outcome, &logs, false)?;
+    let want = "hart 0: 33 events, 1 packets, 1 payload bytes, decoded 0, beginning\n\
+        hart 1: 4 events, 0 packets, 0 payload bytes, decoded 0, beginning\n\
+        result: not whole\n";
+    assert!(rt; text.as_slice() == want.as_bytes());
+
+    // The whole log with no closing packet, and less than it with one.
+    let first = hart(alloc, branches(alloc)?, 4, 8, false);
+    let second = hart(alloc, vec![in alloc; retired(0, 0)]?, 4, 9, true);
+    let outcome = outcome_of(alloc, first, second, None)?;
+    let text = text_of(alloc, &outcome, &logs, false)?;
+    let want = "hart 0: 33 events, 4 packets, 8 payload bytes, decoded 33, beginning\n\
+        hart 1: 4 events, 4 packets, 9 payload bytes, decoded 1, beginning\n\
+        result: not whole\n";
+    assert!(rt; text.as_slice() == want.as_bytes());
+    Ok(())
+}
+
+#[test]
+fn other_events(rt: HostRuntime) -> Result<(), Fail> {
+    let alloc = rt.alloc();
+    let program = program(alloc)?;
+    let logs = logs(alloc, &program)?;
+    // One event more than the log has, and another second event.
+    let longer = vec![in alloc; retired(12, 5); 34]?;
+    let other = vec![in alloc; retired(0, 0), retired(8, 6)]?;
+    let first = hart(alloc, longer, 5, 9, true);
+    let second = hart(alloc, other, 3, 7, false);
+    let outcome = outcome_of(alloc, first, second, None)?;
+    let text = text_of(alloc, &outcome, &logs, false)?;
+    let want = "hart 0: 33 events, 5 packets, 9 payload bytes, decoded 34, differs at row 34\n\
+        hart 1: 4 events, 3 packets, 7 payload bytes, decoded 2, differs at row 2\n\
+        result: not whole\n";
+    assert!(rt; text.as_slice() == want.as_bytes());
+    Ok(())
+}
+
+#[test]
+fn stops(rt: HostRuntime) -> Result<(), Fail> {
+    let alloc = rt.alloc();
+    let program = program(alloc)?;
+    let logs = logs(alloc, &program)?;
+    let table: [(Stop, &str); 3] = [
+        (
+            Stop::Memory(0),
+            "stop: memory at hart 0\nresult: not whole\n",
+        ),
+        (
+            Stop::HandedBack(1),
+            "stop: handed back at hart 1\nresult: not whole\n",
+        ),
+        (
+            Stop::Ended(63),
+            "stop: ended at hart 63\nresult: not whole\n",
+        ),
+    ];
+    for (stop, end) in table {
+        let first = hart(alloc, branches(alloc)?, 5, 9, true);
+        let second = hart(alloc, returns(alloc)?, 4, 9, true);
+        let outcome = outcome_of(alloc, first, second, Some(stop))?;
+        let text = text_of(alloc, &outcome, &logs, false)?;
+        assert!(rt; text.as_slice().ends_with(end.as_bytes()));
+    }
+    Ok(())
+}
+
+/// A writer that keeps what it takes, and fails once its calls are used up.
+#[derive(Drop)]
+struct FailingWriter {
+    held: Vec<u8>,
+    calls: usize,
+}
+
+impl Write for FailingWriter {
+    fn write(&mut self, buf: &[u8]) -> io::Result<usize> {
+        if self.calls == 0 {
+            return Err(io::Error::from(ErrorKind::StorageFull));
+        }
+        self.calls -= 1;
+        let most = buf.len().min(1);
+        self.held.extend_from_slice(&buf[..most])?;
+        Ok(most)
+    }
+
+    fn flush(&mut self) -> io::Result<()> {
+        Ok(())
+    }
+}
+
+#[test]
+fn writer_fails_at_each_call(rt: HostRuntime) -> Result<(), Fail> {
+    let alloc = rt.alloc();
+    let program = program(alloc)?;
+    let logs = logs(alloc, &program)?;
+    let first = hart(alloc, branches(alloc)?, 5, 9, true);
+    let second = hart(alloc, returns(alloc)?, 4, 9, true);
+    let outcome = outcome_of(alloc, first, second, Some(Stop::Memory(1)))?;
+    let want = text_of(alloc, &outcome, &logs, false)?;
+    for calls in 0..want.len() + 1 {
+        let mut sink = FailingWriter {
+            held: Vec::new(alloc),
+            calls,
+        };
+        match told(&outcome, &logs, &mut sink)? {
+            Ok(_) => assert_eq!(rt; calls, want.len()),
+            Err(fault) => assert!(rt; fault == WriteFault::Write && calls < want.len()),
+        }
+        assert!(rt; want.as_slice().starts_with(sink.held.as_slice()));
+        assert_eq!(rt; sink.held.len(), calls);
+    }
+    Ok(())
+}
