@@ -15,7 +15,8 @@ use Rattle.decoder.specs.Order.{MayFollow, MayPrecede, first}
 use Rattle.decoder.specs.Pieces.{reported_after}
 use Rattle.roundtrip.proofs.QuietLemmas.{last_place-snoc}
 
--- The packets of the last pieces of a log, after this last reported address and a piece of this rule, and the closing packet.
+-- The packets of the last pieces of a log, after this last reported address and a piece of this rule, and the closing
+-- packet.
 abbrev pub last_packets : ℕ → Rule → List Piece → List Packet
 last_packets reported by_last pieces =
     reports reported pieces ++ packet.Support (closing (last_rule by_last pieces)) ∷ []

@@ -89,7 +89,8 @@ explicit_before period number before by_last [] = makes_explicit (packet.Support
 explicit_before period number before by_last (Trap epc priv interrupt cause tval ∷ events) = true
 explicit_before period number before by_last (Retire addr itype priv ∷ events) = is_start period number before priv
 
--- The same in a state: an open stretch goes on with a packet that does not, and a trap with its handler is a packet that does.
+-- The same in a state: an open stretch goes on with a packet that does not, and a trap with its handler is a packet
+-- that does.
 abbrev pub explicit_in : {words : Words} {period : ℕ} {since : Option Event} {front : List Event}
     {before_that before : Option Event} {number : ℕ} {events : List Event} {reported : ℕ} → Rule
     → State words period since front before_that before number events reported → Bool
