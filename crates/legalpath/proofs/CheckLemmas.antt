@@ -31,7 +31,9 @@ abbrev LogOutcome : Words → Option Event → ℕ → List Event → Answer →
 LogOutcome words before row log (Ok done) = Runs words before log
 LogOutcome words before row log (Err fault) = FaultFrom words before row log fault
 
-goes_on : (words : Words) (before : Option Event) (row : ℕ) (event : Event) (log : List Event) (result : Answer) → Right words event → StepFrom words before event → LogOutcome words (Some event) (row + 1) log result → LogOutcome words before row (event ∷ log) result
+goes_on : (words : Words) (before : Option Event) (row : ℕ) (event : Event) (log : List Event) (result : Answer)
+    → Right words event → StepFrom words before event → LogOutcome words (Some event) (row + 1) log result
+    → LogOutcome words before row (event ∷ log) result
 goes_on words before row event log (Ok done) right step runs = (right, step, runs)
 goes_on words before row event log (Err fault) right step f = record {
   front = event ∷ f.front;
@@ -43,13 +45,20 @@ goes_on words before row event log (Err fault) right step f = record {
   reason = f.reason;
 }
 
-all_judged : (words : Words) (before : Option Event) (row : ℕ) (log : List Event) → LogOutcome words before row log (judge_all words (left_after words before) row log)
+all_judged : (words : Words) (before : Option Event) (row : ℕ) (log : List Event)
+    → LogOutcome words before row log (judge_all words (left_after words before) row log)
 all_judged words before row [] = tt
-all_judged words before row (event ∷ log) = go _ (judged words before event) (all_judged words (Some event) (row + 1) log)
+all_judged words before row (event ∷ log) =
+    go _ (judged words before event) (all_judged words (Some event) (row + 1) log)
   where
-    go : (result : Result Left Why) → Outcome words before event result → LogOutcome words (Some event) (row + 1) log (judge_all words (left_after words (Some event)) (row + 1) log) → LogOutcome words before row (event ∷ log) (answer_after row result (λ next. judge_all words next (row + 1) log))
+    go : (result : Result Left Why) → Outcome words before event result
+        → LogOutcome words (Some event) (row + 1) log (judge_all words (left_after words (Some event)) (row + 1) log)
+        → LogOutcome words before row (event ∷ log) (answer_after row result
+        (λ next. judge_all words next (row + 1) log))
     go (Ok left) h rest =
-        goes_on words before row event log _ h.0 h.1 (subst (λ (next : Left). LogOutcome words (Some event) (row + 1) log (judge_all words next (row + 1) log)) (sym h.2) rest)
+        goes_on words before row event log _ h.0 h.1 (subst
+        (λ (next : Left). LogOutcome words (Some event) (row + 1) log (judge_all words next (row + 1) log)) (sym h.2)
+        rest)
     go (Err why) h rest = record {
       front = [];
       event = event;
@@ -60,9 +69,11 @@ all_judged words before row (event ∷ log) = go _ (judged words before event) (
       reason = h;
     }
 
-fault-not_legal : (words : Words) (log : List Event) (fault : PathFault) → FaultFrom words None 1 log fault → ¬ Legal words log
+fault-not_legal : (words : Words) (log : List Event) (fault : PathFault) → FaultFrom words None 1 log fault
+    → ¬ Legal words log
 fault-not_legal words log fault f legal =
-    let runs = runs_split words None f.front (f.event ∷ f.rest) (subst (λ (l : List Event). Legal words l) f.whole legal) in
+    let runs = runs_split words None f.front (f.event ∷ f.rest)
+    (subst (λ (l : List Event). Legal words l) f.whole legal) in
     none_applies words (last_or None f.front) f.event fault.why runs.1.0 runs.1.1 f.reason.applies
 
 module _ (words : Words) (log : List Event) (result : Answer) (is : result ≡ judge_all words left_at_start 1 log) where

@@ -4,11 +4,13 @@ use Rattle.legalpath.proofs.StepLemmas as step
 use Rattle.legalpath.specs.StepLaws.{LeadsToOne, FollowersStandTogether, FollowersStandAbove, FollowersKeepPrivilege}
 
 pub leads_to_one : LeadsToOne
-leads_to_one words (Retire addr itype priv) retired stays right = step.leads_to_one (words addr) addr itype priv stays right.0
+leads_to_one words (Retire addr itype priv) retired stays right =
+    step.leads_to_one (words addr) addr itype priv stays right.0
 leads_to_one words (Trap epc priv interrupt cause tval) retired stays right = cc
 
 pub stand_together : FollowersStandTogether
-stand_together words (Retire addr itype priv) follower other retired stays s t = step.one_place (words addr) addr itype _ _ stays s.0 t.0
+stand_together words (Retire addr itype priv) follower other retired stays s t =
+    step.one_place (words addr) addr itype _ _ stays s.0 t.0
 stand_together words (Trap epc priv interrupt cause tval) follower other retired stays s t = cc
 
 pub stand_above : FollowersStandAbove

@@ -38,7 +38,11 @@ pub privilege_tells : (priv : ℕ) → Tells (is_privilege priv) (IsPrivilege pr
 privilege_tells priv = tells-same to from (tells-or (tells-or (tells_eq priv 0) (tells_eq priv 1)) (tells_eq priv 3))
   where
     to : ((priv ≡ 0) ⊎ (priv ≡ 1)) ⊎ (priv ≡ 3) → IsPrivilege priv
-    to h = elim h [ inl g ↦ elim g [ inl e ↦ (omega arith, λ q. omega arith) | inr e ↦ (omega arith, λ q. omega arith) ] | inr e ↦ (omega arith, λ q. omega arith) ]
+    to h =
+        elim h [
+          | inl g ↦ elim g [ inl e ↦ (omega arith, λ q. omega arith) | inr e ↦ (omega arith, λ q. omega arith) ]
+          | inr e ↦ (omega arith, λ q. omega arith)
+        ]
 
     from : IsPrivilege priv → ((priv ≡ 0) ⊎ (priv ≡ 1)) ⊎ (priv ≡ 3)
     from h = let a : priv ≤ 3 = h.0 in let b : priv ≢ 2 = h.1 in grind arith
@@ -73,11 +77,13 @@ stand_tells (One to) at = tells_eq at to
 stand_tells Any at = tells_true tt
 stand_tells NoneInside at = tells_false (λ h. h)
 
-pub stand_after_tells : (words : Words) (before : Option Event) (at : ℕ) → Tells (may_stand_at (left_after words before).next at) (MayStandAfter words before at)
+pub stand_after_tells : (words : Words) (before : Option Event) (at : ℕ)
+    → Tells (may_stand_at (left_after words before).next at) (MayStandAfter words before at)
 stand_after_tells words None at = tells_true tt
 stand_after_tells words (Some (Retire addr itype priv)) at = on (words addr)
   where
-    on : (word : Option Word) → Tells (may_stand_at (left_on addr itype priv word).next at) (MayStandAt (leads_from addr itype word) at)
+    on : (word : Option Word) → Tells (may_stand_at (left_on addr itype priv word).next at)
+        (MayStandAt (leads_from addr itype word) at)
     on None = tells_false (λ h. h)
     on (Some word) = stand_tells (leads addr itype word.0 word.1) at
 stand_after_tells words (Some (Trap epc priv interrupt cause tval)) at = tells_true tt
@@ -88,11 +94,14 @@ is_between left priv = nat_le left.least priv && nat_le priv left.greatest
 between : (left : Left) (priv : ℕ) → Tells (is_between left priv) ((left.least ≤ priv) × (priv ≤ left.greatest))
 between left priv = tells-and (tells_le left.least priv) (λ h. tells_le priv left.greatest)
 
-left_on_tells : (addr itype priv after : ℕ) (word : Option Word) → IsPrivilege after → Tells (is_between (left_on addr itype priv word) after) (KeepsPrivilege word priv after)
+left_on_tells : (addr itype priv after : ℕ) (word : Option Word) → IsPrivilege after
+    → Tells (is_between (left_on addr itype priv word) after) (KeepsPrivilege word priv after)
 left_on_tells addr itype priv after word is = on word
   where
     same : (left : Left) → left.least ≡ priv → left.greatest ≡ priv → Tells (is_between left after) (after ≡ priv)
-    same left l g = tells-same (λ h. let a = h.0 in let b = h.1 in omega arith) (λ e. (omega arith, omega arith)) (between left after)
+    same left l g =
+        tells-same (λ h. let a = h.0 in let b = h.1 in omega arith) (λ e. (omega arith, omega arith))
+        (between left after)
 
     on : (word : Option Word) → Tells (is_between (left_on addr itype priv word) after) (KeepsPrivilege word priv after)
     on None = same (left_on addr itype priv None) refl refl
@@ -100,24 +109,33 @@ left_on_tells addr itype priv after word is = on word
     on (Some (Jump to, length)) = same (left_on addr itype priv (Some (Jump to, length))) refl refl
     on (Some (Branch to, length)) = same (left_on addr itype priv (Some (Branch to, length))) refl refl
     on (Some (Uninferable, length)) = same (left_on addr itype priv (Some (Uninferable, length))) refl refl
-    on (Some (TrapReturn Mret, length)) = tells-same (λ h. tt) (λ u. (omega arith, is.0)) (between (left_on addr itype priv (Some (TrapReturn Mret, length))) after)
-    on (Some (TrapReturn Sret, length)) = tells-same (λ h. h.1) (λ h. (omega arith, h)) (between (left_on addr itype priv (Some (TrapReturn Sret, length))) after)
+    on (Some (TrapReturn Mret, length)) =
+        tells-same (λ h. tt) (λ u. (omega arith, is.0))
+        (between (left_on addr itype priv (Some (TrapReturn Mret, length))) after)
+    on (Some (TrapReturn Sret, length)) =
+        tells-same (λ h. h.1) (λ h. (omega arith, h))
+        (between (left_on addr itype priv (Some (TrapReturn Sret, length))) after)
     on (Some (NeverRetires, length)) = same (left_on addr itype priv (Some (NeverRetires, length))) refl refl
 
-between_tells : (words : Words) (before : Option Event) (after : ℕ) → IsPrivilege after → Tells (is_between (left_after words before) after) (MayHavePrivilegeAfter words before after)
+between_tells : (words : Words) (before : Option Event) (after : ℕ) → IsPrivilege after
+    → Tells (is_between (left_after words before) after) (MayHavePrivilegeAfter words before after)
 between_tells words None after is = tells-same (λ h. tt) (λ u. (omega arith, is.0)) (between left_at_start after)
 between_tells words (Some (Retire addr itype priv)) after is = left_on_tells addr itype priv after (words addr) is
 between_tells words (Some (Trap epc priv interrupt cause tval)) after is =
-    tells-same (λ h. let a = h.0 in (omega arith, omega arith)) (λ h. let a = h.0 in let b = h.1 in let d = is.0 in (omega arith, d)) (between (left_by_trap priv) after)
+    tells-same (λ h. let a = h.0 in (omega arith, omega arith)) (λ h. let a = h.0 in let b = h.1 in let d = is.0 in
+    (omega arith, d)) (between (left_by_trap priv) after)
 
-pub left_tells : (words : Words) (before : Option Event) (after : ℕ) → Tells (was_left (left_after words before) after) (IsPrivilege after × MayHavePrivilegeAfter words before after)
+pub left_tells : (words : Words) (before : Option Event) (after : ℕ)
+    → Tells (was_left (left_after words before) after) (IsPrivilege after × MayHavePrivilegeAfter words before after)
 left_tells words before after = tells-and (privilege_tells after) (λ is. between_tells words before after is)
 
-pub step_from : (words : Words) (before : Option Event) (event : Event) → MayStandAfter words before (place event) → MayHavePrivilegeAfter words before (privilege event) → StepFrom words before event
+pub step_from : (words : Words) (before : Option Event) (event : Event) → MayStandAfter words before (place event)
+    → MayHavePrivilegeAfter words before (privilege event) → StepFrom words before event
 step_from words None event stands keeps = tt
 step_from words (Some before) event stands keeps = (stands, keeps)
 
-pub step_parts : (words : Words) (before : Option Event) (event : Event) → StepFrom words before event → MayStandAfter words before (place event) × MayHavePrivilegeAfter words before (privilege event)
+pub step_parts : (words : Words) (before : Option Event) (event : Event) → StepFrom words before event
+    → MayStandAfter words before (place event) × MayHavePrivilegeAfter words before (privilege event)
 step_parts words None event step = (tt, tt)
 step_parts words (Some before) event step = (step.0, step.1)
 
@@ -125,7 +143,8 @@ module _ (words : Words) (before : Option Event) (addr itype priv : ℕ) where
   -- What judging a retirement on this word answers.
   abbrev pub RetirementOutcome : Option Word → Result Left Why → Type 0
   RetirementOutcome word (Ok left) =
-      RetiresOn word itype priv × IsPrivilege priv × MayStandAfter words before addr × MayHavePrivilegeAfter words before priv × (left ≡ left_on addr itype priv word)
+      RetiresOn word itype priv × IsPrivilege priv × MayStandAfter words before addr
+      × MayHavePrivilegeAfter words before priv × (left ≡ left_on addr itype priv word)
   RetirementOutcome word (Err why) =
       AppliesToRetirement words before word addr itype priv why
       × AllByRecursion (λ other. ¬ AppliesToRetirement words before word addr itype priv other) (earlier why)
@@ -142,17 +161,22 @@ module _ (words : Words) (before : Option Event) (addr itype priv : ℕ) where
   abbrev at_never : Word → Bool → Bool → Bool → Bool → Result Left Why
   at_never word never type next test = if never then Err NotRetirable else at_type word type next test
 
-  module _ (word : Word) (never type next test : Bool) (n : Tells never (IsNotRetirable (Some word))) (t : Tells type (IsTypeOf word.0 itype)) (s : Tells next (MayStandAfter words before addr)) (p : Tells test ((IsPrivilege priv × MayRetireAt word.0 priv) × MayHavePrivilegeAfter words before priv)) where
-    privilege_judged : ¬ IsNotRetirable (Some word) → IsTypeOf word.0 itype → MayStandAfter words before addr → (v : Bool) → test ≡ v → RetirementOutcome (Some word) (at_privilege word v)
+  module _ (word : Word) (never type next test : Bool) (n : Tells never (IsNotRetirable (Some word)))
+      (t : Tells type (IsTypeOf word.0 itype)) (s : Tells next (MayStandAfter words before addr))
+      (p : Tells test ((IsPrivilege priv × MayRetireAt word.0 priv) × MayHavePrivilegeAfter words before priv)) where
+    privilege_judged : ¬ IsNotRetirable (Some word) → IsTypeOf word.0 itype → MayStandAfter words before addr
+        → (v : Bool) → test ≡ v → RetirementOutcome (Some word) (at_privilege word v)
     privilege_judged retires typed stands true e = let h = p.holds e in ((typed, h.0.1), h.0.0, stands, h.1, refl)
     privilege_judged retires typed stands false e =
         (λ f. p.fails e ((f.0, f.1), f.2), ((λ e. cc), (retires, ((λ n. n typed), ((λ n. n stands), tt)))))
 
-    next_judged : ¬ IsNotRetirable (Some word) → IsTypeOf word.0 itype → (v : Bool) → next ≡ v → RetirementOutcome (Some word) (at_next word v test)
+    next_judged : ¬ IsNotRetirable (Some word) → IsTypeOf word.0 itype → (v : Bool) → next ≡ v
+        → RetirementOutcome (Some word) (at_next word v test)
     next_judged retires typed true e = privilege_judged retires typed (s.holds e) test refl
     next_judged retires typed false e = (s.fails e, ((λ e. cc), (retires, ((λ n. n typed), tt))))
 
-    type_judged : ¬ IsNotRetirable (Some word) → (v : Bool) → type ≡ v → RetirementOutcome (Some word) (at_type word v next test)
+    type_judged : ¬ IsNotRetirable (Some word) → (v : Bool) → type ≡ v
+        → RetirementOutcome (Some word) (at_type word v next test)
     type_judged retires true e = next_judged retires (t.holds e) next refl
     type_judged retires false e = (t.fails e, ((λ e. cc), (retires, tt)))
 
@@ -160,14 +184,18 @@ module _ (words : Words) (before : Option Event) (addr itype priv : ℕ) where
     never_judged true e = (n.holds e, ((λ e. cc), tt))
     never_judged false e = type_judged (n.fails e) type refl
 
-  at_right_privilege : (word : Word) → Tells (may_retire_at word.0 priv && was_left (left_after words before) priv) ((IsPrivilege priv × MayRetireAt word.0 priv) × MayHavePrivilegeAfter words before priv)
+  at_right_privilege : (word : Word) → Tells (may_retire_at word.0 priv && was_left (left_after words before) priv)
+      ((IsPrivilege priv × MayRetireAt word.0 priv) × MayHavePrivilegeAfter words before priv)
   at_right_privilege word =
-      tells-same (λ h. ((h.1.0, h.0), h.1.1)) (λ h. (h.0.1, (h.0.0, h.1))) (tells-and (retire_tells word.0 priv) (λ h. left_tells words before priv))
+      tells-same (λ h. ((h.1.0, h.0), h.1.1)) (λ h. (h.0.1, (h.0.0, h.1)))
+      (tells-and (retire_tells word.0 priv) (λ h. left_tells words before priv))
 
-  pub retirement_judged : (word : Option Word) → RetirementOutcome word (judge_retirement (left_after words before) addr itype priv word)
+  pub retirement_judged : (word : Option Word) → RetirementOutcome word
+      (judge_retirement (left_after words before) addr itype priv word)
   retirement_judged None = (refl, tt)
   retirement_judged (Some word) =
-      never_judged word _ _ _ _ (never_tells word) (type_tells word.0 itype) (stand_after_tells words before addr) (at_right_privilege word) (is_never word.0) refl
+      never_judged word _ _ _ _ (never_tells word) (type_tells word.0 itype) (stand_after_tells words before addr)
+      (at_right_privilege word) (is_never word.0) refl
 
 value_tells : (interrupt : Bool) (tval : ℕ) → Tells (not interrupt || (tval == 0)) (interrupt ≡ true → tval ≡ 0)
 value_tells true tval = tells-same (λ e f. e) (λ h. h refl) (tells_eq tval 0)
@@ -177,7 +205,8 @@ module _ (words : Words) (before : Option Event) (epc priv : ℕ) (interrupt : B
   -- What judging a trap answers.
   abbrev pub TrapOutcome : Result Left Why → Type 0
   TrapOutcome (Ok left) =
-      (epc % 2 ≡ 0) × IsPrivilege priv × ((cause < 64) × (interrupt ≡ true → tval ≡ 0)) × MayStandAfter words before epc × MayHavePrivilegeAfter words before priv × (left ≡ left_by_trap priv)
+      (epc % 2 ≡ 0) × IsPrivilege priv × ((cause < 64) × (interrupt ≡ true → tval ≡ 0))
+      × MayStandAfter words before epc × MayHavePrivilegeAfter words before priv × (left ≡ left_by_trap priv)
   TrapOutcome (Err why) =
       AppliesToTrap words before epc priv interrupt cause tval why
       × AllByRecursion (λ other. ¬ AppliesToTrap words before epc priv interrupt cause tval other) (earlier why)
@@ -191,12 +220,17 @@ module _ (words : Words) (before : Option Event) (epc priv : ℕ) (interrupt : B
   abbrev trap_at_type : Bool → Bool → Bool → Result Left Why
   trap_at_type type test next = if not type then Err WrongType else trap_at_privilege test next
 
-  module _ (type test next : Bool) (t : Tells type ((cause < 64) × (interrupt ≡ true → tval ≡ 0))) (p : Tells test (IsPrivilege priv × MayHavePrivilegeAfter words before priv)) (s : Tells next ((epc % 2 ≡ 0) × MayStandAfter words before epc)) where
-    trap_epc_judged : (cause < 64) × (interrupt ≡ true → tval ≡ 0) → IsPrivilege priv × MayHavePrivilegeAfter words before priv → (v : Bool) → next ≡ v → TrapOutcome (trap_at_epc v)
+  module _ (type test next : Bool) (t : Tells type ((cause < 64) × (interrupt ≡ true → tval ≡ 0)))
+      (p : Tells test (IsPrivilege priv × MayHavePrivilegeAfter words before priv))
+      (s : Tells next ((epc % 2 ≡ 0) × MayStandAfter words before epc)) where
+    trap_epc_judged : (cause < 64) × (interrupt ≡ true → tval ≡ 0) → IsPrivilege priv
+        × MayHavePrivilegeAfter words before priv → (v : Bool) → next ≡ v → TrapOutcome (trap_at_epc v)
     trap_epc_judged typed kept true e = let h = s.holds e in (h.0, kept.0, typed, h.1, kept.1, refl)
-    trap_epc_judged typed kept false e = (s.fails e, ((λ h. h), ((λ h. h), ((λ n. n typed), ((λ h. h), ((λ n. n kept), tt))))))
+    trap_epc_judged typed kept false e =
+        (s.fails e, ((λ h. h), ((λ h. h), ((λ n. n typed), ((λ h. h), ((λ n. n kept), tt))))))
 
-    trap_privilege_judged : (cause < 64) × (interrupt ≡ true → tval ≡ 0) → (v : Bool) → test ≡ v → TrapOutcome (trap_at_privilege v next)
+    trap_privilege_judged : (cause < 64) × (interrupt ≡ true → tval ≡ 0) → (v : Bool) → test ≡ v
+        → TrapOutcome (trap_at_privilege v next)
     trap_privilege_judged typed true e = trap_epc_judged typed (p.holds e) next refl
     trap_privilege_judged typed false e = (p.fails e, ((λ h. h), ((λ h. h), ((λ n. n typed), ((λ h. h), tt)))))
 
@@ -206,21 +240,28 @@ module _ (words : Words) (before : Option Event) (epc priv : ℕ) (interrupt : B
 
   pub trap_judged : TrapOutcome (judge_trap (left_after words before) epc priv interrupt cause tval)
   trap_judged =
-      trap_type_judged _ _ _ (tells-and (tells_lt cause 64) (λ h. value_tells interrupt tval)) (left_tells words before priv) (tells-and (tells_eq (epc % 2) 0) (λ h. stand_after_tells words before epc)) _ refl
+      trap_type_judged _ _ _ (tells-and (tells_lt cause 64) (λ h. value_tells interrupt tval))
+      (left_tells words before priv) (tells-and (tells_eq (epc % 2) 0) (λ h. stand_after_tells words before epc)) _
+      refl
 
 -- What judging an event answers.
 abbrev pub Outcome : Words → Option Event → Event → Result Left Why → Type 0
-Outcome words before event (Ok left) = Right words event × StepFrom words before event × (left ≡ left_after words (Some event))
+Outcome words before event (Ok left) =
+    Right words event × StepFrom words before event × (left ≡ left_after words (Some event))
 Outcome words before event (Err why) = IsReason words before event why
 
-pub judged : (words : Words) (before : Option Event) (event : Event) → Outcome words before event (judge words (left_after words before) event)
+pub judged : (words : Words) (before : Option Event) (event : Event)
+    → Outcome words before event (judge words (left_after words before) event)
 judged words before (Retire addr itype priv) = go _ (retirement_judged words before addr itype priv (words addr))
   where
-    go : (result : Result Left Why) → RetirementOutcome words before addr itype priv (words addr) result → Outcome words before (Retire addr itype priv) result
+    go : (result : Result Left Why) → RetirementOutcome words before addr itype priv (words addr) result
+        → Outcome words before (Retire addr itype priv) result
     go (Ok left) h = ((h.0, h.1), step_from words before (Retire addr itype priv) h.2 h.3, h.4)
     go (Err why) h = record { applies = h.0; first = h.1 }
 judged words before (Trap epc priv interrupt cause tval) = go _ (trap_judged words before epc priv interrupt cause tval)
   where
-    go : (result : Result Left Why) → TrapOutcome words before epc priv interrupt cause tval result → Outcome words before (Trap epc priv interrupt cause tval) result
-    go (Ok left) h = ((h.0, h.1, h.2.0, h.2.1), step_from words before (Trap epc priv interrupt cause tval) h.3 h.4, h.5)
+    go : (result : Result Left Why) → TrapOutcome words before epc priv interrupt cause tval result
+        → Outcome words before (Trap epc priv interrupt cause tval) result
+    go (Ok left) h =
+        ((h.0, h.1, h.2.0, h.2.1), step_from words before (Trap epc priv interrupt cause tval) h.3 h.4, h.5)
     go (Err why) h = record { applies = h.0; first = h.1 }

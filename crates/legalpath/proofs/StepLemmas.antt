@@ -11,7 +11,8 @@ use Rattle.legalpath.specs.Successor.{leads_from}
 use Rattle.legalpath.specs.declared.next.Next.TheVariants.{One}
 
 -- A word tells whether its retirements are branches.
-pub branch_type : (word : Option Word) (itype other priv level : ℕ) → RetiresOn word itype priv → RetiresOn word other level → ((itype == 4) || (itype == 5)) ≡ ((other == 4) || (other == 5))
+pub branch_type : (word : Option Word) (itype other priv level : ℕ) → RetiresOn word itype priv
+    → RetiresOn word other level → ((itype == 4) || (itype == 5)) ≡ ((other == 4) || (other == 5))
 branch_type None itype other priv level r s = absurd r
 branch_type (Some (Plain, length)) itype other priv level r s = rw (r.0, s.0) refl
 branch_type (Some (Jump to, length)) itype other priv level r s = rw (r.0, s.0) refl
@@ -24,20 +25,23 @@ branch_type (Some (TrapReturn ret, length)) itype other priv level r s = rw (r.0
 branch_type (Some (NotRetirable, length)) itype other priv level r s = absurd r.0
 
 -- A word and whether it is a taken branch tell the type.
-pub same_type : (word : Option Word) (itype other priv level : ℕ) → RetiresOn word itype priv → RetiresOn word other level → (itype == 5) ≡ (other == 5) → itype ≡ other
+pub same_type : (word : Option Word) (itype other priv level : ℕ) → RetiresOn word itype priv
+    → RetiresOn word other level → (itype == 5) ≡ (other == 5) → itype ≡ other
 same_type None itype other priv level r s taken = absurd r
 same_type (Some (Plain, length)) itype other priv level r s taken = r.0 ∙ sym s.0
 same_type (Some (Jump to, length)) itype other priv level r s taken = r.0 ∙ sym s.0
 same_type (Some (Branch to, length)) itype other priv level r s taken = four_or_five itype other r.0 s.0 taken
   where
-    four_or_five : (itype other : ℕ) → (itype ≡ 4) ⊎ (itype ≡ 5) → (other ≡ 4) ⊎ (other ≡ 5) → (itype == 5) ≡ (other == 5) → itype ≡ other
+    four_or_five : (itype other : ℕ) → (itype ≡ 4) ⊎ (itype ≡ 5) → (other ≡ 4) ⊎ (other ≡ 5)
+        → (itype == 5) ≡ (other == 5) → itype ≡ other
     four_or_five itype other r s taken = grind (arith, nat_tests)
 same_type (Some (Uninferable, length)) itype other priv level r s taken = r.0 ∙ sym s.0
 same_type (Some (TrapReturn ret, length)) itype other priv level r s taken = r.0 ∙ sym s.0
 same_type (Some (NotRetirable, length)) itype other priv level r s taken = absurd r.0
 
 -- A word that leads to no address that it does not tell leads to one.
-pub leads_to_one : (word : Option Word) (addr itype priv : ℕ) → leaves word ≡ false → RetiresOn word itype priv → (to : ℕ) × (leads_from addr itype word ≡ One to)
+pub leads_to_one : (word : Option Word) (addr itype priv : ℕ) → leaves word ≡ false → RetiresOn word itype priv
+    → (to : ℕ) × (leads_from addr itype word ≡ One to)
 leads_to_one None addr itype priv stays r = absurd r
 leads_to_one (Some (Plain, length)) addr itype priv stays r = (addr + length, refl)
 leads_to_one (Some (Jump to, length)) addr itype priv stays r = (to, refl)
@@ -46,7 +50,8 @@ leads_to_one (Some (Uninferable, length)) addr itype priv stays r = cc
 leads_to_one (Some (TrapReturn ret, length)) addr itype priv stays r = cc
 leads_to_one (Some (NotRetirable, length)) addr itype priv stays r = absurd r.0
 
-pub one_place : (word : Option Word) (addr itype at other : ℕ) → leaves word ≡ false → MayStandAt (leads_from addr itype word) at → MayStandAt (leads_from addr itype word) other → at ≡ other
+pub one_place : (word : Option Word) (addr itype at other : ℕ) → leaves word ≡ false
+    → MayStandAt (leads_from addr itype word) at → MayStandAt (leads_from addr itype word) other → at ≡ other
 one_place None addr itype at other stays s t = absurd s
 one_place (Some (Plain, length)) addr itype at other stays s t = s ∙ sym t
 one_place (Some (Jump to, length)) addr itype at other stays s t = s ∙ sym t
@@ -56,13 +61,19 @@ one_place (Some (TrapReturn ret, length)) addr itype at other stays s t = cc
 one_place (Some (NotRetirable, length)) addr itype at other stays s t = absurd s
 
 -- That address is above the word's, unless it is a branch or jumps back.
-pub rises : (word : Option Word) (addr itype priv at : ℕ) → ((w : Word) → word ≡ Some w → 2 ≤ w.1) → RetiresOn word itype priv → ((itype == 4) || (itype == 5)) ≡ false → jumps_back addr word ≡ false → leaves word ≡ false → MayStandAt (leads_from addr itype word) at → addr < at
+pub rises : (word : Option Word) (addr itype priv at : ℕ) → ((w : Word) → word ≡ Some w → 2 ≤ w.1)
+    → RetiresOn word itype priv → ((itype == 4) || (itype == 5)) ≡ false → jumps_back addr word ≡ false
+    → leaves word ≡ false → MayStandAt (leads_from addr itype word) at → addr < at
 rises None addr itype priv at long r branch back stays s = absurd r
 rises (Some (Plain, length)) addr itype priv at long r branch back stays s = omega (arith, long (Plain, length) refl)
 rises (Some (Jump to, length)) addr itype priv at long r branch back stays s =
     let ahead : addr < to = grind (arith, nat_tests) in omega arith
 rises (Some (Branch to, length)) addr itype priv at long r branch back stays s =
-    elim r.0 [ inl e ↦ (let no : ((4 == 4) || (4 == 5)) ≡ false = rw e at branch in cc) | inr e ↦ (let no : ((5 == 4) || (5 == 5)) ≡ false = rw e at branch in cc) ]
+    elim r.0 [
+      | inl e ↦ (let no : ((4 == 4) || (4 == 5)) ≡ false = rw e at branch in cc)
+      | inr e ↦
+          (let no : ((5 == 4) || (5 == 5)) ≡ false = rw e at branch in cc)
+    ]
 rises (Some (Uninferable, length)) addr itype priv at long r branch back stays s = cc
 rises (Some (TrapReturn ret, length)) addr itype priv at long r branch back stays s = cc
 rises (Some (NotRetirable, length)) addr itype priv at long r branch back stays s = absurd r.0

@@ -42,7 +42,12 @@ tells-or {a} {b} {P} {Q} s t = go a refl
   where
     go : (v : Bool) → a ≡ v → Tells (v || b) (P ⊎ Q)
     go true e = tells_true (inl (s.holds e))
-    go false e = record { holds = λ f. inr (t.holds f); fails = λ f either. elim either [ inl p ↦ s.fails e p | inr q ↦ t.fails f q ] }
+    go false e =
+        record {
+          holds = λ f. inr (t.holds f);
+          fails = λ f either. elim either
+              [ inl p ↦ s.fails e p | inr q ↦ t.fails f q ];
+        }
 
 pub tells-not : {a : Bool} {P : Type 0} → Tells a P → Tells (not a) (¬ P)
 tells-not {a} {P} s = go a refl

@@ -190,8 +190,8 @@ fn least_after(class: Class, privilege: u8) -> u8
     }
 }
 
-/// The greatest privilege after a retirement of this class at this one: machine level after MRET, supervisor level after
-/// SRET, and the same after any other.
+/// The greatest privilege after a retirement of this class at this one: machine level after MRET, supervisor level
+/// after SRET, and the same after any other.
 #[inline]
 pub fn greatest_after(class: Class, privilege: u8) -> u8
     ensures { result ≡ greatest_after class privilege }

@@ -17,7 +17,8 @@ use Rattle.roundtrip.proofs.Telling.{Told, Quiet, NotHandled, InRangeAfter, Hand
 use Rattle.roundtrip.proofs.QuietTelling.{quiet_retirement_told}
 
 -- A right retirement stands in range, since its word does.
-pub address_in_range : (words : Words) → IsProgram words → (addr itype priv : ℕ) → Right words (Retire addr itype priv) → addr < 2 ^ 64
+pub address_in_range : (words : Words) → IsProgram words → (addr itype priv : ℕ)
+    → Right words (Retire addr itype priv) → addr < 2 ^ 64
 address_in_range words program addr itype priv right = by_word (words addr) refl right.0
   where
     by_word : (word : Option Word) → words addr ≡ word → RetiresOn word itype priv → addr < 2 ^ 64
@@ -25,94 +26,127 @@ address_in_range words program addr itype priv right = by_word (words addr) refl
     by_word (Some word) is retires = let below = program.below addr word is in omega arith
 
 -- A trap with a handler comes after a retirement that leads to one address.
-inferable : (words : Words) (before : Option Event) (addr itype priv : ℕ) → with_handler words before (Some (Retire addr itype priv)) ≡ true → AfterInferable words before
+inferable : (words : Words) (before : Option Event) (addr itype priv : ℕ)
+    → with_handler words before (Some (Retire addr itype priv)) ≡ true → AfterInferable words before
 inferable words None addr itype priv is = cc
-inferable words (Some event) addr itype priv is = by_tests (is_retirement event) refl (is_discontinuity words event) refl is
+inferable words (Some event) addr itype priv is =
+    by_tests (is_retirement event) refl (is_discontinuity words event) refl is
   where
-    by_tests : (retired : Bool) → is_retirement event ≡ retired → (leaves : Bool) → is_discontinuity words event ≡ leaves → (retired && not leaves && true) ≡ true → (is_retirement event ≡ true) × (is_discontinuity words event ≡ false)
+    by_tests : (retired : Bool) → is_retirement event ≡ retired → (leaves : Bool)
+        → is_discontinuity words event ≡ leaves → (retired && not leaves && true) ≡ true
+        → (is_retirement event ≡ true) × (is_discontinuity words event ≡ false)
     by_tests true retires true leads both = cc
     by_tests true retires false leads both = (retires, leads)
     by_tests false retires leaves leads both = cc
 
 -- What follows a trap that is reported with its handler is the handler.
-handles : (words : Words) (before : Option Event) (events : List Event) → with_handler words before (first_event events None) ≡ true → Handles words before events
+handles : (words : Words) (before : Option Event) (events : List Event)
+    → with_handler words before (first_event events None) ≡ true → Handles words before events
 handles words before [] is = and_second _ _ is
 handles words before (Trap epc priv interrupt cause tval ∷ events) is = and_second _ _ is
 handles words before (Retire addr itype priv ∷ events) is = is
 
 -- What follows another trap is no handler.
-unhandled : (words : Words) (before : Option Event) (epc priv : ℕ) (interrupt : Bool) (cause tval : ℕ) (events : List Event) → with_handler words before (first_event events None) ≡ false → NotHandled words before (Some (Trap epc priv interrupt cause tval)) events
+unhandled : (words : Words) (before : Option Event) (epc priv : ℕ) (interrupt : Bool) (cause tval : ℕ)
+    (events : List Event) → with_handler words before (first_event events None) ≡ false
+    → NotHandled words before (Some (Trap epc priv interrupt cause tval)) events
 unhandled words before epc priv interrupt cause tval [] is = tt
 unhandled words before epc priv interrupt cause tval (event ∷ events) is = is
 
 module _ (words : Words) (period : ℕ) where
   -- A trap is reported alone, or waits for its handler.
-  pub trap_told : (epc priv : ℕ) (interrupt : Bool) (cause tval number : ℕ) (before : Option Event) (reported : ℕ) (by_last : Rule) (events : List Event) (rest : List Event → List Piece) (handler : Bool) →
+  pub trap_told : (epc priv : ℕ) (interrupt : Bool) (cause tval number : ℕ) (before : Option Event) (reported : ℕ)
+      (by_last : Rule) (events : List Event) (rest : List Event → List Piece) (handler : Bool) →
       with_handler words before (first_event events None) ≡ handler →
       TellsOn words period before (Trap epc priv interrupt cause tval) number events rest →
-      Told words before reported by_last [] (Trap epc priv interrupt cause tval ∷ events) true (next_piece [] (Trap epc priv interrupt cause tval) (by.Trap handler) rest)
+      Told words before reported by_last [] (Trap epc priv interrupt cause tval ∷ events) true
+      (next_piece [] (Trap epc priv interrupt cause tval) (by.Trap handler) rest)
   trap_told epc priv interrupt cause tval number before reported by_last events rest true is on =
-      let told = on before (Trap epc priv interrupt cause tval ∷ []) reported by_last (AfterTrap (handles words before events is)) in
+      let told = on before (Trap epc priv interrupt cause tval ∷ []) reported by_last
+      (AfterTrap (handles words before events is)) in
       record { fit = told.fit; whole = told.whole; head = told.head }
   trap_told epc priv interrupt cause tval number before reported by_last events rest false is on =
       let trap = Trap epc priv interrupt cause tval in
-      let told = on (Some trap) [] epc (by.Trap false) (AtCut (unhandled words before epc priv interrupt cause tval events is) tt) in
+      let told = on (Some trap) [] epc (by.Trap false)
+      (AtCut (unhandled words before epc priv interrupt cause tval events is) tt) in
       cut words before reported by_last [] trap (by.Trap false) events _ (rest []) (refl, refl) told
 
-  module _ (addr itype priv number : ℕ) (before_that : Option Event) (reported : ℕ) (by_last : Rule) (events : List Event) (rest : List Event → List Piece) (fits : addr < 2 ^ 64) where
+  module _ (addr itype priv number : ℕ) (before_that : Option Event) (reported : ℕ) (by_last : Rule)
+      (events : List Event) (rest : List Event → List Piece) (fits : addr < 2 ^ 64) where
     -- A retirement in a quiet stretch.
-    pub in_stretch_told : (since : Event) (front : List Event) (before : Event) (rule : Rule) → Quiet words since front before → reported < 2 ^ 64 →
+    pub in_stretch_told : (since : Event) (front : List Event) (before : Event) (rule : Rule)
+        → Quiet words since front before → reported < 2 ^ 64 →
         is_start period number (Some before) priv ≡ false →
         TellsOf words period number before_that (Some before) (Retire addr itype priv) (first_event events None) rule →
         TellsOn words period (Some before) (Retire addr itype priv) (number + 1) events rest →
-        Told words (Some since) reported by_last front (Retire addr itype priv ∷ events) false (next_piece front (Retire addr itype priv) rule rest)
-    in_stretch_told since front (Trap epc level interrupt cause tval) rule quiet known start tells on = let retires : false ≡ true = quiet.now.0 in cc
+        Told words (Some since) reported by_last front (Retire addr itype priv ∷ events) false
+        (next_piece front (Retire addr itype priv) rule rest)
+    in_stretch_told since front (Trap epc level interrupt cause tval) rule quiet known start tells on =
+        let retires : false ≡ true = quiet.now.0 in cc
     in_stretch_told since front (Retire at type level) rule quiet known start tells on =
         let same : priv ≡ level = same_privilege priv level _ start in
-        quiet_retirement_told words period since front (Retire at type level) number before_that reported by_last addr itype priv events rest quiet known (refl, same ∙ quiet.now.1) fits refl start rule tells on
+        quiet_retirement_told words period since front (Retire at type level) number before_that reported by_last addr
+        itype priv events rest quiet known (refl, same ∙ quiet.now.1) fits refl start rule tells on
 
     -- A retirement behind a cut that is neither a handler nor a new start begins a quiet stretch.
-    behind_cut_told : (before : Option Event) (rule : Rule) → is_handler words before_that before (Retire addr itype priv) ≡ false → InRangeAfter before reported →
+    behind_cut_told : (before : Option Event) (rule : Rule)
+        → is_handler words before_that before (Retire addr itype priv) ≡ false → InRangeAfter before reported →
         TellsOf words period number before_that before (Retire addr itype priv) (first_event events None) rule →
         is_start period number before priv ≡ false →
         TellsOn words period before (Retire addr itype priv) (number + 1) events rest →
-        Told words before reported by_last [] (Retire addr itype priv ∷ events) (is_start period number before priv) (next_piece [] (Retire addr itype priv) rule rest)
+        Told words before reported by_last [] (Retire addr itype priv ∷ events) (is_start period number before priv)
+        (next_piece [] (Retire addr itype priv) rule rest)
     behind_cut_told None rule handler known tells start on = cc
     behind_cut_told (Some (Trap epc level interrupt cause tval)) rule handler known tells start on = cc
     behind_cut_told (Some (Retire at type level)) rule handler known tells start on =
         let before = Retire at type level in
-        let quiet : Quiet words before [] before = record { before = (refl, refl); all = tt; now = (refl, refl); forward = tt; early = tt; ends = refl } in
+        let quiet : Quiet words before [] before = record
+        { before = (refl, refl); all = tt; now = (refl, refl); forward = tt; early = tt; ends = refl } in
         let told = in_stretch_told before [] before rule quiet known start tells on in
         record { fit = told.fit; whole = told.whole; head = told.head ∙ sym start }
 
     -- A retirement behind a cut that is no handler.
-    pub at_cut_told : (before : Option Event) (rule : Rule) → is_handler words before_that before (Retire addr itype priv) ≡ false → InRangeAfter before reported →
+    pub at_cut_told : (before : Option Event) (rule : Rule)
+        → is_handler words before_that before (Retire addr itype priv) ≡ false → InRangeAfter before reported →
         TellsOf words period number before_that before (Retire addr itype priv) (first_event events None) rule →
         TellsOn words period before (Retire addr itype priv) (number + 1) events rest →
-        Told words before reported by_last [] (Retire addr itype priv ∷ events) (is_start period number before priv) (next_piece [] (Retire addr itype priv) rule rest)
+        Told words before reported by_last [] (Retire addr itype priv ∷ events) (is_start period number before priv)
+        (next_piece [] (Retire addr itype priv) rule rest)
     at_cut_told before (by.Trap with) handler known tells on = absurd tells
     at_cut_told before by.Handler handler known tells on = cc
     at_cut_told before by.Sync handler known tells on =
         let last = Retire addr itype priv in
         let told = on (Some last) [] addr by.Sync (AtCut (not_handled words before addr itype priv events) fits) in
-        let sync = cut words before reported by_last [] last by.Sync events _ (rest []) (last, refl, (itype, refl, refl)) told in
+        let sync = cut words before reported by_last [] last by.Sync events _ (rest [])
+        (last, refl, (itype, refl, refl)) told in
         record { fit = sync.fit; whole = sync.whole; head = sym tells.1 }
-    at_cut_told before (by.Target cut_off) handler known tells on = behind_cut_told before (by.Target cut_off) handler known tells tells.0 on
-    at_cut_told before by.Explicit handler known tells on = behind_cut_told before by.Explicit handler known tells tells.0 on
-    at_cut_told before by.Notify handler known tells on = behind_cut_told before by.Notify handler known tells tells.0 on
-    at_cut_told before by.Unreported handler known tells on = behind_cut_told before by.Unreported handler known tells tells.0 on
+    at_cut_told before (by.Target cut_off) handler known tells on =
+        behind_cut_told before (by.Target cut_off) handler known tells tells.0 on
+    at_cut_told before by.Explicit handler known tells on =
+        behind_cut_told before by.Explicit handler known tells tells.0 on
+    at_cut_told before by.Notify handler known tells on =
+        behind_cut_told before by.Notify handler known tells tells.0 on
+    at_cut_told before by.Unreported handler known tells on =
+        behind_cut_told before by.Unreported handler known tells tells.0 on
 
     -- The handler of a trap is reported with it.
-    pub handler_told : (epc level : ℕ) (interrupt : Bool) (cause tval : ℕ) (rule : Rule) → with_handler words before_that (Some (Retire addr itype priv)) ≡ true →
-        TellsOf words period number before_that (Some (Trap epc level interrupt cause tval)) (Retire addr itype priv) (first_event events None) rule →
-        TellsOn words period (Some (Trap epc level interrupt cause tval)) (Retire addr itype priv) (number + 1) events rest →
-        Told words before_that reported by_last (Trap epc level interrupt cause tval ∷ []) (Retire addr itype priv ∷ events) true (next_piece (Trap epc level interrupt cause tval ∷ []) (Retire addr itype priv) rule rest)
+    pub handler_told : (epc level : ℕ) (interrupt : Bool) (cause tval : ℕ) (rule : Rule)
+        → with_handler words before_that (Some (Retire addr itype priv)) ≡ true →
+        TellsOf words period number before_that (Some (Trap epc level interrupt cause tval)) (Retire addr itype priv)
+        (first_event events None) rule →
+        TellsOn words period (Some (Trap epc level interrupt cause tval)) (Retire addr itype priv) (number + 1) events
+        rest →
+        Told words before_that reported by_last (Trap epc level interrupt cause tval ∷ [])
+        (Retire addr itype priv ∷ events) true (next_piece (Trap epc level interrupt cause tval ∷ [])
+        (Retire addr itype priv) rule rest)
     handler_told epc level interrupt cause tval (by.Trap with) is tells on = absurd tells
     handler_told epc level interrupt cause tval by.Handler is tells on =
         let last = Retire addr itype priv in
         let trap = Trap epc level interrupt cause tval in
-        let told = on (Some last) [] addr by.Handler (AtCut (not_handled words (Some trap) addr itype priv events) fits) in
-        cut words before_that reported by_last (trap ∷ []) last by.Handler events _ (rest []) (inferable words before_that addr itype priv is, epc, level, last, refl, (itype, refl, refl)) told
+        let told = on (Some last) [] addr by.Handler (AtCut (not_handled words (Some trap) addr itype priv events)
+        fits) in
+        cut words before_that reported by_last (trap ∷ []) last by.Handler events _ (rest [])
+        (inferable words before_that addr itype priv is, epc, level, last, refl, (itype, refl, refl)) told
     handler_told epc level interrupt cause tval by.Sync is tells on = cc
     handler_told epc level interrupt cause tval (by.Target cut_off) is tells on = cc
     handler_told epc level interrupt cause tval by.Explicit is tells on = cc

@@ -27,99 +27,152 @@ use Rattle.roundtrip.proofs.RuleFacts.{TellsOf, and_first}
 use Rattle.roundtrip.proofs.Telling.{Told, Quiet, GoesOn, AtCut, InStretch, explicit_before, TellsOn, cut, quiet_walks, not_handled}
 
 -- A plain address packet before one that does not make it explicit has a walk to a target.
-as_target : (words : Words) (before : Option Event) (taken : List Bool) (addr : ℕ) (next : Packet) (walk : List Event) → makes_explicit next ≡ false → IsWalkFrom words before taken (AtTarget addr) walk → FitsAddress words before taken addr (settled_by (Some next)) walk
-as_target words before taken addr next walk explicit is = subst (λ end. FitsAddress words before taken addr end walk) (sym (ap explicit_or_target explicit)) is
+as_target : (words : Words) (before : Option Event) (taken : List Bool) (addr : ℕ) (next : Packet) (walk : List Event)
+    → makes_explicit next ≡ false → IsWalkFrom words before taken (AtTarget addr) walk
+    → FitsAddress words before taken addr (settled_by (Some next)) walk
+as_target words before taken addr next walk explicit is =
+    subst (λ end. FitsAddress words before taken addr end walk) (sym (ap explicit_or_target explicit)) is
 
 -- And before one that does, it has a walk to its address.
-as_explicit : (words : Words) (before : Option Event) (taken : List Bool) (addr : ℕ) (next : Packet) (walk : List Event) → makes_explicit next ≡ true → IsWalkFrom words before taken (AtAddress addr) walk → FitsAddress words before taken addr (settled_by (Some next)) walk
-as_explicit words before taken addr next walk explicit is = subst (λ end. FitsAddress words before taken addr end walk) (sym (ap explicit_or_target explicit)) is
+as_explicit : (words : Words) (before : Option Event) (taken : List Bool) (addr : ℕ) (next : Packet)
+    (walk : List Event) → makes_explicit next ≡ true → IsWalkFrom words before taken (AtAddress addr) walk
+    → FitsAddress words before taken addr (settled_by (Some next)) walk
+as_explicit words before taken addr next walk explicit is =
+    subst (λ end. FitsAddress words before taken addr end walk) (sym (ap explicit_or_target explicit)) is
 
 module _ (words : Words) (period : ℕ) where
   -- A retirement that is neither cut off nor the last has another behind it that is no new start.
-  goes_on : (number : ℕ) (event : Event) (events : List Event) → (is_cut_off period number event (first_event events None) || is_none (first_event events None)) ≡ false → GoesOn period (number + 1) event events
+  goes_on : (number : ℕ) (event : Event) (events : List Event)
+      → (is_cut_off period number event (first_event events None) || is_none (first_event events None)) ≡ false
+      → GoesOn period (number + 1) event events
   goes_on number event [] is = cc
   goes_on number event (Trap epc priv interrupt cause tval ∷ events) is = cc
   goes_on number event (Retire addr itype priv ∷ events) is = sym (or-false _) ∙ is
 
   -- After a target that is not cut off the next packet does not make it explicit.
-  target_before : (number : ℕ) (event : Event) (rule : Rule) (events : List Event) → makes_explicit (packet.Support (closing rule)) ≡ false → is_cut_off period number event (first_event events None) ≡ false → explicit_before period (number + 1) (Some event) rule events ≡ false
+  target_before : (number : ℕ) (event : Event) (rule : Rule) (events : List Event)
+      → makes_explicit (packet.Support (closing rule)) ≡ false
+      → is_cut_off period number event (first_event events None) ≡ false
+      → explicit_before period (number + 1) (Some event) rule events ≡ false
   target_before number event rule [] closes is = closes
   target_before number event rule (Trap epc priv interrupt cause tval ∷ events) closes is = is
   target_before number event rule (Retire addr itype priv ∷ events) closes is = is
 
   -- After a retirement that is cut off or the last it does.
-  explicit_after : (number : ℕ) (event : Event) (rule : Rule) (events : List Event) → makes_explicit (packet.Support (closing rule)) ≡ true → (is_cut_off period number event (first_event events None) || is_none (first_event events None)) ≡ true → explicit_before period (number + 1) (Some event) rule events ≡ true
+  explicit_after : (number : ℕ) (event : Event) (rule : Rule) (events : List Event)
+      → makes_explicit (packet.Support (closing rule)) ≡ true
+      → (is_cut_off period number event (first_event events None) || is_none (first_event events None)) ≡ true
+      → explicit_before period (number + 1) (Some event) rule events ≡ true
   explicit_after number event rule [] closes is = closes
   explicit_after number event rule (Trap epc priv interrupt cause tval ∷ events) closes is = refl
   explicit_after number event rule (Retire addr itype priv ∷ events) closes is = sym (or-false _) ∙ is
 
-  module _ (since : Event) (front : List Event) (before : Event) (number : ℕ) (before_that : Option Event) (reported : ℕ) (by_last : Rule) (addr itype priv : ℕ) (events : List Event) (rest : List Event → List Piece) where
-    -- After a discontinuity it ends a walk to a target.
-    walk_to_target : Quiet words since front before → reported < 2 ^ 64 → RetiresAt (privilege since) (Retire addr itype priv) → addr < 2 ^ 64 → is_discontinuity words before ≡ true →
-        IsWalk words since (outcomes (front ++ Retire addr itype priv ∷ [])) (AtTarget (aim reported (difference reported addr))) (front ++ Retire addr itype priv ∷ [])
-    walk_to_target quiet known here fits leaves =
-        quiet_walks words since front before (Retire addr itype priv) (AtTarget _) quiet here
-        (none_early-last (is_discontinuity words) since front before quiet.early quiet.ends leaves, sym (aim-difference reported addr known fits))
+  module _ (since : Event) (front : List Event) (before : Event) (number : ℕ) (before_that : Option Event)
+      (reported : ℕ) (by_last : Rule) (addr itype priv : ℕ) (events : List Event) (rest : List Event → List Piece)
+    where
+      -- After a discontinuity it ends a walk to a target.
+      walk_to_target : Quiet words since front before → reported < 2 ^ 64
+          → RetiresAt (privilege since) (Retire addr itype priv) → addr < 2 ^ 64 → is_discontinuity words before ≡ true
+          →
+          IsWalk words since (outcomes (front ++ Retire addr itype priv ∷ []))
+          (AtTarget (aim reported (difference reported addr))) (front ++ Retire addr itype priv ∷ [])
+      walk_to_target quiet known here fits leaves =
+          quiet_walks words since front before (Retire addr itype priv) (AtTarget _) quiet here (
+            none_early-last (is_discontinuity words) since front before quiet.early quiet.ends leaves,
+            sym
+                (aim-difference reported addr known fits),
+          )
 
-    -- Elsewhere it ends a walk to its address.
-    walk_to_address : Quiet words since front before → reported < 2 ^ 64 → RetiresAt (privilege since) (Retire addr itype priv) → addr < 2 ^ 64 → is_discontinuity words before ≡ false →
-        IsWalk words since (outcomes (front ++ Retire addr itype priv ∷ [])) (AtAddress (aim reported (difference reported addr))) (front ++ Retire addr itype priv ∷ [])
-    walk_to_address quiet known here fits stays =
-        quiet_walks words since front before (Retire addr itype priv) (AtAddress _) quiet here
-        (none_early-none (is_discontinuity words) since front before quiet.early quiet.ends stays, sym (aim-difference reported addr known fits))
+      -- Elsewhere it ends a walk to its address.
+      walk_to_address : Quiet words since front before → reported < 2 ^ 64
+          → RetiresAt (privilege since) (Retire addr itype priv) → addr < 2 ^ 64 → is_discontinuity words before ≡ false
+          →
+          IsWalk words since (outcomes (front ++ Retire addr itype priv ∷ []))
+          (AtAddress (aim reported (difference reported addr))) (front ++ Retire addr itype priv ∷ [])
+      walk_to_address quiet known here fits stays =
+          quiet_walks words since front before (Retire addr itype priv) (AtAddress _) quiet here (
+            none_early-none (is_discontinuity words) since front before quiet.early quiet.ends stays,
+            sym
+                (aim-difference reported addr known fits),
+          )
 
-    -- A retirement that no packet reports fills the branch map, or the stretch goes on.
-    unreported : Quiet words since front before → reported < 2 ^ 64 → RetiresAt (privilege since) (Retire addr itype priv) →
-        TellsOf words period number before_that (Some before) (Retire addr itype priv) (first_event events None) by.Unreported →
-        TellsOn words period (Some before) (Retire addr itype priv) (number + 1) events rest →
-        Told words (Some since) reported by_last front (Retire addr itype priv ∷ events) false (next_piece front (Retire addr itype priv) by.Unreported rest)
-    unreported quiet known here tells on = by_count (is_cut front (Retire addr itype priv) by.Unreported) refl
-      where
-        by_count : (full : Bool) → is_cut front (Retire addr itype priv) by.Unreported ≡ full → Told words (Some since) reported by_last front (Retire addr itype priv ∷ events) false (cut_or_go_on full (record { front = front; last = Retire addr itype priv; by = by.Unreported }) rest)
-        by_count true full =
-            let last = Retire addr itype priv in
-            let told = on (Some last) [] reported by.Unreported (AtCut (not_handled words (Some before) addr itype priv events) known) in
-            let ends : EndsAt words AtBranch since front last = (none_early-none (is_discontinuity words) since front before quiet.early quiet.ends tells.1, and_first _ _ full) in
-            cut words (Some since) reported by_last front last by.Unreported events _ (rest []) (quiet_walks words since front before last AtBranch quiet here ends) told
-        by_count false full =
-            let last = Retire addr itype priv in
-            let none = none_early-none (is_discontinuity words) since front before quiet.early quiet.ends tells.1 in
-            let longer : Quiet words since (front ++ last ∷ []) last = record {
-              before = quiet.before;
-              all = all-snoc (RetiresAt (privilege since)) front last quiet.all here;
-              now = here;
-              forward = all-snoc (λ e. is_backward words e ≡ false) front last quiet.forward tells.3;
-              early = none_early-snoc (is_discontinuity words) since front last none;
-              ends = last_or-append (Some since) front (last ∷ []);
-            } in
-            let told = on (Some since) (front ++ last ∷ []) reported by_last (InStretch longer known (goes_on number last events tells.2)) in
-            record { fit = told.fit; whole = told.whole ∙ append_assoc front (last ∷ []) events; head = told.head }
+      -- A retirement that no packet reports fills the branch map, or the stretch goes on.
+      unreported : Quiet words since front before → reported < 2 ^ 64
+          → RetiresAt (privilege since) (Retire addr itype priv) →
+          TellsOf words period number before_that (Some before) (Retire addr itype priv) (first_event events None)
+          by.Unreported →
+          TellsOn words period (Some before) (Retire addr itype priv) (number + 1) events rest →
+          Told words (Some since) reported by_last front (Retire addr itype priv ∷ events) false
+          (next_piece front (Retire addr itype priv) by.Unreported rest)
+      unreported quiet known here tells on = by_count (is_cut front (Retire addr itype priv) by.Unreported) refl
+        where
+          by_count : (full : Bool) → is_cut front (Retire addr itype priv) by.Unreported ≡ full
+              → Told words (Some since) reported by_last front (Retire addr itype priv ∷ events) false
+              (cut_or_go_on full (record { front = front; last = Retire addr itype priv; by = by.Unreported }) rest)
+          by_count true full =
+              let last = Retire addr itype priv in
+              let told = on (Some last) [] reported by.Unreported
+              (AtCut (not_handled words (Some before) addr itype priv events) known) in
+              let ends : EndsAt words AtBranch since front last = (
+                none_early-none (is_discontinuity words) since front
+                    before quiet.early quiet.ends tells.1,
+                and_first _ _ full,
+              ) in
+              cut words (Some since) reported by_last front last by.Unreported events _ (rest [])
+              (quiet_walks words since front before last AtBranch quiet here ends) told
+          by_count false full =
+              let last = Retire addr itype priv in
+              let none = none_early-none (is_discontinuity words) since front before quiet.early quiet.ends tells.1 in
+              let longer : Quiet words since (front ++ last ∷ []) last = record {
+                before = quiet.before;
+                all = all-snoc (RetiresAt (privilege since)) front last quiet.all here;
+                now = here;
+                forward = all-snoc (λ e. is_backward words e ≡ false) front last quiet.forward tells.3;
+                early = none_early-snoc (is_discontinuity words) since front last none;
+                ends = last_or-append (Some since) front (last ∷ []);
+              } in
+              let told = on (Some since) (front ++ last ∷ []) reported by_last
+              (InStretch longer known (goes_on number last events tells.2)) in
+              record { fit = told.fit; whole = told.whole ∙ append_assoc front (last ∷ []) events; head = told.head }
 
-    -- A retirement after a retirement that is no handler and no new start tells by its rule.
-    pub quiet_retirement_told : Quiet words since front before → reported < 2 ^ 64 → RetiresAt (privilege since) (Retire addr itype priv) → addr < 2 ^ 64 →
-        is_handler words before_that (Some before) (Retire addr itype priv) ≡ false → is_start period number (Some before) priv ≡ false →
-        (rule : Rule) → TellsOf words period number before_that (Some before) (Retire addr itype priv) (first_event events None) rule →
-        TellsOn words period (Some before) (Retire addr itype priv) (number + 1) events rest →
-        Told words (Some since) reported by_last front (Retire addr itype priv ∷ events) false (next_piece front (Retire addr itype priv) rule rest)
-    quiet_retirement_told quiet known here fits handler start (by.Trap with) tells on = absurd tells
-    quiet_retirement_told quiet known here fits handler start by.Handler tells on = cc
-    quiet_retirement_told quiet known here fits handler start by.Sync tells on = cc
-    quiet_retirement_told quiet known here fits handler start (by.Target true) tells on =
-        let last = Retire addr itype priv in
-        let told = on (Some last) [] addr (by.Target true) (AtCut (not_handled words (Some before) addr itype priv events) fits) in
-        cut words (Some since) reported by_last front last (by.Target true) events _ (rest []) (walk_to_target quiet known here fits tells.1) told
-    quiet_retirement_told quiet known here fits handler start (by.Target false) tells on =
-        let last = Retire addr itype priv in
-        let told = on (Some last) [] addr (by.Target false) (AtCut (not_handled words (Some before) addr itype priv events) fits) in
-        let head = told.head ∙ target_before number last (by.Target false) events refl tells.2 in
-        cut words (Some since) reported by_last front last (by.Target false) events _ (rest []) (as_target words (Some since) _ _ _ _ head (walk_to_target quiet known here fits tells.1)) told
-    quiet_retirement_told quiet known here fits handler start by.Explicit tells on =
-        let last = Retire addr itype priv in
-        let told = on (Some last) [] addr by.Explicit (AtCut (not_handled words (Some before) addr itype priv events) fits) in
-        let head = told.head ∙ explicit_after number last by.Explicit events refl tells.2 in
-        cut words (Some since) reported by_last front last by.Explicit events _ (rest []) (as_explicit words (Some since) _ _ _ _ head (walk_to_address quiet known here fits tells.1)) told
-    quiet_retirement_told quiet known here fits handler start by.Notify tells on =
-        let last = Retire addr itype priv in
-        let told = on (Some last) [] addr by.Notify (AtCut (not_handled words (Some before) addr itype priv events) fits) in
-        cut words (Some since) reported by_last front last by.Notify events _ (rest []) (walk_to_address quiet known here fits tells.1) told
-    quiet_retirement_told quiet known here fits handler start by.Unreported tells on = unreported quiet known here tells on
+      -- A retirement after a retirement that is no handler and no new start tells by its rule.
+      pub quiet_retirement_told : Quiet words since front before → reported < 2 ^ 64
+          → RetiresAt (privilege since) (Retire addr itype priv) → addr < 2 ^ 64 →
+          is_handler words before_that (Some before) (Retire addr itype priv) ≡ false
+          → is_start period number (Some before) priv ≡ false →
+          (rule : Rule) → TellsOf words period number before_that (Some before) (Retire addr itype priv)
+          (first_event events None) rule →
+          TellsOn words period (Some before) (Retire addr itype priv) (number + 1) events rest →
+          Told words (Some since) reported by_last front (Retire addr itype priv ∷ events) false
+          (next_piece front (Retire addr itype priv) rule rest)
+      quiet_retirement_told quiet known here fits handler start (by.Trap with) tells on = absurd tells
+      quiet_retirement_told quiet known here fits handler start by.Handler tells on = cc
+      quiet_retirement_told quiet known here fits handler start by.Sync tells on = cc
+      quiet_retirement_told quiet known here fits handler start (by.Target true) tells on =
+          let last = Retire addr itype priv in
+          let told = on (Some last) [] addr (by.Target true)
+          (AtCut (not_handled words (Some before) addr itype priv events) fits) in
+          cut words (Some since) reported by_last front last (by.Target true) events _ (rest [])
+          (walk_to_target quiet known here fits tells.1) told
+      quiet_retirement_told quiet known here fits handler start (by.Target false) tells on =
+          let last = Retire addr itype priv in
+          let told = on (Some last) [] addr (by.Target false)
+          (AtCut (not_handled words (Some before) addr itype priv events) fits) in
+          let head = told.head ∙ target_before number last (by.Target false) events refl tells.2 in
+          cut words (Some since) reported by_last front last (by.Target false) events _ (rest [])
+          (as_target words (Some since) _ _ _ _ head (walk_to_target quiet known here fits tells.1)) told
+      quiet_retirement_told quiet known here fits handler start by.Explicit tells on =
+          let last = Retire addr itype priv in
+          let told = on (Some last) [] addr by.Explicit
+          (AtCut (not_handled words (Some before) addr itype priv events) fits) in
+          let head = told.head ∙ explicit_after number last by.Explicit events refl tells.2 in
+          cut words (Some since) reported by_last front last by.Explicit events _ (rest [])
+          (as_explicit words (Some since) _ _ _ _ head (walk_to_address quiet known here fits tells.1)) told
+      quiet_retirement_told quiet known here fits handler start by.Notify tells on =
+          let last = Retire addr itype priv in
+          let told = on (Some last) [] addr by.Notify (AtCut (not_handled words (Some before) addr itype priv events)
+          fits) in
+          cut words (Some since) reported by_last front last by.Notify events _ (rest [])
+          (walk_to_address quiet known here fits tells.1) told
+      quiet_retirement_told quiet known here fits handler start by.Unreported tells on =
+          unreported quiet known here tells on

@@ -15,20 +15,25 @@ use Rattle.encoder.specs.declared.rule.Rule.TheVariants as by
 -- start, the target of a discontinuity, cut off, the last event, a backward jump.
 abbrev pub rule_by : (handler start target cut_off last backward : Bool) → Rule
 rule_by handler start target cut_off last backward =
-    cond handler by.Handler (cond start by.Sync (cond target (by.Target cut_off) (cond (cut_off || last) by.Explicit (cond backward by.Notify by.Unreported))))
+    cond handler by.Handler (cond start by.Sync (cond target (by.Target cut_off)
+    (cond (cut_off || last) by.Explicit (cond backward by.Notify by.Unreported))))
 
 -- What a rule tells of the answers.
 abbrev pub Tells : (handler start target cut_off last backward : Bool) → Rule → Type 0
 Tells handler start target cut_off last backward (by.Trap with_handler) = ⊥
 Tells handler start target cut_off last backward by.Handler = handler ≡ true
 Tells handler start target cut_off last backward by.Sync = (handler ≡ false) × (start ≡ true)
-Tells handler start target cut_off last backward (by.Target updiscon) = (start ≡ false) × (target ≡ true) × (cut_off ≡ updiscon)
-Tells handler start target cut_off last backward by.Explicit = (start ≡ false) × (target ≡ false) × ((cut_off || last) ≡ true)
+Tells handler start target cut_off last backward (by.Target updiscon) =
+    (start ≡ false) × (target ≡ true) × (cut_off ≡ updiscon)
+Tells handler start target cut_off last backward by.Explicit =
+    (start ≡ false) × (target ≡ false) × ((cut_off || last) ≡ true)
 Tells handler start target cut_off last backward by.Notify = (start ≡ false) × (target ≡ false) × (backward ≡ true)
-Tells handler start target cut_off last backward by.Unreported = (start ≡ false) × (target ≡ false) × ((cut_off || last) ≡ false) × (backward ≡ false)
+Tells handler start target cut_off last backward by.Unreported =
+    (start ≡ false) × (target ≡ false) × ((cut_off || last) ≡ false) × (backward ≡ false)
 
 -- The first rule that applies tells so.
-pub rule_tells : (handler start target cut_off last backward : Bool) → Tells handler start target cut_off last backward (rule_by handler start target cut_off last backward)
+pub rule_tells : (handler start target cut_off last backward : Bool)
+    → Tells handler start target cut_off last backward (rule_by handler start target cut_off last backward)
 rule_tells true start target cut_off last backward = refl
 rule_tells false true target cut_off last backward = (refl, refl)
 rule_tells false false true cut_off last backward = (refl, refl, refl)
@@ -40,13 +45,16 @@ rule_tells false false false false false false = (refl, refl, refl, refl)
 -- What a rule tells of a retirement of this number, between these events.
 abbrev pub TellsOf : Words → ℕ → ℕ → Option Event → Option Event → Event → Option Event → Rule → Type 0
 TellsOf words period number before_that before event after rule =
-    Tells (is_handler words before_that before event) (is_start period number before (privilege event)) (holds (is_discontinuity words) before)
+    Tells (is_handler words before_that before event) (is_start period number before (privilege event))
+    (holds (is_discontinuity words) before)
     (is_cut_off period number event after) (is_none after) (is_backward words event) rule
 
 -- And it does of every retirement.
-pub rule_tells_of : (words : Words) (period number : ℕ) (before_that before : Option Event) (event : Event) (after : Option Event) →
+pub rule_tells_of : (words : Words) (period number : ℕ) (before_that before : Option Event) (event : Event)
+    (after : Option Event) →
     TellsOf words period number before_that before event after
-    (rule_by (is_handler words before_that before event) (is_start period number before (privilege event)) (holds (is_discontinuity words) before)
+    (rule_by (is_handler words before_that before event) (is_start period number before (privilege event))
+    (holds (is_discontinuity words) before)
     (is_cut_off period number event after) (is_none after) (is_backward words event))
 rule_tells_of words period number before_that before event after =
     rule_tells _ _ _ _ _ _

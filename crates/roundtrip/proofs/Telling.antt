@@ -27,7 +27,8 @@ use Rattle.roundtrip.proofs.PacketOrder.{last_packets, head_packet, first_is_hea
 -- The last pieces of a log, the first of which may have begun with these events: their packets fit their
 -- stretches after this event, the stretches are the rest of the log, and this tells whether the first of
 -- the packets makes a plain address packet before it explicit.
-pub record Told (words : Words) (since : Option Event) (reported : ℕ) (by_last : Rule) (front events : List Event) (explicit : Bool) (pieces : List Piece) : Type 0 where
+pub record Told (words : Words) (since : Option Event) (reported : ℕ) (by_last : Rule) (front events : List Event)
+    (explicit : Bool) (pieces : List Piece) : Type 0 where
   pub fit : Pieces words since reported (last_packets reported by_last pieces) None (stretches_of pieces)
   pub whole : join (stretches_of pieces) ≡ front ++ events
   pub head : makes_explicit (head_packet reported by_last pieces) ≡ explicit
@@ -62,20 +63,25 @@ GoesOn period number before (Retire addr itype priv ∷ events) = is_start perio
 abbrev pub Handles : Words → Option Event → List Event → Type 0
 Handles words before [] = false ≡ true
 Handles words before (Trap epc priv interrupt cause tval ∷ events) = false ≡ true
-Handles words before (Retire addr itype priv ∷ events) = with_handler words before (Some (Retire addr itype priv)) ≡ true
+Handles words before (Retire addr itype priv ∷ events) =
+    with_handler words before (Some (Retire addr itype priv)) ≡ true
 
 -- Where the pieces stand before some events: the last piece ended at the event before; or a stretch is
 -- open; or a trap waits for its handler.
-pub data State (words : Words) (period : ℕ) : Option Event → List Event → Option Event → Option Event → ℕ → List Event → ℕ → Type 0 where
+pub data State (words : Words) (period : ℕ) : Option Event → List Event → Option Event → Option Event → ℕ → List Event
+    → ℕ → Type 0 where
   AtCut : {before_that before : Option Event} {number : ℕ} {events : List Event} {reported : ℕ} →
       NotHandled words before_that before events → InRangeAfter before reported →
       State words period before [] before_that before number events reported
-  InStretch : {since : Event} {front : List Event} {before_that : Option Event} {before : Event} {number : ℕ} {events : List Event} {reported : ℕ} →
+  InStretch : {since : Event} {front : List Event} {before_that : Option Event} {before : Event} {number : ℕ}
+      {events : List Event} {reported : ℕ} →
       Quiet words since front before → reported < 2 ^ 64 → GoesOn period number before events →
       State words period (Some since) front before_that (Some before) number events reported
-  AfterTrap : {before_that : Option Event} {epc priv : ℕ} {interrupt : Bool} {cause tval number : ℕ} {events : List Event} {reported : ℕ} →
+  AfterTrap : {before_that : Option Event} {epc priv : ℕ} {interrupt : Bool} {cause tval number : ℕ}
+      {events : List Event} {reported : ℕ} →
       Handles words before_that events →
-      State words period before_that (Trap epc priv interrupt cause tval ∷ []) before_that (Some (Trap epc priv interrupt cause tval)) number events reported
+      State words period before_that (Trap epc priv interrupt cause tval ∷ []) before_that
+      (Some (Trap epc priv interrupt cause tval)) number events reported
 
 -- Whether the next packet makes a plain address packet explicit, by the events that follow it.
 abbrev pub explicit_before : ℕ → ℕ → Option Event → Rule → List Event → Bool
@@ -83,9 +89,13 @@ explicit_before period number before by_last [] = makes_explicit (packet.Support
 explicit_before period number before by_last (Trap epc priv interrupt cause tval ∷ events) = true
 explicit_before period number before by_last (Retire addr itype priv ∷ events) = is_start period number before priv
 
--- The same in a state: an open stretch goes on with a packet that does not, and a trap with its handler is a packet that does.
-abbrev pub explicit_in : {words : Words} {period : ℕ} {since : Option Event} {front : List Event} {before_that before : Option Event} {number : ℕ} {events : List Event} {reported : ℕ} → Rule → State words period since front before_that before number events reported → Bool
-explicit_in {period = period} {before = before} {number = number} {events = events} by_last (AtCut handled known) = explicit_before period number before by_last events
+-- The same in a state: an open stretch goes on with a packet that does not, and a trap with its handler is a packet
+-- that does.
+abbrev pub explicit_in : {words : Words} {period : ℕ} {since : Option Event} {front : List Event}
+    {before_that before : Option Event} {number : ℕ} {events : List Event} {reported : ℕ} → Rule
+    → State words period since front before_that before number events reported → Bool
+explicit_in {period = period} {before = before} {number = number} {events = events} by_last (AtCut handled known) =
+    explicit_before period number before by_last events
 explicit_in by_last (InStretch quiet known on) = false
 explicit_in by_last (AfterTrap handles) = true
 
@@ -97,10 +107,13 @@ TellsOn words period before event number events rest =
     Told words since reported by_last front events (explicit_in by_last state) (rest front)
 
 -- An event ends a piece, whose packet fits it.
-pub cut : (words : Words) (since : Option Event) (reported : ℕ) (by_last : Rule) (front : List Event) (last : Event) (rule : Rule) (events : List Event) (explicit : Bool) (pieces : List Piece) →
-    Fits words since reported (packet_by reported front last rule) (Some (head_packet (reported_by rule reported last) rule pieces)) (front ++ last ∷ []) →
+pub cut : (words : Words) (since : Option Event) (reported : ℕ) (by_last : Rule) (front : List Event) (last : Event)
+    (rule : Rule) (events : List Event) (explicit : Bool) (pieces : List Piece) →
+    Fits words since reported (packet_by reported front last rule)
+    (Some (head_packet (reported_by rule reported last) rule pieces)) (front ++ last ∷ []) →
     Told words (Some last) (reported_by rule reported last) rule [] events explicit pieces →
-    Told words since reported by_last front (last ∷ events) (makes_explicit (packet_by reported front last rule)) (record { front = front; last = last; by = rule } ∷ pieces)
+    Told words since reported by_last front (last ∷ events) (makes_explicit (packet_by reported front last rule))
+    (record { front = front; last = last; by = rule } ∷ pieces)
 cut words since reported by_last front last rule events explicit pieces fits told =
     let after = reported_by rule reported last in
     let reporting = packet_by reported front last rule in
@@ -108,8 +121,10 @@ cut words since reported by_last front last rule events explicit pieces fits tol
     let order = subst (λ next. MayPrecede reporting next) (sym head) (precedes reported front last rule after pieces) in
     let fit = subst (λ next. Fits words since reported reporting next (front ++ last ∷ [])) (sym head) fits in
     let ends : last_or since (front ++ last ∷ []) ≡ Some last = last_or-append since front (last ∷ []) in
-    let by_address = subst (λ address. Pieces words (Some last) address (last_packets after rule pieces) None (stretches_of pieces)) (sym (reported_after-packet_by reported front last rule)) told.fit in
-    let rest = subst (λ before. Pieces words before (reported_after reporting reported (front ++ last ∷ [])) (last_packets after rule pieces) None (stretches_of pieces)) (sym ends) by_address in
+    let by_address = subst (λ address. Pieces words (Some last) address (last_packets after rule pieces) None
+    (stretches_of pieces)) (sym (reported_after-packet_by reported front last rule)) told.fit in
+    let rest = subst (λ before. Pieces words before (reported_after reporting reported (front ++ last ∷ []))
+    (last_packets after rule pieces) None (stretches_of pieces)) (sym ends) by_address in
     record {
       fit = (order, fit, rest);
       whole = ap (λ l. (front ++ last ∷ []) ++ l) told.whole ∙ append_assoc front (last ∷ []) events;
@@ -117,7 +132,9 @@ cut words since reported by_last front last rule events explicit pieces fits tol
     }
 
 -- A quiet stretch and one retirement more are a walk.
-pub quiet_walks : (words : Words) (since : Event) (front : List Event) (before last : Event) (end : End) → Quiet words since front before → RetiresAt (privilege since) last → EndsAt words end since front last → IsWalk words since (outcomes (front ++ last ∷ [])) end (front ++ last ∷ [])
+pub quiet_walks : (words : Words) (since : Event) (front : List Event) (before last : Event) (end : End)
+    → Quiet words since front before → RetiresAt (privilege since) last → EndsAt words end since front last
+    → IsWalk words since (outcomes (front ++ last ∷ [])) end (front ++ last ∷ [])
 quiet_walks words since front before last end quiet here ends =
     record {
       front = front;
@@ -130,6 +147,7 @@ quiet_walks words since front before last end quiet here ends =
     }
 
 -- After a retirement comes no handler.
-pub not_handled : (words : Words) (before : Option Event) (addr itype priv : ℕ) (events : List Event) → NotHandled words before (Some (Retire addr itype priv)) events
+pub not_handled : (words : Words) (before : Option Event) (addr itype priv : ℕ) (events : List Event)
+    → NotHandled words before (Some (Retire addr itype priv)) events
 not_handled words before addr itype priv [] = tt
 not_handled words before addr itype priv (event ∷ events) = refl

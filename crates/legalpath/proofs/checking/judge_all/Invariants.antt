@@ -8,5 +8,6 @@ use Rattle.legalpath.proofs.checking.judge_all.Given as goal
 -- log's; no privilege above 3 was left; and the numbers of the events so far have 64 bits.
 abbrev pub invariant-loop-i : goal.invariant-loop-i
 invariant-loop-i l =
-    (judging.judge_all (words_of l.program) l.left (l.i + 1) (drop l.i l.log) ≡ judging.judge_all (words_of l.program) judging.left_at_start 1 l.log)
+    (judging.judge_all (words_of l.program) l.left (l.i + 1) (drop l.i l.log) ≡ judging.judge_all (words_of l.program)
+    judging.left_at_start 1 l.log)
     × (l.left.greatest ≤ 3) × All Is64Bit (take l.i l.log)

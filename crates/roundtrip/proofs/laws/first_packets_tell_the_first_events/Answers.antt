@@ -2,7 +2,8 @@ use Rattle.roundtrip.proofs.FirstPackets.{packets_describe, first_packets_descri
 use Rattle.roundtrip.proofs.laws.first_packets_tell_the_first_events.Goals as goal
 
 pub returns-clause-first : goal.returns-clause-first
-returns-clause-first c = λ words period count log program legal. first_packets_describe words program period log legal count
+returns-clause-first c =
+    λ words period count log program legal. first_packets_describe words program period log legal count
 
 pub returns-clause-whole : goal.returns-clause-whole
 returns-clause-whole c = λ words period log program legal. packets_describe words program period log legal
