@@ -1,4 +1,4 @@
-// Small programs, logs of them, and what the encoder gives of them.
+//! Small programs, logs of them, and what the encoder gives of them.
 
 mod drawn;
 mod reading;

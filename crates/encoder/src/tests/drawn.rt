@@ -1,4 +1,4 @@
-// Random legal logs of a small program.
+//! Random legal logs of a small program.
 
 ghost use Rattle.std.specs.Prelude.{◌<◌};
 

@@ -1,5 +1,5 @@
-// The packets of random legal logs, against a plain reading of the rules by positions in the whole log. The rules are
-// those of docs/FORMATS.md, "Packets of a log".
+//! The packets of random legal logs, against a plain reading of the rules by positions in the whole log. The rules are
+//! those of docs/FORMATS.md, "Packets of a log".
 
 use super::drawn::{Draws, drawn_program};
 use super::{legal_log, packets_of, payloads_of, sourced};

@@ -1,4 +1,4 @@
-// Logs whose payloads were worked by hand.
+//! Logs whose payloads were worked by hand.
 
 use super::{
     BASE, BEQ, BEQ_8, ECALL, JAL, MRET, NOP, RET, at, legal_log, packets_of, payloads_of,

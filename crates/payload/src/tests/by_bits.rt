@@ -39,6 +39,7 @@ fn padded(bytes: &[u8], width: usize, packet: Packet) -> Result<Packet, PackFaul
     }
 }
 
+/// The packet of bytes, by its format.
 fn read(bytes: &[u8]) -> Result<Packet, PackFault>
     requires some { 1 ≤ length bytes.now }
     requires few { length bytes.now ≤ 18 }
@@ -53,6 +54,7 @@ fn read(bytes: &[u8]) -> Result<Packet, PackFault>
     }
 }
 
+/// A sync packet.
 fn read_sync(bytes: &[u8]) -> Result<Packet, PackFault>
     requires some { 1 ≤ length bytes.now }
     requires few { length bytes.now ≤ 18 }
@@ -65,6 +67,7 @@ fn read_sync(bytes: &[u8]) -> Result<Packet, PackFault>
     padded(bytes, 70, packet)
 }
 
+/// The privilege, which is not 2.
 fn read_privilege(bytes: &[u8]) -> Result<u8, PackFault>
     requires some { 1 ≤ length bytes.now }
     requires few { length bytes.now ≤ 18 }
@@ -77,6 +80,7 @@ fn read_privilege(bytes: &[u8]) -> Result<u8, PackFault>
     }
 }
 
+/// A trap packet.
 fn read_trap(bytes: &[u8]) -> Result<Packet, PackFault>
     requires some { 1 ≤ length bytes.now }
     requires few { length bytes.now ≤ 18 }
@@ -99,6 +103,7 @@ fn read_trap(bytes: &[u8]) -> Result<Packet, PackFault>
     padded(bytes, width, packet)
 }
 
+/// A support packet.
 fn read_support(bytes: &[u8]) -> Result<Packet, PackFault>
     requires some { 1 ≤ length bytes.now }
     requires few { length bytes.now ≤ 18 }
