@@ -19,7 +19,8 @@ hex-one n small =
 more : (n : ℕ) → 16 ≤ n → (n / 16 == 0) ≡ false
 more n some = ne_eqb (n / 16) 0 (λ e. absurd (omega (arith, e)))
 
-hex-eight : (n seven six five four three two one : ℕ) → seven ≡ n / 16 → six ≡ seven / 16 → five ≡ six / 16 → four ≡ five / 16 → three ≡ four / 16 → two ≡ three / 16 → one ≡ two / 16
+hex-eight : (n seven six five four three two one : ℕ) → seven ≡ n / 16 → six ≡ seven / 16 → five ≡ six / 16
+    → four ≡ five / 16 → three ≡ four / 16 → two ≡ three / 16 → one ≡ two / 16
     → 268435456 ≤ n → n ≤ 4294967295
     → hex n ≡ glyph one ∷ glyph (two % 16) ∷ glyph (three % 16) ∷ glyph (four % 16) ∷ glyph (five % 16) ∷ glyph (six % 16) ∷ glyph (seven % 16) ∷ glyph (n % 16) ∷ []
 unfolding digits
