@@ -24,7 +24,8 @@ end-no_digit byte e = elim (cases_Bool (is_hex_digit byte)) [
 ]
 
 -- The digits are counted up to a byte that is none.
-pub digit_count-at : (text : List ℕ) (i : ℕ) → i < length text → list_all is_hex_digit (take i text) ≡ true → is_hex_digit (get_or text i 0) ≡ false → digit_count text ≡ i
+pub digit_count-at : (text : List ℕ) (i : ℕ) → i < length text → list_all is_hex_digit (take i text) ≡ true
+    → is_hex_digit (get_or text i 0) ≡ false → digit_count text ≡ i
 unfolding digit_count
 digit_count-at [] i n all none = absurd (omega arith)
 digit_count-at (c ∷ text) zero n all none = rw none refl
@@ -33,7 +34,8 @@ digit_count-at (c ∷ text) (suc i) n all none =
     rw (both.0, digit_count-at text i (omega arith) both.1 none) (omega arith)
 
 -- They go on past one.
-pub digit_count-past : (text : List ℕ) (i : ℕ) → i < length text → list_all is_hex_digit (take i text) ≡ true → is_hex_digit (get_or text i 0) ≡ true → i < digit_count text
+pub digit_count-past : (text : List ℕ) (i : ℕ) → i < length text → list_all is_hex_digit (take i text) ≡ true
+    → is_hex_digit (get_or text i 0) ≡ true → i < digit_count text
 unfolding digit_count
 digit_count-past [] i n all digit = absurd (omega arith)
 digit_count-past (c ∷ text) zero n all digit = rw digit (omega arith)
@@ -47,7 +49,8 @@ unfolding digit_count
 digit_count-none [] end = refl
 digit_count-none (c ∷ rest) end = rw (end-no_digit c end) refl
 
-pub digit_count-field : (digits rest : List ℕ) → list_all is_hex_digit digits ≡ true → EndsField rest → digit_count (digits ++ rest) ≡ length digits
+pub digit_count-field : (digits rest : List ℕ) → list_all is_hex_digit digits ≡ true → EndsField rest
+    → digit_count (digits ++ rest) ≡ length digits
 unfolding digit_count
 digit_count-field [] rest all end = digit_count-none rest end
 digit_count-field (c ∷ digits) rest all end =
@@ -71,18 +74,22 @@ numeral-size text e =
     (search (rules, arith), search (rules, arith))
 
 numeral-digits : (text : List ℕ) → is_numeral text ≡ true → list_all is_hex_digit text ≡ true
-numeral-digits text e = (and-both (nat_lt 0 (length text) && nat_le (length text) 16) (list_all is_hex_digit text) e).1
+numeral-digits text e =
+    (and-both (nat_lt 0 (length text) && nat_le (length text) 16) (list_all is_hex_digit text) e).1
 
 -- A numeral up to the end of its field is all that is counted, and what follows it is the rest.
-pub numeral-front : (text field rest : List ℕ) (count : ℕ) → text ≡ field ++ rest → is_numeral field ≡ true → EndsField rest → count ≡ digit_count text
+pub numeral-front : (text field rest : List ℕ) (count : ℕ) → text ≡ field ++ rest → is_numeral field ≡ true
+    → EndsField rest → count ≡ digit_count text
     → (0 < count) × (count ≤ 16) × (drop count text ≡ rest)
 numeral-front text field rest count e numeral end c =
     let size = numeral-size field numeral in
-    let same : count ≡ length field = c ∙ ap digit_count e ∙ digit_count-field field rest (numeral-digits field numeral) end in
+    let same : count ≡ length field = c ∙ ap digit_count e
+    ∙ digit_count-field field rest (numeral-digits field numeral) end in
     (rw same size.0, rw same size.1, rw (same, e) (drop-append_seam field rest))
 
 -- What a field with a number spells, without its prefix, is a numeral.
-spelt-numeral : (field : List ℕ) (number : Option ℕ) → Spells field number → 0 < length field → is_numeral (without_prefix field) ≡ true
+spelt-numeral : (field : List ℕ) (number : Option ℕ) → Spells field number → 0 < length field
+    → is_numeral (without_prefix field) ≡ true
 spelt-numeral field number (spells, filled, plain) some = elim (cases_Bool (is_numeral (without_prefix field))) [
   | inl numeral ↦ numeral
   | inr none ↦
@@ -104,25 +111,29 @@ end-no_prefix a c e = elim (cases_Bool (is_prefix a c)) [
 ]
 
 -- A prefix stands before the end of the field.
-without_prefix-front : (field rest : List ℕ) → 0 < length field → EndsField rest → without_prefix (field ++ rest) ≡ without_prefix field ++ rest
+without_prefix-front : (field rest : List ℕ) → 0 < length field → EndsField rest
+    → without_prefix (field ++ rest) ≡ without_prefix field ++ rest
 without_prefix-front [] rest some end = absurd (omega arith)
 without_prefix-front (a ∷ []) [] some end = refl
 without_prefix-front (a ∷ []) (c ∷ rest) some end = rw (end-no_prefix a c end) refl
-without_prefix-front (a ∷ b ∷ field) rest some end = elim (cases_Bool (is_prefix a b)) [ inl y ↦ rw y refl | inr n ↦ rw n refl ]
+without_prefix-front (a ∷ b ∷ field) rest some end =
+    elim (cases_Bool (is_prefix a b)) [ inl y ↦ rw y refl | inr n ↦ rw n refl ]
 
 field-some : (field rest text : List ℕ) → text ≡ field ++ rest → length rest < length text → 0 < length field
 field-some [] rest text e n = absurd (let same = ap length e in omega (arith, same))
 field-some (c ∷ field) rest text e n = omega arith
 
 -- A field that is not empty is a numeral behind its prefix.
-pub field-numeral : (text : List ℕ) (number : Option ℕ) (rest : List ℕ) → HasField text number rest → EndsField rest → length rest < length text
+pub field-numeral : (text : List ℕ) (number : Option ℕ) (rest : List ℕ) → HasField text number rest → EndsField rest
+    → length rest < length text
     → (digits : List ℕ) × (is_numeral digits ≡ true) × (without_prefix text ≡ digits ++ rest)
 field-numeral text number rest (field, e, spells) end n =
     let some = field-some field rest text e n in
     (without_prefix field, spelt-numeral field number spells some, ap without_prefix e ∙ without_prefix-front field rest some end)
 
 -- A text of the same length has no prefix.
-pub no_prefix-same : (text digits : List ℕ) → digits ≡ without_prefix text → length digits ≡ length text → digits ≡ text
+pub no_prefix-same : (text digits : List ℕ) → digits ≡ without_prefix text → length digits ≡ length text
+    → digits ≡ text
 no_prefix-same [] digits e n = e
 no_prefix-same (a ∷ []) digits e n = e
 no_prefix-same (a ∷ b ∷ rest) digits e n = elim (cases_Bool (is_prefix a b)) [
@@ -131,7 +142,8 @@ no_prefix-same (a ∷ b ∷ rest) digits e n = elim (cases_Bool (is_prefix a b))
 ]
 
 first_digit : (c : ℕ) (field : List ℕ) (number : Option ℕ) → Spells (c ∷ field) number → is_hex_digit c ≡ true
-first_digit c [] number spells = (and-both (is_hex_digit c) true (numeral-digits (c ∷ []) (spelt-numeral (c ∷ []) number spells (omega arith)))).0
+first_digit c [] number spells =
+    (and-both (is_hex_digit c) true (numeral-digits (c ∷ []) (spelt-numeral (c ∷ []) number spells (omega arith)))).0
 first_digit c (b ∷ field) number spells = elim (cases_Bool (is_prefix c b)) [
   | inl y ↦ rw (eqb-true c 48 (and-both (c == 48) ((b == 120) || (b == 88)) y).0) refl
   | inr n ↦
@@ -140,21 +152,26 @@ first_digit c (b ∷ field) number spells = elim (cases_Bool (is_prefix c b)) [
 ]
 
 -- Where no digit stands in front, the field is empty.
-pub field-empty : (text : List ℕ) (number : Option ℕ) (rest : List ℕ) → HasField text number rest → is_hex_digit (get_or text 0 0) ≡ false → text ≡ rest
+pub field-empty : (text : List ℕ) (number : Option ℕ) (rest : List ℕ) → HasField text number rest
+    → is_hex_digit (get_or text 0 0) ≡ false → text ≡ rest
 field-empty text number rest ([], e, spells) none = e
 field-empty text number rest (c ∷ field, e, spells) none =
     let other : is_hex_digit c ≡ false = rw e at none in
     absurd (false≢true (sym other ∙ first_digit c field number spells))
 
 -- Where a digit does, it is not.
-pub field-filled : (text : List ℕ) (number : Option ℕ) (rest : List ℕ) → HasField text number rest → EndsField rest → 0 < length text → is_hex_digit (get_or text 0 0) ≡ true
+pub field-filled : (text : List ℕ) (number : Option ℕ) (rest : List ℕ) → HasField text number rest → EndsField rest
+    → 0 < length text → is_hex_digit (get_or text 0 0) ≡ true
     → length rest < length text
 field-filled text number [] ([], e, spells) end some digit = let same = ap length e in omega (arith, some, same)
-field-filled text number (c ∷ rest) ([], e, spells) end some digit = absurd (false≢true (sym (end-no_digit c end) ∙ rw e at digit))
-field-filled text number rest (c ∷ field, e, spells) end some digit = let same : length text ≡ length ((c ∷ field) ++ rest) = ap length e in let both = length-append (c ∷ field) rest in omega (arith, same, both)
+field-filled text number (c ∷ rest) ([], e, spells) end some digit =
+    absurd (false≢true (sym (end-no_digit c end) ∙ rw e at digit))
+field-filled text number rest (c ∷ field, e, spells) end some digit =
+    let same : length text ≡ length ((c ∷ field) ++ rest) = ap length e in let both = length-append (c ∷ field) rest in omega (arith, same, both)
 
 -- A digit with a comma behind it is the field.
-pub field-one : (text : List ℕ) (number : Option ℕ) (rest more : List ℕ) → HasField text number rest → EndsField rest → 0 < length text → is_hex_digit (get_or text 0 0) ≡ true
+pub field-one : (text : List ℕ) (number : Option ℕ) (rest more : List ℕ) → HasField text number rest → EndsField rest
+    → 0 < length text → is_hex_digit (get_or text 0 0) ≡ true
     → take (length text - 1) (drop 1 text) ≡ 44 ∷ more → take (length text - 1) (drop 1 text) ≡ rest
 field-one text number rest more h end some digit comma =
     let size = length-drop 1 text in
@@ -179,10 +196,13 @@ field-one text number rest more h end some digit comma =
         absurd (false≢true (sym (or-second (needs_byte default_writer c) (needs_byte default_writer b) (list_any (needs_byte default_writer) field) plain) ∙ rw is refl))
 
 -- The fields that end alike are one.
-pub same_number : (text : List ℕ) (m n : Option ℕ) (rest more : List ℕ) → HasField text m rest → HasField text n more → rest ≡ more → m ≡ n
+pub same_number : (text : List ℕ) (m n : Option ℕ) (rest more : List ℕ) → HasField text m rest → HasField text n more
+    → rest ≡ more → m ≡ n
 same_number text m n rest more (field, e, spells) (other, f, spelt) same =
     let fields : field ≡ other = append_cancel_right field other more (rw same at (sym e) ∙ f) in
     sym spells.0 ∙ ap number_of fields ∙ spelt.0
 
-pub same_cell : (text : List ℕ) (m n : Option ℕ) (rest more : List ℕ) → HasCell text m rest → HasCell text n more → rest ≡ more → m ≡ n
-same_cell text m n rest more cell other same = same_number text m n (44 ∷ rest) (44 ∷ more) cell other (ap (λ t. 44 ∷ t) same)
+pub same_cell : (text : List ℕ) (m n : Option ℕ) (rest more : List ℕ) → HasCell text m rest → HasCell text n more
+    → rest ≡ more → m ≡ n
+same_cell text m n rest more cell other same =
+    same_number text m n (44 ∷ rest) (44 ∷ more) cell other (ap (λ t. 44 ∷ t) same)

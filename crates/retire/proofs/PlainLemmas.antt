@@ -14,7 +14,8 @@ use Rattle.retire.proofs.RecordsLemmas.{records_left-none, records_left-some}
 abbrev records_within : State → List (List ℕ) → List ℕ → List ℕ → List (List (List ℕ))
 records_within s fields field text = records_next records_left (next_record default_config s fields field text)
 
-within-none : (s : State) (text : List ℕ) (o : Option Read) → IsStart s → next_record default_config s [] [] text ≡ o → records_left s text ≡ records_next records_left o
+within-none : (s : State) (text : List ℕ) (o : Option Read) → IsStart s → next_record default_config s [] [] text ≡ o
+    → records_left s text ≡ records_next records_left o
 within-none s text None start e = records_left-none s text e
 within-none s text (Some p) start e = records_left-some s text p start e
 
@@ -43,27 +44,33 @@ attach-nil (c ∷ line) = elim (cases_Bool (c == 44)) [
   | inr n ↦ rw n (attach-nil-onto c (parted line))
 ]
 
-attach-onto : (field : List ℕ) (c : ℕ) (parts : List (List ℕ)) → attach field (onto_first c parts) ≡ attach (field ++ c ∷ []) parts
+attach-onto : (field : List ℕ) (c : ℕ) (parts : List (List ℕ))
+    → attach field (onto_first c parts) ≡ attach (field ++ c ∷ []) parts
 attach-onto field c [] = refl
 attach-onto field c (part ∷ parts) = ap (λ t. t ∷ parts) (sym (append_assoc field (c ∷ []) part))
 
 -- A comma ends the field at hand.
-row-comma : (fields : List (List ℕ)) (field : List ℕ) (lines : List (List ℕ)) → row fields field (onto_first 44 lines) ≡ row (fields ++ field ∷ []) [] lines
+row-comma : (fields : List (List ℕ)) (field : List ℕ) (lines : List (List ℕ))
+    → row fields field (onto_first 44 lines) ≡ row (fields ++ field ∷ []) [] lines
 row-comma fields field [] = rw (append-nil field, append_assoc fields (field ∷ []) ([] ∷ [])) refl
-row-comma fields field (first ∷ others) = rw (append-nil field, attach-nil first, append_assoc fields (field ∷ []) (parted first)) refl
+row-comma fields field (first ∷ others) =
+    rw (append-nil field, attach-nil first, append_assoc fields (field ∷ []) (parted first)) refl
 
 -- Any other byte joins it.
-row-byte : (fields : List (List ℕ)) (field : List ℕ) (c : ℕ) (lines : List (List ℕ)) → (c == 44) ≡ false → row fields field (onto_first c lines) ≡ row fields (field ++ c ∷ []) lines
+row-byte : (fields : List (List ℕ)) (field : List ℕ) (c : ℕ) (lines : List (List ℕ)) → (c == 44) ≡ false
+    → row fields field (onto_first c lines) ≡ row fields (field ++ c ∷ []) lines
 row-byte fields field c [] n = rw n refl
 row-byte fields field c (first ∷ others) n = rw (n, attach-onto field c (parted first)) refl
 
 -- A first line with a byte in it is no empty one.
-row-first : (c : ℕ) (lines : List (List ℕ)) → row [] [] (onto_first c lines) ≡ map parted (filter is_filled (onto_first c lines))
+row-first : (c : ℕ) (lines : List (List ℕ))
+    → row [] [] (onto_first c lines) ≡ map parted (filter is_filled (onto_first c lines))
 row-first c [] = rw (attach-nil (c ∷ [])) refl
 row-first c (first ∷ others) = rw (attach-nil (c ∷ first)) refl
 
 abbrev Within : List ℕ → Type 0
-Within text = (s : State) (fields : List (List ℕ)) (field : List ℕ) → (s ≡ st.StartField) ⊎ (s ≡ st.InField) → records_within s fields field text ≡ row fields field (slice_split is_line_end text)
+Within text =
+    (s : State) (fields : List (List ℕ)) (field : List ℕ) → (s ≡ st.StartField) ⊎ (s ≡ st.InField) → records_within s fields field text ≡ row fields field (slice_split is_line_end text)
 
 abbrev Left : List ℕ → Type 0
 Left text = (s : State) → IsStart s → records_left s text ≡ lines_parted text
@@ -79,13 +86,15 @@ within-nil s fields field (inl e) = rw (e, append-nil field, left-nil st.StartRe
 within-nil s fields field (inr e) = rw (e, append-nil field, left-nil st.StartRecord (inl refl)) refl
 
 -- A byte inside a record.
-within-comma : (c : ℕ) (text : List ℕ) (s : State) (fields : List (List ℕ)) (field : List ℕ) → (s ≡ st.StartField) ⊎ (s ≡ st.InField) → (c == 34) ≡ false → (c == 44) ≡ true
+within-comma : (c : ℕ) (text : List ℕ) (s : State) (fields : List (List ℕ)) (field : List ℕ)
+    → (s ≡ st.StartField) ⊎ (s ≡ st.InField) → (c == 34) ≡ false → (c == 44) ≡ true
     → records_within s fields field (c ∷ text) ≡ records_within st.StartField (fields ++ field ∷ []) [] text
 unfolding next_record
 within-comma c text s fields field (inl e) q y = rw (e, q, y) refl
 within-comma c text s fields field (inr e) q y = rw (e, y) refl
 
-within-end : (c : ℕ) (text : List ℕ) (s : State) (fields : List (List ℕ)) (field : List ℕ) → (s ≡ st.StartField) ⊎ (s ≡ st.InField) → (c == 34) ≡ false → (c == 44) ≡ false → is_line_end c ≡ true
+within-end : (c : ℕ) (text : List ℕ) (s : State) (fields : List (List ℕ)) (field : List ℕ)
+    → (s ≡ st.StartField) ⊎ (s ≡ st.InField) → (c == 34) ≡ false → (c == 44) ≡ false → is_line_end c ≡ true
     → Left text → records_within s fields field (c ∷ text) ≡ (fields ++ field ∷ []) ∷ lines_parted text
 unfolding next_record
 within-end c text s fields field at q n y left = elim (cases_Bool (c == 13)) [
@@ -101,7 +110,8 @@ within-end c text s fields field at q n y left = elim (cases_Bool (c == 13)) [
       ]
 ]
 
-within-byte : (c : ℕ) (text : List ℕ) (s : State) (fields : List (List ℕ)) (field : List ℕ) → (s ≡ st.StartField) ⊎ (s ≡ st.InField) → (c == 34) ≡ false → (c == 44) ≡ false → is_line_end c ≡ false
+within-byte : (c : ℕ) (text : List ℕ) (s : State) (fields : List (List ℕ)) (field : List ℕ)
+    → (s ≡ st.StartField) ⊎ (s ≡ st.InField) → (c == 34) ≡ false → (c == 44) ≡ false → is_line_end c ≡ false
     → records_within s fields field (c ∷ text) ≡ records_within st.InField fields (field ++ c ∷ []) text
 unfolding next_record
 within-byte c text s fields field (inl e) q n y = rw (e, q, n, y) refl
@@ -140,22 +150,26 @@ not-false true e = cc e
 not-false false e = refl
 
 -- A byte where a record may start.
-pub left-end : (c : ℕ) (text : List ℕ) (s : State) → IsStart s → is_line_end c ≡ true → records_within s [] [] (c ∷ text) ≡ records_within st.StartRecord [] [] text
+pub left-end : (c : ℕ) (text : List ℕ) (s : State) → IsStart s → is_line_end c ≡ true
+    → records_within s [] [] (c ∷ text) ≡ records_within st.StartRecord [] [] text
 unfolding next_record
 left-end c text s start y = elim (cases_Bool (c == 13)) [
   | inl r ↦ elim start [ inl e ↦ rw (e, r) refl | inr e ↦ rw (e, eqb-true c 13 r) refl ]
   | inr r ↦ let f : (c == 10) ≡ true = rw r at y in elim start [ inl e ↦ rw (e, r, f) refl | inr e ↦ rw (e, f) refl ]
 ]
 
-left-byte : (c : ℕ) (text : List ℕ) (s : State) → IsStart s → is_line_end c ≡ false → records_within s [] [] (c ∷ text) ≡ records_within st.StartField [] [] (c ∷ text)
+left-byte : (c : ℕ) (text : List ℕ) (s : State) → IsStart s → is_line_end c ≡ false
+    → records_within s [] [] (c ∷ text) ≡ records_within st.StartField [] [] (c ∷ text)
 unfolding next_record
 left-byte c text s (inl e) n = rw (e, no_return c n, no_feed c n) refl
 left-byte c text s (inr e) n = rw (e, no_feed c n, no_return c n) refl
 
 left-more : (c : ℕ) (text : List ℕ) → Left text → Within (c ∷ text) → Left (c ∷ text)
 left-more c text left within s start = elim (cases_Bool (is_line_end c)) [
-  | inl y ↦ left-within s (c ∷ text) start ∙ left-end c text s start y ∙ sym (left-within st.StartRecord text (inl refl)) ∙ rw y (left st.StartRecord (inl refl))
-  | inr n ↦ left-within s (c ∷ text) start ∙ left-byte c text s start n ∙ within st.StartField [] [] (inl refl) ∙ rw n (row-first c (slice_split is_line_end text))
+  | inl y ↦ left-within s (c ∷ text) start ∙ left-end c text s start y
+      ∙ sym (left-within st.StartRecord text (inl refl)) ∙ rw y (left st.StartRecord (inl refl))
+  | inr n ↦ left-within s (c ∷ text) start ∙ left-byte c text s start n ∙ within st.StartField [] [] (inl refl)
+      ∙ rw n (row-first c (slice_split is_line_end text))
 ]
 
 both : (text : List ℕ) → is_plain text ≡ true → Left text × Within text
@@ -167,7 +181,8 @@ both (c ∷ text) h =
     (left-more c text more.0 within, within)
 
 -- From where a record may start.
-pub left-plain : (text : List ℕ) (s : State) → is_plain text ≡ true → IsStart s → records_left s text ≡ lines_parted text
+pub left-plain : (text : List ℕ) (s : State) → is_plain text ≡ true → IsStart s
+    → records_left s text ≡ lines_parted text
 left-plain text s h start = (both text h).0 s start
 
 is_plain-tail : (c : ℕ) (text : List ℕ) → is_plain (c ∷ text) ≡ true → is_plain text ≡ true

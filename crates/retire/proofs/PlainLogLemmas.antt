@@ -29,7 +29,8 @@ or-both true b e = cc e
 numeral-plain : (text : List ℕ) → is_numeral text ≡ true → list_any (needs_byte default_writer) text ≡ false
 numeral-plain text e = list_any-AllDigits text (all-AllDigits text (and-both _ (list_all is_hex_digit text) e).1)
 
-spelling-plain : (field : List ℕ) → is_numeral (without_prefix field) ≡ true → list_any (needs_byte default_writer) field ≡ false
+spelling-plain : (field : List ℕ) → is_numeral (without_prefix field) ≡ true
+    → list_any (needs_byte default_writer) field ≡ false
 spelling-plain [] e = refl
 spelling-plain (a ∷ []) e = numeral-plain (a ∷ []) e
 spelling-plain (a ∷ b ∷ rest) e = elim (cases_Bool (is_prefix a b)) [
@@ -52,10 +53,12 @@ number-spells field n e = (
 )
 
 -- Nor does one that is empty or spells one.
-clean-spells : (field : List ℕ) (number : Option ℕ) → number_of field ≡ number → is_garbled field number ≡ false → Spells field number
+clean-spells : (field : List ℕ) (number : Option ℕ) → number_of field ≡ number → is_garbled field number ≡ false
+    → Spells field number
 clean-spells field (Some n) e clean = number-spells field n e
 clean-spells [] None e clean = (e, clean, refl)
-clean-spells (c ∷ field) None e clean = let some : nat_lt 0 (length (c ∷ field)) ≡ true = search (rules, arith) in cc (rw some at clean)
+clean-spells (c ∷ field) None e clean =
+    let some : nat_lt 0 (length (c ∷ field)) ≡ true = search (rules, arith) in cc (rw some at clean)
 
 -- The numbers of a row that has an event.
 known-numbers : (row : ℕ) (a b c d e : Option ℕ) (event : Event) → known_event row a b c d e ≡ Ok event
@@ -65,16 +68,20 @@ known-numbers row None b c d e event known = cc known
 known-numbers row (Some x) None c d e event known = cc known
 known-numbers row (Some x) (Some y) None d e event known = cc known
 
-joined : (a b c d e end : List ℕ) → join_with_byte 44 (a ∷ b ∷ c ∷ d ∷ e ∷ []) ++ end ≡ a ++ 44 ∷ (b ++ 44 ∷ (c ++ 44 ∷ (d ++ 44 ∷ (e ++ end))))
+joined : (a b c d e end : List ℕ)
+    → join_with_byte 44 (a ∷ b ∷ c ∷ d ∷ e ∷ []) ++ end ≡ a ++ 44 ∷ (b ++ 44 ∷ (c ++ 44 ∷ (d ++ 44 ∷ (e ++ end))))
 joined a b c d e end = append_assoc a (44 ∷ (b ++ 44 ∷ (c ++ 44 ∷ (d ++ 44 ∷ e)))) end
     ∙ ap (λ t. a ++ 44 ∷ t) (append_assoc b (44 ∷ (c ++ 44 ∷ (d ++ 44 ∷ e))) end)
     ∙ ap (λ t. a ++ 44 ∷ (b ++ 44 ∷ t)) (append_assoc c (44 ∷ (d ++ 44 ∷ e)) end)
     ∙ ap (λ t. a ++ 44 ∷ (b ++ 44 ∷ (c ++ 44 ∷ t))) (append_assoc d (44 ∷ e) end)
 
 -- A line whose row has an event is five numbers, of which two may be missing.
-five-numbers : (row x y z : ℕ) (a b c d e text end rest : List ℕ) (event : Event) → text ≡ join_with_byte 44 (a ∷ b ∷ c ∷ d ∷ e ∷ []) ++ end → EndsLine end rest
-    → number_of a ≡ Some x → number_of b ≡ Some y → number_of c ≡ Some z → is_garbled d (number_of d) ≡ false → is_garbled e (number_of e) ≡ false
-    → known_event row (number_of a) (number_of b) (number_of c) (number_of d) (number_of e) ≡ Ok event → IsPlainRow row text rest
+five-numbers : (row x y z : ℕ) (a b c d e text end rest : List ℕ) (event : Event)
+    → text ≡ join_with_byte 44 (a ∷ b ∷ c ∷ d ∷ e ∷ []) ++ end → EndsLine end rest
+    → number_of a ≡ Some x → number_of b ≡ Some y → number_of c ≡ Some z → is_garbled d (number_of d) ≡ false
+    → is_garbled e (number_of e) ≡ false
+    → known_event row (number_of a) (number_of b) (number_of c) (number_of d) (number_of e) ≡ Ok event
+    → IsPlainRow row text rest
 five-numbers row x y z a b c d e text end rest event whole ends is_x is_y is_z clean_d clean_e known = record {
   addr = x;
   itype = y;
@@ -96,19 +103,23 @@ five-numbers row x y z a b c d e text end rest event whole ends is_x is_y is_z c
   known = rw (is_x, is_y, is_z) at known;
 }
 
-five-fields : (row : ℕ) (a b c d e text end rest : List ℕ) (event : Event) → text ≡ join_with_byte 44 (a ∷ b ∷ c ∷ d ∷ e ∷ []) ++ end → EndsLine end rest
+five-fields : (row : ℕ) (a b c d e text end rest : List ℕ) (event : Event)
+    → text ≡ join_with_byte 44 (a ∷ b ∷ c ∷ d ∷ e ∷ []) ++ end → EndsLine end rest
     → row_event row (a ∷ b ∷ c ∷ d ∷ e ∷ []) ≡ Ok event → IsPlainRow row text rest
-five-fields row a b c d e text end rest event whole ends known = elim (cases_Bool (is_garbled d (number_of d) || is_garbled e (number_of e))) [
-  | inl garbled ↦ cc (rw garbled at known)
-  | inr clean ↦
-      let good : known_event row (number_of a) (number_of b) (number_of c) (number_of d) (number_of e) ≡ Ok event = rw clean at known in
-      let (x, y, z, is_x, is_y, is_z) = known-numbers row (number_of a) (number_of b) (number_of c) (number_of d) (number_of e) event good in
-      let cleans = or-both (is_garbled d (number_of d)) (is_garbled e (number_of e)) clean in
-      five-numbers row x y z a b c d e text end rest event whole ends is_x is_y is_z cleans.0 cleans.1 good
-]
+five-fields row a b c d e text end rest event whole ends known =
+    elim (cases_Bool (is_garbled d (number_of d) || is_garbled e (number_of e))) [
+      | inl garbled ↦ cc (rw garbled at known)
+      | inr clean ↦
+          let good : known_event row (number_of a) (number_of b) (number_of c) (number_of d) (number_of e) ≡ Ok event = rw clean at known in
+          let (x, y, z, is_x, is_y, is_z) = known-numbers row (number_of a) (number_of b) (number_of c) (number_of d) (number_of e) event good in
+          let cleans = or-both (is_garbled d (number_of d)) (is_garbled e (number_of e)) clean in
+          five-numbers row x y z a b c d e text end rest event whole ends is_x is_y is_z cleans.0 cleans.1 good
+    ]
 
-plain-row : (row : ℕ) (fields : List (List ℕ)) (text rest : List ℕ) (event : Event) → IsLine fields text rest → row_event row fields ≡ Ok event → IsPlainRow row text rest
-plain-row row (a ∷ b ∷ c ∷ d ∷ e ∷ []) text rest event (end, whole, ends) known = five-fields row a b c d e text end rest event whole ends known
+plain-row : (row : ℕ) (fields : List (List ℕ)) (text rest : List ℕ) (event : Event) → IsLine fields text rest
+    → row_event row fields ≡ Ok event → IsPlainRow row text rest
+plain-row row (a ∷ b ∷ c ∷ d ∷ e ∷ []) text rest event (end, whole, ends) known =
+    five-fields row a b c d e text end rest event whole ends known
 plain-row row [] text rest event line known = cc known
 plain-row row (a ∷ []) text rest event line known = cc known
 plain-row row (a ∷ b ∷ []) text rest event line known = cc known
@@ -141,10 +152,12 @@ written_is_plain events ranged few =
     (rest, (10 ∷ rest, refl, inl refl), (map event_fields events, events, lines-written events, events_from-fields 1 events ranged (omega arith)))
 
 -- A plain log begins with the header's fields, and its lines go on behind them.
-pub header-front : (text line : List ℕ) → line ≡ join_with_byte 44 header → IsPlainLog text → pointwise nat_eq (take (length line) text) line ≡ true
+pub header-front : (text line : List ℕ) → line ≡ join_with_byte 44 header → IsPlainLog text
+    → pointwise nat_eq (take (length line) text) line ≡ true
 header-front text line l (rest, (end, whole, ends), rows) = rw (l, whole) refl
 
-pub header-ends : (text line : List ℕ) → line ≡ join_with_byte 44 header → IsPlainLog text → (rest : List ℕ) × EndsLine (drop (length line) text) rest × ArePlainRows 1 rest
+pub header-ends : (text line : List ℕ) → line ≡ join_with_byte 44 header → IsPlainLog text
+    → (rest : List ℕ) × EndsLine (drop (length line) text) rest × ArePlainRows 1 rest
 header-ends text line l (rest, (end, whole, ends), rows) =
     let behind : drop (length line) text ≡ end = rw (l, whole) refl in
     (rest, subst (λ t. EndsLine t rest) (sym behind) ends, rows)
@@ -154,11 +167,14 @@ pub not_empty : (text : List ℕ) (empty : Bool) → empty ≡ (length text == 0
 not_empty text empty e none = search (rules, arith)
 
 -- Behind the last row of the greatest log nothing is left of plain rows.
-pub plain-all : (row : ℕ) (text : List ℕ) (empty : Bool) → limit < row → empty ≡ (length text == 0) → ArePlainRows row text → empty ≡ true
+pub plain-all : (row : ℕ) (text : List ℕ) (empty : Bool) → limit < row → empty ≡ (length text == 0)
+    → ArePlainRows row text → empty ≡ true
 plain-all row [] empty past e plain = e
-plain-all row (c ∷ text) empty past e plain = let next = plain-next row (c ∷ text) plain (omega arith) in absurd (let within = next.0 in omega (arith, within, past))
+plain-all row (c ∷ text) empty past e plain =
+    let next = plain-next row (c ∷ text) plain (omega arith) in absurd (let within = next.0 in omega (arith, within, past))
 
 -- What is read of rows is read of their log.
-pub reads-log : (answer : Result Bool LogFault) (P Q : Type 0) → (Q → P) → IfOk answer (λ all. P → all ≡ true) → IfOk answer (λ all. Q → all ≡ true)
+pub reads-log : (answer : Result Bool LogFault) (P Q : Type 0) → (Q → P) → IfOk answer (λ all. P → all ≡ true)
+    → IfOk answer (λ all. Q → all ≡ true)
 reads-log (Ok all) P Q f h = λ q. h (f q)
 reads-log (Err why) P Q f h = tt

@@ -37,14 +37,16 @@ or-right : (a b : Bool) → (a || b) ≡ false → b ≡ false
 or-right false b e = e
 or-right true b e = cc e
 
-other : (b mark : ℕ) → needs_byte default_writer b ≡ false → needs_byte default_writer mark ≡ true → (b == mark) ≡ false
+other : (b mark : ℕ) → needs_byte default_writer b ≡ false → needs_byte default_writer mark ≡ true
+    → (b == mark) ≡ false
 other b mark e m = elim (cases_Bool (b == mark)) [
   | inl y ↦ absurd (false≢true (sym (rw (eqb-true b mark y) at e) ∙ m))
   | inr n ↦ n
 ]
 
 -- A byte that calls for no quotes is no mark.
-plain-byte : (b : ℕ) → needs_byte default_writer b ≡ false → ((b == 44) ≡ false) × ((b == 34) ≡ false) × ((b == 13) ≡ false) × ((b == 10) ≡ false)
+plain-byte : (b : ℕ) → needs_byte default_writer b ≡ false
+    → ((b == 44) ≡ false) × ((b == 34) ≡ false) × ((b == 13) ≡ false) × ((b == 10) ≡ false)
 plain-byte b e = (other b 44 e refl, other b 34 e refl, other b 13 e refl, other b 10 e refl)
 
 pub all-AllDigits : (text : List ℕ) → list_all is_hex_digit text ≡ true → AllDigits 16 text
@@ -57,7 +59,8 @@ length-front : (count : ℕ) (text : List ℕ) → count ≤ length text → len
 length-front count text h = let e = length-take count text in omega (arith, e)
 
 -- So many digits are a number.
-digits-number : (text : List ℕ) (value count : ℕ) → HasDigits text value count → 0 < count → digits_number (take count text) ≡ Some value
+digits-number : (text : List ℕ) (value count : ℕ) → HasDigits text value count → 0 < count
+    → digits_number (take count text) ≡ Some value
 digits-number text value count (few, within, digits, e) some =
     let n = length-front count text within in
     rw (digits_number-numeral (take count text) (omega (arith, n, some)) (omega (arith, n, few)) (all-AllDigits (take count text) digits), e) refl
@@ -66,7 +69,8 @@ pub no_garbled : (field : List ℕ) (value : ℕ) → is_garbled field (Some val
 no_garbled [] value = refl
 no_garbled (b ∷ field) value = search rules
 
-pub field-some : (text rest : List ℕ) (value count : ℕ) → HasDigits text value count → 0 < count → rest ≡ drop count text → HasField text (Some value) rest
+pub field-some : (text rest : List ℕ) (value count : ℕ) → HasDigits text value count → 0 < count
+    → rest ≡ drop count text → HasField text (Some value) rest
 field-some text rest value count h some e =
     let all = all-AllDigits (take count text) h.2 in (
       take count text,
@@ -77,7 +81,8 @@ field-some text rest value count h some e =
 pub field-none : (text rest : List ℕ) (count : ℕ) → count ≡ 0 → rest ≡ drop count text → HasField text None rest
 field-none text rest count none e = ([], rw (e, none) refl, (refl, refl, refl))
 
-pub needs_prefix : (a b : ℕ) → is_prefix a b ≡ true → (needs_byte default_writer a ≡ false) × (needs_byte default_writer b ≡ false)
+pub needs_prefix : (a b : ℕ) → is_prefix a b ≡ true
+    → (needs_byte default_writer a ≡ false) × (needs_byte default_writer b ≡ false)
 needs_prefix a b h = let parts = and-both (a == 48) ((b == 120) || (b == 88)) h in (
   rw (eqb-true a 48 parts.0) refl,
   elim (cases_Bool (b == 120)) [
@@ -86,7 +91,8 @@ needs_prefix a b h = let parts = and-both (a == 48) ((b == 120) || (b == 88)) h 
   ],
 )
 
-pub field-prefixed : (a b : ℕ) (digits rest : List ℕ) (value count : ℕ) → is_prefix a b ≡ true → HasDigits digits value count → 0 < count → rest ≡ drop count digits
+pub field-prefixed : (a b : ℕ) (digits rest : List ℕ) (value count : ℕ) → is_prefix a b ≡ true
+    → HasDigits digits value count → 0 < count → rest ≡ drop count digits
     → HasField (a ∷ b ∷ digits) (Some value) rest
 field-prefixed a b digits rest value count prefix h some e =
     let all = all-AllDigits (take count digits) h.2 in
@@ -97,7 +103,8 @@ field-prefixed a b digits rest value count prefix h some e =
     )
 
 -- A text is shorter by its prefix, or has none.
-pub prefix-of : (text digits : List ℕ) → digits ≡ without_prefix text → length digits ≢ length text → (a : ℕ) × (b : ℕ) × (is_prefix a b ≡ true) × (text ≡ a ∷ b ∷ digits)
+pub prefix-of : (text digits : List ℕ) → digits ≡ without_prefix text → length digits ≢ length text
+    → (a : ℕ) × (b : ℕ) × (is_prefix a b ≡ true) × (text ≡ a ∷ b ∷ digits)
 prefix-of [] digits e n = absurd (n (ap length e))
 prefix-of (a ∷ []) digits e n = absurd (n (ap length e))
 prefix-of (a ∷ b ∷ rest) digits e n = elim (cases_Bool (is_prefix a b)) [
@@ -118,22 +125,29 @@ field-comma fields (b ∷ rest) tail p =
 field-first : (x tail : List ℕ) → list_any (needs_byte default_writer) x ≡ false
     → next_record default_config st.StartRecord [] [] (x ++ 44 ∷ tail) ≡ next_record default_config st.StartField [] [] (x ++ 44 ∷ tail)
 field-first [] tail p = record-same [] [] 44 tail refl refl
-field-first (b ∷ rest) tail p = let q = plain-byte b (or-left _ _ p) in record-same [] [] b (rest ++ 44 ∷ tail) q.2 q.3
+field-first (b ∷ rest) tail p =
+    let q = plain-byte b (or-left _ _ p) in record-same [] [] b (rest ++ 44 ∷ tail) q.2 q.3
 
 -- A carriage return ends a record, and the line feed behind it belongs to no record.
 left-feed : (rest : List ℕ) → records_left st.AfterCr (10 ∷ rest) ≡ records_left st.StartRecord rest
-left-feed rest = left-within st.AfterCr (10 ∷ rest) (inr refl) ∙ left-end 10 rest st.AfterCr (inr refl) refl ∙ sym (left-within st.StartRecord rest (inl refl))
+left-feed rest =
+    left-within st.AfterCr (10 ∷ rest) (inr refl) ∙ left-end 10 rest st.AfterCr (inr refl) refl
+    ∙ sym (left-within st.StartRecord rest (inl refl))
 
 -- The last field of a record, and what is left behind its line.
 abbrev EndsRecord : List (List ℕ) → List ℕ → Option Read → Type 0
-EndsRecord fields rest found = (p : Read) × (found ≡ Some p) × (p.0 ≡ fields) × (records_left p.1 p.2 ≡ records_left st.StartRecord rest)
+EndsRecord fields rest found =
+    (p : Read) × (found ≡ Some p) × (p.0 ≡ fields) × (records_left p.1 p.2 ≡ records_left st.StartRecord rest)
 
-field-last : (fields : List (List ℕ)) (x end rest : List ℕ) → list_any (needs_byte default_writer) x ≡ false → EndsLine end rest
+field-last : (fields : List (List ℕ)) (x end rest : List ℕ) → list_any (needs_byte default_writer) x ≡ false
+    → EndsLine end rest
     → EndsRecord (fields ++ x ∷ []) rest (next_record default_config st.StartField fields [] (x ++ end))
 unfolding next_record
 field-last fields [] end rest p (inl e) = ((fields ++ [] ∷ [], st.StartRecord, rest), rw e refl, refl, refl)
-field-last fields [] end rest p (inr (inl e)) = ((fields ++ [] ∷ [], st.AfterCr, 10 ∷ rest), rw e refl, refl, left-feed rest)
-field-last fields [] end rest p (inr (inr e)) = ((fields ++ [] ∷ [], st.StartRecord, []), rw e.0 refl, refl, rw e.1 refl)
+field-last fields [] end rest p (inr (inl e)) =
+    ((fields ++ [] ∷ [], st.AfterCr, 10 ∷ rest), rw e refl, refl, left-feed rest)
+field-last fields [] end rest p (inr (inr e)) =
+    ((fields ++ [] ∷ [], st.StartRecord, []), rw e.0 refl, refl, rw e.1 refl)
 field-last fields (b ∷ more) end rest p (inl e) =
     let q = plain-byte b (or-left _ _ p) in
     ((fields ++ (b ∷ more) ∷ [], st.StartRecord, rest), rw e (start-same fields [] b (more ++ 10 ∷ rest) q.1 ∙ plain-run fields [] (b ∷ more) (10 ∷ rest) p), refl, refl)
@@ -149,17 +163,21 @@ abbrev IsPlainField : List ℕ → Type 0
 IsPlainField field = list_any (needs_byte default_writer) field ≡ false
 
 -- Five fields and the end of their line are a record, and what follows the line is left.
-line-record : (f1 f2 f3 f4 f5 end rest : List ℕ) → IsPlainField f1 → IsPlainField f2 → IsPlainField f3 → IsPlainField f4 → IsPlainField f5 → EndsLine end rest
+line-record : (f1 f2 f3 f4 f5 end rest : List ℕ) → IsPlainField f1 → IsPlainField f2 → IsPlainField f3
+    → IsPlainField f4 → IsPlainField f5 → EndsLine end rest
     → records_left st.StartRecord (f1 ++ 44 ∷ (f2 ++ 44 ∷ (f3 ++ 44 ∷ (f4 ++ 44 ∷ (f5 ++ end))))) ≡ (f1 ∷ f2 ∷ f3 ∷ f4 ∷ f5 ∷ []) ∷ records_left st.StartRecord rest
 line-record f1 f2 f3 f4 f5 end rest p1 p2 p3 p4 p5 ends =
     let (p, found, fields, left) = field-last (f1 ∷ f2 ∷ f3 ∷ f4 ∷ []) f5 end rest p5 ends in
-    let read = field-first f1 _ p1 ∙ field-comma [] f1 _ p1 ∙ field-comma (f1 ∷ []) f2 _ p2 ∙ field-comma (f1 ∷ f2 ∷ []) f3 _ p3
+    let read = field-first f1 _ p1 ∙ field-comma [] f1 _ p1 ∙ field-comma (f1 ∷ []) f2 _ p2
+    ∙ field-comma (f1 ∷ f2 ∷ []) f3 _ p3
     ∙ field-comma (f1 ∷ f2 ∷ f3 ∷ []) f4 _ p4 ∙ found in
     records_left-some st.StartRecord _ p (inl refl) read ∙ rw (fields, left) refl
 
 -- The event of fields with known numbers.
-row_event-known : (row a b c : ℕ) (f1 f2 f3 f4 f5 : List ℕ) (n4 n5 : Option ℕ) (event : Event) → number_of f1 ≡ Some a → number_of f2 ≡ Some b → number_of f3 ≡ Some c
-    → Spells f4 n4 → Spells f5 n5 → numbers_event row a b c n4 n5 ≡ Ok event → row_event row (f1 ∷ f2 ∷ f3 ∷ f4 ∷ f5 ∷ []) ≡ Ok event
+row_event-known : (row a b c : ℕ) (f1 f2 f3 f4 f5 : List ℕ) (n4 n5 : Option ℕ) (event : Event) → number_of f1 ≡ Some a
+    → number_of f2 ≡ Some b → number_of f3 ≡ Some c
+    → Spells f4 n4 → Spells f5 n5 → numbers_event row a b c n4 n5 ≡ Ok event
+    → row_event row (f1 ∷ f2 ∷ f3 ∷ f4 ∷ f5 ∷ []) ≡ Ok event
 row_event-known row a b c f1 f2 f3 f4 f5 n4 n5 event e1 e2 e3 s4 s5 known =
     let g4 : is_garbled f4 (number_of f4) ≡ false = rw s4.0 s4.1 in
     let g5 : is_garbled f5 (number_of f5) ≡ false = rw s5.0 s5.1 in
@@ -167,7 +185,8 @@ row_event-known row a b c f1 f2 f3 f4 f5 n4 n5 event e1 e2 e3 s4 s5 known =
 
 -- Five fields and the end of their line are a row.
 pub row-fields : (row a b c : ℕ) (text t1 t2 t3 t4 t5 rest : List ℕ) (n1 n2 n3 n4 n5 : Option ℕ) (event : Event)
-    → HasCell text n1 t1 → HasCell t1 n2 t2 → HasCell t2 n3 t3 → HasCell t3 n4 t4 → HasField t4 n5 t5 → EndsLine t5 rest
+    → HasCell text n1 t1 → HasCell t1 n2 t2 → HasCell t2 n3 t3 → HasCell t3 n4 t4 → HasField t4 n5 t5
+    → EndsLine t5 rest
     → n1 ≡ Some a → n2 ≡ Some b → n3 ≡ Some c → numbers_event row a b c n4 n5 ≡ Ok event → HasRow row text event rest
 row-fields row a b c text t1 t2 t3 t4 t5 rest n1 n2 n3 n4 n5 event (f1, e1, s1) (f2, e2, s2) (f3, e3, s3) (f4, e4, s4) (f5, e5, s5) end x1 x2 x3 known = (
   f1 ∷ f2 ∷ f3 ∷ f4 ∷ f5 ∷ [],
@@ -181,30 +200,38 @@ records_left-empty [] e = records_left-none st.StartRecord [] refl
 records_left-empty (c ∷ rest) e = absurd (omega (arith, e))
 
 -- At the end of the text the events are all of them.
-pub plain-end : (log : Result (List Event) LogFault) (row : ℕ) (events : List Event) (rest : List ℕ) → log ≡ after events (events_from row (records_left st.StartRecord rest)) → length rest ≡ 0
+pub plain-end : (log : Result (List Event) LogFault) (row : ℕ) (events : List Event) (rest : List ℕ)
+    → log ≡ after events (events_from row (records_left st.StartRecord rest)) → length rest ≡ 0
     → log ≡ Ok events
 plain-end log row events rest e empty = e ∙ rw (records_left-empty rest empty) (after-end events row)
 
 -- One row more.
 pub plain-more : (log : Result (List Event) LogFault) (row : ℕ) (events : List Event) (event : Event) (rest more : List ℕ) → log ≡ after events (events_from row (records_left st.StartRecord rest))
-    → row ≤ limit → HasRow row rest event more → log ≡ after (events ++ event ∷ []) (events_from (row + 1) (records_left st.StartRecord more))
+    → row ≤ limit → HasRow row rest event more
+    → log ≡ after (events ++ event ∷ []) (events_from (row + 1) (records_left st.StartRecord more))
 plain-more log row events event rest more e few (fields, known, left) =
     e ∙ rw (left, events_from-event row fields (records_left st.StartRecord more) event few known) (after-after events (event ∷ []) _)
 
 -- A text that begins with the header's line holds the events of what follows it.
-header-line : (end rest : List ℕ) → EndsLine end rest → log_of (records_of (join_with_byte 44 header ++ end)) ≡ events_from 1 (records_left st.StartRecord rest)
+header-line : (end rest : List ℕ) → EndsLine end rest
+    → log_of (records_of (join_with_byte 44 header ++ end)) ≡ events_from 1 (records_left st.StartRecord rest)
 unfolding strip_bom
-header-line end rest ends = rw (line-record (codes "addr") (codes "itype") (codes "priv") (codes "cause") (codes "tval") end rest refl refl refl refl refl ends) refl
+header-line end rest ends =
+    rw (line-record (codes "addr") (codes "itype") (codes "priv") (codes "cause") (codes "tval") end rest refl refl refl refl refl ends) refl
 
-pub plain-header : (text line end rest : List ℕ) → pointwise nat_eq (take (length line) text) line ≡ true → end ≡ drop (length line) text → line ≡ join_with_byte 44 header
+pub plain-header : (text line end rest : List ℕ) → pointwise nat_eq (take (length line) text) line ≡ true
+    → end ≡ drop (length line) text → line ≡ join_with_byte 44 header
     → EndsLine end rest → log_of (records_of text) ≡ events_from 1 (records_left st.StartRecord rest)
 plain-header text line end rest e r l ends =
-    let front : take (length line) text ≡ join_with_byte 44 header = same_text (take (length line) text) line (sym e) ∙ l in
-    let whole : text ≡ join_with_byte 44 header ++ end = sym (take-append-drop (length line) text) ∙ ap (λ t. t ++ drop (length line) text) front ∙ ap (λ t. join_with_byte 44 header ++ t) (sym r) in
+    let front : take (length line) text ≡ join_with_byte 44 header = same_text (take (length line) text) line (sym e)
+    ∙ l in
+    let whole : text ≡ join_with_byte 44 header ++ end = sym (take-append-drop (length line) text)
+    ∙ ap (λ t. t ++ drop (length line) text) front ∙ ap (λ t. join_with_byte 44 header ++ t) (sym r) in
     ap (λ t. log_of (records_of t)) whole ∙ header-line end rest ends
 
 -- One digit is a field.
-pub field-digit : (text : List ℕ) (value digit : ℕ) → 0 < length text → value ≡ digit → digit ≡ hex_value (get_or text 0 0) → (digit ≡ 16 → ⊥)
+pub field-digit : (text : List ℕ) (value digit : ℕ) → 0 < length text → value ≡ digit
+    → digit ≡ hex_value (get_or text 0 0) → (digit ≡ 16 → ⊥)
     → HasField text (Some value) (take (length text - 1) (drop 1 text))
 field-digit text value digit some same is unlike =
     let other : (hex_value (get_or text 0 0) ≡ 16 → ⊥) = rw is at unlike in
@@ -216,10 +243,12 @@ field-digit text value digit some same is unlike =
     field-some text (take (length text - 1) (drop 1 text)) value 1 (omega arith, omega arith, all, whole) (omega arith) (take_all (length text - 1) (drop 1 text) (omega (arith, size)))
 
 -- What holds of a text holds of the same text.
-pub cell-on : {t u : List ℕ} {number : Option ℕ} {rest : List ℕ} → t ≡ u → HasCell u number rest → HasCell t number rest
+pub cell-on : {t u : List ℕ} {number : Option ℕ} {rest : List ℕ} → t ≡ u → HasCell u number rest
+    → HasCell t number rest
 cell-on {t} {u} {number} {rest} e h = subst (λ x. HasCell x number rest) (sym e) h
 
-pub field-on : {t u : List ℕ} {number : Option ℕ} {rest : List ℕ} → t ≡ u → HasField u number rest → HasField t number rest
+pub field-on : {t u : List ℕ} {number : Option ℕ} {rest : List ℕ} → t ≡ u → HasField u number rest
+    → HasField t number rest
 field-on {t} {u} {number} {rest} e h = subst (λ x. HasField x number rest) (sym e) h
 
 pub line-on : {t u rest : List ℕ} → t ≡ u → EndsLine u rest → EndsLine t rest
@@ -232,7 +261,8 @@ line-ends {end} {rest} (inr (inl e)) = subst EndsField (sym e) refl
 line-ends {end} {rest} (inr (inr e)) = subst EndsField (sym e.0) tt
 
 -- The numbers of an event have no fault.
-pub no_fault : (row a b c x y z : ℕ) (d e v w : Option ℕ) (event : Event) (fault : LogFault) → Some a ≡ Some x → Some b ≡ Some y → Some c ≡ Some z → d ≡ v → e ≡ w
+pub no_fault : (row a b c x y z : ℕ) (d e v w : Option ℕ) (event : Event) (fault : LogFault) → Some a ≡ Some x
+    → Some b ≡ Some y → Some c ≡ Some z → d ≡ v → e ≡ w
     → numbers_event row x y z v w ≡ Ok event → numbers_event row a b c d e ≡ Err fault → ⊥
 no_fault row a b c x y z d e v w event fault is_a is_b is_c is_d is_e known wrong =
     let first : a ≡ x = cc is_a in

@@ -9,7 +9,7 @@ use Rattle.retire.specs.declared.event.Event.TheVariants.{Retire}
 abbrev pub glyph : ℕ → ℕ
 glyph value = digit_glyph false value
 
-pub hex-one : (n : ℕ) → n < 16 → hex n ≡ glyph n ∷ []
+hex-one : (n : ℕ) → n < 16 → hex n ≡ glyph n ∷ []
 unfolding digits
 hex-one n small =
     let last : n / 16 ≡ 0 = omega arith in
@@ -19,7 +19,8 @@ hex-one n small =
 more : (n : ℕ) → 16 ≤ n → (n / 16 == 0) ≡ false
 more n some = ne_eqb (n / 16) 0 (λ e. absurd (omega (arith, e)))
 
-pub hex-eight : (n seven six five four three two one : ℕ) → seven ≡ n / 16 → six ≡ seven / 16 → five ≡ six / 16 → four ≡ five / 16 → three ≡ four / 16 → two ≡ three / 16 → one ≡ two / 16
+hex-eight : (n seven six five four three two one : ℕ) → seven ≡ n / 16 → six ≡ seven / 16 → five ≡ six / 16
+    → four ≡ five / 16 → three ≡ four / 16 → two ≡ three / 16 → one ≡ two / 16
     → 268435456 ≤ n → n ≤ 4294967295
     → hex n ≡ glyph one ∷ glyph (two % 16) ∷ glyph (three % 16) ∷ glyph (four % 16) ∷ glyph (five % 16) ∷ glyph (six % 16) ∷ glyph (seven % 16) ∷ glyph (n % 16) ∷ []
 unfolding digits
@@ -45,9 +46,21 @@ hex-eight n seven six five four three two one e7 e6 e5 e4 e3 e2 e1 low high =
       first,
     ) refl
 
-pub short-line : (n seven six five four three two one itype priv : ℕ) → seven ≡ n / 16 → six ≡ seven / 16 → five ≡ six / 16 → four ≡ five / 16 → three ≡ four / 16 → two ≡ three / 16 → one ≡ two / 16
-    → 268435456 ≤ n → n ≤ 4294967295 → itype < 16 → priv < 16
-    → glyph one ∷ glyph (two % 16) ∷ glyph (three % 16) ∷ glyph (four % 16) ∷ glyph (five % 16) ∷ glyph (six % 16) ∷ glyph (seven % 16) ∷ glyph (n % 16) ∷ 44 ∷ glyph itype ∷ 44 ∷ glyph priv ∷ 44 ∷ 44 ∷ 10 ∷ []
-    ≡ event_line (Retire n itype priv)
-short-line n seven six five four three two one itype priv e7 e6 e5 e4 e3 e2 e1 low high type level =
-    rw (hex-eight n seven six five four three two one e7 e6 e5 e4 e3 e2 e1 low high, hex-one itype type, hex-one priv level) refl
+-- The digits of eight, two in each byte.
+hex-bytes : (n : ℕ) → 268435456 ≤ n → n ≤ 4294967295
+    → hex n ≡ glyph (n / 16777216 / 16) ∷ glyph (n / 16777216 % 16) ∷ glyph (n / 65536 % 256 / 16) ∷ glyph (n / 65536 % 256 % 16) ∷ glyph (n / 256 % 256 / 16) ∷ glyph (n / 256 % 256 % 16) ∷ glyph (n % 256 / 16) ∷ glyph (n % 256 % 16) ∷ []
+hex-bytes n low high =
+    let e1 : n / 16777216 / 16 ≡ n / 16 / 16 / 16 / 16 / 16 / 16 / 16 = omega arith in
+    let e2 : n / 16777216 % 16 ≡ n / 16 / 16 / 16 / 16 / 16 / 16 % 16 = omega arith in
+    let e3 : n / 65536 % 256 / 16 ≡ n / 16 / 16 / 16 / 16 / 16 % 16 = omega arith in
+    let e4 : n / 65536 % 256 % 16 ≡ n / 16 / 16 / 16 / 16 % 16 = omega arith in
+    let e5 : n / 256 % 256 / 16 ≡ n / 16 / 16 / 16 % 16 = omega arith in
+    let e6 : n / 256 % 256 % 16 ≡ n / 16 / 16 % 16 = omega arith in
+    let e7 : n % 256 / 16 ≡ n / 16 % 16 = omega arith in
+    let e8 : n % 256 % 16 ≡ n % 16 = omega arith in
+    rw (e1, e2, e3, e4, e5, e6, e7, e8) (hex-eight n _ _ _ _ _ _ _ refl refl refl refl refl refl refl low high)
+
+pub short-line : (n itype priv : ℕ) → 268435456 ≤ n → n ≤ 4294967295 → itype < 16 → priv < 16
+    → glyph (n / 16777216 / 16) ∷ glyph (n / 16777216 % 16) ∷ glyph (n / 65536 % 256 / 16) ∷ glyph (n / 65536 % 256 % 16) ∷ glyph (n / 256 % 256 / 16) ∷ glyph (n / 256 % 256 % 16) ∷ glyph (n % 256 / 16) ∷ glyph (n % 256 % 16)
+    ∷ 44 ∷ glyph itype ∷ 44 ∷ glyph priv ∷ 44 ∷ 44 ∷ 10 ∷ [] ≡ event_line (Retire n itype priv)
+short-line n itype priv low high type level = rw (hex-bytes n low high, hex-one itype type, hex-one priv level) refl

@@ -21,7 +21,8 @@ or-right false b e = e
 or-right true b e = cc e
 
 -- A field with no comma ends at the first.
-field-ends : (field other rest more : List ℕ) → list_any (needs_byte default_writer) field ≡ false → list_any (needs_byte default_writer) other ≡ false → field ++ 44 ∷ rest ≡ other ++ 44 ∷ more
+field-ends : (field other rest more : List ℕ) → list_any (needs_byte default_writer) field ≡ false
+    → list_any (needs_byte default_writer) other ≡ false → field ++ 44 ∷ rest ≡ other ++ 44 ∷ more
     → rest ≡ more
 field-ends [] [] rest more p q e = cc e
 field-ends [] (c ∷ other) rest more p q e =
@@ -39,11 +40,14 @@ field-ends (c ∷ field) (d ∷ other) rest more p q e =
     field-ends field other rest more (or-right _ _ p) (or-right _ _ q) tails
 
 -- So does a cell.
-cell-ends : {text : List ℕ} {m n : Option ℕ} {rest more : List ℕ} → HasCell text m rest → HasCell text n more → rest ≡ more
-cell-ends {text} {m} {n} {rest} {more} (field, e, spells) (other, f, spelt) = field-ends field other rest more spells.2 spelt.2 (sym e ∙ f)
+cell-ends : {text : List ℕ} {m n : Option ℕ} {rest more : List ℕ} → HasCell text m rest → HasCell text n more
+    → rest ≡ more
+cell-ends {text} {m} {n} {rest} {more} (field, e, spells) (other, f, spelt) =
+    field-ends field other rest more spells.2 spelt.2 (sym e ∙ f)
 
 -- An empty field before a line feed ends the line there.
-empty-ends : (rest after more : List ℕ) (n : Option ℕ) → HasField (10 ∷ rest) n after → EndsLine after more → rest ≡ more
+empty-ends : (rest after more : List ℕ) (n : Option ℕ) → HasField (10 ∷ rest) n after → EndsLine after more
+    → rest ≡ more
 empty-ends rest after more n ([], e, spells) (inl ends) = cc (e ∙ ends)
 empty-ends rest after more n ([], e, spells) (inr (inl ends)) = let h = e ∙ ends in cc h
 empty-ends rest after more n ([], e, spells) (inr (inr ends)) = let h = e ∙ ends.0 in cc h
@@ -55,28 +59,36 @@ empty-ends rest after more n (c ∷ field, e, spells) ends =
 
 -- A text that is a field and nothing else.
 whole-spells : (text : List ℕ) (n : Option ℕ) (rest : List ℕ) → HasField text n rest → rest ≡ [] → Spells text n
-whole-spells text n rest (field, e, spells) none = subst (λ f. Spells f n) (sym (e ∙ ap (λ t. field ++ t) none ∙ append-nil field)) spells
+whole-spells text n rest (field, e, spells) none =
+    subst (λ f. Spells f n) (sym (e ∙ ap (λ t. field ++ t) none ∙ append-nil field)) spells
 
 digit-spells : (byte value : ℕ) → value ≡ hex_value byte → (value ≡ 16 → ⊥) → Spells (byte ∷ []) (Some value)
-digit-spells byte value is other = whole-spells (byte ∷ []) (Some value) _ (field-digit (byte ∷ []) value value (omega arith) refl is other) refl
+digit-spells byte value is other =
+    whole-spells (byte ∷ []) (Some value) _ (field-digit (byte ∷ []) value value (omega arith) refl is other) refl
 
-digit-cell : (byte value : ℕ) (rest : List ℕ) → value ≡ hex_value byte → (value ≡ 16 → ⊥) → HasCell (byte ∷ 44 ∷ rest) (Some value) rest
+digit-cell : (byte value : ℕ) (rest : List ℕ) → value ≡ hex_value byte → (value ≡ 16 → ⊥)
+    → HasCell (byte ∷ 44 ∷ rest) (Some value) rest
 digit-cell byte value rest is other = (byte ∷ [], refl, digit-spells byte value is other)
 
 empty-cell : (rest : List ℕ) → HasCell (44 ∷ rest) None rest
 empty-cell rest = ([], refl, (refl, refl, refl))
 
-address-cell : (text digits behind rest : List ℕ) (addr : ℕ) → digits ≡ take 8 text → behind ≡ drop 8 text → HasDigits digits addr 8 → behind ≡ 44 ∷ rest → HasCell text (Some addr) rest
+address-cell : (text digits behind rest : List ℕ) (addr : ℕ) → digits ≡ take 8 text → behind ≡ drop 8 text
+    → HasDigits digits addr 8 → behind ≡ 44 ∷ rest → HasCell text (Some addr) rest
 address-cell text digits behind rest addr front back h comma =
-    let whole : text ≡ digits ++ behind = sym (take-append-drop 8 text) ∙ ap (λ t. t ++ drop 8 text) (sym front) ∙ ap (λ t. digits ++ t) (sym back) in
+    let whole : text ≡ digits ++ behind = sym (take-append-drop 8 text) ∙ ap (λ t. t ++ drop 8 text) (sym front)
+    ∙ ap (λ t. digits ++ t) (sym back) in
     let size = length-take 8 text in
     let short : length digits ≤ 8 = rw front (omega (arith, size)) in
     (digits, whole ∙ ap (λ t. digits ++ t) comma, whole-spells digits (Some addr) (drop 8 digits) (field-some digits (drop 8 digits) addr 8 h (omega arith) refl) (drop_all 8 digits short))
 
 -- A row of eight digits, two of one digit, and two empty fields.
-pub short-fields : (row addr second third i p : ℕ) (text digits behind rest : List ℕ) (event : Event) → digits ≡ take 8 text → behind ≡ drop 8 text → HasDigits digits addr 8
-    → behind ≡ 44 ∷ i ∷ 44 ∷ p ∷ 44 ∷ 44 ∷ 10 ∷ rest → second ≡ hex_value i → (second ≡ 16 → ⊥) → third ≡ hex_value p → (third ≡ 16 → ⊥)
-    → numbers_event row addr second third None None ≡ Ok event → HasRow row text event rest × ((more : List ℕ) → IsPlainRow row text more → rest ≡ more)
+pub short-fields : (row addr second third i p : ℕ) (text digits behind rest : List ℕ) (event : Event)
+    → digits ≡ take 8 text → behind ≡ drop 8 text → HasDigits digits addr 8
+    → behind ≡ 44 ∷ i ∷ 44 ∷ p ∷ 44 ∷ 44 ∷ 10 ∷ rest → second ≡ hex_value i → (second ≡ 16 → ⊥) → third ≡ hex_value p
+    → (third ≡ 16 → ⊥)
+    → numbers_event row addr second third None None ≡ Ok event
+    → HasRow row text event rest × ((more : List ℕ) → IsPlainRow row text more → rest ≡ more)
 short-fields row addr second third i p text digits behind rest event front back h tail is_i some_i is_p some_p known =
     let first = address-cell text digits behind (i ∷ 44 ∷ p ∷ 44 ∷ 44 ∷ 10 ∷ rest) addr front back h tail in
     let type = digit-cell i second (p ∷ 44 ∷ 44 ∷ 10 ∷ rest) is_i some_i in

@@ -11,12 +11,14 @@ both_of : (a b : Bool) → (a && b) ≡ true → (a ≡ true) × (b ≡ true)
 both_of true b e = (refl, e)
 both_of false b e = cc e
 
-agree_at : (f g : ℕ → ℕ) (n : ℕ) → agree_below f g n ≡ true → (b : ℕ) → b < n → f b ≡ g b
+-- So they do at each place below n.
+pub agree_at : (f g : ℕ → ℕ) (n : ℕ) → agree_below f g n ≡ true → (b : ℕ) → b < n → f b ≡ g b
 unfolding agree_below
 agree_at f g zero h b low = absurd (omega arith)
 agree_at f g (suc n) h b low =
     let both = both_of (f n == g n) (agree_below f g n) h in
     elim (cases_eq b n) [ inl same ↦ rw same (eqb-true (f n) (g n) both.0) | inr other ↦ agree_at f g n both.1 b (omega arith) ]
 
-pub table-at : (table : List ℕ) (f : ℕ → ℕ) (n b : ℕ) → b < n → agree_below (λ k. get_or table k 0) f n ≡ true → get_or table b 0 ≡ f b
+pub table-at : (table : List ℕ) (f : ℕ → ℕ) (n b : ℕ) → b < n → agree_below (λ k. get_or table k 0) f n ≡ true
+    → get_or table b 0 ≡ f b
 table-at table f n b low h = agree_at (λ k. get_or table k 0) f n h b low

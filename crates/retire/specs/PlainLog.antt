@@ -21,9 +21,10 @@ AreLines (fields ∷ rows) text = (rest : List ℕ) × IsLine fields text rest �
 
 -- A text is the lines of rows from this number on, of which none has a fault.
 abbrev pub ArePlainRows : ℕ → List ℕ → Type 0
-ArePlainRows row text = (rows : List (List (List ℕ))) × (events : List Event) × AreLines rows text × (events_from row rows ≡ Ok events)
+ArePlainRows row text =
+    (rows : List (List (List ℕ))) × (events : List Event) × AreLines rows text × (events_from row rows ≡ Ok events)
 
--- A text is the header's line, and then the lines of rows with no fault; no field stands in quotes, since a quote is no digit.
+-- A text is the header's line, and then the lines of rows with no fault; a quote is no digit, so none is quoted.
 abbrev pub IsPlainLog : List ℕ → Type 0
 IsPlainLog text = (rest : List ℕ) × IsLine header text rest × ArePlainRows 1 rest
 

@@ -50,8 +50,10 @@ fn digits_before(text: &[u8]) -> Option<Digits>
 /// The field of a prefix and these digits; none where there is no digit, or more than sixteen.
 #[inline(always)]
 fn prefixed(digits: &[u8]) -> Option<Field<'_>>
-    ensures field { IfSome result (λ r. (a : ℕ) → (b : ℕ) → is_prefix a b ≡ true → HasField (a ∷ b ∷ digits.now) r.number r.rest.now) }
-    ensures reads { (field : List ℕ) (rest : List ℕ) → digits.now ≡ field ++ rest → is_numeral field ≡ true → EndsField rest
+    ensures field { IfSome result (λ r. (a : ℕ) → (b : ℕ) → is_prefix a b ≡ true
+        → HasField (a ∷ b ∷ digits.now) r.number r.rest.now) }
+    ensures reads { (field : List ℕ) (rest : List ℕ) → digits.now ≡ field ++ rest
+        → is_numeral field ≡ true → EndsField rest
         → IsSomeAnd result (λ r. r.rest.now ≡ rest) }
 {
     let found = digits_before(digits)?;
@@ -69,7 +71,8 @@ fn prefixed(digits: &[u8]) -> Option<Field<'_>>
 #[inline(always)]
 fn unprefixed(text: &[u8]) -> Option<Field<'_>>
     ensures field { IfSome result (λ r. HasField text.now r.number r.rest.now) }
-    ensures reads { (field : List ℕ) (rest : List ℕ) → text.now ≡ field ++ rest → is_numeral field ≡ true → EndsField rest
+    ensures reads { (field : List ℕ) (rest : List ℕ) → text.now ≡ field ++ rest
+        → is_numeral field ≡ true → EndsField rest
         → IsSomeAnd result (λ r. r.rest.now ≡ rest) }
 {
     let found = digits_before(text)?;
@@ -86,7 +89,8 @@ fn unprefixed(text: &[u8]) -> Option<Field<'_>>
 #[inline(always)]
 fn long_field(text: &[u8]) -> Option<Field<'_>>
     ensures field { IfSome result (λ r. HasField text.now r.number r.rest.now) }
-    ensures reads { (number : Option ℕ) (rest : List ℕ) → HasField text.now number rest → EndsField rest → length rest < length text.now
+    ensures reads { (number : Option ℕ) (rest : List ℕ) → HasField text.now number rest → EndsField rest
+        → length rest < length text.now
         → IsSomeAnd result (λ r. r.rest.now ≡ rest) }
 {
     let digits = after_prefix(text);
@@ -142,7 +146,8 @@ pub fn field_before(text: &[u8]) -> Option<Field<'_>>
 #[inline(always)]
 pub fn cell(text: &[u8]) -> Option<Field<'_>>
     ensures cell { IfSome result (λ r. HasCell text.now r.number r.rest.now) }
-    ensures reads { (number : Option ℕ) (rest : List ℕ) → HasCell text.now number rest → IsSomeAnd result (λ r. r.rest.now ≡ rest) }
+    ensures reads { (number : Option ℕ) (rest : List ℕ) → HasCell text.now number rest
+        → IsSomeAnd result (λ r. r.rest.now ≡ rest) }
 {
     let field = field_before(text)?;
     let rest = after_comma(field.rest)?;

@@ -32,9 +32,10 @@ fn read_by_csv<A: Allocator>(
 
 /// Reads the events of a log that lies in memory, as [`read_log`](crate::read_log) does of any reader.
 ///
-/// Where no line has a quote or is empty, each ends at a line feed, with a carriage return before it or none, and no row
-/// has a fault, as in a log that [`write_log`](crate::write_log) writes, the rows are read straight from their bytes.
-/// `csv` reads any other text from its beginning, and names the fault.
+/// Where no line has a quote or is empty, each ends at a line feed, with a carriage return before it or none, and no
+/// row has a fault, as in a log that [`write_log`](crate::write_log) writes, the rows are read straight from their
+/// bytes. `csv` reads any other text from its beginning, and names the fault. No reader fails, so there is no
+/// [`LogFault::Read`].
 pub fn read_log_from_slice<A: Allocator>(
     alloc: A,
     global: Global,

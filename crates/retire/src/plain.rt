@@ -70,7 +70,8 @@ fn row_before(row: u32, text: &[u8]) -> Option<PlainRow<'_>>
 fn plain_rows<A: Allocator>(events: &mut Vec<Event, A>, text: &[u8]) -> Result<bool, LogFault>
     requires empty { events.old.items ≡ [] }
     requires none { vec_len events.old ≡ 0 }
-    ensures told { IfOk result (λ all. all ≡ true → events_from 1 (records_left StartRecord text.now) ≡ Ok events.new.items) }
+    ensures told { IfOk result (λ all. all ≡ true
+        → events_from 1 (records_left StartRecord text.now) ≡ Ok events.new.items) }
     ensures reads { IfOk result (λ all. ArePlainRows 1 text.now → all ≡ true) }
     ensures short { vec_len events.new ≤ limit }
     ensures denied { IfErr result (λ fault. fault ≡ LogFault.Memory) }

@@ -40,7 +40,8 @@ fn eight_digits(digits: &[u8; 8]) -> Option<u64>
     Some(value)
 }
 
-/// What stands behind the address of a row whose type and privilege are one byte each, and whose other fields are empty.
+/// What stands behind the address of a row whose type and privilege are one byte each and whose other fields are
+/// empty.
 #[inline(always)]
 fn tail_of(text: &[u8]) -> Option<Tail<'_>>
     ensures { IfSome result (λ r. text.now ≡ 44 ∷ r.itype ∷ 44 ∷ r.privilege ∷ 44 ∷ 44 ∷ 10 ∷ r.rest.now) }

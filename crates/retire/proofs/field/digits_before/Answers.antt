@@ -22,9 +22,11 @@ loop-i-preserved c =
     let other = rw c.value_of-digit.ensures at c.if-digit-eq-NO_DIGIT.false in
     rw (c.from.ensures, c.value_of-digit.ensures) (record {
       few = omega arith;
-      small = one_digit_more c.loop-i.value c.loop-i.i _ c.loop-i.invariant.small (hex_value-small (get_or c.args.text.now c.loop-i.i 0) other);
+      small =
+          one_digit_more c.loop-i.value c.loop-i.i _ c.loop-i.invariant.small (hex_value-small (get_or c.args.text.now c.loop-i.i 0) other);
       digits = list_all-digit_more c.args.text.now c.loop-i.i c.loop-i-test.true other c.loop-i.invariant.digits;
-      value = rw (digits_value-digit_more c.args.text.now c.loop-i.i c.loop-i-test.true other, ← c.loop-i.invariant.value) refl;
+      value =
+          rw (digits_value-digit_more c.args.text.now c.loop-i.i c.loop-i-test.true other, ← c.loop-i.invariant.value) refl;
     })
 
 pub returns-then-digit-eq-NO_DIGIT-clause-all : goal.returns-then-digit-eq-NO_DIGIT-clause-all

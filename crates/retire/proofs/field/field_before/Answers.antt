@@ -6,7 +6,8 @@ use Rattle.retire.proofs.PlainRowLemmas.{field-digit}
 use Rattle.retire.proofs.field.field_before.Goals as goal
 
 pub returns-in-Some-clause-field : goal.returns-in-Some-clause-field
-returns-in-Some-clause-field c = field-digit c.args.text.now c.from.result c.value_of-digit.result (omega arith) c.from.ensures c.value_of-digit.ensures c.if-digit-eq-NO_DIGIT.false
+returns-in-Some-clause-field c =
+    field-digit c.args.text.now c.from.result c.value_of-digit.result (omega arith) c.from.ensures c.value_of-digit.ensures c.if-digit-eq-NO_DIGIT.false
 
 pub returns-in-Some-clause-reads : goal.returns-in-Some-clause-reads
 returns-in-Some-clause-reads c = λ number rest h end.

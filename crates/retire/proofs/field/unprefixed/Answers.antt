@@ -19,4 +19,5 @@ returns-clause-field c = elim c.if-found-eq0.branch [
 
 pub returns-clause-reads : goal.returns-clause-reads
 returns-clause-reads c = λ field rest e numeral end.
-    c.split_at.ensures.back ∙ (numeral-front c.args.text.now field rest c.in_ok-found.found.count e numeral end c.in_ok-found.ensures.all).2
+    c.split_at.ensures.back
+    ∙ (numeral-front c.args.text.now field rest c.in_ok-found.found.count e numeral end c.in_ok-found.ensures.all).2

@@ -12,7 +12,9 @@ returns-clause-told g c =
     subst (λ t. IfOk c.plain_rows.result (λ all. all ≡ true → t ≡ Ok c.plain_rows.new.events.items)) (sym log) c.plain_rows.ensures.told
 
 pub returns-in_default-clause-reads : goal.returns-in_default-clause-reads
-returns-in_default-clause-reads g c = λ plain. sym c.in_default.ensures.cases ∙ header-front c.args.text.now c.as_slice.result.now c.as_slice.ensures plain
+returns-in_default-clause-reads g c =
+    λ plain. sym c.in_default.ensures.cases
+    ∙ header-front c.args.text.now c.as_slice.result.now c.as_slice.ensures plain
 
 pub returns-in_default-line_end-clause-reads : goal.returns-in_default-line_end-clause-reads
 returns-in_default-line_end-clause-reads g c = λ plain.
@@ -20,7 +22,8 @@ returns-in_default-line_end-clause-reads g c = λ plain.
     absurd (c.in_default-line_end.ensures.reads rest (subst (λ t. EndsLine t rest) (sym c.in-Some.ensures.cases.1) ends))
 
 pub returns-clause-reads : goal.returns-clause-reads
-returns-clause-reads g c = reads-log c.plain_rows.result (ArePlainRows 1 c.in-Some-line_end.rows.now) (IsPlainLog c.args.text.now) (λ plain.
+returns-clause-reads g c =
+    reads-log c.plain_rows.result (ArePlainRows 1 c.in-Some-line_end.rows.now) (IsPlainLog c.args.text.now) (λ plain.
     let (rest, ends, rows) = header-ends c.args.text.now c.as_slice.result.now c.as_slice.ensures plain in
     let same = c.in-Some-line_end.ensures.reads rest (subst (λ t. EndsLine t rest) (sym c.in-Some.ensures.cases.1) ends) in
     subst (λ t. ArePlainRows 1 t) (sym same) rows) c.plain_rows.ensures.reads

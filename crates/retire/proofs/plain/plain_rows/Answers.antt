@@ -7,7 +7,8 @@ use Rattle.retire.proofs.PlainRowLemmas.{plain-end, plain-more}
 use Rattle.retire.proofs.plain.plain_rows.Goals as goal
 
 pub returns-then-is_empty-clause-told : goal.returns-then-is_empty-clause-told
-returns-then-is_empty-clause-told g c = λ _. plain-end _ c.loop-row.row c.loop-row.events.items c.loop-row.rest.now c.loop-row.invariant.told (search (rules, arith))
+returns-then-is_empty-clause-told g c =
+    λ _. plain-end _ c.loop-row.row c.loop-row.events.items c.loop-row.rest.now c.loop-row.invariant.told (search (rules, arith))
 
 pub returns-in_default-clause-reads : goal.returns-in_default-clause-reads
 returns-in_default-clause-reads g c = λ plain.
@@ -22,7 +23,8 @@ loop-row-preserved g c =
     let len = rw good at c.push.ensures.len in
     record {
       count = rw (len, c.loop-row.invariant.count) refl;
-      told = rw items (plain-more _ c.loop-row.row c.loop-row.events.items c.in-Some.plain.event c.loop-row.rest.now c.in-Some.plain.rest.now c.loop-row.invariant.told (omega arith) c.in-Some.ensures.row);
+      told =
+          rw items (plain-more _ c.loop-row.row c.loop-row.events.items c.in-Some.plain.event c.loop-row.rest.now c.in-Some.plain.rest.now c.loop-row.invariant.told (omega arith) c.in-Some.ensures.row);
       plain = λ plain.
           let some = not_empty c.loop-row.rest.now c.is_empty.result c.is_empty.ensures c.if-is_empty.false in
           let (within, (rest, row, more)) = plain-next c.loop-row.row c.loop-row.rest.now (c.loop-row.invariant.plain plain) some in
@@ -30,7 +32,9 @@ loop-row-preserved g c =
     }
 
 pub returns-clause-told : goal.returns-clause-told
-returns-clause-told g c = λ all. plain-end _ c.loop-row.row c.loop-row.events.items c.loop-row.rest.now c.loop-row.invariant.told (search (rules, arith))
+returns-clause-told g c =
+    λ all. plain-end _ c.loop-row.row c.loop-row.events.items c.loop-row.rest.now c.loop-row.invariant.told (search (rules, arith))
 
 pub returns-clause-reads : goal.returns-clause-reads
-returns-clause-reads g c = λ plain. plain-all c.loop-row.row c.loop-row.rest.now c.is_empty-2.result (omega arith) c.is_empty-2.ensures (c.loop-row.invariant.plain plain)
+returns-clause-reads g c =
+    λ plain. plain-all c.loop-row.row c.loop-row.rest.now c.is_empty-2.result (omega arith) c.is_empty-2.ensures (c.loop-row.invariant.plain plain)

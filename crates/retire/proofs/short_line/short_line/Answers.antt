@@ -1,19 +1,19 @@
 -- The digits are named by hand, the highest first.
-use Rattle.std.proofs.Common.{arith, refl}
+use Rattle.std.proofs.Common.{arith}
 use Rattle.retire.proofs.ShortLineLemmas.{short-line}
 use Rattle.retire.proofs.short_line.short_line.Goals as goal
 
 pub returns : goal.returns
 returns c =
     rw (
+      c.pair_of-first.ensures.first,
+      c.pair_of-first.ensures.second,
+      c.pair_of-second.ensures.first,
+      c.pair_of-second.ensures.second,
+      c.pair_of-third.ensures.first,
+      c.pair_of-third.ensures.second,
+      c.pair_of-last.ensures.first,
+      c.pair_of-last.ensures.second,
       c.digit_of.ensures,
       c.digit_of-2.ensures,
-      c.digit_of-3.ensures,
-      c.digit_of-4.ensures,
-      c.digit_of-5.ensures,
-      c.digit_of-6.ensures,
-      c.digit_of-7.ensures,
-      c.digit_of-8.ensures,
-      c.digit_of-9.ensures,
-      c.digit_of-10.ensures,
-    ) (short-line c.args.addr _ _ _ _ _ _ _ c.args.itype c.args.privilege refl refl refl refl refl refl refl (omega arith) (omega arith) (omega arith) (omega arith))
+    ) (short-line c.args.addr c.args.itype c.args.privilege (omega arith) (omega arith) (omega arith) (omega arith))

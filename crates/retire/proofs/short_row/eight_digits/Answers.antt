@@ -21,7 +21,9 @@ loop-byte-preserved c =
     let within : c.loop-byte.byte-index < length c.args.digits.now = search (rules, arith) in
     rw (c.from.ensures, c.value_of-digit.ensures) (record {
       few = omega arith;
-      small = one_digit_more c.loop-byte.value c.loop-byte.byte-index _ c.loop-byte.invariant.small (hex_value-small (get_or c.args.digits.now c.loop-byte.byte-index 0) other);
+      small =
+          one_digit_more c.loop-byte.value c.loop-byte.byte-index _ c.loop-byte.invariant.small (hex_value-small (get_or c.args.digits.now c.loop-byte.byte-index 0) other);
       digits = list_all-digit_more c.args.digits.now c.loop-byte.byte-index within other c.loop-byte.invariant.digits;
-      value = rw (digits_value-digit_more c.args.digits.now c.loop-byte.byte-index within other, ← c.loop-byte.invariant.value) refl;
+      value =
+          rw (digits_value-digit_more c.args.digits.now c.loop-byte.byte-index within other, ← c.loop-byte.invariant.value) refl;
     })
