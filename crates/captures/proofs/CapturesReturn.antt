@@ -1,11 +1,11 @@
 -- A capture of legal logs decodes to those logs, unless memory is refused.
-use Rattle.std.proofs.Common.{◌≡◌, ℕ, ◌<◌, All, Bool, true, List, [], ◌∷◌, ◌++◌, Option, Some, None, length, map, replicate, get_or, sym, ap, subst, ◌∙◌, ⊎_elim, arith}
+use Rattle.std.proofs.Common.{◌≡◌, ℕ, ◌<◌, ◌≤◌, ◌^◌, All, Bool, true, List, [], ◌∷◌, ◌++◌, Option, Some, None, length, map, replicate, get_or, sym, ap, subst, ◌∙◌, ⊎_elim, arith}
 use Rattle.std.proofs.lemmas.List.{same_lists, length-map, length-replicate, get_or-map, get_or-replicate, append-nil}
 use Rattle.std.proofs.lemmas.Option.{slice_get-get_or}
 use Rattle.retire.specs.declared.event.Event.{Event}
 use Rattle.rvclass.proofs.WordsLemmas.{words_of-IsProgram}
 use Rattle.rvclass.specs.Fetch.{words_of}
-use Rattle.rvclass.specs.Image.{Image, IsImage}
+use Rattle.rvclass.specs.Image.{Image}
 use Rattle.legalpath.specs.ProgramLog.{ProgramLog, log_of}
 use Rattle.decoder.proofs.UniqueLemmas.{one_log}
 use Rattle.decoder.specs.Describes.{Describes}
@@ -18,7 +18,7 @@ use Rattle.message.specs.declared.fault.MessageFault.TheVariants as message
 use Rattle.message.specs.declared.message.Message.{Message}
 use Rattle.captures.proofs.CapturesSplit.{capture_split, capture_none, capture_not_cut, capture_not_bad, capture_first}
 use Rattle.captures.proofs.Elements.{All-behind}
-use Rattle.captures.proofs.NextMessages.{all_ranges, log_described, log_ended, next_message}
+use Rattle.captures.proofs.NextMessages.{all_ranges, program_image, log_described, log_ended, next_message}
 use Rattle.captures.specs.Decoded.{AreDecoded, IsRefused, IsNotDecoded, Stops, IsDecoded}
 use Rattle.captures.specs.Messages.{messages_of_harts}
 use Rattle.captures.specs.OfHart.{packets_of}
@@ -26,7 +26,7 @@ use Rattle.captures.specs.Returned.{IsCaptureOf, AreReturned}
 use Rattle.captures.specs.declared.outcome.CaptureFault.{CaptureFault}
 use Rattle.captures.specs.declared.outcome.CaptureFault.TheVariants as fault
 
-module _ (program : Image) (period : ℕ) (logs : List ProgramLog) (bytes : List ℕ) (image : IsImage program) (sent : IsCaptureOf program period logs bytes) where
+module _ (program : Image) (period : ℕ) (logs : List ProgramLog) (bytes : List ℕ) (sent : IsCaptureOf program period logs bytes) (few : length logs ≤ 2 ^ 16) where
   abbrev all : List Message
   all = messages_of_harts period 0 logs
 
@@ -40,9 +40,10 @@ module _ (program : Image) (period : ℕ) (logs : List ProgramLog) (bytes : List
       let known : k < length logs = omega (arith, within, count) in
       let log = get_or logs k (log_of program d) in
       let list = get_or lists k d in
+      let image = program_image program period logs bytes sent few k log (slice_get-get_or logs k (log_of program d) known) in
       one_log (words_of program) (words_of-IsProgram program image) _ list log.events
       (decoded.described k list (slice_get-get_or lists k d within))
-      (log_described program period logs bytes image sent k log (slice_get-get_or logs k (log_of program d) known))
+      (log_described program period logs bytes sent few k log (slice_get-get_or logs k (log_of program d) known))
       ∙ sym (get_or-map events logs k (log_of program d) d known))
 
   -- And every hart is closed.
@@ -54,14 +55,14 @@ module _ (program : Image) (period : ℕ) (logs : List ProgramLog) (bytes : List
       let known : k < length logs = omega (arith, within, count) in
       let log = get_or logs k (log_of program []) in
       decoded.ended k (get_or closed k d) (slice_get-get_or closed k d within)
-      ∙ log_ended program period logs bytes image sent k log (slice_get-get_or logs k (log_of program []) known)
+      ∙ log_ended program period logs bytes sent few k log (slice_get-get_or logs k (log_of program []) known)
       ∙ sym (get_or-replicate (length logs) k true d known))
 
   -- No message behind the first ones is refused.
   not_refused : (messages later : List Message) (rest : List ℕ) (why : DemuxFault) → all ≡ messages ++ later → rest ≡ capture later → All IsMessage later → IsRefused (length logs) messages rest why → ⊥
   not_refused messages later rest why whole same ranges refused =
       let first = capture_first later refused.message refused.rest ranges refused.ranges (sym same ∙ refused.begins) in
-      let next = next_message program period logs bytes image sent messages refused.message first.0 (whole ∙ ap (λ l. messages ++ l) first.1) in
+      let next = next_message program period logs bytes sent few messages refused.message first.0 (whole ∙ ap (λ l. messages ++ l) first.1) in
       let taken = next.taken refused.expected refused.accepted in
       let answer = refused.refused in
       cc
@@ -71,7 +72,7 @@ module _ (program : Image) (period : ℕ) (logs : List ProgramLog) (bytes : List
       → IsNotDecoded (words_of program) (length logs) messages rest why → why ≡ Memory
   not_decoded messages later rest why whole same ranges left =
       let first = capture_first later left.message left.rest ranges left.ranges (sym same ∙ left.begins) in
-      let next = next_message program period logs bytes image sent messages left.message first.0 (whole ∙ ap (λ l. messages ++ l) first.1) in
+      let next = next_message program period logs bytes sent few messages left.message first.0 (whole ∙ ap (λ l. messages ++ l) first.1) in
       let packet : next.packet ≡ left.packet = let one = next.taken left.expected left.accepted in let other = left.unpacked in cc in
       let described = subst (λ p. Describes (words_of program) (packets_of left.message.hart messages ++ p ∷ []) next.log) packet next.described in
       ⊎_elim (λ memory. memory) (λ none. absurd (none next.log described)) left.reason
@@ -93,10 +94,11 @@ module _ (program : Image) (period : ℕ) (logs : List ProgramLog) (bytes : List
 
 -- A capture of legal logs decodes to those logs, with every hart closed, unless memory was refused.
 pub captures_return : (program : Image) (period harts : ℕ) (logs : List ProgramLog) (bytes : List ℕ) (lists : List (List Event)) (closed : List Bool) (stop : Option (ℕ × CaptureFault))
-    → IsImage program → IsCaptureOf program period logs bytes → length logs ≡ harts → IsDecoded (words_of program) harts bytes lists closed stop → AreReturned logs lists closed stop
-captures_return program period harts logs bytes lists closed stop image sent count decoded =
+    → IsCaptureOf program period logs bytes → length logs ≡ harts → harts ≤ 2 ^ 16 → IsDecoded (words_of program) harts bytes lists closed stop → AreReturned logs lists closed stop
+captures_return program period harts logs bytes lists closed stop sent count room decoded =
+    let few : length logs ≤ 2 ^ 16 = omega (arith, count, room) in
     let here = subst (λ n. IsDecoded (words_of program) n bytes lists closed stop) (sym count) decoded in
-    let ranges = all_ranges program period logs bytes image sent in
+    let ranges = all_ranges program period logs bytes sent few in
     let split = capture_split (messages_of_harts period 0 logs) here.messages here.rest ranges here.ranges (sym sent.whole ∙ here.whole) in
     let later = All-behind IsMessage here.messages split.later (subst (All IsMessage) split.whole ranges) in
-    returned program period logs bytes image sent lists closed stop here.messages split.later here.rest split.whole split.bytes later here.decoded here.stops
+    returned program period logs bytes sent few lists closed stop here.messages split.later here.rest split.whole split.bytes later here.decoded here.stops

@@ -10,7 +10,7 @@ use Rattle.rvclass.specs.Words.{Words}
 use Rattle.payload.specs.Closing.{is_closing_packet}
 use Rattle.payload.specs.Reading.{reading}
 use Rattle.payload.specs.declared.packet.Packet.{Packet}
-use Rattle.decoder.specs.Ended.{has_ended}
+use Rattle.payload.specs.Ended.{has_ended}
 use Rattle.decoder.specs.Stands.{Stands}
 use Rattle.decoder.specs.declared.decoding.Decoder.{Decoder}
 use Rattle.message.specs.Accepting.{next_of}

@@ -5,7 +5,7 @@ use Rattle.payload.specs.Closing.{is_closing_packet}
 use Rattle.payload.specs.Reading.{reading}
 use Rattle.payload.specs.declared.packet.Packet.{Packet}
 use Rattle.encoder.proofs.SpotLemmas.{last_or-snoc}
-use Rattle.decoder.specs.Ended.{closes, has_ended}
+use Rattle.payload.specs.Ended.{closes, has_ended}
 use Rattle.message.proofs.OfHartLemmas.{of_hart-append, of_hart-next, of_hart-other}
 use Rattle.message.specs.OfHart.{of_hart}
 use Rattle.message.specs.Accepting.{next_of}

@@ -38,7 +38,7 @@ messages_sent harts hart number (p ∷ ps) known few room profile =
     let extends = (payload_of-shortest p good).extends in
     let message : Message = record { hart = hart; number = number; payload = payload_of p } in
     let sent : IsSent harts message = record {
-      ranges = record { hart = omega (arith, known, few); number = omega (arith, room); some = extends.some; few = extends.few };
+      ranges = record { hart = omega (arith, known, few); number = omega (arith, room); some = extends.some; few = extends.few; bytes = extends.each };
       known = known;
       few = omega (arith, room);
       packet = p;

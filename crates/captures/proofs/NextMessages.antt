@@ -1,5 +1,5 @@
 -- The message that stands behind the first ones of a capture.
-use Rattle.std.proofs.Common.{◌≡◌, ℕ, All, true, false, List, [], ◌∷◌, ◌++◌, Option, Some, None, Ok, length, get_or, slice_get, refl, sym, ap, subst, ◌∙◌, arith}
+use Rattle.std.proofs.Common.{◌≡◌, ℕ, ◌≤◌, ◌^◌, All, true, false, List, [], ◌∷◌, ◌++◌, Option, Some, None, Ok, length, get_or, slice_get, refl, sym, ap, subst, ◌∙◌, arith}
 use Rattle.std.specs.List.{last_or}
 use Rattle.std.proofs.lemmas.List.{append_assoc}
 use Rattle.std.proofs.lemmas.List.Elements.{All-weaker}
@@ -16,7 +16,7 @@ use Rattle.payload.specs.declared.packet.Packet.{Packet}
 use Rattle.encoder.specs.Packets.{packets}
 use Rattle.decoder.proofs.ExtendingLemmas.{front_describes}
 use Rattle.decoder.specs.Describes.{Describes}
-use Rattle.decoder.specs.Ended.{has_ended}
+use Rattle.payload.specs.Ended.{has_ended}
 use Rattle.decoder.specs.Pieces.{reported_after, Pieces}
 use Rattle.message.proofs.Answering.{answer-next}
 use Rattle.message.specs.Accepting.{answer_of, accepting}
@@ -52,16 +52,16 @@ pub record IsNext (words : Words) (harts : ℕ) (messages : List Message) (messa
   pub log : List Event
   pub described : Describes words (packets_of message.hart messages ++ packet ∷ []) log
 
-module _ (program : Image) (period : ℕ) (logs : List ProgramLog) (bytes : List ℕ) (image : IsImage program) (sent : IsCaptureOf program period logs bytes) where
+module _ (program : Image) (period : ℕ) (logs : List ProgramLog) (bytes : List ℕ) (sent : IsCaptureOf program period logs bytes) (few : length logs ≤ 2 ^ 16) where
   abbrev all : List Message
   all = messages_of_harts period 0 logs
 
   sound : All (IsSound period) logs
-  sound = sound_logs program period logs bytes image sent
+  sound = sound_logs program period logs bytes sent
 
   -- Each message is as harts send it.
   as_sent : All (IsSent (length logs)) all
-  as_sent = let few = sent.few in all_sent period (length logs) 0 logs (omega arith) few sound
+  as_sent = all_sent period (length logs) 0 logs (omega arith) few sound
 
   pub all_ranges : All IsMessage all
   all_ranges = All-weaker (IsSent (length logs)) IsMessage (λ message is. is.ranges) all as_sent
@@ -72,12 +72,18 @@ module _ (program : Image) (period : ℕ) (logs : List ProgramLog) (bytes : List
       packets_of-log period hart logs log at (All_at (IsSound period) logs hart log at sound)
       ∙ ap (λ (p : Image). packets (words_of p) period log.events) (All_at (λ (l : ProgramLog). l.program ≡ program) logs hart log at sent.same)
 
+  -- Where there is a log, the bytes of the program are an image.
+  pub program_image : (hart : ℕ) (log : ProgramLog) → slice_get logs hart ≡ Some log → IsImage program
+  program_image hart log at =
+      subst IsImage (All_at (λ (l : ProgramLog). l.program ≡ program) logs hart log at sent.same) (All_at (IsSound period) logs hart log at sound).image
+
   -- They describe it.
   pub log_described : (hart : ℕ) (log : ProgramLog) → slice_get logs hart ≡ Some log → Describes (words_of program) (packets_of hart all) log.events
   log_described hart log at =
       let same = All_at (λ (l : ProgramLog). l.program ≡ program) logs hart log at sent.same in
       let legal = subst (λ (p : Image). Legal (words_of p) log.events) same (All_at (IsSound period) logs hart log at sound).legal in
-      subst (λ ps. Describes (words_of program) ps log.events) (sym (packets_at hart log at)) (packets_describe (words_of program) (words_of-IsProgram program image) period log.events legal)
+      let describe = packets_describe (words_of program) (words_of-IsProgram program (program_image hart log at)) period log.events legal in
+      subst (λ ps. Describes (words_of program) ps log.events) (sym (packets_at hart log at)) describe
 
   -- They end its trace.
   pub log_ended : (hart : ℕ) (log : ProgramLog) → slice_get logs hart ≡ Some log → has_ended (packets_of hart all) ≡ true

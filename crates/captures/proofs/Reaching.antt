@@ -1,7 +1,7 @@
 -- How far a capture was taken in.
 use Rattle.std.proofs.Common.{◌≡◌, ◌⊎◌, inl, inr, ℕ, ◌+◌, ◌≤◌, All, List, [], ◌∷◌, ◌++◌, Some, None, length, drop, refl, sym, ap, subst, ◌∙◌, append_assoc, arith}
 use Rattle.std.proofs.lemmas.List.{length_push, drop_all}
-use Rattle.std.proofs.lemmas.List.Elements.{All-push}
+use Rattle.std.proofs.lemmas.List.Elements.{All-nil, All-push}
 use Rattle.rvclass.specs.Words.{Words}
 use Rattle.message.specs.Capture.{capture, message_bytes}
 use Rattle.message.specs.Cut.{IsMessage, IsCut, HasBadLength}
@@ -33,7 +33,7 @@ capture_next (first ∷ front) message rest =
 module _ (words : Words) (harts : ℕ) (bytes : List ℕ) where
   -- At first none was.
   pub reaches_none : (collected : Collected) → HasTaken words harts [] collected → Reaches words harts bytes 0 0 collected
-  reaches_none collected taken = record { messages = []; counted = refl; ranges = λ k d within. omega (arith, within); whole = refl; taken = taken }
+  reaches_none collected taken = record { messages = []; counted = refl; ranges = All-nil IsMessage; whole = refl; taken = taken }
 
   -- And then one more.
   pub reaches_more : (place next number : ℕ) (old new : Collected) (message : Message) → Reaches words harts bytes place number old → IsMessage message

@@ -1,5 +1,5 @@
 -- What is known of each log of a capture.
-use Rattle.std.proofs.Common.{◌≡◌, ℕ, ◌+◌, ◌≤◌, ◌^◌, All, true, List, Some, length, refl, sym, ap, subst, ◌∙◌, arith}
+use Rattle.std.proofs.Common.{◌≡◌, ℕ, ◌+◌, ◌≤◌, ◌^◌, All, true, List, Some, length, refl, ap, ◌∙◌, arith}
 use Rattle.retire.specs.declared.event.Event.{Event}
 use Rattle.rvclass.proofs.WordsLemmas.{words_of-IsProgram}
 use Rattle.rvclass.specs.Fetch.{words_of}
@@ -17,31 +17,32 @@ use Rattle.encoder.specs.Packets.{reports, last_rule, closing, closing_packet, p
 use Rattle.encoder.specs.Piece.{pieces_of}
 use Rattle.encoder.specs.declared.rule.Rule.{Rule}
 use Rattle.encoder.specs.declared.rule.Rule.TheVariants as by
-use Rattle.encoder.specs.Stands.{Is64Bit}
-use Rattle.decoder.specs.Ended.{closes, has_ended}
+use Rattle.payload.specs.Ended.{closes, has_ended}
 use Rattle.encoder.proofs.CountLemmas.{few_packets}
 use Rattle.captures.specs.Returned.{IsCaptureOf}
 
--- The log is legal for its program; its packets are of the profile, and fewer than a hart may send.
+-- The log is legal for its program, whose bytes are an image; its packets are of the profile, and fewer than a hart may
+-- send.
 pub record IsSound (period : ℕ) (log : ProgramLog) : Type 0 where
+  pub image : IsImage log.program
   pub legal : Legal (words_of log.program) log.events
   pub profile : All InProfile (packets (words_of log.program) period log.events)
   pub few : length (packets (words_of log.program) period log.events) ≤ 2 ^ 24 + 2
 
 -- Each log of a capture is sound.
-sound : (program : Image) (period : ℕ) (log : ProgramLog) → IsImage program → log.program ≡ program → IsLegalLog log → All Is64Bit log.events → IsSound period log
-sound program period log image same legal numbers =
+sound : (period : ℕ) (log : ProgramLog) → IsLegalLog log → IsSound period log
+sound period log legal =
     let words = words_of log.program in
     let short = legal.short in
     record {
+      image = legal.image;
       legal = legal.legal;
-      profile = packets_in_profile words (words_of-IsProgram log.program (subst IsImage (sym same) image)).even period log.events numbers legal.legal;
+      profile = packets_in_profile words (words_of-IsProgram log.program legal.image).even period log.events legal.numbers legal.legal;
       few = omega (arith, few_packets words period log.events, short);
     }
 
-pub sound_logs : (program : Image) (period : ℕ) (logs : List ProgramLog) (bytes : List ℕ) → IsImage program → IsCaptureOf program period logs bytes → All (IsSound period) logs
-sound_logs program period logs bytes image sent = λ k d within.
-    sound program period _ image (sent.same k d within) (sent.legal k d within) (sent.numbers k d within)
+pub sound_logs : (program : Image) (period : ℕ) (logs : List ProgramLog) (bytes : List ℕ) → IsCaptureOf program period logs bytes → All (IsSound period) logs
+sound_logs program period logs bytes sent = λ k d within. sound period _ (sent.legal k d within)
 
 closing_closes : (rule : Rule) → is_closing_packet (packet.Support (closing rule)) ≡ true
 closing_closes (by.Trap handler) = refl

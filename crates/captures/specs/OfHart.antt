@@ -3,7 +3,7 @@ use Rattle.std.specs.Prelude.{ℕ, List, [], ◌∷◌, ◌++◌, Result, Ok, Er
 use Rattle.payload.specs.Reading.{reading}
 use Rattle.payload.specs.declared.fault.PackFault.{PackFault}
 use Rattle.payload.specs.declared.packet.Packet.{Packet}
-use Rattle.decoder.specs.Ended.{has_ended}
+use Rattle.payload.specs.Ended.{has_ended}
 use Rattle.message.specs.OfHart.{of_hart}
 use Rattle.message.specs.declared.hart.Hart.{Hart}
 use Rattle.message.specs.declared.message.Message.{Message}

@@ -1,22 +1,17 @@
 -- Logs that come back whole.
-use Rattle.std.specs.Prelude.{ℕ, ◌≡◌, ◌≤◌, ◌^◌, All, Bool, true, List, Option, Some, None, length, map, replicate}
+use Rattle.std.specs.Prelude.{ℕ, ◌≡◌, All, Bool, true, List, Option, Some, None, length, map, replicate}
 use Rattle.retire.specs.declared.event.Event.{Event}
 use Rattle.rvclass.specs.Image.{Image}
 use Rattle.legalpath.specs.ProgramLog.{ProgramLog, IsLegalLog}
-use Rattle.encoder.specs.Stands.{Is64Bit}
 use Rattle.decoder.specs.declared.fault.DecodeFault.TheVariants.{Memory}
 use Rattle.message.specs.Capture.{capture}
 use Rattle.captures.specs.Messages.{messages_of_harts}
 use Rattle.captures.specs.declared.outcome.CaptureFault.{CaptureFault}
 use Rattle.captures.specs.declared.outcome.CaptureFault.TheVariants as fault
 
--- The bytes are the capture of all messages of legal logs of a program, whose numbers have 64 bits, of one hart after
--- the other, at this period.
+-- The bytes are the capture of all messages of legal logs of a program, of one hart after the other, at this period.
 pub record IsCaptureOf (program : Image) (period : ℕ) (logs : List ProgramLog) (bytes : List ℕ) : Type 0 where
-  pub some : 1 ≤ period
-  pub few : length logs ≤ 2 ^ 16
   pub legal : All IsLegalLog logs
-  pub numbers : All (λ (log : ProgramLog). All Is64Bit log.events) logs
   pub same : All (λ (log : ProgramLog). log.program ≡ program) logs
   pub whole : bytes ≡ capture (messages_of_harts period 0 logs)
 

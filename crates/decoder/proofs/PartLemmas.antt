@@ -1,12 +1,12 @@
 -- The last event of a part, and its place.
-use Rattle.std.proofs.Common.{◌≡◌, ℕ, List, [], ◌∷◌, ◌++◌, Option, Some, refl, sym, ap, ◌∙◌}
+use Rattle.std.proofs.Common.{◌≡◌, ℕ, List, [], ◌∷◌, ◌++◌, length, Option, Some, refl, sym, ap, ◌∙◌}
 use Rattle.std.specs.List.{last_or}
 use Rattle.retire.specs.Events.{place}
 use Rattle.retire.specs.declared.event.Event.{Event}
 use Rattle.rvclass.specs.Words.{Words}
 use Rattle.legalpath.specs.LastPlace.{last_place}
 use Rattle.legalpath.specs.Legal.{Runs}
-use Rattle.decoder.specs.Parts.{part_last, part_place, Gives, RightBefore}
+use Rattle.decoder.specs.Parts.{part_count, part_last, part_place, Gives, RightBefore}
 use Rattle.decoder.specs.Walks.{event_of}
 use Rattle.decoder.specs.declared.part.Part.{Part}
 use Rattle.decoder.specs.declared.part.Part.TheVariants.{Nothing, One, Two, Walk}
@@ -23,6 +23,12 @@ last_place-last at (event ∷ front) last = last_place-last (place event) front 
 walk_last : (from last end : Event) (front events : List Event) → events ≡ front ++ last ∷ [] → last_or (Some from) events ≡ Some end → last ≡ end
 walk_last from last end front events whole is =
     let one : Some last ≡ Some end = sym (ap (last_or (Some from)) whole ∙ last_or-last (Some from) front last) ∙ is in cc
+
+pub part_count-gives : (words : Words) (part : Part) (events : List Event) → Gives words part events → part_count part ≡ length events
+part_count-gives words Nothing events gives = ap length (sym gives)
+part_count-gives words (One event) events gives = ap length (sym gives)
+part_count-gives words (Two trap event) events gives = ap length (sym gives)
+part_count-gives words (Walk walk) events gives = gives.2
 
 pub part_last-gives : (words : Words) (before : Option Event) (part : Part) (events : List Event) → Gives words part events → part_last before part ≡ last_or before events
 part_last-gives words before Nothing events gives = ap (last_or before) (sym gives)

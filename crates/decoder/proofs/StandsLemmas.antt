@@ -1,5 +1,5 @@
 -- What a decoder stands for after one packet more.
-use Rattle.std.proofs.Common.{◌≡◌, ◌⊎◌, inl, inr, ℕ, Bool, true, false, List, [], ◌∷◌, ◌++◌, Option, Some, None, refl, sym, ap, subst, ◌∙◌, append_assoc}
+use Rattle.std.proofs.Common.{◌≡◌, ◌⊎◌, inl, inr, ℕ, ◌+◌, ◌<◌, Bool, true, false, List, [], ◌∷◌, ◌++◌, Option, Some, None, refl, sym, ap, subst, ◌∙◌, append_assoc, length, length-append, arith}
 use Rattle.std.proofs.lemmas.List.{append-nil}
 use Rattle.std.specs.List.{last_or}
 use Rattle.std.specs.Prelude.{Ok, is_some}
@@ -16,12 +16,12 @@ use Rattle.payload.specs.declared.packet.Packet.TheVariants as packet
 use Rattle.payload.specs.declared.packet.Report.TheVariants as report
 use Rattle.payload.specs.declared.packet.Support.TheVariants as support
 use Rattle.decoder.proofs.FeedLemmas.{Takes, feed_more, feed_only, pieces_split, join-append, begins_more, reported_end-append}
-use Rattle.decoder.proofs.PartLemmas.{last_or-last, part_last-gives, part_place-gives, right_after}
+use Rattle.decoder.proofs.PartLemmas.{last_or-last, part_count-gives, part_last-gives, part_place-gives, right_after}
 use Rattle.decoder.proofs.WaitingLemmas.{Waiting as Held, settle, waiting_only}
 use Rattle.decoder.specs.Describes.{Describes}
 use Rattle.decoder.specs.Fits.{AfterRetirement, FitsAddress, Fits}
 use Rattle.decoder.specs.Order.{MayFollow, MayPrecede, IsOpen, Begins}
-use Rattle.decoder.specs.Parts.{part_last, part_place, Gives, RightBefore}
+use Rattle.decoder.specs.Parts.{part_count, part_last, part_place, Gives, RightBefore}
 use Rattle.decoder.specs.Pieces.{reported_after, reported_end, Pieces}
 use Rattle.decoder.specs.Planning.{MayCome, FitsWaiting, CanFollow, CanFollowAt, admitted, admitted_first, decoder_after, reported_past}
 use Rattle.decoder.specs.Settling.{settled_by, waits}
@@ -261,6 +261,15 @@ module _ (words : Words) where
           let q = waits_plain e.last waiting (sym (ap waiting_after last) ∙ some) in
           let whole : packets ≡ e.front ++ plain waiting ∷ [] = e.is ∙ ap (λ x. e.front ++ x ∷ []) q in
           subst (λ l. Stands words (l ++ p ∷ []) (log ++ (piece ++ more)) (decoder_after d p settled own)) (sym whole) (more_waiting e.front waiting log d p settled own piece more (subst (λ l. Stands words l log d) whole s) one two can)
+
+  -- Where they do not fit behind the log, a log is described that is longer than what there is room for.
+  pub stands_longer : (packets : List Packet) (log : List Event) (d : Decoder) (p : Packet) (settled own : Part) (piece more : List Event) (room : ℕ) → Stands words packets log d → Gives words settled piece → Gives words own more → CanFollowAt words d p piece more → room < length log + (part_count settled + part_count own) → (other : List Event) × Describes words (packets ++ p ∷ []) other × (room < length other)
+  stands_longer packets log d p settled own piece more room s one two can full =
+      let new = stands_more packets log d p settled own piece more s one two can in
+      let counted = part_count-gives words settled piece one in
+      let counted' = part_count-gives words own more two in
+      let long : room < length (log ++ (piece ++ more)) = omega (arith, full, counted, counted', length-append log (piece ++ more), length-append piece more) in
+      (log ++ (piece ++ more), new.described, long)
 
   -- The packet that comes next, after the last of these.
   precede_last : (front : List Packet) (q p : Packet) (pieces : List (List Event)) → Pieces words None 0 (front ++ q ∷ []) (Some p) pieces → MayPrecede q (Some p)

@@ -5,7 +5,6 @@ pub mod Order
 pub mod Pieces
 pub mod Describes
 pub mod SettledPieces
-pub mod Ended
 pub mod Stands
 pub mod Faults
 pub mod Leads

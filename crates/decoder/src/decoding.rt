@@ -1,12 +1,12 @@
 //! The decoder.
 
-ghost use Rattle.std.specs.Prelude.{◌≡◌, ◌↔◌, ◌⊎◌, ◌+◌, ◌*◌, ◌/◌, ◌^◌, ◌≤◌, List, [], ◌∷◌, ◌++◌, true, Some, Ok, Err, length, vec_len, IfErr, OnOk, IsTrue};
+ghost use Rattle.std.specs.Prelude.{◌≡◌, ◌↔◌, ◌⊎◌, ◌+◌, ◌*◌, ◌/◌, ◌^◌, ◌≤◌, ◌<◌, List, [], ◌∷◌, ◌++◌, true, Some, Ok, Err, length, vec_len, vec_capacity, IfErr, OnOk, IsTrue};
 ghost use Rattle.retire.specs.declared.event.Event.{Event};
 ghost use Rattle.rvclass.specs.Fetch.{words_of};
 ghost use Rattle.rvclass.specs.Words.{Words, IsProgram};
+ghost use Rattle.payload.specs.Ended.{has_ended};
 ghost use Rattle.payload.specs.declared.packet.Packet.{Packet};
 ghost use Rattle.decoder.specs.Describes.{Describes};
-ghost use Rattle.decoder.specs.Ended.{has_ended};
 ghost use Rattle.decoder.specs.Order.{IsOpen};
 ghost use Rattle.decoder.specs.Parts.{part_count, Suits, SuitsNone};
 ghost use Rattle.decoder.specs.Planning.{MayCome, FitsWaiting, Plans, PlansNone, admitted, decoder_after, reported_past};
@@ -137,6 +137,9 @@ impl Decoder {
             → (result ≡ Err AfterClose) ↔ (has_ended packets ≡ true) }
         ensures not_opened { (packets : List Packet) → Stands (words_of program.now) packets log.old.items self.old
             → (result ≡ Err NotOpened) ↔ ((packets ≡ []) × ¬ IsOpen packet.now) }
+        ensures memory { (packets : List Packet) → Stands (words_of program.now) packets log.old.items self.old
+            → result ≡ Err Memory → (other : List Event) × Describes (words_of program.now) (packets ++ packet.now ∷ []) other
+            × (vec_capacity log.old < length other) }
         ensures short { vec_len log.new ≤ vec_len log.old + 2 * (32 * (length program.now.bytes / 2)) + 2 }
     {
         let mut settled = Part::Nothing;

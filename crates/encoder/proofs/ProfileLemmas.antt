@@ -5,6 +5,7 @@ use Rattle.std.proofs.lemmas.List.Elements.{All-from_recursion, All-nil, All-con
 use Rattle.std.specs.Prelude.{All}
 use Rattle.std.specs.List.{AllByRecursion}
 use Rattle.retire.specs.Events.{place, privilege, is_branch, is_taken, outcomes}
+use Rattle.retire.specs.Is64Bit.{Is64Bit}
 use Rattle.retire.specs.declared.event.Event.{Event}
 use Rattle.retire.specs.declared.event.Event.TheVariants.{Retire, Trap}
 use Rattle.rvclass.specs.Words.{Words, Word}
@@ -20,7 +21,6 @@ use Rattle.encoder.specs.PacketsSoFar.{is_known, decided, packets_so_far}
 use Rattle.encoder.specs.Piece.{is_cut, cut_or_go_on, pieces}
 use Rattle.encoder.specs.Rule.{rule}
 use Rattle.encoder.specs.Spot.{Spot, count_with, spots, spots_of}
-use Rattle.encoder.specs.Stands.{Is64Bit}
 use Rattle.encoder.specs.declared.rule.Rule.{Rule}
 use Rattle.encoder.specs.declared.rule.Rule.TheVariants as by
 use Rattle.encoder.proofs.CountLemmas.{IsTrapRule, trap_rule, room_left, one_at_most, length_outcomes-snoc}

@@ -7,6 +7,7 @@ use Rattle.std.proofs.Math.Seq.{get_or-append_seam}
 use Rattle.std.specs.Prelude.{All}
 use Rattle.std.specs.List.{last_or, slice_get}
 use Rattle.std.specs.Option.{option_to_list}
+use Rattle.retire.specs.Is64Bit.{Is64Bit}
 use Rattle.retire.specs.declared.event.Event.{Event}
 use Rattle.rvclass.proofs.WordsLemmas.{words_stand}
 use Rattle.rvclass.specs.Fetch.{words_of}
@@ -26,7 +27,7 @@ use Rattle.encoder.specs.Piece.{pieces}
 use Rattle.encoder.specs.SourceAt.{SourceAt}
 use Rattle.encoder.specs.SourceFields.{number_at, stands_at}
 use Rattle.encoder.specs.Spot.{Spot, first_event, spots, spots_of}
-use Rattle.encoder.specs.Stands.{Is64Bit, count_all, reported_after, since_cut, Stands}
+use Rattle.encoder.specs.Stands.{count_all, reported_after, since_cut, Stands}
 use Rattle.encoder.specs.Stepping.{given, after, last_given, ends_by, given_at_end}
 use Rattle.encoder.specs.declared.encoder.Encoder.{Encoder}
 use Rattle.encoder.specs.declared.rule.Rule.TheVariants as by

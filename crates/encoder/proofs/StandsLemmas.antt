@@ -1,6 +1,7 @@
 -- An encoder that stands for a log goes on to stand for it with each event.
 use Rattle.std.proofs.Common.{◌≡◌, ℕ, ◌+◌, false, List, [], ◌∷◌, ◌++◌, None, refl, sym, ap, subst, ◌∙◌, inl, inr}
 use Rattle.std.proofs.lemmas.List.Elements.{All-append, All-cons, All-nil}
+use Rattle.retire.specs.Is64Bit.{Is64Bit}
 use Rattle.retire.specs.declared.event.Event.{Event}
 use Rattle.retire.specs.declared.event.Event.TheVariants.{Retire, Trap}
 use Rattle.rvclass.specs.Words.{Words}
@@ -10,7 +11,7 @@ use Rattle.legalpath.specs.Step.{Step, StepFrom}
 use Rattle.encoder.specs.Due.{due_at, due_of_last}
 use Rattle.encoder.specs.PacketsSoFar.{is_known}
 use Rattle.encoder.specs.Spot.{count_with}
-use Rattle.encoder.specs.Stands.{Is64Bit, count_all, AreLeft, Stands}
+use Rattle.encoder.specs.Stands.{count_all, AreLeft, Stands}
 use Rattle.encoder.specs.Stepping.{next_due, is_handler_due, pending_with, after}
 use Rattle.encoder.specs.declared.due.Due.{Due}
 use Rattle.encoder.specs.declared.encoder.Encoder.{Encoder}

@@ -1,9 +1,9 @@
 -- What an encoder stands for.
-use Rattle.std.specs.Prelude.{ℕ, ◌≡◌, ◌<◌, ◌+◌, ◌*◌, ◌^◌, All, List, [], ◌∷◌, ◌++◌, None, if◌then◌else◌}
+use Rattle.std.specs.Prelude.{ℕ, ◌≡◌, ◌<◌, ◌+◌, ◌*◌, All, List, [], ◌∷◌, ◌++◌, None, if◌then◌else◌}
 use Rattle.std.specs.List.{last_or}
 use Rattle.retire.specs.Events.{outcomes}
+use Rattle.retire.specs.Is64Bit.{Is64Bit}
 use Rattle.retire.specs.declared.event.Event.{Event}
-use Rattle.retire.specs.declared.event.Event.TheVariants.{Retire, Trap}
 use Rattle.rvclass.specs.Words.{Words}
 use Rattle.encoder.specs.Due.{due_of_last}
 use Rattle.encoder.specs.Packets.{reported_by}
@@ -44,11 +44,6 @@ reported_so_far words period log = reported_after 0 (pieces words period [] (dec
 abbrev pub untold : Words → ℕ → List Event → List Event
 untold words period log =
     since_cut words period [] (decided words (spots_of log)) ++ undecided words (spots_of log)
-
--- The event's numbers are of 64 bits.
-abbrev pub Is64Bit : Event → Type 0
-Is64Bit (Retire addr itype priv) = addr < 2 ^ 64
-Is64Bit (Trap epc priv interrupt cause tval) = (epc < 2 ^ 64) × (tval < 2 ^ 64)
 
 -- So many retirements are left until one has a number that the period divides.
 pub record AreLeft (period number left : ℕ) : Type 0 where

@@ -3,13 +3,14 @@
 ghost use Rattle.std.specs.Prelude.{◌≡◌, ◌+◌, ◌≤◌, ◌<◌, ℕ, All, List, [], ◌∷◌, ◌++◌, length, take};
 ghost use Rattle.std.specs.Option.{option_to_list};
 ghost use Rattle.retire.specs.declared.event.Event.{Event};
+ghost use Rattle.retire.specs.Is64Bit.{Is64Bit};
 ghost use Rattle.rvclass.specs.Fetch.{words_of};
 ghost use Rattle.rvclass.specs.Words.{Words};
 ghost use Rattle.legalpath.specs.Legal.{Legal};
 ghost use Rattle.payload.specs.Profile.{InProfile};
 ghost use Rattle.encoder.specs.Packets.{packets, closing};
 ghost use Rattle.encoder.specs.PacketsSoFar.{packets_so_far};
-ghost use Rattle.encoder.specs.Stands.{Is64Bit, Stands};
+ghost use Rattle.encoder.specs.Stands.{Stands};
 ghost use Rattle.encoder.specs.Stepping as stepping;
 
 use crate::due::{Due, due_behind};

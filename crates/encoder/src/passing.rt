@@ -1,8 +1,8 @@
 //! Which events are passed over.
 
 ghost use Rattle.std.specs.Prelude.{◌≡◌};
+ghost use Rattle.retire.specs.Is64Bit.{Is64Bit};
 ghost use Rattle.rvclass.specs.Fetch.{words_of};
-ghost use Rattle.encoder.specs.Stands.{Is64Bit};
 ghost use Rattle.encoder.specs.Stepping.{passes};
 
 use crate::due::leaves;

@@ -1,8 +1,9 @@
 -- A log with the program that it ran.
-use Rattle.std.specs.Prelude.{◌≤◌, ◌^◌, List, length}
+use Rattle.std.specs.Prelude.{◌≤◌, ◌^◌, All, List, length}
+use Rattle.retire.specs.Is64Bit.{Is64Bit}
 use Rattle.retire.specs.declared.event.Event.{Event}
 use Rattle.rvclass.specs.Fetch.{words_of}
-use Rattle.rvclass.specs.Image.{Image}
+use Rattle.rvclass.specs.Image.{Image, IsImage}
 use Rattle.legalpath.specs.Legal.{Legal}
 
 -- A program's image, and a log's events.
@@ -14,7 +15,9 @@ pub record ProgramLog : Type 0 where
 abbrev pub log_of : Image → List Event → ProgramLog
 log_of program events = record { program = program; events = events }
 
--- The log is legal for the program, and has at most 2^24 events.
+-- The log is legal for the program and has at most 2^24 events, its numbers have 64 bits, and the program is an image.
 pub record IsLegalLog (log : ProgramLog) : Type 0 where
   pub legal : Legal (words_of log.program) log.events
   pub short : length log.events ≤ 2 ^ 24
+  pub numbers : All Is64Bit log.events
+  pub image : IsImage log.program

@@ -1,6 +1,7 @@
 //! Which log is legal, and the first illegal row of one that is not.
 
-ghost use Rattle.std.specs.Prelude.{◌≡◌, ◌↔◌, ◌^◌, ◌≤◌, length, IsOk, IfErr};
+ghost use Rattle.std.specs.Prelude.{◌≡◌, ◌↔◌, ◌^◌, ◌≤◌, All, length, IsOk, IfErr, OnOk};
+ghost use Rattle.retire.specs.Is64Bit.{Is64Bit};
 ghost use Rattle.rvclass.specs.Fetch.{words_of};
 ghost use Rattle.legalpath.specs.FirstFault.{IsFirstFault};
 ghost use Rattle.legalpath.specs.Judging as judging;
@@ -20,6 +21,7 @@ pub fn check(program: &Program, log: &[Event]) -> Result<(), PathFault>
     requires { length log.now ≤ 2 ^ 24 }
     ensures legal { IsOk result ↔ Legal (words_of program.now) log.now }
     ensures first { IfErr result (λ fault. IsFirstFault (words_of program.now) log.now fault) }
+    ensures numbers { OnOk result (All Is64Bit log.now) }
 {
     judge_all(program, log)
 }
@@ -28,7 +30,8 @@ pub fn check(program: &Program, log: &[Event]) -> Result<(), PathFault>
 #[inline(never)]
 fn judge_all(program: &Program, log: &[Event]) -> Result<(), PathFault>
     requires { length log.now ≤ 2 ^ 24 }
-    ensures { result ≡ judging.judge_all (words_of program.now) judging.left_at_start 1 log.now }
+    ensures value { result ≡ judging.judge_all (words_of program.now) judging.left_at_start 1 log.now }
+    ensures numbers { OnOk result (All Is64Bit log.now) }
 {
     let mut left = left_at_start();
     for (i, event) in log.iter().enumerate() {

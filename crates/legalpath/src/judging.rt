@@ -1,6 +1,7 @@
 //! One event, judged by what the event before left to it.
 
 ghost use Rattle.std.specs.Prelude.{◌≡◌, ◌+◌, ◌^◌, ◌<◌, ◌≤◌, IfOk, IsTrue};
+ghost use Rattle.retire.specs.Is64Bit.{Is64Bit};
 ghost use Rattle.rvclass.specs.Fetch.{words_of};
 ghost use Rattle.legalpath.specs.Judging as judging;
 
@@ -38,6 +39,7 @@ pub fn judge(program: &Program, left: Left, event: &Event) -> Result<Left, Why>
     requires { left.greatest ≤ 3 }
     ensures value { result ≡ judging.judge (words_of program.now) left event.now }
     ensures below { IfOk result (λ next. next.greatest ≤ 3) }
+    ensures numbers { Is64Bit event.now }
 {
     match *event {
         Event::Retire {

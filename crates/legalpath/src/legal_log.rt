@@ -1,7 +1,9 @@
 //! A log that is known to be legal.
 
-ghost use Rattle.std.specs.Prelude.{◌≡◌, ◌↔◌, ◌^◌, ◌≤◌, length, vec_len, IsOk, IfOk, IfErr};
+ghost use Rattle.std.specs.Prelude.{◌≡◌, ◌↔◌, ◌^◌, ◌≤◌, All, length, vec_len, IsOk, IfOk, IfErr};
+ghost use Rattle.retire.specs.Is64Bit.{Is64Bit};
 ghost use Rattle.rvclass.specs.Fetch.{words_of};
+ghost use Rattle.rvclass.specs.Image.{IsImage};
 ghost use Rattle.legalpath.specs.FirstFault.{IsFirstFault};
 ghost use Rattle.legalpath.specs.Legal.{Legal};
 ghost use Rattle.legalpath.specs.ProgramLog.{ProgramLog, IsLegalLog, log_of};
@@ -43,6 +45,8 @@ impl<'p, A: Allocator> LegalLog<'p, A> {
             (λ refused. IsFirstFault (words_of program.now) events.items refused.0) }
         ensures back { IfErr result (λ refused. refused.1 ≡ events) }
     {
+        // Its contract tells that a program's bytes are an image.
+        let _ = program.byte_count();
         match check(program, &events) {
             Ok(()) => Ok(LegalLog { program, events }),
             Err(fault) => Err((fault, events)),
@@ -52,7 +56,8 @@ impl<'p, A: Allocator> LegalLog<'p, A> {
     /// The program.
     #[inline]
     pub fn program(&self) -> &'p Program
-        ensures { result.now ≡ self.now.program }
+        ensures program { result.now ≡ self.now.program }
+        ensures image { IsImage self.now.program }
     {
         self.program
     }
@@ -63,6 +68,8 @@ impl<'p, A: Allocator> LegalLog<'p, A> {
         ensures events { result.now ≡ self.now.events }
         ensures legal { Legal (words_of self.now.program) self.now.events }
         ensures short { length self.now.events ≤ 2 ^ 24 }
+        ensures numbers { All Is64Bit self.now.events }
+        ensures image { IsImage self.now.program }
     {
         &self.events
     }

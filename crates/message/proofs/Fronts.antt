@@ -5,7 +5,7 @@ use Rattle.std.proofs.lemmas.List.{length-append, length-drop, length-replicate,
 use lib.Seq.{take-append_seam}
 use Rattle.message.specs.Capture.{message_bytes}
 use Rattle.message.specs.Cut.{IsCut, IsMessage, IsBadLength}
-use Rattle.message.specs.Filling.{AreBytes}
+use Rattle.message.specs.steps.Filling.{AreBytes}
 use Rattle.message.specs.Front.{message_of, first_message}
 use Rattle.message.specs.declared.message.Message.{Message}
 use Rattle.message.specs.declared.fault.MessageFault.{MessageFault}
@@ -60,7 +60,7 @@ by_tests bytes P none few bad cut whole = go (length bytes == 0) refl (nat_lt (l
         whole (omega (arith, some)) most (omega (arith, left, fits, head))
 
 -- The first of bytes are bytes.
-AreBytes-take : (n : ℕ) (xs : List ℕ) → AreBytes xs → (k : ℕ) → slice_index (take n xs) k < 256
+pub AreBytes-take : (n : ℕ) (xs : List ℕ) → AreBytes xs → (k : ℕ) → slice_index (take n xs) k < 256
 AreBytes-take zero xs bytes k = omega arith
 AreBytes-take (suc n) [] bytes k = bytes k
 AreBytes-take (suc n) (x ∷ xs) bytes zero = bytes 0
@@ -99,7 +99,7 @@ head_is_cut bytes are head some few less =
     let long : length (rest ++ zeros) ≡ count = let both = length-append rest zeros in let more = length-replicate {A = ℕ} (count - length rest) 0 in omega (arith, both, more, left, less) in
     let told : length (rest ++ zeros) ≡ slice_index (take 11 bytes) 10 = long ∙ sym (count_in_head bytes) in
     let joined : take 11 bytes ++ take (length rest) (rest ++ zeros) ≡ bytes = ap (λ (l : List ℕ). take 11 bytes ++ l) (take-append_seam rest zeros) ∙ take-append-drop 11 bytes in
-    subst IsCut joined (IsCut-payload (take 11 bytes) (rest ++ zeros) (length rest) (length-take-le 11 bytes head) (AreBytes-take 11 bytes are) told (omega (arith, long, some)) (omega (arith, long, few)) (omega (arith, long, left, less, head)))
+    subst IsCut joined (IsCut-payload (take 11 bytes) (rest ++ zeros) (length rest) (length-take-le 11 bytes head) (AreBytes-take 11 bytes are) (AreBytes-padded (count - length rest) rest (AreBytes-drop 11 bytes are)) told (omega (arith, long, some)) (omega (arith, long, few)) (omega (arith, long, left, less, head)))
 
 -- Of a cut message the byte for the payload's length, where it is there, tells a length that fits.
 cut_length : (bytes : List ℕ) (cut : IsCut bytes) → 11 ≤ length bytes → slice_index bytes 10 ≡ length cut.message.payload
@@ -139,10 +139,10 @@ first_message-short bytes are = by_tests bytes (λ r. (r ≡ Err fault.Short) �
         omega (arith, bad, told, some, few)
 
 -- The message that bytes begin with stands in their front.
-abbrev Stands : List ℕ → Answer → Type 0
+abbrev pub Stands : List ℕ → Answer → Type 0
 Stands bytes r = IfOk r (λ found. IfSome found (λ m. (bytes ≡ message_bytes m ++ drop (11 + length m.payload) bytes) × (11 + length m.payload ≤ length bytes)))
 
-first_message-stands : (bytes : List ℕ) → AreBytes bytes → Stands bytes (first_message bytes)
+pub first_message-stands : (bytes : List ℕ) → AreBytes bytes → Stands bytes (first_message bytes)
 first_message-stands bytes are = by_tests bytes (Stands bytes)
     (λ none. tt)
     (λ some few. tt)

@@ -2,7 +2,7 @@
 use Rattle.std.proofs.Common.{◌≡◌, ◌++◌, ℕ, zero, suc, List, [], ◌∷◌, length, take, drop, slice_index, refl, sym, ap, ◌∙◌, arith, take-append-drop}
 use Rattle.byteorder.specs.Endian.{little_number, little_bytes}
 use Rattle.message.specs.Capture.{head_bytes}
-use Rattle.message.specs.Filling.{AreBytes}
+use Rattle.message.specs.steps.Filling.{AreBytes}
 use Rattle.message.specs.declared.message.Message.{Message}
 use Rattle.message.proofs.LittleBytes.{little_bytes-little_number}
 

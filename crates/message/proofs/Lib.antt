@@ -1,3 +1,5 @@
+pub mod AcceptedLemmas
+pub mod HartMessages
 pub mod OfHartLemmas
 pub mod Answering
 pub mod Cuts
@@ -5,5 +7,6 @@ pub mod Fronts
 pub mod Heads
 pub mod LittleBytes
 pub mod Moving
+pub mod Passed
 pub mod ReadBack
 pub mod Writes

@@ -1,14 +1,16 @@
 -- Bytes that begin no whole message.
 use Rattle.std.specs.Prelude.{◌≡◌, ◌⊎◌, ◌<◌, ◌≤◌, ◌^◌, ℕ, ◌++◌, List, length, slice_index}
+use Rattle.payload.specs.Bytes.{IsBytes}
 use Rattle.message.specs.Capture.{message_bytes}
 use Rattle.message.specs.declared.message.Message.{Message}
 
--- The numbers of a message are within their ranges.
+-- The numbers of a message are within their ranges, and its payload is 1 to 18 bytes.
 pub record IsMessage (m : Message) : Type 0 where
   pub hart : m.hart < 2 ^ 16
   pub number : m.number < 2 ^ 64
   pub some : 1 ≤ length m.payload
   pub few : length m.payload ≤ 18
+  pub bytes : IsBytes m.payload
 
 -- The bytes are a beginning of a message, neither none of it nor all of it.
 pub record IsCut (bytes : List ℕ) : Type 0 where

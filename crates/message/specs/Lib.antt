@@ -1,7 +1,9 @@
 pub mod OfHart
+pub mod Numbered
 pub mod Capture
 pub mod Cut
-pub mod Filling
 pub mod Front
 pub mod Harts
 pub mod Accepting
+pub mod Accepted
+pub mod steps

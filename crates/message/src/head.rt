@@ -1,7 +1,7 @@
 //! What stands before a payload.
 
 ghost use Rattle.std.specs.Prelude.{◌≡◌, ◌≤◌, length, slice_index, IfOk, IfErr};
-ghost use Rattle.message.specs.Cut.{IsBadLength};
+ghost use Rattle.message.specs.Cut.{IsBadLength, IsMessage};
 ghost use Rattle.message.specs.Front.{message_of};
 
 use crate::{Message, MessageFault};
@@ -32,7 +32,8 @@ pub(crate) fn message_of(head: &[u8], payload: &[u8]) -> Message
     requires whole { length head.now ≡ 11 }
     requires some { 1 ≤ length payload.now }
     requires few { length payload.now ≤ 18 }
-    ensures { result ≡ message_of head.now payload.now }
+    ensures value { result ≡ message_of head.now payload.now }
+    ensures ranges { IsMessage result }
 {
     match Payload::new(payload) {
         Ok(payload) => Message {

@@ -1,13 +1,73 @@
 //! Bytes in memory to messages.
 
-ghost use Rattle.std.specs.Prelude.{◌≡◌, ◌⊎◌, ◌↔◌, ◌≤◌, ◌+◌, ◌++◌, ℕ, List, length, drop, Ok, Err, Some, None, IfOk, IfErr, IfSome};
+ghost use Rattle.std.specs.Prelude.{◌≡◌, ◌⊎◌, ◌↔◌, ◌≤◌, ◌<◌, ◌+◌, ◌++◌, ℕ, List, [], length, drop, Ok, Err, Some, None, IfOk, IfErr, IfSome};
+ghost use Rattle.message.specs.steps.Filling.{AreBytes};
 ghost use Rattle.message.specs.Capture.{message_bytes};
 ghost use Rattle.message.specs.Cut.{IsCut, IsMessage, HasBadLength};
 ghost use Rattle.message.specs.Front.{first_message};
+ghost use Rattle.message.specs.steps.Passing.{left_by};
 ghost use Rattle.message.specs.declared.message.Message.{Message as AnyMessage};
 
 use crate::head::{HEAD, message_of, payload_length};
 use crate::{Message, MessageFault};
+use std::marker::Model;
+
+/// The messages of bytes in memory, one at a time. A clause sees the bytes that are left.
+#[derive(Debug, Drop)]
+pub struct Messages<'a> {
+    rest: &'a [u8],
+}
+
+impl<'a> Model for Messages<'a> {
+    ghost Value = { List ℕ };
+
+    ghost view = { λ messages. messages.rest.now };
+}
+
+impl<'a> Messages<'a> {
+    /// The messages of a capture, of which none was read.
+    pub fn new(capture: &'a [u8]) -> Messages<'a>
+        ensures { result ≡ capture.now }
+    {
+        Messages { rest: capture }
+    }
+
+    /// The message that the bytes begin with, or `None` at their end. Only a message is passed over: what is found
+    /// elsewise is found again.
+    ///
+    /// [`MessageFault::Short`] comes where the bytes end inside the message, [`MessageFault::BadLength`] where the byte
+    /// for the payload's length is 0 or above 18, and no other fault. No memory is taken.
+    pub fn next(&mut self) -> Result<Option<Message>, MessageFault>
+        ensures ranges { IfOk result (λ found. IfSome found (λ message. IsMessage message)) }
+        ensures message { IfOk result (λ found. IfSome found (λ message. self.old ≡ message_bytes message ++ self.new)) }
+        ensures shorter { IfOk result (λ found. IfSome found (λ message. length self.new < length self.old)) }
+        ensures end { (result ≡ Ok None) ↔ (self.old ≡ []) }
+        ensures short { (result ≡ Err MessageFault.Short) ↔ IsCut self.old }
+        ensures bad_length { (result ≡ Err MessageFault.BadLength) ↔ HasBadLength self.old }
+        ensures fault { IfErr result (λ fault. (fault ≡ MessageFault.Short) ⊎ (fault ≡ MessageFault.BadLength)) }
+        ensures stays { IfErr result (λ fault. self.new ≡ self.old) }
+
+        // A message that stands there is read.
+        ensures reads_back { (message : AnyMessage) (rest : List ℕ) → IsMessage message → self.old ≡ message_bytes message ++ rest
+            → (result ≡ Ok (Some message)) × (self.new ≡ rest) }
+    {
+        self.pass()
+    }
+
+    /// Passes over the message that the bytes begin with, if they begin with one.
+    fn pass(&mut self) -> Result<Option<Message>, MessageFault>
+        ensures value { result ≡ first_message self.old }
+        ensures state { self.new ≡ left_by self.old result }
+        ensures ranges { IfOk result (λ found. IfSome found (λ message. IsMessage message)) }
+        ensures bytes { AreBytes self.old }
+    {
+        let found = message_in_front(self.rest);
+        if let Ok(Some(message)) = &found {
+            self.rest = &self.rest[message.size()..];
+        }
+        found
+    }
+}
 
 /// The message that stands at a place of a capture, or `None` at its end or behind it. A message takes 11 bytes and
 /// those of its payload.
@@ -37,7 +97,8 @@ pub fn message_at(capture: &[u8], place: usize) -> Result<Option<Message>, Messa
 
 /// The message that stands at a place.
 fn message_from(capture: &[u8], place: usize) -> Result<Option<Message>, MessageFault>
-    ensures { result ≡ first_message (drop place capture.now) }
+    ensures value { result ≡ first_message (drop place capture.now) }
+    ensures ranges { IfOk result (λ found. IfSome found (λ message. IsMessage message)) }
 {
     match capture.get(place..) {
         Some(bytes) => message_in_front(bytes),
@@ -47,7 +108,9 @@ fn message_from(capture: &[u8], place: usize) -> Result<Option<Message>, Message
 
 /// The message that bytes begin with.
 fn message_in_front(bytes: &[u8]) -> Result<Option<Message>, MessageFault>
-    ensures { result ≡ first_message bytes.now }
+    ensures value { result ≡ first_message bytes.now }
+    ensures ranges { IfOk result (λ found. IfSome found (λ message. IsMessage message)) }
+    ensures bytes { AreBytes bytes.now }
 {
     if bytes.is_empty() {
         return Ok(None);

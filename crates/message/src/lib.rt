@@ -18,7 +18,7 @@ mod writing;
 
 pub use demux::Demux;
 pub use fault::{DemuxFault, MessageFault};
-pub use in_memory::message_at;
+pub use in_memory::{Messages, message_at};
 pub use message::Message;
 pub use reading::read_message;
 pub use writing::write_message;

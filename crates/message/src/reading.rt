@@ -3,7 +3,7 @@ ghost use Rattle.std.specs.Prelude.{◌⊎◌, List, ◌≡◌, ◌≢◌, ◌<�
 ghost use Rattle.std.specs.Io.KnownBytes.{Consumes, IsAtEnd, Keeps};
 ghost use Rattle.message.specs.Capture.{head_bytes, message_bytes};
 ghost use Rattle.message.specs.Cut.{IsCut, IsMessage, IsBadLength, HasBadLength};
-ghost use Rattle.message.specs.Filling.{Fills};
+ghost use Rattle.message.specs.steps.Filling.{Fills};
 ghost use Rattle.message.specs.declared.message.Message.{Message as AnyMessage};
 
 use crate::head::{HEAD, MOST, message_of, payload_length};

@@ -10,4 +10,5 @@ pub mod Faults
 pub mod Reading
 pub mod ReadingByKind
 pub mod Closing
+pub mod Ended
 pub mod Difference

@@ -1,4 +1,5 @@
 pub mod Events
+pub mod Is64Bit
 pub mod Number
 pub mod Row
 pub mod Log

@@ -1,7 +1,7 @@
 //! Worked captures, whole and cut.
 
 use super::message;
-use crate::{Message, MessageFault, message_at, read_message, write_message};
+use crate::{Message, MessageFault, Messages, message_at, read_message, write_message};
 use std::test::Fail;
 
 // A capture with a gap: messages 0, 1 and 3 of hart 0, of 12, 16 and 12 bytes.
@@ -113,6 +113,23 @@ fn capture_in_memory(rt: HostRuntime) -> Result<(), Fail> {
     for behind in [40, 41, usize::MAX] {
         assert_eq!(rt; message_at(&GAP, behind), Ok(None), "{behind}");
     }
+    Ok(())
+}
+
+#[test]
+fn messages_come_one_at_a_time(rt: HostRuntime) -> Result<(), Fail> {
+    let mut messages = Messages::new(&GAP[..39]);
+    let [first, second, _] = gap()?;
+    assert_eq!(rt; messages.next(), Ok(Some(first)));
+    assert_eq!(rt; messages.next(), Ok(Some(second)));
+    assert_eq!(rt; messages.next(), Err(MessageFault::Short));
+    assert_eq!(rt; messages.next(), Err(MessageFault::Short));
+    let mut messages = Messages::new(&GAP);
+    for message in gap()? {
+        assert_eq!(rt; messages.next(), Ok(Some(message)));
+    }
+    assert_eq!(rt; messages.next(), Ok(None));
+    assert_eq!(rt; messages.next(), Ok(None));
     Ok(())
 }
 

@@ -1,3 +1,4 @@
+use Rattle.std.proofs.Common.{arith}
 use Rattle.rvclass.specs.Fetch.{words_of}
 use Rattle.captures.proofs.CapturesReturn.{captures_return}
 use Rattle.captures.proofs.Outcomes.{finished_decoded}
@@ -13,4 +14,4 @@ returns-clause-decoded g c =
 pub returns-clause-whole : goal.returns-clause-whole
 returns-clause-whole g c = λ period logs sent counted.
     captures_return c.args.program.now period c.args.harts logs c.args.bytes.now (events_in c.finish.result.harts.items) c.finish.result.closed.items c.finish.result.fault
-    c.program_kept.ensures sent counted (returns-clause-decoded g c)
+    sent counted (omega (arith, c.ranges.harts.fits)) (returns-clause-decoded g c)

@@ -1,7 +1,7 @@
 -- What came so far stands in the front of the room.
 use Rattle.std.proofs.Common.{◌≡◌, ◌≤◌, length, take}
 use Rattle.std.specs.Io.KnownBytes.{Consumes}
-use Rattle.message.specs.Filling.{AreBytes}
+use Rattle.message.specs.steps.Filling.{AreBytes}
 use Rattle.message.proofs.reading.fill.Given as goal
 
 abbrev pub invariant-loop : goal.invariant-loop

@@ -1,7 +1,8 @@
-use Rattle.std.proofs.Common.{[], ◌∷◌, ◌++◌, inr, sym, ap, subst, ◌∙◌, append_assoc}
+-- No search finds what the packets and the parts stand for, from what the plan ensures.
+use Rattle.std.proofs.Common.{[], ◌∷◌, ◌++◌, ◌≡◌, arith, Result, true, is_err, Ok, Err, OnErr, vec_capacity, inr, sym, ap, subst, ◌∙◌, append_assoc}
 use Rattle.rvclass.specs.Fetch.{words_of}
 use Rattle.decoder.proofs.NamedLemmas.{named_not_opened}
-use Rattle.decoder.proofs.StandsLemmas.{stands_right, stands_more, stands_only}
+use Rattle.decoder.proofs.StandsLemmas.{stands_right, stands_more, stands_longer, stands_only}
 use Rattle.decoder.proofs.UniqueLemmas.{one_log}
 use Rattle.decoder.specs.Planning.{admitted, decoder_after, IsNamed}
 use Rattle.decoder.specs.Stands.{Stands}
@@ -18,6 +19,20 @@ returns-in-Err-clause-not_opened g c = λ packets s.
     let named = subst (λ x. IsNamed (admitted x c.args.packet.now) c.in-Err.fault) s.phase c.in-Err.ensures.none.named in
     let one = named_not_opened packets c.args.packet.now c.in-Err.fault named in
     (λ is. one.0 cc, λ is. let told = one.1 is in cc)
+
+-- What is said of an error holds where there is one.
+where_err : {T E : Type 0} {P : Type 0} (result : Result T E) → true ≡ is_err result → OnErr result P → P
+where_err (Ok value) is said = cc
+where_err (Err error) is said = said
+
+pub returns-then-is_err-clause-memory : goal.returns-then-is_err-clause-memory
+returns-then-is_err-clause-memory g c = λ packets s is.
+    let w = words_of c.args.program.now in
+    let log = c.args.log.now in
+    let found = c.in_default.ensures.found in
+    let can = found.can (stands_right w packets log.items c.args.self.now s) in
+    let full = where_err c.reserve.result c.if-is_err.ensures.value c.reserve.ensures.full in
+    stands_longer w packets log.items c.args.self.now c.args.packet.now c.plan.new.first c.plan.new.second found.settled found.own (vec_capacity log) s found.gives_settled found.gives_own can (omega (arith, full, log.ok.0, c.count.ensures, c.count-2.ensures))
 
 pub returns-clause-stands : goal.returns-clause-stands
 returns-clause-stands g c = λ packets s.

@@ -11,7 +11,7 @@ use Rattle.encoder.proofs.source.Source.packet.Goals as goal
 
 module _ (g : _) (c : goal.In-Some g) where
   ran : Ran c.self.inside.log.now.program c.self.inside.log.now.events c.self.inside.encoder c.self.inside.taken c.run-next.new.encoder c.run-next.new.taken (Some c.in-Some.packet)
-  ran = ran_by _ _ _ _ _ _ _ _ _ c.program.ensures c.events.ensures.events (subst (Ran c.program.result.now c.events.result.now c.self.inside.encoder c.self.inside.taken c.run-next.new.encoder c.run-next.new.taken) c.in-Some.is (record { stands = c.run-next.ensures.stands; more = c.run-next.ensures.packets; all = c.run-next.ensures.all }))
+  ran = ran_by _ _ _ _ _ _ _ _ _ c.program.ensures.program c.events.ensures.events (subst (Ran c.program.result.now c.events.result.now c.self.inside.encoder c.self.inside.taken c.run-next.new.encoder c.run-next.new.taken) c.in-Some.is (record { stands = c.run-next.ensures.stands; more = c.run-next.ensures.packets; all = c.run-next.ensures.all }))
 
 pub returns-in-Some-clause-given : goal.returns-in-Some-clause-given
 returns-in-Some-clause-given g c =
@@ -24,7 +24,7 @@ returns-in-Some-clause-profile g c = profile_running _ _ _ _ _ _ c.events.ensure
 
 module _ (g : _) (c : goal.After-self-in-Some-last-1 g) where
   ended : Ran c.self.inside.log.now.program c.self.inside.log.now.events c.self.inside.encoder c.self.inside.taken c.run-next.new.encoder c.run-next.new.taken None
-  ended = ran_by _ _ _ _ _ _ _ _ _ c.program.ensures c.events.ensures.events (subst (Ran c.program.result.now c.events.result.now c.self.inside.encoder c.self.inside.taken c.run-next.new.encoder c.run-next.new.taken) c.in_default.is (record { stands = c.run-next.ensures.stands; more = c.run-next.ensures.packets; all = c.run-next.ensures.all }))
+  ended = ran_by _ _ _ _ _ _ _ _ _ c.program.ensures.program c.events.ensures.events (subst (Ran c.program.result.now c.events.result.now c.self.inside.encoder c.self.inside.taken c.run-next.new.encoder c.run-next.new.taken) c.in_default.is (record { stands = c.run-next.ensures.stands; more = c.run-next.ensures.packets; all = c.run-next.ensures.all }))
 
 pub returns-in-Some-last-clause-given : goal.returns-in-Some-last-clause-given
 returns-in-Some-last-clause-given g c =
@@ -44,7 +44,7 @@ returns-in-Some-last-clause-profile g c =
 
 module _ (g : _) (c : goal.After-closing g) where
   closed : Ran c.self.inside.log.now.program c.self.inside.log.now.events c.self.inside.encoder c.self.inside.taken c.run-next.new.encoder c.run-next.new.taken None
-  closed = ran_by _ _ _ _ _ _ _ _ _ c.program.ensures c.events.ensures.events (subst (Ran c.program.result.now c.events.result.now c.self.inside.encoder c.self.inside.taken c.run-next.new.encoder c.run-next.new.taken) c.in_default.is (record { stands = c.run-next.ensures.stands; more = c.run-next.ensures.packets; all = c.run-next.ensures.all }))
+  closed = ran_by _ _ _ _ _ _ _ _ _ c.program.ensures.program c.events.ensures.events (subst (Ran c.program.result.now c.events.result.now c.self.inside.encoder c.self.inside.taken c.run-next.new.encoder c.run-next.new.taken) c.in_default.is (record { stands = c.run-next.ensures.stands; more = c.run-next.ensures.packets; all = c.run-next.ensures.all }))
 
 pub returns-in_default-last-clause-given : goal.returns-in_default-last-clause-given
 returns-in_default-last-clause-given g c =

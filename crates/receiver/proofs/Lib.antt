@@ -1,0 +1,2 @@
+pub mod AcceptLemmas
+pub mod HoldLemmas

@@ -1,0 +1,43 @@
+-- What a receiver holds of messages.
+use Rattle.std.specs.Prelude.{ℕ, ◌≡◌, Bool, List, Some, length, slice_get}
+use Rattle.retire.specs.declared.event.Event.{Event}
+use Rattle.rvclass.specs.Words.{Words}
+use Rattle.payload.specs.Ended.{has_ended}
+use Rattle.decoder.specs.Describes.{Describes}
+use Rattle.decoder.specs.Stands.{Stands}
+use Rattle.decoder.specs.declared.decoding.Decoder.{Decoder}
+use Rattle.message.specs.Accepted.{AreAccepted, expected_after, newcomers}
+use Rattle.message.specs.OfHart.{packets_of}
+use Rattle.message.specs.declared.message.Message.{Message}
+use Rattle.receiver.specs.Received.{Received}
+
+-- A receiver of so many harts accepted just these messages, each in its turn.
+pub record HasAccepted (harts : ℕ) (messages : List Message) (received : Received) : Type 0 where
+  pub accepted : AreAccepted (newcomers harts) messages
+  pub expected : received.expected ≡ expected_after (newcomers harts) messages
+
+-- The lists of so many harts are what the packets of these messages describe, each by the program of its hart; the
+-- decoders stand for both, and the flags tell which packets have ended.
+pub record Holds (programs : ℕ → Words) (harts : ℕ) (messages : List Message) (received : Received) : Type 0 where
+  pub decoders_count : length received.decoders ≡ harts
+  pub lists_count : length received.lists ≡ harts
+  pub closed_count : length received.closed ≡ harts
+  pub stands : (hart : ℕ) (decoder : Decoder) (list : List Event) → slice_get received.decoders hart ≡ Some decoder
+      → slice_get received.lists hart ≡ Some list → Stands (programs hart) (packets_of hart messages) list decoder
+  pub ended : (hart : ℕ) (is_closed : Bool) → slice_get received.closed hart ≡ Some is_closed
+      → is_closed ≡ has_ended (packets_of hart messages)
+
+-- A receiver of so many harts received just these messages: it accepted them, each in its turn, and holds what they tell.
+pub record HasReceived (programs : ℕ → Words) (harts : ℕ) (messages : List Message) (received : Received) : Type 0 where
+  pub accepts : HasAccepted harts messages received
+  pub holds : Holds programs harts messages received
+
+-- The lists of so many harts are what these messages describe, each by the program of its hart, and each hart is closed
+-- exactly where its closing packet is among them.
+pub record AreDecoded (programs : ℕ → Words) (harts : ℕ) (messages : List Message) (lists : List (List Event)) (closed : List Bool) : Type 0 where
+  pub lists_count : length lists ≡ harts
+  pub closed_count : length closed ≡ harts
+  pub described : (hart : ℕ) (list : List Event) → slice_get lists hart ≡ Some list
+      → Describes (programs hart) (packets_of hart messages) list
+  pub ended : (hart : ℕ) (is_closed : Bool) → slice_get closed hart ≡ Some is_closed
+      → is_closed ≡ has_ended (packets_of hart messages)

@@ -1,0 +1,3 @@
+pub mod Received
+pub mod Holds
+pub mod Refused

@@ -1,0 +1,23 @@
+-- What a receiver has of each hart.
+use Rattle.std.specs.Prelude.{◌≡◌, Bool, List, length, map}
+use Rattle.std.specs.declared.vec.Vec.{Vec}
+use Rattle.retire.specs.declared.event.Event.{Event}
+use Rattle.decoder.specs.declared.decoding.Decoder.{Decoder}
+use Rattle.message.specs.Harts.{Harts}
+
+-- What is expected of each hart, its decoder, its list of events, and whether its closing packet was decoded.
+pub record Received : Type 0 where
+  pub expected : Harts
+  pub decoders : List Decoder
+  pub lists : List (List Event)
+  pub closed : List Bool
+
+-- The events of each list.
+abbrev pub events_in : {A : Type 0} → List (Vec Event A) → List (List Event)
+events_in lists = map (λ list. list.items) lists
+
+-- Each hart has all of them.
+pub record IsReceived (received : Received) : Type 0 where
+  pub decoders : length received.decoders ≡ length received.expected
+  pub lists : length received.lists ≡ length received.expected
+  pub closed : length received.closed ≡ length received.expected

@@ -1,0 +1,33 @@
+-- Why a message is not received.
+use Rattle.std.specs.Prelude.{ℕ, ◌⊎◌, ◌≡◌, ◌↔◌, ◌++◌, List, [], ◌∷◌, Ok, Err}
+use Rattle.retire.specs.declared.event.Event.{Event}
+use Rattle.rvclass.specs.Words.{Words}
+use Rattle.payload.specs.declared.packet.Packet.{Packet}
+use Rattle.decoder.specs.Describes.{Describes}
+use Rattle.decoder.specs.Order.{IsOpen}
+use Rattle.decoder.specs.declared.fault.DecodeFault.{DecodeFault}
+use Rattle.decoder.specs.declared.fault.DecodeFault.TheVariants.{NotOpened, AfterClose, Memory}
+use Rattle.message.specs.Accepted.{expected_after, newcomers}
+use Rattle.message.specs.Accepting.{accepting}
+use Rattle.message.specs.OfHart.{packets_of}
+use Rattle.message.specs.declared.message.Message.{Message}
+use Rattle.receiver.specs.declared.fault.ReceiveFault.{ReceiveFault}
+use Rattle.receiver.specs.declared.fault.ReceiveFault.TheVariants as fault
+
+-- Why a packet is not decoded after packets that have not ended: it comes first and opens no trace, memory was refused,
+-- or no log is described by them and it.
+pub record IsNotDecoded (words : Words) (packets : List Packet) (packet : Packet) (why : DecodeFault) : Type 0 where
+  pub not_opened : (why ≡ NotOpened) ↔ ((packets ≡ []) × ¬ IsOpen packet)
+  pub not_ended : ¬ (why ≡ AfterClose)
+  pub reason : (why ≡ Memory) ⊎ ((log : List Event) → ¬ Describes words (packets ++ packet ∷ []) log)
+
+-- The message is accepted after these messages, and its packet is not decoded.
+pub record IsUndecoded (words : Words) (harts : ℕ) (messages : List Message) (message : Message) (why : DecodeFault) : Type 0 where
+  pub packet : Packet
+  pub accepted : accepting (expected_after (newcomers harts) messages) message ≡ Ok packet
+  pub not_decoded : IsNotDecoded words (packets_of message.hart messages) packet why
+
+-- Why a message is not received after these messages, by the program of its hart.
+abbrev pub IsRefused : Words → ℕ → List Message → Message → ReceiveFault → Type 0
+IsRefused words harts messages message (fault.Demux why) = accepting (expected_after (newcomers harts) messages) message ≡ Err why
+IsRefused words harts messages message (fault.Decode why) = IsUndecoded words harts messages message why
