@@ -1,2 +1,5 @@
 pub mod AlikeLemmas
 pub mod ReportLemmas
+pub mod ClosingLast
+pub mod TakenPackets
+pub mod GotLemmas

@@ -1,3 +1,4 @@
 pub mod Verdict
 pub mod Got
 pub mod Report
+pub mod Replayed

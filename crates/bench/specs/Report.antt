@@ -15,8 +15,8 @@ verdict_text Whole = codes "whole"
 verdict_text Beginning = codes "beginning"
 verdict_text (Differs row) = codes "differs at row " ++ decimal row
 
--- What is told of a hart: its number, how many events its log has, how many packets came, of how many payload bytes, how
--- many events were decoded, and how they compare with the log.
+-- What is told of a hart: its number, how many events its log has, how many packets came, of how many payload bytes,
+-- how many events were decoded, and how they compare with the log.
 abbrev pub hart_text : ℕ → ℕ → ℕ → ℕ → ℕ → Verdict → List ℕ
 hart_text hart events taken bytes decoded verdict =
     codes "hart " ++ (decimal hart ++ (codes ": " ++ (decimal events ++ (codes " events, "
@@ -26,7 +26,8 @@ hart_text hart events taken bytes decoded verdict =
 -- The line of a hart.
 abbrev pub hart_line : ℕ → Got → ProgramLog → List ℕ
 hart_line hart got log =
-    hart_text hart (length log.events) got.taken got.bytes (length got.decoded) (verdict got.closed got.decoded log.events)
+    hart_text hart (length log.events) got.taken got.bytes (length got.decoded)
+    (verdict got.closed got.decoded log.events)
     ++ codes "\n"
 
 -- The lines of harts, the first of them this one.

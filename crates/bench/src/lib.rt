@@ -6,6 +6,7 @@
 
 mod config;
 mod hart_line;
+mod laws;
 mod outcome;
 mod reporting;
 mod setup;
@@ -15,6 +16,7 @@ mod tests;
 mod verdict;
 
 pub use config::Config;
+pub use laws::turns_let_beginnings_through;
 pub use outcome::{HartOutcome, Outcome};
 pub use reporting::{is_whole, report};
 pub use setup::Setup;

@@ -1,6 +1,6 @@
 //! The funnel in one thread.
 
-ghost use Rattle.std.specs.Prelude.{◌≡◌, ◌++◌, ◌<◌, nat_lt, if◌then◌else◌, [], ◌∷◌, IfErr, IfOk, IfSome, OnErr, Some, None, Ok, Err, length, slice_get};
+ghost use Rattle.std.specs.Prelude.{◌≡◌, ◌++◌, ◌<◌, nat_lt, not, if◌then◌else◌, [], ◌∷◌, IfErr, IfOk, IfSome, OnErr, Some, None, Ok, Err, length, slice_get};
 ghost use Rattle.std.specs.Option.{option_to_list};
 ghost use Rattle.std.specs.VecDeque.{deque_capacity};
 ghost use Rattle.funnel.specs.Held.{Held, IsHeld};
@@ -52,6 +52,13 @@ impl<A: Allocator> Core<A> {
         }
     }
 
+    /// Whether there is no room for one message more.
+    pub fn is_full(&self) -> bool
+        ensures { result ≡ not (nat_lt (length self.now.queue) self.now.capacity) }
+    {
+        self.queue.len() >= self.capacity as usize
+    }
+
     /// Puts a message at the back of the queue; where the queue is full, gives it back and changes nothing.
     pub fn offer(&mut self, message: Message) -> Result<(), Message>
         requires known { message.hart < self.old.harts }
@@ -61,7 +68,7 @@ impl<A: Allocator> Core<A> {
         ensures refused { OnErr result (self.new ≡ self.old) }
         ensures limits { (self.new.harts ≡ self.old.harts) × (self.new.capacity ≡ self.old.capacity) }
     {
-        if self.queue.len() >= self.capacity as usize {
+        if self.is_full() {
             return Err(message);
         }
         self.queue.push_back_reserved(message);

@@ -37,7 +37,7 @@ trap_not_closing : (event : Event) (taken : Bool) (level : ℕ) (handler : Bool)
 trap_not_closing (Retire addr itype priv) taken level handler address = refl
 trap_not_closing (Trap epc priv interrupt cause tval) taken level handler address = refl
 
-not_closing : (reported : ℕ) (front : List Event) (last : Event) (rule : Rule)
+pub not_closing : (reported : ℕ) (front : List Event) (last : Event) (rule : Rule)
     → is_closing_packet (packet_by reported front last rule) ≡ false
 not_closing reported front last (by.Trap handler) = trap_not_closing last _ _ _ _
 not_closing reported front last by.Handler = trap_not_closing (first_or last front) _ _ _ _

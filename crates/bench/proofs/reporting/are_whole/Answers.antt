@@ -13,8 +13,10 @@ loop-hart-preserved g c =
     let hart = c.loop-hart.hart in
     let known = c.loop-hart-test.true in
     let got = got_at harts hart c.index-harts-hart.result known c.index-harts-hart.is in
-    let log = slice_get_read logs (length logs) hart c.index-logs-hart.result refl (omega (arith, known, c.requires)) c.index-logs-hart.is in
-    let more = are_whole-next (map got_of harts) logs hart (got_of c.index-harts-hart.result) c.index-logs-hart.result got log in
+    let log = slice_get_read logs (length logs) hart c.index-logs-hart.result refl
+    (omega (arith, known, c.requires)) c.index-logs-hart.is in
+    let more = are_whole-next (map got_of harts) logs hart (got_of c.index-harts-hart.result)
+    c.index-logs-hart.result got log in
     let here = c.is_whole-whole.ensures ∙ ap is_whole_verdict c.verdict_of-verdict.ensures in
     let next : hart + 1 ≡ suc hart = omega arith in
     rw (next, here, c.loop-hart.invariant) (sym more)

@@ -24,5 +24,6 @@ returns-clause-text g c =
     let behind = Appends-then c.write_result.result second third last (stop_line why) (stop_line why)
     (result_line (c.is_none.result && c.in-Ok.whole)) (result_line told) refl (ap result_line both)
     c.in-Ok-write_stop.ensures.text c.write_result.ensures.text in
-    Appends-then c.write_result.result first second last (hart_lines 0 (map got_of c.as_slice.result.now) logs) (hart_lines 0 gots logs)
+    Appends-then c.write_result.result first second last (hart_lines 0 (map got_of c.as_slice.result.now) logs)
+    (hart_lines 0 gots logs)
     (stop_line why ++ result_line told) (stop_line why ++ result_line told) lines refl c.in-Ok.ensures.text behind

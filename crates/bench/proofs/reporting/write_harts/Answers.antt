@@ -16,19 +16,24 @@ loop-hart-preserved g c =
     let known = c.loop-hart-test.true in
     let one = got_of c.index-harts-hart.result in
     let got = got_at harts hart c.index-harts-hart.result known c.index-harts-hart.is in
-    let log = slice_get_read logs (length logs) hart c.index-logs-hart.result refl (omega (arith, known, c.requires)) c.index-logs-hart.is in
+    let log = slice_get_read logs (length logs) hart c.index-logs-hart.result refl
+    (omega (arith, known, c.requires)) c.index-logs-hart.is in
     let more = are_whole-next (map got_of harts) logs hart one c.index-logs-hart.result got log in
     let lines = hart_lines-next 0 (map got_of harts) logs hart one c.index-logs-hart.result got log in
     let next : hart + 1 ≡ suc hart = omega arith in
     let first = hart_lines 0 (take hart (map got_of harts)) (take hart logs) in
     let place : 0 + hart ≡ hart = omega arith in
-    let here = subst (λ h. Appends (g.W.Write.contents c.loop-hart.sink) (g.W.Write.contents c.write_hart.new.sink) (hart_line h one c.index-logs-hart.result))
+    let here = subst (λ h. Appends (g.W.Write.contents c.loop-hart.sink) (g.W.Write.contents c.write_hart.new.sink)
+    (hart_line h one c.index-logs-hart.result))
     (sym place) c.in-Ok.ensures.text in
-    let written = Appends-trans (g.W.Write.contents c.args.sink.now) (g.W.Write.contents c.loop-hart.sink) (g.W.Write.contents c.write_hart.new.sink)
+    let written = Appends-trans (g.W.Write.contents c.args.sink.now) (g.W.Write.contents c.loop-hart.sink)
+    (g.W.Write.contents c.write_hart.new.sink)
     first (hart_line (0 + hart) one c.index-logs-hart.result) c.loop-hart.invariant.text here in
     record {
       whole = rw (next, c.in-Ok.ensures.whole, c.loop-hart.invariant.whole) (sym more);
-      text = rw next (subst (Appends (g.W.Write.contents c.args.sink.now) (g.W.Write.contents c.write_hart.new.sink)) (sym lines) written);
+      text = rw next
+          (subst (Appends (g.W.Write.contents c.args.sink.now) (g.W.Write.contents c.write_hart.new.sink))
+          (sym lines) written);
     }
 
 pub returns-clause-whole : goal.returns-clause-whole
@@ -44,5 +49,7 @@ returns-clause-text g c =
     let gots = map got_of c.args.harts.now in
     let known = length-gots c.args.harts.now in
     let over = c.loop-hart-test.false in
-    let all = hart_lines-all gots c.args.logs.now c.loop-hart.hart (omega (arith, known, over)) (omega (arith, c.requires, over)) in
-    subst (Appends (g.W.Write.contents c.args.sink.now) (g.W.Write.contents c.loop-hart.sink)) all c.loop-hart.invariant.text
+    let all = hart_lines-all gots c.args.logs.now c.loop-hart.hart
+    (omega (arith, known, over)) (omega (arith, c.requires, over)) in
+    subst (Appends (g.W.Write.contents c.args.sink.now) (g.W.Write.contents c.loop-hart.sink)) all
+    c.loop-hart.invariant.text

@@ -1,0 +1,67 @@
+-- Of the packets of a log only the last closes a trace, and so does only the last of its payloads.
+use Rattle.std.proofs.Common.{◌≡◌, ℕ, zero, suc, true, All, List, [], ◌∷◌, ◌++◌, Some, length, map, slice_get, refl, sym, ap, subst, ◌∙◌, arith}
+use Rattle.std.proofs.lemmas.List.{length-map}
+use Rattle.std.proofs.lemmas.List.Elements.{All-get_or}
+use Rattle.std.proofs.lemmas.Option.{same_Some, slice_get_within, get_or_from_slice_get}
+use Rattle.retire.specs.declared.event.Event.{Event}
+use Rattle.rvclass.specs.Words.{Words}
+use Rattle.payload.proofs.ReadingLaws.{reading-payload_of}
+use Rattle.payload.specs.Closing.{is_closing, is_closing_packet, is_closing_reading}
+use Rattle.payload.specs.Profile.{InProfile}
+use Rattle.payload.specs.Spelling.{payload_of}
+use Rattle.payload.specs.declared.packet.Packet.{Packet}
+use Rattle.payload.specs.declared.packet.Packet.TheVariants as packet
+use Rattle.payload.specs.declared.packet.Support.TheVariants.{Open}
+use Rattle.encoder.specs.Packets.{closing_packet, packets, reports, reported_by, packet_by}
+use Rattle.encoder.specs.Piece.{Piece, pieces_of}
+use Rattle.roundtrip.proofs.PacketOrder.{not_closing}
+use Rattle.funnel.specs.Payloads.{ClosesOnlyLast}
+
+reports_close_last : (reported : ℕ) (pieces : List Piece) (last : Packet) (n : ℕ) (one : Packet)
+    → slice_get (reports reported pieces ++ last ∷ []) n ≡ Some one → is_closing_packet one ≡ true
+    → length (reports reported pieces ++ last ∷ []) ≡ suc n
+reports_close_last reported [] last zero one is closing = refl
+reports_close_last reported [] last (suc n) one is closing = cc
+reports_close_last reported (piece ∷ pieces) last zero one is closing =
+    let same = same_Some (packet_by reported piece.front piece.last piece.by) one is in
+    let going = not_closing reported piece.front piece.last piece.by in
+    cc
+reports_close_last reported (piece ∷ pieces) last (suc n) one is closing =
+    ap suc (reports_close_last (reported_by piece.by reported piece.last) pieces last n one is closing)
+
+pub packets_close_last : (words : Words) (period : ℕ) (log : List Event) (n : ℕ) (one : Packet)
+    → slice_get (packets words period log) n ≡ Some one → is_closing_packet one ≡ true
+    → length (packets words period log) ≡ suc n
+packets_close_last words period log zero one is closing =
+    let same = same_Some (packet.Support Open) one is in
+    let open_closes = ap is_closing_packet same in
+    cc
+packets_close_last words period log (suc n) one is closing =
+    ap suc (reports_close_last 0 (pieces_of words period log) (closing_packet words period log) n one is closing)
+
+-- What holds of each packet holds of the one at a place.
+pub All_at : (P : Packet → Type 0) (ps : List Packet) (n : ℕ) (one : Packet) → slice_get ps n ≡ Some one → All P ps
+    → P one
+All_at P ps n one is all =
+    subst P (get_or_from_slice_get ps n one one is) (All-get_or P ps n one (slice_get_within ps n one is) all)
+
+-- A payload closes where its packet does.
+closing_payload : (one : Packet) → InProfile one → is_closing (payload_of one) ≡ is_closing_packet one
+closing_payload one profile = ap is_closing_reading (reading-payload_of one profile)
+
+-- The packet of a payload.
+packet_at : (ps : List Packet) (n : ℕ) (payload : List ℕ) → slice_get (map payload_of ps) n ≡ Some payload
+    → (one : Packet) × (slice_get ps n ≡ Some one) × (payload_of one ≡ payload)
+packet_at [] n payload is = cc
+packet_at (one ∷ ps) zero payload is = (one, refl, same_Some (payload_of one) payload is)
+packet_at (one ∷ ps) (suc n) payload is = packet_at ps n payload is
+
+pub payloads_close_last : (words : Words) (period : ℕ) (log : List Event) → All InProfile (packets words period log)
+    → ClosesOnlyLast (map payload_of (packets words period log))
+payloads_close_last words period log profile n payload is closing =
+    let ps = packets words period log in
+    let found = packet_at ps n payload is in
+    let closes = sym (closing_payload found.0 (All_at InProfile ps n found.0 found.1 profile))
+    ∙ ap is_closing found.2 ∙ closing in
+    let all = packets_close_last words period log n found.0 found.1 closes in
+    omega (arith, all, length-map ps payload_of)

@@ -1,0 +1,33 @@
+-- Both are laws of the funnel machine, whose premises the packets of legal logs meet.
+use Rattle.std.proofs.Common.{◌≡◌, ℕ, List, [], Some, length, map, take, slice_get, ap, ◌∙◌}
+use Rattle.std.proofs.lemmas.Option.{get_or_from_slice_get, slice_get-map}
+use Rattle.std.specs.Option.{option_map}
+use Rattle.legalpath.specs.ProgramLog.{ProgramLog}
+use Rattle.encoder.specs.Payloads.{payloads}
+use Rattle.message.specs.OfHart.{of_hart}
+use Rattle.funnel.proofs.EveryState.{every-keeps}
+use Rattle.funnel.proofs.Kept.{keeps-first, keeps-lawful}
+use Rattle.funnel.specs.Payloads.{payloads_of}
+use Rattle.bench.specs.Replayed.{replayed}
+use Rattle.bench.proofs.GotLemmas.{close_last, got_first}
+use Rattle.bench.proofs.laws.turns_let_beginnings_through.Goals as goal
+
+-- The payloads at a log's place are its own.
+own_payloads : (period hart : ℕ) (logs : List ProgramLog) (log : ProgramLog) → slice_get logs hart ≡ Some log
+    → payloads_of hart (map (payloads period) logs) ≡ payloads period log
+own_payloads period hart logs log at =
+    get_or_from_slice_get (map (payloads period) logs) hart (payloads period log) []
+    (slice_get-map (payloads period) logs hart ∙ ap (option_map (payloads period)) at)
+
+pub returns-clause-lawful : goal.returns-clause-lawful
+returns-clause-lawful c = λ period capacity logs turns legal.
+    keeps-lawful capacity (map (payloads period) logs) (replayed period capacity logs turns)
+    (every-keeps capacity (map (payloads period) logs) turns) (close_last period logs legal)
+
+pub returns-clause-got : goal.returns-clause-got
+returns-clause-got c = λ period capacity logs turns hart log decoded legal at described.
+    let taken = of_hart hart (replayed period capacity logs turns).taken in
+    let first = keeps-first capacity (map (payloads period) logs) (replayed period capacity logs turns)
+    (every-keeps capacity (map (payloads period) logs) turns) hart in
+    got_first period log legal taken decoded
+    (first ∙ ap (take (length taken)) (own_payloads period hart logs log at)) described

@@ -1,0 +1,27 @@
+-- What turns let through of the payloads of logs.
+use Rattle.std.specs.Prelude.{ℕ, List, length, map, sum}
+use Rattle.retire.specs.declared.event.Event.{Event}
+use Rattle.legalpath.specs.ProgramLog.{ProgramLog}
+use Rattle.payload.specs.Ended.{has_ended}
+use Rattle.encoder.specs.Payloads.{payloads}
+use Rattle.message.specs.OfHart.{packets_in}
+use Rattle.message.specs.declared.message.Message.{Message}
+use Rattle.funnel.specs.Machine.{Funnel, after_turns, opening}
+use Rattle.funnel.specs.Payloads.{payloads_in}
+use Rattle.funnel.specs.declared.turn.Turn.{Turn}
+use Rattle.bench.specs.Got.{Got}
+
+-- The state of the funnel machine after turns of harts that have the payloads of these logs at this period.
+abbrev pub replayed : ℕ → ℕ → List ProgramLog → List Turn → Funnel
+replayed period capacity logs turns =
+    after_turns capacity (map (payloads period) logs) turns (opening (map (payloads period) logs))
+
+-- What comes of a hart whose messages these are, and whose packets decode to this.
+abbrev pub got_from : List Message → List Event → Got
+got_from messages decoded = record {
+  packets = packets_in messages;
+  taken = length messages;
+  bytes = sum (map length (payloads_in messages));
+  decoded = decoded;
+  closed = has_ended (packets_in messages);
+}
