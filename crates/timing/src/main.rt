@@ -13,6 +13,7 @@ mod least;
 mod logs;
 mod packets;
 mod run;
+mod sending;
 
 use std::io::Write;
 use std::process::ExitCode;
