@@ -5,7 +5,7 @@ use std::io::Write;
 use std::time::{Clock, Instant};
 
 /// How often a phase is run.
-const RUNS: u32 = 9;
+pub(crate) const RUNS: u32 = 9;
 
 /// What is measured.
 pub(crate) trait Phase: Drop {
@@ -28,6 +28,17 @@ pub(crate) fn measure<R: Clock, E: Write, P: Phase>(
         answer = phase.run()?;
         least = least.min(start.elapsed(rt)?.as_nanos());
     }
+    tell(err, name, items, least, answer)
+}
+
+/// Writes a name, a time for each of so many items and a number.
+pub(crate) fn tell<E: Write>(
+    err: &mut E,
+    name: &str,
+    items: usize,
+    least: u128,
+    answer: u64,
+) -> Result<(), Fault> {
     let hundredths = least.saturating_mul(100) / (items.max(1) as u128);
     let whole = hundredths / 100;
     let part = hundredths % 100;

@@ -12,6 +12,7 @@ mod least;
 mod logs;
 mod packets;
 mod run;
+mod sending;
 mod whole_captures;
 
 use std::io::Write;

@@ -6,6 +6,7 @@ use crate::input::Input;
 use crate::least::measure;
 use crate::logs::{self, Judging, Reading, Writing};
 use crate::packets::{PERIOD, Packing, Unpacking, packets_of, payloads_of};
+use crate::sending::{Bare, IN_ONE_THREAD, OneThread, Senders, measure_senders};
 use crate::whole_captures::{CaptureDecoding, CaptureWriting};
 use captures::encode_capture;
 use legalpath::LegalLog;
@@ -13,10 +14,12 @@ use retire::read_log;
 use std::env::Env;
 use std::io::Write;
 use std::rt::Files;
+use std::sync::Wait;
+use std::thread::Threads;
 use std::time::Clock;
 
-/// Measures each phase over each log that the words name.
-pub(crate) fn run<R: Env + Files + Clock + AllocGlobal, E: Write>(
+/// Measures each phase over each log that the words name, and then a funnel.
+pub(crate) fn run<R: Env + Files + Clock + AllocGlobal + Threads + Wait + Sync, E: Write>(
     rt: &R,
     err: &mut E,
 ) -> Result<(), Fault> {
@@ -29,6 +32,42 @@ pub(crate) fn run<R: Env + Files + Clock + AllocGlobal, E: Write>(
         measure_log(rt, err, text, &logs[0])?;
         measure_packets(rt, err, &logs[0])?;
         measure_captures(rt, err, &logs)?;
+    }
+    measure_funnel(rt, err)
+}
+
+/// How many messages go through a funnel with a capacity of 1, and with a greater one.
+const FEW: u64 = 6_400;
+
+const MANY: u64 = 64_000;
+
+/// Measures a message through a funnel: in one thread, on a bare channel, and with senders in threads of their own.
+fn measure_funnel<R: Clock + AllocGlobal + Threads + Wait + Sync, E: Write>(
+    rt: &R,
+    err: &mut E,
+) -> Result<(), Fault> {
+    let alloc = rt.alloc();
+    let count = IN_ONE_THREAD as usize;
+    measure(rt, err, "funnel alone", count, OneThread { rt, alloc })?;
+    measure(rt, err, "bare channel", count, Bare { rt, alloc })?;
+    for (name, harts, capacity, each) in [
+        ("funnel 1, 1", 1, 1, FEW),
+        ("funnel 4, 1", 4, 1, FEW / 4),
+        ("funnel 64, 1", 64, 1, FEW / 64),
+        ("funnel 1, 16", 1, 16, MANY),
+        ("funnel 4, 16", 4, 16, MANY / 4),
+        ("funnel 64, 16", 64, 16, MANY / 64),
+        ("funnel 1, 1024", 1, 1024, MANY),
+        ("funnel 4, 1024", 4, 1024, MANY / 4),
+        ("funnel 64, 1024", 64, 1024, MANY / 64),
+    ] {
+        let senders = Senders {
+            name,
+            harts,
+            capacity,
+            each,
+        };
+        measure_senders(rt, err, alloc, senders)?;
     }
     Ok(())
 }
