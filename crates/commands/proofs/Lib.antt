@@ -1,0 +1,5 @@
+mod FromFiles
+mod HartTexts
+mod LegalLogs
+mod Runs
+mod Tables

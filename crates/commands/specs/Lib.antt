@@ -2,3 +2,9 @@ pub mod Status
 pub mod Faults
 pub mod Decoding
 pub mod Order
+pub mod Known
+pub mod Found
+pub mod Printed
+pub mod Encoding
+pub mod Decoded
+pub mod CarriedOut

@@ -1,6 +1,10 @@
 //! The subcommand `decode`.
 
-ghost use Rattle.std.specs.Prelude.{◌≡◌, ◌≢◌, IfErr, IfSome};
+ghost use Rattle.std.specs.Prelude.{◌≡◌, ◌≢◌, IfErr, IfSome, OnOk};
+ghost use Rattle.std.specs.Io.KnownBytes.{Appends};
+ghost use Rattle.captures.specs.Collected.{events_in};
+ghost use Rattle.commands.specs.Decoded.{Decodes, harts_text};
+ghost use Rattle.commands.specs.Printed.{IsDenied, PrintsUnlessDenied};
 ghost use Rattle.retire.specs.Number.{number_of};
 ghost use Rattle.commands.specs.Decoding.{end_of_capture};
 ghost use Rattle.commands.specs.Faults.{end_of, status_of};
@@ -26,6 +30,7 @@ pub fn decode<'a, F: Files, O: Write>(
 ) -> Result<Status, Fault<'a>>
     ensures early { IfSome (base_fault (number_of asked.now.base.now)) (λ fault. result ≡ Err fault) }
     ensures refused { end_of result ≡ Status.Refused → out.new ≡ out.old }
+    ensures printed { PrintsUnlessDenied (Decodes (F.content files.old) asked.now) result (O.contents out.old) (O.contents out.new) }
 {
     let base = base_of(asked.base)?;
     let program = program_of(files, base, asked.image)?;
@@ -44,7 +49,9 @@ fn write_logs<'a, O: Write>(
     logs: &[Vec<Event>],
     out: &mut O,
 ) -> Result<(), Fault<'a>>
-    ensures { IfErr result (λ fault. status_of fault ≡ Status.Machine) }
+    ensures machine { IfErr result (λ fault. status_of fault ≡ Status.Machine) }
+    ensures denied { IfErr result IsDenied }
+    ensures text { OnOk result (Appends (O.contents out.old) (O.contents out.new) (harts_text 0 (events_in logs.now))) }
 {
     for (hart, log) in logs.iter().enumerate() {
         writeln!(out, "hart {hart}").map_err(|_| Fault::Output)?;

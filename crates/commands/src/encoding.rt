@@ -1,9 +1,13 @@
 //! The subcommand `encode`.
 
-ghost use Rattle.std.specs.Prelude.{◌≡◌, ◌≤◌, ◌^◌, IfErr, IfSome, length};
-ghost use Rattle.retire.specs.Number.{number_of};
+ghost use Rattle.std.specs.Prelude.{◌≡◌, ◌≤◌, ◌^◌, IfErr, IfSome, OnOk, length};
+ghost use Rattle.std.specs.Io.KnownBytes.{Appends};
+ghost use Rattle.captures.specs.Messages.{messages_of_harts};
+ghost use Rattle.commands.specs.Encoding.{Encodes, written};
 ghost use Rattle.commands.specs.Faults.{end_of};
 ghost use Rattle.commands.specs.Order.{logs_fault};
+ghost use Rattle.commands.specs.Printed.{PrintsUnlessDenied};
+ghost use Rattle.retire.specs.Number.{number_of};
 
 use crate::fault::Fault;
 use crate::files::Files;
@@ -26,6 +30,7 @@ pub fn encode<'a, F: Files, O: Write>(
     ensures early { IfSome (logs_fault (number_of asked.now.base.now) (length asked.now.logs.items))
         (λ fault. result ≡ Err fault) }
     ensures refused { end_of result ≡ Status.Refused → out.new ≡ out.old }
+    ensures printed { PrintsUnlessDenied (Encodes (F.content files.old) asked.now) result (O.contents out.old) (O.contents out.new) }
 {
     let base = base_of(asked.base)?;
     counted(asked.logs.as_slice())?;
@@ -44,7 +49,9 @@ fn write_messages<'a, O: Write>(
 ) -> Result<(), Fault<'a>>
     requires period { 1 ≤ asked.now.period }
     requires few { length logs.now ≤ 64 }
-    ensures { IfErr result (λ fault. fault ≡ Fault.Output) }
+    ensures fault { IfErr result (λ fault. fault ≡ Fault.Output) }
+    ensures text { OnOk result (Appends (O.contents out.old) (O.contents out.new)
+        (written asked.now.hex (messages_of_harts asked.now.period 0 logs.now))) }
 {
     if asked.hex {
         encode_hex(logs, asked.period, out).map_err(|_| Fault::Output)

@@ -1,5 +1,8 @@
 //! Where the content of files comes from.
 
+ghost use Rattle.std.specs.Prelude.{◌≡◌, ◌⊎◌, ℕ, List, IfErr, IfOk};
+ghost use Rattle.commands.specs.Known.{Known, MayHold, MayLack, Untold};
+
 use thiserror::Error;
 
 /// Why a file has no content.
@@ -15,6 +18,12 @@ pub enum FileFault {
 
 /// A place that files are read from.
 pub trait Files {
+    /// What is known of the file at each path: files in memory tell it, the machine's tell nothing.
+    ghost content: { Self → List ℕ → Known } = { λ _ _. Untold };
+
     /// The whole content of the file at this path.
-    fn read(&mut self, path: &str) -> Result<Vec<u8>, FileFault>;
+    fn read(&mut self, path: &str) -> Result<Vec<u8>, FileFault>
+        ensures held { IfOk result (λ bytes. MayHold (content self.old path.now) bytes.items) }
+        ensures lacked { IfErr result (λ why. (why ≡ FileFault.Memory) ⊎ MayLack (content self.old path.now)) }
+        ensures kept { content self.new ≡ content self.old };
 }

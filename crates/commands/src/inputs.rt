@@ -1,20 +1,23 @@
 //! What a command is given: a base, an image and logs.
 
-ghost use Rattle.std.specs.Prelude.{◌≡◌, ◌≤◌, ◌<◌, ◌^◌, IfErr, IfOk, length, vec_len};
-ghost use Rattle.retire.specs.Number.{number_of};
+ghost use Rattle.std.specs.Prelude.{◌≡◌, ◌⊎◌, ◌≤◌, ◌<◌, ◌^◌, IfErr, IfOk, Err, Ok, length, vec_len};
 ghost use Rattle.commands.specs.Faults.{status_of};
+ghost use Rattle.commands.specs.Found.{AreFew, AreLegalLogs, IsBase, IsLegalLogAt, IsLog, IsProgram, IsRead};
+ghost use Rattle.retire.specs.Log.{log_of as events_of, records_of};
+ghost use Rattle.retire.specs.Number.{number_of};
 
 use crate::fault::Fault;
 use crate::files::Files;
 use crate::status::Status;
 use legalpath::LegalLog;
-use retire::{Event, number, read_log};
+use retire::{Event, LogFault, number, read_log};
 use rvclass::Program;
 use std::alloc::Global;
 use subcommands::MOST_HARTS;
 
 /// Whether there are no more logs than there may be harts.
 pub(crate) fn counted<'a>(logs: &[&'a str]) -> Result<(), Fault<'a>>
+    ensures found { AreFew logs.now result }
     ensures few { IfOk result (λ _. length logs.now ≤ 64) }
     ensures many { IfErr result (λ fault. (fault ≡ Fault.ManyLogs) × (64 < length logs.now)) }
 {
@@ -26,6 +29,7 @@ pub(crate) fn counted<'a>(logs: &[&'a str]) -> Result<(), Fault<'a>>
 
 /// The number that a base is.
 pub(crate) fn base_of<'a>(text: &str) -> Result<u64, Fault<'a>>
+    ensures found { IsBase text.now result }
     ensures number { IfOk result (λ base. number_of text.now ≡ Some base) }
     ensures none { IfErr result (λ fault. (fault ≡ Fault.Base) × (number_of text.now ≡ None)) }
 {
@@ -34,7 +38,10 @@ pub(crate) fn base_of<'a>(text: &str) -> Result<u64, Fault<'a>>
 
 /// The content of the file at a path.
 pub(crate) fn content_of<'a, F: Files>(files: &mut F, path: &'a str) -> Result<Vec<u8>, Fault<'a>>
-    ensures { IfErr result (λ fault. status_of fault ≡ Status.Machine) }
+    ensures machine { IfErr result (λ why. status_of why ≡ Status.Machine) }
+    ensures held { IfOk result (λ bytes. IsRead (F.content files.old) path.entry (Ok bytes.items)) }
+    ensures lacked { IfErr result (λ why. (why ≡ Fault.Memory) ⊎ IsRead (F.content files.old) path.entry (Err why)) }
+    ensures kept { F.content files.new ≡ F.content files.old }
 {
     files
         .read(path)
@@ -46,9 +53,26 @@ pub(crate) fn program_of<'a, F: Files>(
     files: &mut F,
     base: u64,
     image: &'a str,
-) -> Result<Program, Fault<'a>> {
+) -> Result<Program, Fault<'a>>
+    ensures program { IfOk result (λ program. IsProgram (F.content files.old) base image.entry (Ok program)) }
+    ensures fault { IfErr result (λ why. (why ≡ Fault.Memory) ⊎ IsProgram (F.content files.old) base image.entry (Err why)) }
+    ensures kept { F.content files.new ≡ F.content files.old }
+{
     let bytes = content_of(files, image)?;
     Ok(Program::new(base, bytes)?)
+}
+
+/// The events of a log that lies in memory, where reading fails for want of memory alone.
+fn events_of(alloc: Global, text: &[u8]) -> Result<Vec<Event>, LogFault>
+    ensures events { IfOk result (λ events. events_of (records_of text.now) ≡ Ok events.items) }
+    ensures faults { IfErr result (λ why. (why ≡ LogFault.Memory) ⊎ (events_of (records_of text.now) ≡ Err why)) }
+    ensures short { IfOk result (λ events. vec_len events ≤ 2 ^ 24) }
+{
+    match read_log(alloc, alloc, text) {
+        Ok(events) => Ok(events),
+        Err(LogFault::Read) => Err(LogFault::Memory),
+        Err(why) => Err(why),
+    }
 }
 
 /// The events of the log at a path.
@@ -57,10 +81,16 @@ pub(crate) fn log_of<'a, F: Files>(
     files: &mut F,
     path: &'a str,
 ) -> Result<Vec<Event>, Fault<'a>>
-    ensures { IfOk result (λ events. vec_len events ≤ 2 ^ 24) }
+    ensures log { IfOk result (λ events. IsLog (F.content files.old) path.entry (Ok events.items)) }
+    ensures fault { IfErr result (λ why. (why ≡ Fault.Memory) ⊎ IsLog (F.content files.old) path.entry (Err why)) }
+    ensures short { IfOk result (λ events. vec_len events ≤ 2 ^ 24) }
+    ensures kept { F.content files.new ≡ F.content files.old }
 {
     let bytes = content_of(files, path)?;
-    read_log(alloc, alloc, bytes.as_slice()).map_err(|fault| Fault::of_log(path, fault))
+    match events_of(alloc, bytes.as_slice()) {
+        Ok(events) => Ok(events),
+        Err(why) => Err(Fault::of_log(path, why)),
+    }
 }
 
 /// The log at a path, where it is legal for the program.
@@ -69,9 +99,16 @@ pub(crate) fn legal_log_of<'a, 'p, F: Files>(
     files: &mut F,
     program: &'p Program,
     path: &'a str,
-) -> Result<LegalLog<'p>, Fault<'a>> {
+) -> Result<LegalLog<'p>, Fault<'a>>
+    ensures log { IfOk result (λ log. IsLegalLogAt (F.content files.old) program.now path.entry (Ok log)) }
+    ensures fault { IfErr result (λ why. (why ≡ Fault.Memory) ⊎ IsLegalLogAt (F.content files.old) program.now path.entry (Err why)) }
+    ensures kept { F.content files.new ≡ F.content files.old }
+{
     let events = log_of(alloc, files, path)?;
-    LegalLog::new(program, events).map_err(|(why, _)| Fault::Illegal(path, why))
+    match LegalLog::new(program, events) {
+        Ok(log) => Ok(log),
+        Err((why, _)) => Err(Fault::Illegal(path, why)),
+    }
 }
 
 /// The logs at these paths, in turn, where each is legal for the program.
@@ -81,12 +118,20 @@ pub(crate) fn legal_logs_of<'a, 'p, F: Files>(
     program: &'p Program,
     paths: &[&'a str],
 ) -> Result<Vec<LegalLog<'p>>, Fault<'a>>
-    ensures { IfOk result (λ logs. vec_len logs ≡ length paths.now) }
+    ensures count { IfOk result (λ logs. vec_len logs ≡ length paths.now) }
+    ensures logs { IfOk result (λ logs. AreLegalLogs (F.content files.old) program.now paths.now (Ok logs.items)) }
+    ensures fault { IfErr result (λ why. (why ≡ Fault.Memory) ⊎ AreLegalLogs (F.content files.old) program.now paths.now (Err why)) }
+    ensures kept { F.content files.new ≡ F.content files.old }
 {
     let mut logs = Vec::new(alloc);
     for path in paths {
-        let log = legal_log_of(alloc, files, program, path)?;
-        logs.push(log).map_err(|_| Fault::Memory)?;
+        let log = match legal_log_of(alloc, files, program, path) {
+            Ok(log) => log,
+            Err(why) => return Err(why),
+        };
+        if logs.push(log).is_err() {
+            return Err(Fault::Memory);
+        }
     }
     Ok(logs)
 }

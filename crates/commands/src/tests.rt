@@ -1,6 +1,5 @@
 //! Runs of the subcommands over files in memory.
 
-mod whole_captures;
 mod checks;
 mod dumps;
 mod logs;
@@ -8,3 +7,4 @@ mod output;
 mod refusals;
 mod runs;
 mod table;
+mod whole_captures;

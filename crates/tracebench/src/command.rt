@@ -2,6 +2,7 @@
 
 ghost use Rattle.std.specs.Prelude.{◌≡◌, ◌≢◌, ◌≤◌, map, string_bytes};
 ghost use Rattle.cli.specs.Asking.{AreRefused, AskNoCheck};
+ghost use Rattle.tracebench.specs.Words.{AreCarriedOut};
 
 use crate::words_fault::tell_words;
 use cli::asked;
@@ -27,6 +28,9 @@ pub fn command<F: Files, O: Write, E: Write>(
     ensures words { AreRefused (map string_bytes words.now) → (result ≢ 0) × (out.new ≡ out.old) }
     // Where the input is refused, nothing is written, but for the lines of `check`.
     ensures refused { AskNoCheck (map string_bytes words.now) → result ≡ 2 → out.new ≡ out.old }
+    // Where no input is refused and the machine does not fail, what the words ask for is carried out, of what files tell.
+    ensures printed { result ≤ 1 → AreCarriedOut (F.content files.old) (map string_bytes words.now) result
+        (O.contents out.old) (O.contents out.new) }
 {
     let status = match asked(alloc, words) {
         Ok(asked) => match carry_out(alloc, files, &asked, out) {

@@ -1,6 +1,7 @@
 //! Files in memory, and what is asked for over them.
 
-ghost use Rattle.std.specs.Prelude.{IfOk};
+ghost use Rattle.std.specs.Prelude.{IfOk, map};
+ghost use Rattle.commands.specs.Known.{content_in};
 ghost use Rattle.subcommands.specs.Limits.{IsWithinLimits};
 
 use crate::{FileFault, Files, carry_out, tell};
@@ -32,6 +33,8 @@ impl Table {
 }
 
 impl Files for Table {
+    ghost content = { λ table path. content_in (map (λ row. (row.0.now, row.1.items)) table.rows.items) path };
+
     // The path `full` is of a file that memory is refused for.
     fn read(&mut self, path: &str) -> Result<Vec<u8>, FileFault> {
         if path == "full" {

@@ -1,0 +1,81 @@
+-- The prover tries no chain of steps by itself: what each step found is handed to it, in order.
+use Rattle.std.proofs.Common.{◌≡◌, ◌⊎◌, refl, subst, sym, arith, Ok, Err, IfOk}
+use Rattle.std.proofs.lemmas.Grind.{common_steps}
+use Rattle.std.specs.Io.KnownBytes.{Appends}
+use Rattle.captures.specs.Collected.{events_in}
+use Rattle.captures.specs.Decoded.{IsDecoded}
+use Rattle.rvclass.specs.Fetch.{words_of}
+use Rattle.commands.specs.Decoded.{Decodes, harts_text}
+use Rattle.commands.specs.Found.{IsProgram, IsRead}
+use Rattle.commands.specs.Printed.{PrintsUnlessDenied}
+use Rattle.commands.specs.declared.fault.Fault.TheVariants as fault
+use Rattle.commands.proofs.Runs.{appends-keeps, ends_silently, prints}
+use Rattle.commands.proofs.decoding.decode.Goals as goal
+
+pub returns-in_err-program-clause-printed : goal.returns-in_err-program-clause-printed
+returns-in_err-program-clause-printed g c =
+    let out = g.O.Write.contents c.args.out.now in
+    let asked = c.args.asked.now in
+    let content = g.F.Files.content c.args.files.now in
+    let run = Decodes content asked in
+    let base = c.in_ok-base.base in
+    let why = c.in_err-program.field-0.0 in
+    let is : c.from_residual-in_err-program.result ≡ Err why = grind (arith, common_steps) in
+    subst (λ r. PrintsUnlessDenied run r out out) (sym is)
+    (ends_silently run (IsProgram content base asked.image (Err why)) why out c.in_err-program.ensures.fault
+    (λ none. (Ok base, c.in_ok-base.ensures.found, (Err why, none, refl))))
+
+pub returns-in_err-bytes-clause-printed : goal.returns-in_err-bytes-clause-printed
+returns-in_err-bytes-clause-printed g c =
+    let out = g.O.Write.contents c.args.out.now in
+    let asked = c.args.asked.now in
+    let content = g.F.Files.content c.args.files.now in
+    let run = Decodes content asked in
+    let base = c.in_ok-base.base in
+    let program = c.in_ok-program.program in
+    let why = c.in_err-bytes.field-0.0 in
+    let is : c.from_residual-in_err-bytes.result ≡ Err why = grind (arith, common_steps) in
+    let told = subst (λ told. (why ≡ fault.Memory) ⊎ IsRead told asked.capture (Err why)) c.in_ok-program.ensures.kept c.in_err-bytes.ensures.lacked in
+    subst (λ r. PrintsUnlessDenied run r out out) (sym is)
+    (ends_silently run (IsRead content asked.capture (Err why)) why out told
+    (λ none. (Ok base, c.in_ok-base.ensures.found, (Ok program, c.in_ok-program.ensures.program, (Err why, none, refl)))))
+
+pub returns-clause-printed : goal.returns-clause-printed
+returns-clause-printed g c =
+    let contents = g.O.Write.contents in
+    let asked = c.args.asked.now in
+    let content = g.F.Files.content c.args.files.now in
+    let program = c.in_ok-program.program in
+    let outcome = c.in_ok-outcome.outcome in
+    let bytes = c.in_ok-bytes.bytes.items in
+    let lists = events_in outcome.harts.items in
+    let was : c.decode_capture.result ≡ Ok outcome = grind (arith, common_steps) in
+    let decoded : IsDecoded (words_of program) asked.harts bytes lists outcome.closed.items outcome.fault =
+    subst (λ bytes. IsDecoded (words_of program) asked.harts bytes lists outcome.closed.items outcome.fault) c.as_slice.ensures.value
+    (subst (λ r. IfOk r (λ outcome. IsDecoded (words_of program) asked.harts c.as_slice.result.now (events_in outcome.harts.items) outcome.closed.items outcome.fault)) was c.decode_capture.ensures.decoded) in
+    let read = subst (λ told. IsRead told asked.capture (Ok bytes)) c.in_ok-program.ensures.kept c.in_ok-bytes.ensures.held in
+    let text = subst (λ logs. Appends (contents c.args.out.now) (contents c.write_logs.new.out) (harts_text 0 (events_in logs))) c.as_slice-2.ensures.value c.in_ok-write_logs.ensures.text in
+    prints (Decodes content asked) c.ended.result (contents c.args.out.now) (contents c.flush.new.self) (record {
+      text = harts_text 0 lists;
+      prints = (
+        Ok c.in_ok-base.base,
+        c.in_ok-base.ensures.found,
+        (
+          Ok program,
+          c.in_ok-program.ensures.program,
+          (
+            Ok bytes,
+            read,
+            record {
+              lists = lists;
+              closed = outcome.closed.items;
+              stop = outcome.fault;
+              decoded = decoded;
+              text = refl;
+              ended = c.ended.ensures.value;
+            },
+          ),
+        ),
+      );
+      appended = appends-keeps (contents c.args.out.now) (contents c.write_logs.new.out) (contents c.flush.new.self) _ text c.flush.ensures.bytes;
+    })

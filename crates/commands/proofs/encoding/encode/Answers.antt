@@ -1,0 +1,79 @@
+-- The prover tries no chain of steps by itself: what each step found is handed to it, in order.
+use Rattle.std.proofs.Common.{◌≡◌, ◌⊎◌, inr, refl, subst, sym, arith, Ok, Err}
+use Rattle.std.proofs.lemmas.Grind.{common_steps}
+use Rattle.std.specs.Io.KnownBytes.{Appends}
+use Rattle.captures.specs.Messages.{messages_of_harts}
+use Rattle.commands.specs.Encoding.{Encodes, written}
+use Rattle.commands.specs.Found.{AreFew, AreLegalLogs, IsProgram}
+use Rattle.commands.specs.Printed.{PrintsUnlessDenied}
+use Rattle.commands.specs.declared.fault.Fault.TheVariants as fault
+use Rattle.commands.proofs.Runs.{appends-keeps, ends_silently}
+use Rattle.commands.proofs.encoding.encode.Goals as goal
+
+pub returns-in_err-counted-clause-printed : goal.returns-in_err-counted-clause-printed
+returns-in_err-counted-clause-printed g c =
+    let out = g.O.Write.contents c.args.out.now in
+    let asked = c.args.asked.now in
+    let run = Encodes (g.F.Files.content c.args.files.now) asked in
+    let why = c.in_err-counted.field-0.0 in
+    let is : c.from_residual-in_err-counted.result ≡ Err why = grind (arith, common_steps) in
+    let many = subst (λ logs. AreFew logs (Err why)) c.as_slice.ensures.value c.in_err-counted.ensures.found in
+    subst (λ r. PrintsUnlessDenied run r out out) (sym is)
+    (ends_silently run (AreFew asked.logs.items (Err why)) why out (inr many)
+    (λ many. (Ok c.in_ok-base.base, c.in_ok-base.ensures.found, (Err why, many, refl))))
+
+pub returns-in_err-program-clause-printed : goal.returns-in_err-program-clause-printed
+returns-in_err-program-clause-printed g c =
+    let out = g.O.Write.contents c.args.out.now in
+    let asked = c.args.asked.now in
+    let content = g.F.Files.content c.args.files.now in
+    let run = Encodes content asked in
+    let base = c.in_ok-base.base in
+    let why = c.in_err-program.field-0.0 in
+    let is : c.from_residual-in_err-program.result ≡ Err why = grind (arith, common_steps) in
+    let counted = Ok c.in_ok-counted.field-0 in
+    let few = subst (λ logs. AreFew logs counted) c.as_slice.ensures.value c.in_ok-counted.ensures.found in
+    subst (λ r. PrintsUnlessDenied run r out out) (sym is)
+    (ends_silently run (IsProgram content base asked.image (Err why)) why out c.in_err-program.ensures.fault
+    (λ none. (Ok base, c.in_ok-base.ensures.found, (counted, few, (Err why, none, refl)))))
+
+pub returns-in_err-legal-clause-printed : goal.returns-in_err-legal-clause-printed
+returns-in_err-legal-clause-printed g c =
+    let out = g.O.Write.contents c.args.out.now in
+    let asked = c.args.asked.now in
+    let content = g.F.Files.content c.args.files.now in
+    let run = Encodes content asked in
+    let base = c.in_ok-base.base in
+    let program = c.in_ok-program.program in
+    let why = c.in_err-legal.field-0.0 in
+    let is : c.from_residual-in_err-legal.result ≡ Err why = grind (arith, common_steps) in
+    let counted = Ok c.in_ok-counted.field-0 in
+    let few = subst (λ logs. AreFew logs counted) c.as_slice.ensures.value c.in_ok-counted.ensures.found in
+    let told = subst (λ logs. (why ≡ fault.Memory) ⊎ AreLegalLogs content program logs (Err why)) c.as_slice-2.ensures.value
+    (subst (λ told. (why ≡ fault.Memory) ⊎ AreLegalLogs told program c.as_slice-2.result.now (Err why)) c.in_ok-program.ensures.kept c.in_err-legal.ensures.fault) in
+    subst (λ r. PrintsUnlessDenied run r out out) (sym is)
+    (ends_silently run (AreLegalLogs content program asked.logs.items (Err why)) why out told
+    (λ none. (Ok base, c.in_ok-base.ensures.found, (counted, few, (Ok program, c.in_ok-program.ensures.program, (Err why, none, refl))))))
+
+pub returns-clause-printed : goal.returns-clause-printed
+returns-clause-printed g c =
+    let contents = g.O.Write.contents in
+    let asked = c.args.asked.now in
+    let content = g.F.Files.content c.args.files.now in
+    let program = c.in_ok-program.program in
+    let logs = c.in_ok-legal.legal.items in
+    let printed = written asked.hex (messages_of_harts asked.period 0 logs) in
+    let counted = Ok c.in_ok-counted.field-0 in
+    let few = subst (λ logs. AreFew logs counted) c.as_slice.ensures.value c.in_ok-counted.ensures.found in
+    let legal = subst (λ paths. AreLegalLogs content program paths (Ok logs)) c.as_slice-2.ensures.value
+    (subst (λ told. AreLegalLogs told program c.as_slice-2.result.now (Ok logs)) c.in_ok-program.ensures.kept c.in_ok-legal.ensures.logs) in
+    let text = subst (λ logs. Appends (contents c.args.out.now) (contents c.write_messages.new.out) (written asked.hex (messages_of_harts asked.period 0 logs)))
+    c.as_slice-3.ensures.value c.in_ok-write_messages.ensures.text in record {
+      text = printed;
+      prints = (
+        Ok c.in_ok-base.base,
+        c.in_ok-base.ensures.found,
+        (counted, few, (Ok program, c.in_ok-program.ensures.program, (Ok logs, legal, refl))),
+      );
+      appended = appends-keeps (contents c.args.out.now) (contents c.write_messages.new.out) (contents c.flush.new.self) printed text c.flush.ensures.bytes;
+    }

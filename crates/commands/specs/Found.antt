@@ -1,0 +1,87 @@
+-- What is found of a base, of files, an image and logs.
+use Rattle.std.specs.Prelude.{◌≡◌, ℕ, ◌∷◌, ◌++◌, List, Option, Some, None, Result, Ok, Err, if◌then◌else◌, length, nat_lt}
+use Rattle.std.specs.List.{AllZip}
+use Rattle.std.specs.Result.{result_map_both}
+use Rattle.legalpath.specs.FirstFault.{IsFirstFault}
+use Rattle.legalpath.specs.Legal.{Legal}
+use Rattle.legalpath.specs.ProgramLog.{ProgramLog, log_of}
+use Rattle.legalpath.specs.declared.fault.PathFault.{PathFault}
+use Rattle.retire.specs.Log.{records_of, log_of as events_of}
+use Rattle.retire.specs.Number.{number_of}
+use Rattle.retire.specs.declared.event.Event.{Event}
+use Rattle.rvclass.specs.Fetch.{words_of}
+use Rattle.rvclass.specs.Image.{Image}
+use Rattle.rvclass.specs.Program.{program_of}
+use Rattle.subcommands.specs.Limits.{most_harts}
+use Rattle.commands.specs.Faults.{Path, log_fault}
+use Rattle.commands.specs.Known.{Content, MayHold, MayLack}
+use Rattle.commands.specs.declared.fault.Fault.{Fault}
+use Rattle.commands.specs.declared.fault.Fault.TheVariants as fault
+
+-- The number that a base is, or the fault that it is none.
+abbrev pub base_at : Option ℕ → Result ℕ Fault
+base_at None = Err fault.Base
+base_at (Some base) = Ok base
+
+-- The number of a text that is a base is found.
+abbrev pub IsBase : List ℕ → Result ℕ Fault → Type 0
+IsBase text found = found ≡ base_at (number_of text)
+
+-- There are no more logs than there may be harts.
+abbrev pub AreFew : List Path → Result (Unit {0}) Fault → Type 0
+AreFew logs found = found ≡ (if nat_lt most_harts (length logs) then Err fault.ManyLogs else Ok tt)
+
+-- The bytes of the file at a path are found, or that it cannot be read.
+abbrev pub IsRead : Content → Path → Result (List ℕ) Fault → Type 0
+IsRead content path (Ok bytes) = MayHold (content path.now) bytes
+IsRead content path (Err why) = (why ≡ fault.Unreadable path) × MayLack (content path.now)
+
+-- The program of an image's bytes, or why there is none.
+abbrev pub program_at : ℕ → Result (List ℕ) Fault → Result Image Fault
+program_at base (Err why) = Err why
+program_at base (Ok bytes) = result_map_both (λ program. program) fault.Image (program_of base bytes)
+
+-- The program of the image at a path is found, its first byte at the base.
+pub record IsProgram (content : Content) (base : ℕ) (path : Path) (found : Result Image Fault) : Type 0 where
+  pub bytes : Result (List ℕ) Fault
+  pub read : IsRead content path bytes
+  pub made : found ≡ program_at base bytes
+
+-- The events of a log's bytes, or why it is none.
+abbrev pub log_at : Path → Result (List ℕ) Fault → Result (List Event) Fault
+log_at path (Err why) = Err why
+log_at path (Ok bytes) = result_map_both (λ events. events) (log_fault path) (events_of (records_of bytes))
+
+-- The events of the log at a path are found.
+pub record IsLog (content : Content) (path : Path) (found : Result (List Event) Fault) : Type 0 where
+  pub bytes : Result (List ℕ) Fault
+  pub read : IsRead content path bytes
+  pub made : found ≡ log_at path bytes
+
+-- The events are a legal log of the program, or the first illegal row is told; a fault stays.
+abbrev pub IsJudged : Image → Path → Result (List Event) Fault → Result ProgramLog Fault → Type 0
+IsJudged program path (Err why) found = found ≡ Err why
+IsJudged program path (Ok events) (Ok log) = (log ≡ log_of program events) × Legal (words_of program) events
+IsJudged program path (Ok events) (Err why) =
+    (illegal : PathFault) × (why ≡ fault.Illegal path illegal) × IsFirstFault (words_of program) events illegal
+
+-- The legal log at a path is found, or why there is none.
+pub record IsLegalLogAt (content : Content) (program : Image) (path : Path) (found : Result ProgramLog Fault) : Type 0 where
+  pub events : Result (List Event) Fault
+  pub read : IsLog content path events
+  pub judged : IsJudged program path events found
+
+-- The logs of these paths are legal, and this one has the fault.
+pub record IsFirstRefused (content : Content) (program : Image) (paths : List Path) (why : Fault) : Type 0 where
+  pub front : List Path
+  pub path : Path
+  pub rest : List Path
+  pub logs : List ProgramLog
+  pub whole : paths ≡ front ++ path ∷ rest
+  pub legal : AllZip (λ path log. IsLegalLogAt content program path (Ok log)) front logs
+  pub refused : IsLegalLogAt content program path (Err why)
+
+-- The legal logs at these paths are found, in order, or the fault of the first that is none.
+abbrev pub AreLegalLogs : Content → Image → List Path → Result (List ProgramLog) Fault → Type 0
+AreLegalLogs content program paths (Ok logs) = AllZip (λ path log. IsLegalLogAt content program path (Ok log)) paths logs
+AreLegalLogs content program paths (Err why) = IsFirstRefused content program paths why
