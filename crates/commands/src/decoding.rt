@@ -2,7 +2,7 @@
 
 ghost use Rattle.std.specs.Prelude.{◌≡◌, ◌≢◌, IfErr, IfSome, OnOk};
 ghost use Rattle.std.specs.Io.KnownBytes.{Appends};
-ghost use Rattle.captures.specs.Collected.{events_in};
+ghost use Rattle.receiver.specs.Received.{events_in};
 ghost use Rattle.commands.specs.Decoded.{Decodes, harts_text};
 ghost use Rattle.commands.specs.Printed.{IsDenied, PrintsUnlessDenied};
 ghost use Rattle.retire.specs.Number.{number_of};

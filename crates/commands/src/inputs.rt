@@ -3,14 +3,13 @@
 ghost use Rattle.std.specs.Prelude.{◌≡◌, ◌⊎◌, ◌≤◌, ◌<◌, ◌^◌, IfErr, IfOk, Err, Ok, length, vec_len};
 ghost use Rattle.commands.specs.Faults.{status_of};
 ghost use Rattle.commands.specs.Found.{AreFew, AreLegalLogs, IsBase, IsLegalLogAt, IsLog, IsProgram, IsRead};
-ghost use Rattle.retire.specs.Log.{log_of as events_of, records_of};
 ghost use Rattle.retire.specs.Number.{number_of};
 
 use crate::fault::Fault;
 use crate::files::Files;
 use crate::status::Status;
 use legalpath::LegalLog;
-use retire::{Event, LogFault, number, read_log};
+use retire::{Event, number, read_log_from_slice};
 use rvclass::Program;
 use std::alloc::Global;
 use subcommands::MOST_HARTS;
@@ -62,19 +61,6 @@ pub(crate) fn program_of<'a, F: Files>(
     Ok(Program::new(base, bytes)?)
 }
 
-/// The events of a log that lies in memory, where reading fails for want of memory alone.
-fn events_of(alloc: Global, text: &[u8]) -> Result<Vec<Event>, LogFault>
-    ensures events { IfOk result (λ events. events_of (records_of text.now) ≡ Ok events.items) }
-    ensures faults { IfErr result (λ why. (why ≡ LogFault.Memory) ⊎ (events_of (records_of text.now) ≡ Err why)) }
-    ensures short { IfOk result (λ events. vec_len events ≤ 2 ^ 24) }
-{
-    match read_log(alloc, alloc, text) {
-        Ok(events) => Ok(events),
-        Err(LogFault::Read) => Err(LogFault::Memory),
-        Err(why) => Err(why),
-    }
-}
-
 /// The events of the log at a path.
 pub(crate) fn log_of<'a, F: Files>(
     alloc: Global,
@@ -87,7 +73,7 @@ pub(crate) fn log_of<'a, F: Files>(
     ensures kept { F.content files.new ≡ F.content files.old }
 {
     let bytes = content_of(files, path)?;
-    match events_of(alloc, bytes.as_slice()) {
+    match read_log_from_slice(alloc, alloc, bytes.as_slice()) {
         Ok(events) => Ok(events),
         Err(why) => Err(Fault::of_log(path, why)),
     }

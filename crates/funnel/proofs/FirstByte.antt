@@ -4,7 +4,7 @@ use Rattle.std.proofs.lemmas.Bool.{cases_lt}
 use Rattle.payload.specs.Bytes.{number}
 use Rattle.payload.specs.Closing.{is_closing, is_closing_packet, is_closing_reading}
 use Rattle.payload.specs.Extension.{extended}
-use Rattle.payload.specs.Faults.{bits_of, part, is_sync, is_trap, is_support, is_address, is_map, address_behind_map, first_fault}
+use Rattle.payload.specs.Faults.{bits_of, part, is_sync, is_trap, is_support, is_address_alone, is_map_alone, address_behind_map, first_fault}
 use Rattle.payload.specs.Reading.{packet_in, fault_or, support_from, trap_from, address_from, outcomes_from}
 use Rattle.payload.specs.declared.fault.PackFault.{PackFault}
 use Rattle.payload.specs.declared.packet.Packet.{Packet}
@@ -52,7 +52,7 @@ not_chosen false false false false p q u r s t ep eq er es et = et
 
 other_packet : (n : ℕ) → is_support n ≡ false → is_closing_packet (packet_in n) ≡ false
 other_packet n none =
-    rw none (not_chosen (is_sync n) (is_trap n) (is_address n) (is_map n)
+    rw none (not_chosen (is_sync n) (is_trap n) (is_address_alone n) (is_map_alone n)
     (packet.Sync (part n 4 1 == 0) (part n 5 2) (2 * part n 7 63)) (trap_from n)
     (packet.Support (support_from (part n 4 1) (part n 6 2))) (address_from n [] 2) (packet.Map (outcomes_from n 31))
     (address_from n (outcomes_from n (part n 2 5)) (address_behind_map n)) refl refl refl refl refl)

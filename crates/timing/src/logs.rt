@@ -3,9 +3,10 @@
 use crate::fault::Fault;
 use crate::least::Phase;
 use legalpath::{LegalLog, check};
-use retire::{Event, read_log, write_log};
+use retire::{Event, read_log_from_slice, write_log};
 use rvclass::Program;
 use std::alloc::Global;
+use std::io::sink;
 
 /// From the text of a log to its events.
 #[derive(Drop)]
@@ -16,24 +17,23 @@ pub(crate) struct Reading<'a> {
 
 impl Phase for Reading<'_> {
     fn run(&mut self) -> Result<u64, Fault> {
-        let events = read_log(self.alloc, self.alloc, self.text).map_err(|_| Fault::Log)?;
+        let events =
+            read_log_from_slice(self.alloc, self.alloc, self.text).map_err(|_| Fault::Log)?;
         Ok(events.len() as u64)
     }
 }
 
-/// From the events of a log to its text.
+/// From the events of a log to its text, which nothing keeps.
 #[derive(Drop)]
 pub(crate) struct Writing<'a> {
     pub(crate) alloc: Global,
     pub(crate) events: &'a [Event],
-    pub(crate) text: Vec<u8>,
 }
 
 impl Phase for Writing<'_> {
     fn run(&mut self) -> Result<u64, Fault> {
-        self.text.clear();
-        write_log(self.alloc, &mut self.text, self.events).map_err(|_| Fault::Log)?;
-        Ok(self.text.len() as u64)
+        write_log(self.alloc, &mut sink(), self.events).map_err(|_| Fault::Log)?;
+        Ok(self.events.len() as u64)
     }
 }
 

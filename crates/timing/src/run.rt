@@ -10,7 +10,7 @@ use crate::sending::{Bare, IN_ONE_THREAD, OneThread, Senders, measure_senders};
 use crate::whole_captures::{CaptureDecoding, CaptureWriting};
 use captures::encode_capture;
 use legalpath::LegalLog;
-use retire::read_log;
+use retire::read_log_from_slice;
 use std::env::Env;
 use std::io::Write;
 use std::rt::Files;
@@ -27,7 +27,7 @@ pub(crate) fn run<R: Env + Files + Clock + AllocGlobal + Threads + Wait + Sync, 
     let input = Input::read(rt)?;
     for text in &input.texts {
         let text = text.as_slice();
-        let events = read_log(alloc, alloc, text).map_err(|_| Fault::Log)?;
+        let events = read_log_from_slice(alloc, alloc, text).map_err(|_| Fault::Log)?;
         let logs = [logs::legal(&input.program, events)?];
         measure_log(rt, err, text, &logs[0])?;
         measure_packets(rt, err, &logs[0])?;
@@ -84,12 +84,7 @@ fn measure_log<R: Clock + AllocGlobal, E: Write>(
     let events = log.events();
     let count = events.len();
     measure(rt, err, "log reading", count, Reading { alloc, text })?;
-    let writing = Writing {
-        alloc,
-        events,
-        text: Vec::with_capacity(alloc, text.len())?,
-    };
-    measure(rt, err, "log writing", count, writing)?;
+    measure(rt, err, "log writing", count, Writing { alloc, events })?;
     let judging = Judging { program, events };
     measure(rt, err, "legality check", count, judging)
 }

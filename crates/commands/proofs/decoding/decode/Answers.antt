@@ -2,7 +2,7 @@
 use Rattle.std.proofs.Common.{◌≡◌, ◌⊎◌, refl, subst, sym, arith, Ok, Err, IfOk}
 use Rattle.std.proofs.lemmas.Grind.{common_steps}
 use Rattle.std.specs.Io.KnownBytes.{Appends}
-use Rattle.captures.specs.Collected.{events_in}
+use Rattle.receiver.specs.Received.{events_in}
 use Rattle.captures.specs.Decoded.{IsDecoded}
 use Rattle.rvclass.specs.Fetch.{words_of}
 use Rattle.commands.specs.Decoded.{Decodes, harts_text}

@@ -1,6 +1,6 @@
 use Rattle.std.proofs.Common.{subst, Vec, Global, arith}
 use Rattle.std.specs.Io.KnownBytes.{Appends}
-use Rattle.captures.specs.Collected.{events_in}
+use Rattle.receiver.specs.Received.{events_in}
 use Rattle.retire.specs.declared.event.Event.{Event}
 use Rattle.retire.specs.LogText.{log_text}
 use Rattle.std.proofs.lemmas.Grind.{common_steps}

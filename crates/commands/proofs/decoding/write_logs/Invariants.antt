@@ -1,6 +1,6 @@
 use Rattle.std.proofs.Common.{take}
 use Rattle.std.specs.Io.KnownBytes.{Appends}
-use Rattle.captures.specs.Collected.{events_in}
+use Rattle.receiver.specs.Received.{events_in}
 use Rattle.commands.specs.Decoded.{harts_text}
 use Rattle.commands.proofs.decoding.write_logs.Given as goal
 
