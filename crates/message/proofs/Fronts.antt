@@ -122,6 +122,19 @@ kind (Err fault.BadLength) = 3
 kind (Err fault.Read) = 4
 kind (Err fault.Write) = 5
 
+-- None is answered exactly where there are no bytes.
+pub first_message-end : (bytes : List ℕ) → (first_message bytes ≡ Ok None) ↔ (bytes ≡ [])
+first_message-end bytes = by_tests bytes (λ r. (r ≡ Ok None) ↔ (bytes ≡ []))
+    (λ none. (λ e. length-zero bytes none, λ is. refl))
+    (λ some few. (λ e. absurd (let k = ap kind e in omega (arith, k)), λ is. absurd (let n = ap length is in omega (arith, n, some))))
+    (λ head bad. (λ e. absurd (let k = ap kind e in omega (arith, k)), λ is. absurd (let n = ap length is in omega (arith, n, head))))
+    (λ head some few less. (λ e. absurd (let k = ap kind e in omega (arith, k)), λ is. absurd (let n = ap length is in omega (arith, n, head))))
+    (λ some few fits. (λ e. absurd (let k = ap kind e in omega (arith, k)), λ is. absurd (let n = ap length is in omega (arith, n, fits))))
+  where
+    length-zero : (xs : List ℕ) → length xs ≡ 0 → xs ≡ []
+    length-zero [] none = refl
+    length-zero (x ∷ xs) none = absurd (omega (arith, none))
+
 -- Short is answered exactly where the bytes begin a message and are not all of it.
 pub first_message-short : (bytes : List ℕ) → AreBytes bytes → (first_message bytes ≡ Err fault.Short) ↔ IsCut bytes
 first_message-short bytes are = by_tests bytes (λ r. (r ≡ Err fault.Short) ↔ IsCut bytes)

@@ -1,5 +1,5 @@
 -- The message that bytes begin with is passed over.
-use Rattle.std.proofs.Common.{◌≡◌, ◌+◌, ◌<◌, ◌++◌, ℕ, List, Option, Some, None, Result, Ok, Err, IfOk, IfSome, length, drop, sym, ap, subst, ◌∙◌, arith, drop_at}
+use Rattle.std.proofs.Common.{◌≡◌, ◌+◌, ◌<◌, ◌++◌, ℕ, List, [], Option, Some, None, Result, Ok, Err, IfOk, IfSome, length, drop, sym, ap, subst, ◌∙◌, arith, drop_at}
 use Rattle.std.proofs.lemmas.List.{length-append}
 use Rattle.message.specs.steps.Filling.{AreBytes}
 use Rattle.message.specs.Capture.{message_bytes}
@@ -8,7 +8,7 @@ use Rattle.message.specs.steps.Front.{first_message}
 use Rattle.message.specs.steps.Passing.{left_by}
 use Rattle.message.specs.declared.fault.MessageFault.{MessageFault}
 use Rattle.message.specs.declared.message.Message.{Message}
-use Rattle.message.proofs.Fronts.{Stands, first_message-stands, first_message-reads_back}
+use Rattle.message.proofs.Fronts.{Stands, first_message-end, first_message-stands, first_message-reads_back}
 
 -- A message that is found stands before what is left.
 pub passed-message : (old new : List ℕ) (r : Result (Option Message) MessageFault) → AreBytes old → r ≡ first_message old → new ≡ left_by old r
@@ -38,3 +38,7 @@ passed-reads_back old new r message rest is begins found left =
     let size : length (message_bytes message) ≡ 11 + length message.payload = omega arith in
     let behind : drop (11 + length message.payload) (message_bytes message ++ rest) ≡ rest = drop_at (message_bytes message) rest (11 + length message.payload) size in
     (here, left ∙ ap (left_by old) here ∙ ap (drop (11 + length message.payload)) begins ∙ behind)
+
+-- Where no message is found nothing is left.
+pub passed-ended : (old new : List ℕ) (r : Result (Option Message) MessageFault) → r ≡ Ok None → r ≡ first_message old → new ≡ left_by old r → new ≡ []
+passed-ended old new r none found left = left ∙ ap (left_by old) none ∙ (first_message-end old).0 (sym found ∙ none)

@@ -45,6 +45,7 @@ impl<'a> Messages<'a> {
         ensures short { (result ≡ Err MessageFault.Short) ↔ IsCut self.old }
         ensures bad_length { (result ≡ Err MessageFault.BadLength) ↔ HasBadLength self.old }
         ensures fault { IfErr result (λ fault. (fault ≡ MessageFault.Short) ⊎ (fault ≡ MessageFault.BadLength)) }
+        ensures ended { result ≡ Ok None → self.new ≡ [] }
         ensures stays { IfErr result (λ fault. self.new ≡ self.old) }
 
         // A message that stands there is read.

@@ -11,6 +11,7 @@ ghost use Rattle.decoder.specs.Order.{IsOpen};
 ghost use Rattle.decoder.specs.declared.fault.DecodeFault.TheVariants.{NotOpened, AfterClose, Memory};
 ghost use Rattle.message.specs.Accepting.{accepting, harts_after};
 ghost use Rattle.message.specs.OfHart.{packets_of};
+ghost use Rattle.message.specs.declared.fault.DemuxFault.{DemuxFault as AnyDemuxFault};
 ghost use Rattle.message.specs.declared.message.Message.{Message as AnyMessage};
 ghost use Rattle.receiver.specs.Holds.{AreDecoded, HasAccepted, HasReceived, Holds};
 ghost use Rattle.receiver.specs.Received.{Received, IsReceived, events_in};
@@ -114,13 +115,14 @@ impl<A: Allocator + Copy> Receiver<A> {
     }
 
     /// Accepts the message and decodes its packet, where the program is that of its hart. A fault leaves the lists and the
-    /// flags as they were.
+    /// flags as they were; of the hart whose packet is not decoded the next message is accepted then.
     pub fn receive(&mut self, program: &Program, message: &Message) -> Result<(), ReceiveFault>
         ensures received { (programs : ℕ → Words) (harts : ℕ) (messages : List AnyMessage)
             → programs message.now.hart ≡ words_of program.now → HasReceived programs harts messages self.old
             → OnOk result (HasReceived programs harts (messages ++ message.now ∷ []) self.new) }
         ensures held { (programs : ℕ → Words) (harts : ℕ) (messages : List AnyMessage)
             → HasReceived programs harts messages self.old → OnErr result (Holds programs harts messages self.new) }
+        ensures not_accepted { (why : AnyDemuxFault) → result ≡ Err (ReceiveFault.Demux why) → self.new ≡ self.old }
         ensures refused { (programs : ℕ → Words) (harts : ℕ) (messages : List AnyMessage)
             → programs message.now.hart ≡ words_of program.now → HasReceived programs harts messages self.old
             → IfErr result (λ fault. IsRefused (words_of program.now) harts messages message.now fault) }
@@ -151,6 +153,8 @@ impl<A: Allocator + Copy> Receiver<A> {
 
     /// The events of each hart, and of each whether its closing packet was decoded.
     pub fn into_parts(self) -> (Vec<Vec<Event, A>, A>, Vec<bool, A>)
+        ensures lists { events_in result.0.items ≡ self.lists }
+        ensures closed { result.1.items ≡ self.closed }
         ensures decoded { (programs : ℕ → Words) (harts : ℕ) (messages : List AnyMessage) → Holds programs harts messages self
             → AreDecoded programs harts messages (events_in result.0.items) result.1.items }
     {

@@ -136,16 +136,15 @@ fn messages_by_table(rt: HostRuntime) -> Result<(), Fail> {
 fn accepts_and_then_decodes(rt: HostRuntime) -> Result<(), Fail> {
     let program = Program::new(BASE, Vec::from_slice(rt.alloc(), &NOPS)?)?;
     let mut receiver = Receiver::new(rt.alloc(), 1)?;
-    let mut counts = [0; 4];
+    let mut before = [0; 4];
     for (number, payload) in [OPEN, FIRST, SECOND, END].into_iter().enumerate() {
         let message = message(0, number as u64, payload)?;
         let packet = receiver.accept(&message)?;
-        let before = count_of(&receiver);
+        before[number & 3] = count_of(&receiver);
         receiver.decode(&program, message.hart, &packet)?;
-        assert_eq!(rt; count_of(&receiver) - before, usize::from(number & 1 == 1));
-        counts[number & 3] = before;
     }
-    assert_eq!(rt; counts, [0, 0, 1, 1]);
+    assert_eq!(rt; before, [0, 0, 1, 1]);
+    assert_eq!(rt; count_of(&receiver), 2);
     assert_eq!(rt; receiver.closed(), [true].as_slice());
     Ok(())
 }
@@ -185,23 +184,23 @@ fn memory_is_refused(rt: HostRuntime) -> Result<(), Fail> {
         message(0, 2, SECOND)?,
         message(0, 3, END)?,
     ];
-    let mut nothing = 0;
-    let mut some = 0;
-    let mut all = 0;
+    let mut nothing = 0usize;
+    let mut some = 0usize;
+    let mut all = 0usize;
     for step in 0..64usize {
         let heap = LocalHeap::new(rt.alloc(), step * 16)?;
         match received(&heap, &program, &messages) {
-            Ok((2, None)) => all += 1,
+            Ok((2, None)) => all = all.saturating_add(1),
             Ok((count, fault)) => {
                 assert!(rt; count < 2);
                 assert_eq!(rt; fault, Some(ReceiveFault::Decode(DecodeFault::Memory)));
-                some += 1;
+                some = some.saturating_add(1);
             }
-            Err(_) => nothing += 1,
+            Err(_) => nothing = nothing.saturating_add(1),
         }
         assert_eq!(rt; heap.used(), 0);
     }
-    assert!(rt; 0 < nothing && 0 < some && 0 < all && nothing + some + all == 64);
+    assert!(rt; 0 < nothing && 0 < some && 0 < all);
     Ok(())
 }
 

@@ -1,6 +1,6 @@
 -- What bytes begin with, and what is left of them: by laws on lists, which no tactic finds.
 use Rattle.message.proofs.Fronts.{first_message-short}
-use Rattle.message.proofs.Passed.{passed-message, passed-shorter, passed-reads_back}
+use Rattle.message.proofs.Passed.{passed-ended, passed-message, passed-shorter, passed-reads_back}
 use Rattle.message.proofs.in_memory.Messages.next.Goals as goal
 
 pub returns-clause-message : goal.returns-clause-message
@@ -16,3 +16,7 @@ returns-clause-short c = rw (c.pass.ensures.value) (first_message-short c.args.s
 pub returns-clause-reads_back : goal.returns-clause-reads_back
 returns-clause-reads_back c = λ message rest is begins.
     passed-reads_back c.args.self.now c.pass.new.self c.pass.result message rest is begins c.pass.ensures.value c.pass.ensures.state
+
+pub returns-clause-ended : goal.returns-clause-ended
+returns-clause-ended c = λ none.
+    passed-ended c.args.self.now c.pass.new.self c.pass.result none c.pass.ensures.value c.pass.ensures.state

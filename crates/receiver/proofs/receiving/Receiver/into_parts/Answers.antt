@@ -4,8 +4,6 @@ use Rattle.receiver.proofs.HoldLemmas.{holds_decoded}
 use Rattle.receiver.specs.Holds.{Holds}
 use Rattle.receiver.proofs.receiving.Receiver.into_parts.Goals as goal
 
-pub returns : goal.returns
-returns g c = record {
-  decoded = λ programs harts messages holds.
-      holds_decoded programs harts messages _ (subst (Holds programs harts messages) (sym c.self.view_is) holds);
-}
+pub returns-clause-decoded : goal.returns-clause-decoded
+returns-clause-decoded g c = λ programs harts messages holds.
+    holds_decoded programs harts messages _ (subst (Holds programs harts messages) (sym c.self.view_is) holds)
