@@ -17,8 +17,9 @@ pub(crate) struct Reading<'a> {
 
 impl Phase for Reading<'_> {
     fn run(&mut self) -> Result<u64, Fault> {
-        let events =
-            read_log_from_slice(self.alloc, self.alloc, self.text).map_err(|_| Fault::Log)?;
+        let events = read_log_from_slice(self.alloc, self.alloc, self.text).map_err(
+            |_| Fault::Log,
+        )?;
         Ok(events.len() as u64)
     }
 }

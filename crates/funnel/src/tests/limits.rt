@@ -33,7 +33,11 @@ fn lowest_fault_is_told(rt: HostRuntime) -> Result<(), Fail> {
         };
         assert_eq!(rt; answer, fault, "{harts} harts, capacity {capacity}");
         let opened = open_fault(rt.alloc(), harts, capacity);
-        assert_eq!(rt; opened, fault, "a channel of {harts} harts, capacity {capacity}");
+        assert_eq!(rt;
+            opened,
+            fault,
+            "a channel of {harts} harts, capacity {capacity}"
+        );
     }
     Ok(())
 }
