@@ -79,7 +79,7 @@ module _ (program : Image) (period : ℕ) (logs : List ProgramLog) (bytes : List
       let next = next_message program period logs bytes sent few messages left.message first.0 (whole ∙ ap (λ l. messages ++ l) first.1) in
       let packet : next.packet ≡ left.refused.packet = let one = next.taken accepted in let other = left.refused.accepted in cc in
       let described = subst (λ p. Describes (words_of program) (packets_of left.message.hart messages ++ p ∷ []) next.log) packet next.described in
-      ⊎_elim (λ memory. memory.0) (λ none. absurd (none next.log described)) left.refused.not_decoded.reason
+      ⊎_elim (λ memory. memory) (λ none. absurd (none next.log described)) left.refused.not_decoded.reason
 
   -- What decoding up to a stop gives.
   returned : (lists : List (List Event)) (closed : List Bool) (stop : Option (ℕ × CaptureFault)) (messages later : List Message) (rest : List ℕ) → all ≡ messages ++ later → rest ≡ capture later → All IsMessage later

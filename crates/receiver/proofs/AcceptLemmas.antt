@@ -94,6 +94,7 @@ undecoded words harts messages message packet why all answer not_opened ended ei
       not_decoded = record {
         not_opened = (λ same. not_opened.0 (ap refusal same), λ first. let told = not_opened.1 first in cc);
         not_ended = λ same. let over = ended.0 (ap refusal same) in cc;
-        reason = ⊎_elim (λ memory. let found = described (ap refusal memory) in inl (memory, found.0, found.1)) inr either;
+        memory = λ memory. described (ap refusal memory);
+        reason = either;
       };
     }

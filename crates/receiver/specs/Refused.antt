@@ -19,8 +19,8 @@ use Rattle.receiver.specs.declared.fault.ReceiveFault.TheVariants as fault
 pub record IsNotDecoded (words : Words) (packets : List Packet) (packet : Packet) (why : DecodeFault) : Type 0 where
   pub not_opened : (why ≡ NotOpened) ↔ ((packets ≡ []) × ¬ IsOpen packet)
   pub not_ended : ¬ (why ≡ AfterClose)
-  pub reason : ((why ≡ Memory) × (log : List Event) × Describes words (packets ++ packet ∷ []) log)
-      ⊎ ((log : List Event) → ¬ Describes words (packets ++ packet ∷ []) log)
+  pub memory : why ≡ Memory → (log : List Event) × Describes words (packets ++ packet ∷ []) log
+  pub reason : (why ≡ Memory) ⊎ ((log : List Event) → ¬ Describes words (packets ++ packet ∷ []) log)
 
 -- The message is accepted after these messages, and its packet is not decoded.
 pub record IsUndecoded (words : Words) (harts : ℕ) (messages : List Message) (message : Message) (why : DecodeFault) : Type 0 where

@@ -126,6 +126,9 @@ impl<A: Allocator + Copy> Receiver<A> {
         ensures refused { (programs : ℕ → Words) (harts : ℕ) (messages : List AnyMessage)
             → programs message.now.hart ≡ words_of program.now → HasReceived programs harts messages self.old
             → IfErr result (λ fault. IsRefused (words_of program.now) harts messages message.now fault) }
+        // Whatever was received before: the demultiplexer's part, and that a fault leaves all else as it was.
+        ensures expected { self.new.expected ≡ harts_after self.old.expected message.now }
+        ensures kept { OnErr result (self.new ≡ record self.old { expected = harts_after self.old.expected message.now }) }
     {
         let packet = match self.accept(message) {
             Ok(packet) => packet,
