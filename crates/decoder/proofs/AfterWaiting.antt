@@ -4,10 +4,10 @@ use Rattle.std.proofs.lemmas.List.{append-nil}
 use Rattle.std.specs.List.{last_or}
 use Rattle.retire.specs.declared.event.Event.{Event}
 use Rattle.rvclass.specs.Words.{Words, IsProgram}
-use Rattle.legalpath.proofs.RunsLemmas.{runs_split, runs_join}
+use Rattle.legalpath.proofs.FollowOnLemmas.{follow_on_split, follow_on_join}
 use Rattle.legalpath.specs.Join.{join}
 use Rattle.legalpath.specs.LastPlace.{last_place}
-use Rattle.legalpath.specs.Legal.{Runs, Legal}
+use Rattle.legalpath.specs.Legal.{FollowOn, Legal}
 use Rattle.payload.specs.Difference.{aim}
 use Rattle.payload.specs.declared.packet.Packet.{Packet}
 use Rattle.payload.specs.declared.packet.Packet.TheVariants.{Address}
@@ -38,10 +38,10 @@ module _ (words : Words) where
       FitsAddress words (last_or None log) taken (aim (reported_end 0 packets w.pieces) delta) (settled_by (Some p))
       piece →
       Fits words (last_or (last_or None log) piece) (last_place (reported_end 0 packets w.pieces) piece) p None more →
-      Runs words (last_or None log) (piece ++ more) →
+      FollowOn words (last_or None log) (piece ++ more) →
       Begins (packets ++ Address taken delta Plain ∷ p ∷ []) →
       Describes words (packets ++ Address taken delta Plain ∷ p ∷ []) (log ++ (piece ++ more))
-  settle packets taken delta p log piece more w may fits then runs begins =
+  settle packets taken delta p log piece more w may fits then follows begins =
       let r = reported_end 0 packets w.pieces in
       let first_fits = subst (λ l. FitsAddress words (last_or None l) taken (aim r delta) (settled_by (Some p)) piece)
       w.whole fits in
@@ -53,7 +53,7 @@ module _ (words : Words) where
         pieces = w.pieces ++ piece ∷ more ∷ [];
         whole = ap (λ l. l ++ (piece ++ more)) w.whole ∙ ap (λ l. join w.pieces ++ l) (sym tail)
             ∙ sym (join-append w.pieces (piece ∷ more ∷ []));
-        legal = runs_join words None log (piece ++ more) w.legal runs;
+        legal = follow_on_join words None log (piece ++ more) w.legal follows;
         each = pieces_join words None 0 packets (Address taken delta Plain ∷ p ∷ []) None w.pieces (piece ∷ more ∷ [])
             w.each (may, first_fits, (tt, then_fits, tt));
       }
@@ -69,7 +69,7 @@ module _ (words : Words) where
         (settled_by (Some p)) piece
     pub then_fits : Fits words (last_or (last_or None log) piece) (last_place (reported_end 0 packets w.pieces) piece) p
         None more
-    pub runs : Runs words (last_or None log) (piece ++ more)
+    pub follows : FollowOn words (last_or None log) (piece ++ more)
 
   -- And every log that they describe is made so.
   pub waiting_only : IsProgram words → (packets : List Packet) (taken : List Bool) (delta : ℕ) (p : Packet)
@@ -90,7 +90,7 @@ module _ (words : Words) where
       take_two front (piece ∷ more ∷ []) is early late =
           let whole : other ≡ join front ++ (piece ++ more) = is ∙ ap (λ l. join front ++ (piece ++ l))
           (append-nil more) in
-          let parts = runs_split words None (join front) (piece ++ more) (subst (Legal words) whole all.legal) in
+          let parts = follow_on_split words None (join front) (piece ++ more) (subst (Legal words) whole all.legal) in
           let same : w.pieces ≡ front = pieces_same words program None 0 packets (Some (Address taken delta Plain))
           w.pieces front w.each early (subst (Legal words) w.whole w.legal) parts.0 in
           let logs : join front ≡ log = ap join (sym same) ∙ sym w.whole in
@@ -107,5 +107,5 @@ module _ (words : Words) where
                 (settled_by (Some p)) piece) (sym same) one;
             then_fits = subst (λ x. Fits words (last_or (last_or None log) piece)
                 (last_place (reported_end 0 packets x) piece) p None more) (sym same) two;
-            runs = subst (λ l. Runs words (last_or None l) (piece ++ more)) logs parts.1;
+            follows = subst (λ l. FollowOn words (last_or None l) (piece ++ more)) logs parts.1;
           }

@@ -4,7 +4,7 @@ use Rattle.std.proofs.Common.{◌∙◌, append_assoc}
 use Rattle.std.specs.List.{last_or}
 use Rattle.retire.specs.declared.event.Event.{Event}
 use Rattle.rvclass.specs.Words.{Words, IsProgram}
-use Rattle.legalpath.proofs.RunsLemmas.{runs_split}
+use Rattle.legalpath.proofs.FollowOnLemmas.{follow_on_split}
 use Rattle.legalpath.specs.Join.{join}
 use Rattle.legalpath.specs.Legal.{Legal}
 use Rattle.payload.specs.Difference.{aim}
@@ -88,7 +88,7 @@ module _ (words : Words) where
       let rest = pieces_front None 0 packets more all.pieces all.each in
       let front = join (settled_pieces packets all.pieces) in
       let is : log ≡ front ++ rest.1.rest = all.whole ∙ rest.1.is in
-      let legal = (runs_split words None front rest.1.rest (subst (Legal words) is all.legal)).0 in (
+      let legal = (follow_on_split words None front rest.1.rest (subst (Legal words) is all.legal)).0 in (
         record {
           begins = begins_front packets more all.begins;
           pieces = settled_pieces packets all.pieces;

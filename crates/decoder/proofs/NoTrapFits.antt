@@ -4,7 +4,7 @@ use Rattle.retire.specs.declared.event.Event.{Event}
 use Rattle.retire.specs.declared.event.Event.TheVariants.{Trap}
 use Rattle.rvclass.specs.Words.{Words}
 use Rattle.legalpath.proofs.EventLemmas.{stand_together, keep_privilege}
-use Rattle.legalpath.specs.Legal.{Runs}
+use Rattle.legalpath.specs.Legal.{FollowOn}
 use Rattle.decoder.specs.Fits.{FitsSync}
 use Rattle.decoder.specs.steps.Stretches.{SuitsOne, SuitsNone}
 use Rattle.decoder.specs.steps.Reporting.{FitsTold, IsHandled}
@@ -14,15 +14,16 @@ use Rattle.decoder.specs.declared.reporting.Told.{Told}
 
 -- Traps with one cause after one retirement that leads to one address are the same.
 same_trap : (words : Words) (before : Option Event) (cause : Cause) (trap : Event) (epc from : ℕ) →
-    IsHandled words before cause (trap ∷ []) → Runs words before (trap ∷ []) →
-    Runs words before (Trap epc from cause.interrupt cause.cause cause.tval ∷ []) →
+    IsHandled words before cause (trap ∷ []) → FollowOn words before (trap ∷ []) →
+    FollowOn words before (Trap epc from cause.interrupt cause.cause cause.tval ∷ []) →
     Trap epc from cause.interrupt cause.cause cause.tval ≡ trap
-same_trap words None cause trap epc from is runs other = absurd is.0
-same_trap words (Some before) cause trap epc from (after, epc', from', is) runs other =
+same_trap words None cause trap epc from is follows other = absurd is.0
+same_trap words (Some before) cause trap epc from (after, epc', from', is) follows other =
     let here = Trap epc from cause.interrupt cause.cause cause.tval in
     let there = Trap epc' from' cause.interrupt cause.cause cause.tval in
     let same : trap ≡ there = cc in
-    let ran : Runs words (Some before) (there ∷ []) = subst (λ e. Runs words (Some before) (e ∷ [])) same runs in
+    let ran : FollowOn words (Some before) (there ∷ []) =
+    subst (λ e. FollowOn words (Some before) (e ∷ [])) same follows in
     let at : epc ≡ epc' = stand_together words before here there after.0 after.1 other.1 ran.1 in
     let level : from ≡ from' = keep_privilege words before here after.0 after.1 other.1
     ∙ sym (keep_privilege words before there after.0 after.1 ran.1) in
@@ -33,10 +34,10 @@ module _ (words : Words) (before : Option Event) (told : Told) (cause : Cause) w
       SuitsNone words before (FitsTold words before told cause true) fault
   no_trap fault none = record {
     named = none.named;
-    none = λ right events fits runs.
+    none = λ right events fits follows.
         let (after, epc, from, event, is, reported) = fits in
-        let ran : Runs words before (Trap epc from cause.interrupt cause.cause cause.tval ∷ event ∷ []) =
-        subst (Runs words before) is runs in
+        let ran : FollowOn words before (Trap epc from cause.interrupt cause.cause cause.tval ∷ event ∷ []) =
+        subst (FollowOn words before) is follows in
         none.none right (Trap epc from cause.interrupt cause.cause cause.tval ∷ []) (after, epc, from, refl)
         (ran.0, ran.1, tt);
   }
@@ -46,12 +47,12 @@ module _ (words : Words) (before : Option Event) (told : Told) (cause : Cause) w
       SuitsNone words before (FitsTold words before told cause true) fault
   no_handler trap fault one none = record {
     named = none.named;
-    none = λ right events fits runs.
+    none = λ right events fits follows.
         let (after, epc, from, event, is, reported) = fits in
         let found = one right in
-        let ran : Runs words before (Trap epc from cause.interrupt cause.cause cause.tval ∷ event ∷ []) =
-        subst (Runs words before) is runs in
+        let ran : FollowOn words before (Trap epc from cause.interrupt cause.cause cause.tval ∷ event ∷ []) =
+        subst (FollowOn words before) is follows in
         let same = same_trap words before cause trap epc from found.0 found.1 (ran.0, ran.1, tt) in
         none.none found.1.0 (event ∷ []) (event, refl, reported)
-        (subst (λ e. Runs words (Some e) (event ∷ [])) same ran.2);
+        (subst (λ e. FollowOn words (Some e) (event ∷ [])) same ran.2);
   }

@@ -10,10 +10,10 @@ use Rattle.retire.specs.declared.event.Event.TheVariants.{Retire}
 use Rattle.rvclass.specs.Words.{Word}
 use Rattle.rvclass.specs.declared.class.Class.TheVariants.{Plain, Jump, Branch, Uninferable, TrapReturn, NotRetirable}
 use Rattle.rvclass.specs.declared.class.Return.TheVariants.{Mret, Sret}
-use Rattle.legalpath.specs.Discontinuity.{leaves}
+use Rattle.legalpath.specs.Discontinuity.{hides_its_target}
 use Rattle.retire.specs.InRange.{IsPrivilege}
 use Rattle.legalpath.specs.Right.{RetiresOn}
-use Rattle.legalpath.specs.Step.{MayStandAt, KeepsPrivilege}
+use Rattle.legalpath.specs.Step.{MayStandAt, LeadsToPrivilege}
 use Rattle.legalpath.specs.Successor.{leads_from}
 use Rattle.legalpath.specs.declared.next.Next.TheVariants.{One, Any}
 use Rattle.decoder.specs.steps.Leads.{may_stay_on}
@@ -99,7 +99,7 @@ same_front f w v o = go (is_branch f) refl
     go false b = outcomes-other f w b ∙ o ∙ sym (outcomes-other f v b)
 
 -- By a word: where its retirements lead, and the privilege that they leave.
-pub leads_one : (word : Option Word) (a t x : ℕ) → leaves word ≡ false → MayStandAt (leads_from a t word) x →
+pub leads_one : (word : Option Word) (a t x : ℕ) → hides_its_target word ≡ false → MayStandAt (leads_from a t word) x →
     leads_from a t word ≡ One x
 leads_one None a t x l m = absurd m
 leads_one (Some (Plain, n)) a t x l m = ap One (sym m)
@@ -109,7 +109,7 @@ leads_one (Some (Uninferable, n)) a t x l m = cc
 leads_one (Some (TrapReturn y, n)) a t x l m = cc
 leads_one (Some (NotRetirable, n)) a t x l m = absurd m
 
-pub leads_any : (word : Option Word) (a t : ℕ) → leaves word ≡ true → leads_from a t word ≡ Any
+pub leads_any : (word : Option Word) (a t : ℕ) → hides_its_target word ≡ true → leads_from a t word ≡ Any
 leads_any None a t l = cc
 leads_any (Some (Plain, n)) a t l = cc
 leads_any (Some (Jump to, n)) a t l = cc
@@ -118,7 +118,7 @@ leads_any (Some (Uninferable, n)) a t l = refl
 leads_any (Some (TrapReturn y, n)) a t l = refl
 leads_any (Some (NotRetirable, n)) a t l = cc
 
-pub one_stays : (word : Option Word) (a t x : ℕ) → leads_from a t word ≡ One x → leaves word ≡ false
+pub one_stays : (word : Option Word) (a t x : ℕ) → leads_from a t word ≡ One x → hides_its_target word ≡ false
 one_stays None a t x l = cc
 one_stays (Some (Plain, n)) a t x l = refl
 one_stays (Some (Jump to, n)) a t x l = refl
@@ -127,7 +127,7 @@ one_stays (Some (Uninferable, n)) a t x l = cc
 one_stays (Some (TrapReturn y, n)) a t x l = cc
 one_stays (Some (NotRetirable, n)) a t x l = cc
 
-pub any_leaves : (word : Option Word) (a t : ℕ) → leads_from a t word ≡ Any → leaves word ≡ true
+pub any_leaves : (word : Option Word) (a t : ℕ) → leads_from a t word ≡ Any → hides_its_target word ≡ true
 any_leaves None a t l = cc
 any_leaves (Some (Plain, n)) a t l = cc
 any_leaves (Some (Jump to, n)) a t l = cc
@@ -136,7 +136,8 @@ any_leaves (Some (Uninferable, n)) a t l = refl
 any_leaves (Some (TrapReturn y, n)) a t l = refl
 any_leaves (Some (NotRetirable, n)) a t l = cc
 
-pub stays : (word : Option Word) (p q : ℕ) → IsPrivilege p → KeepsPrivilege word p q → q ≡ p → may_stay_on word p ≡ true
+pub stays : (word : Option Word) (p q : ℕ) → IsPrivilege p → LeadsToPrivilege word p q → q ≡ p
+    → may_stay_on word p ≡ true
 stays None p q level k e = refl
 stays (Some (Plain, n)) p q level k e = grind (arith, nat_tests)
 stays (Some (Jump to, n)) p q level k e = grind (arith, nat_tests)
@@ -146,7 +147,7 @@ stays (Some (TrapReturn Mret, n)) p q level k e = grind (arith, nat_tests, level
 stays (Some (TrapReturn Sret, n)) p q level k e = grind (arith, nat_tests)
 stays (Some (NotRetirable, n)) p q level k e = grind (arith, nat_tests)
 
-pub kept : (word : Option Word) (p : ℕ) → leaves word ≡ false → KeepsPrivilege word p p
+pub kept : (word : Option Word) (p : ℕ) → hides_its_target word ≡ false → LeadsToPrivilege word p p
 kept None p l = refl
 kept (Some (Plain, n)) p l = refl
 kept (Some (Jump to, n)) p l = refl
@@ -155,7 +156,7 @@ kept (Some (Uninferable, n)) p l = refl
 kept (Some (TrapReturn y, n)) p l = cc
 kept (Some (NotRetirable, n)) p l = refl
 
-pub kept_stays : (word : Option Word) (p : ℕ) → may_stay_on word p ≡ true → KeepsPrivilege word p p
+pub kept_stays : (word : Option Word) (p : ℕ) → may_stay_on word p ≡ true → LeadsToPrivilege word p p
 kept_stays None p l = refl
 kept_stays (Some (Plain, n)) p l = refl
 kept_stays (Some (Jump to, n)) p l = refl

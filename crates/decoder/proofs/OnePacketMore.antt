@@ -5,9 +5,9 @@ use Rattle.std.proofs.lemmas.List.{append-nil}
 use Rattle.std.specs.List.{last_or}
 use Rattle.retire.specs.declared.event.Event.{Event}
 use Rattle.rvclass.specs.Words.{Words, IsProgram}
-use Rattle.legalpath.proofs.RunsLemmas.{runs_split, runs_join, last_or-append}
+use Rattle.legalpath.proofs.FollowOnLemmas.{follow_on_split, follow_on_join, last_or-append}
 use Rattle.legalpath.specs.Join.{join}
-use Rattle.legalpath.specs.Legal.{Runs, Legal}
+use Rattle.legalpath.specs.Legal.{FollowOn, Legal}
 use Rattle.payload.specs.declared.packet.Packet.{Packet}
 use Rattle.payload.specs.declared.packet.Packet.TheVariants as packet
 use Rattle.payload.specs.declared.packet.Report.TheVariants as report
@@ -146,8 +146,8 @@ module _ (words : Words) where
   abbrev pub feed_more : (packets : List Packet) (p : Packet) (log piece : List Event) →
       (d : Describes words packets log) → Begins (packets ++ p ∷ []) → Takes (last_or None packets) p →
       Fits words (last_or None log) (reported_end 0 packets d.pieces) p None piece →
-      Runs words (last_or None log) piece → Describes words (packets ++ p ∷ []) (log ++ piece)
-  feed_more packets p log piece d begins takes fits runs =
+      FollowOn words (last_or None log) piece → Describes words (packets ++ p ∷ []) (log ++ piece)
+  feed_more packets p log piece d begins takes fits follows =
       let known = next_known None 0 packets p d.pieces takes d.each in
       let last = subst (λ l. Fits words (last_or None l) (reported_end 0 packets d.pieces) p None piece) d.whole fits in
       record {
@@ -155,7 +155,7 @@ module _ (words : Words) where
         pieces = d.pieces ++ piece ∷ [];
         whole = ap (λ l. l ++ piece) d.whole ∙ ap (λ l. join d.pieces ++ l) (sym (append-nil piece))
             ∙ sym (join-append d.pieces (piece ∷ []));
-        legal = runs_join words None log piece d.legal runs;
+        legal = follow_on_join words None log piece d.legal follows;
         each = pieces_join None 0 packets (p ∷ []) None d.pieces (piece ∷ []) known (tt, last, tt);
       }
 
@@ -165,7 +165,7 @@ module _ (words : Words) where
     pub piece : List Event
     pub is : other ≡ log ++ piece
     pub fits : Fits words (last_or None log) (reported_end 0 packets d.pieces) p None piece
-    pub runs : Runs words (last_or None log) piece
+    pub follows : FollowOn words (last_or None log) piece
 
   -- And every log that they describe is made so.
   pub feed_only : IsProgram words → (packets : List Packet) (p : Packet) (log other : List Event) →
@@ -175,24 +175,25 @@ module _ (words : Words) where
       let parts = pieces_split None 0 packets (p ∷ []) None all.pieces all.each in
       let early = next_unknown None 0 packets p parts.front takes parts.early in
       let whole = all.whole ∙ ap join parts.is ∙ join-append parts.front parts.back in
-      let runs = runs_split words None (join parts.front) (join parts.back) (subst (Legal words) whole all.legal) in
+      let follows =
+      follow_on_split words None (join parts.front) (join parts.back) (subst (Legal words) whole all.legal) in
       let same : d.pieces ≡ parts.front = pieces_same words program None 0 packets None d.pieces parts.front d.each
-      early (subst (Legal words) d.whole d.legal) runs.0 in
+      early (subst (Legal words) d.whole d.legal) follows.0 in
       let logs : log ≡ join parts.front = d.whole ∙ ap join same in
-      last parts.back whole logs same parts.late runs.1
+      last parts.back whole logs same parts.late follows.1
     where
       last : {front : List (List Event)} (back : List (List Event)) → other ≡ join front ++ join back →
           log ≡ join front → d.pieces ≡ front → Pieces words (last_or None (join front)) (reported_end 0 packets front)
-          (p ∷ []) None back → Runs words (last_or None (join front)) (join back) → Added packets p log d other
-      last [] whole logs same late runs = absurd late
-      last {front} (piece ∷ []) whole logs same late runs =
-          let ran = subst (Runs words (last_or None (join front))) (append-nil piece) runs in
+          (p ∷ []) None back → FollowOn words (last_or None (join front)) (join back) → Added packets p log d other
+      last [] whole logs same late follows = absurd late
+      last {front} (piece ∷ []) whole logs same late follows =
+          let ran = subst (FollowOn words (last_or None (join front))) (append-nil piece) follows in
           let fits = subst (λ l. Fits words (last_or None l) (reported_end 0 packets front) p None piece) (sym logs)
           late.1 in
           record {
             piece = piece;
             is = whole ∙ ap (λ l. l ++ (piece ++ [])) (sym logs) ∙ ap (λ l. log ++ l) (append-nil piece);
             fits = subst (λ x. Fits words (last_or None log) (reported_end 0 packets x) p None piece) (sym same) fits;
-            runs = subst (λ l. Runs words (last_or None l) piece) (sym logs) ran;
+            follows = subst (λ l. FollowOn words (last_or None l) piece) (sym logs) ran;
           }
-      last (piece ∷ other ∷ pieces) whole logs same late runs = absurd late.2
+      last (piece ∷ other ∷ pieces) whole logs same late follows = absurd late.2

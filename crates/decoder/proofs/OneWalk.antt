@@ -8,11 +8,11 @@ use Rattle.retire.specs.declared.event.Event.{Event}
 use Rattle.retire.specs.declared.event.Event.TheVariants.{Retire, Trap}
 use Rattle.rvclass.specs.Words.{Words, IsProgram}
 use Rattle.legalpath.proofs.EventLemmas.{stand_together, stand_above}
-use Rattle.legalpath.proofs.RunsLemmas.{runs_split}
+use Rattle.legalpath.proofs.FollowOnLemmas.{follow_on_split}
 use Rattle.legalpath.proofs.StepLemmas.{branch_type, same_type}
 use Rattle.legalpath.specs.Backward.{is_backward}
 use Rattle.legalpath.specs.Discontinuity.{is_discontinuity}
-use Rattle.legalpath.specs.Legal.{Runs}
+use Rattle.legalpath.specs.Legal.{FollowOn}
 use Rattle.legalpath.specs.NoneOf.{NoneOf}
 use Rattle.legalpath.specs.Right.{RetiresOn, Right}
 use Rattle.legalpath.specs.Step.{Step}
@@ -27,7 +27,7 @@ module _ (words : Words) (good : IsProgram words) where
   -- A walk from this event, taken apart: its retirements but the last, and the last.
   pub record Side (priv : ℕ) (end : End) (from : Event) (front : List Event) (last : Event) : Type 0 where
     pub before : RetiresAt priv from
-    pub runs : Runs words (Some from) (front ++ last ∷ [])
+    pub follows : FollowOn words (Some from) (front ++ last ∷ [])
     pub retirements : AllByRecursion (RetiresAt priv) (front ++ last ∷ [])
     pub forward : NoneOf (is_backward words) front
     pub ends : EndsAt words end from front last
@@ -50,7 +50,7 @@ module _ (words : Words) (good : IsProgram words) where
       Side priv end before (event ∷ front) last → Side priv end event front last
   further {priv} {end} {before} {event} {front} {last} s = record {
     before = s.retirements.0;
-    runs = s.runs.2;
+    follows = s.follows.2;
     retirements = s.retirements.1;
     forward = s.forward.1;
     ends = onward end before event front last s.ends;
@@ -92,15 +92,16 @@ module _ (words : Words) (good : IsProgram words) where
 
   -- So a stretch of such retirements never comes back to its first place.
   pub no_return : (priv : ℕ) (e : Event) (front : List Event) (last : Event) → Right words e → RetiresAt priv e →
-      is_branch e ≡ false → Runs words (Some e) (front ++ last ∷ []) →
+      is_branch e ≡ false → FollowOn words (Some e) (front ++ last ∷ []) →
       AllByRecursion (RetiresAt priv) (front ++ last ∷ []) → outcomes (front ++ last ∷ []) ≡ [] →
       NoneOf (is_backward words) (e ∷ front) → NoneOf (is_discontinuity words) (e ∷ front) → place e < place last
-  no_return priv e [] last right at branch runs all none back stays =
-      rise_one e last right at.0 branch back.0 stays.0 runs.1
-  no_return priv e (f ∷ front) last right at branch runs all none back stays =
-      let here : place e < place f = rise_one e f right at.0 branch back.0 stays.0 runs.1 in
+  no_return priv e [] last right at branch follows all none back stays =
+      rise_one e last right at.0 branch back.0 stays.0 follows.1
+  no_return priv e (f ∷ front) last right at branch follows all none back stays =
+      let here : place e < place f = rise_one e f right at.0 branch back.0 stays.0 follows.1 in
       let rest = no_outcomes f (front ++ last ∷ []) none in
-      let there : place f < place last = no_return priv f front last runs.0 all.0 rest.0 runs.2 all.1 rest.1 back.1
+      let there : place f < place last =
+      no_return priv f front last follows.0 all.0 rest.0 follows.2 all.1 rest.1 back.1
       stays.1 in
       omega arith
 
@@ -113,30 +114,33 @@ module _ (words : Words) (good : IsProgram words) where
 
   -- After a retirement with one successor the first event of a walk is known.
   pub first_same : (priv : ℕ) (before e f : Event) (w v : List Event) → RetiresAt priv before →
-      is_discontinuity words before ≡ false → Runs words (Some before) (e ∷ w) → Runs words (Some before) (f ∷ v) →
+      is_discontinuity words before ≡ false → FollowOn words (Some before) (e ∷ w)
+      → FollowOn words (Some before) (f ∷ v) →
       RetiresAt priv e → RetiresAt priv f → outcomes (e ∷ w) ≡ outcomes (f ∷ v) → (e ≡ f) × (outcomes w ≡ outcomes v)
-  first_same priv before e f w v at stays runs other he hf o =
-      next_same priv e f w v he hf runs.0 other.0 (stand_together words before e f at.0 stays runs.1 other.1) o
+  first_same priv before e f w v at stays follows other he hf o =
+      next_same priv e f w v he hf follows.0 other.0 (stand_together words before e f at.0 stays follows.1 other.1) o
 
   -- A walk that may end at its first retirement does not go on.
   pub no_longer : (priv : ℕ) (end : End) (before last e : Event) (front : List Event) (other : Event) →
       Side priv end before [] last → Side priv end before (e ∷ front) other →
       outcomes (last ∷ []) ≡ outcomes (e ∷ front ++ other ∷ []) → ⊥
   no_longer priv AtBranch before last e front other s t o =
-      let one = first_same priv before last e [] (front ++ other ∷ []) s.before s.ends.0.0 s.runs t.runs s.retirements.0
+      let one =
+      first_same priv before last e [] (front ++ other ∷ []) s.before s.ends.0.0 s.follows t.follows s.retirements.0
       t.retirements.0 o in
       let none : is_branch other ≡ false = no_last_outcome front other (sym one.1) in
       let branch : is_branch other ≡ true = t.ends.1 in
       cc
   no_longer priv (AtAddress addr) before last e front other s t o =
-      let one = first_same priv before last e [] (front ++ other ∷ []) s.before s.ends.0.0 s.runs t.runs s.retirements.0
+      let one =
+      first_same priv before last e [] (front ++ other ∷ []) s.before s.ends.0.0 s.follows t.follows s.retirements.0
       t.retirements.0 o in
       let none : is_branch other ≡ false = no_last_outcome front other (sym one.1) in
       let at : place e ≡ place other = ap place (sym one.0) ∙ s.ends.1 ∙ sym t.ends.1 in
-      let right = (runs_split words (Some before) (e ∷ front) (other ∷ []) t.runs).1.0 in
+      let right = (follow_on_split words (Some before) (e ∷ front) (other ∷ []) t.follows).1.0 in
       let plain = same_branch priv e other t.retirements.0 (all_last (RetiresAt priv) (e ∷ front) other t.retirements)
-      t.runs.0 right at ∙ none in
-      let up : place e < place other = no_return priv e front other t.runs.0 t.retirements.0 plain t.runs.2
+      t.follows.0 right at ∙ none in
+      let up : place e < place other = no_return priv e front other t.follows.0 t.retirements.0 plain t.follows.2
       t.retirements.1 (sym one.1) t.forward t.ends.0.1 in
       omega arith
   no_longer priv (AtTarget addr) before last e front other s t o =
@@ -147,8 +151,9 @@ module _ (words : Words) (good : IsProgram words) where
   -- Two walks of one retirement end at one place.
   pub same_end : (priv : ℕ) (end : End) (before last other : Event) → Side priv end before [] last →
       Side priv end before [] other → place last ≡ place other
-  same_end priv AtBranch before last other s t = stand_together words before last other s.before.0 s.ends.0.0 s.runs.1
-      t.runs.1
+  same_end priv AtBranch before last other s t =
+      stand_together words before last other s.before.0 s.ends.0.0 s.follows.1
+      t.follows.1
   same_end priv (AtAddress addr) before last other s t = s.ends.1 ∙ sym t.ends.1
   same_end priv (AtTarget addr) before last other s t = s.ends.1 ∙ sym t.ends.1
 
@@ -156,7 +161,7 @@ module _ (words : Words) (good : IsProgram words) where
       (other : Event) → Side priv end before front last → Side priv end before beginning other →
       outcomes (front ++ last ∷ []) ≡ outcomes (beginning ++ other ∷ []) → front ++ last ∷ [] ≡ beginning ++ other ∷ []
   walks_same priv end before [] last [] other s t o =
-      let one = next_same priv last other [] [] s.retirements.0 t.retirements.0 s.runs.0 t.runs.0
+      let one = next_same priv last other [] [] s.retirements.0 t.retirements.0 s.follows.0 t.follows.0
       (same_end priv end before last other s t) o in
       ap (λ e. e ∷ []) one.0
   walks_same priv end before [] last (f ∷ beginning) other s t o = absurd
@@ -165,20 +170,21 @@ module _ (words : Words) (good : IsProgram words) where
       absurd (no_longer priv end before other e front last t s (sym o))
   walks_same priv end before (e ∷ front) last (f ∷ beginning) other s t o =
       let stays = straight end before e front last s.ends in
-      let one = first_same priv before e f (front ++ last ∷ []) (beginning ++ other ∷ []) s.before stays s.runs t.runs
+      let one =
+      first_same priv before e f (front ++ last ∷ []) (beginning ++ other ∷ []) s.before stays s.follows t.follows
       s.retirements.0 t.retirements.0 o in
       let later : Side priv end e beginning other = subst (λ x. Side priv end x beginning other) (sym one.0)
       (further t) in
       let rest = walks_same priv end e front last beginning other (further s) later one.1 in
       cc
 
-  -- A walk that runs, taken apart.
+  -- A walk that follows on, taken apart.
   pub side : (before : Event) (taken : List Bool) (end : End) (w : List Event) →
-      (walk : IsWalk words before taken end w) → Runs words (Some before) w →
+      (walk : IsWalk words before taken end w) → FollowOn words (Some before) w →
       Side (privilege before) end before walk.front walk.last
-  side before taken end w walk runs = record {
+  side before taken end w walk follows = record {
     before = walk.retirements.0;
-    runs = subst (Runs words (Some before)) walk.whole runs;
+    follows = subst (FollowOn words (Some before)) walk.whole follows;
     retirements = subst (AllByRecursion (RetiresAt (privilege before))) walk.whole walk.retirements.1;
     forward = walk.forward;
     ends = walk.ends;
@@ -186,10 +192,11 @@ module _ (words : Words) (good : IsProgram words) where
 
   -- Two walks from one event, if there is one, are one walk.
   pub walk_same : (before : Option Event) (taken : List Bool) (end : End) (w v : List Event) →
-      IsWalkFrom words before taken end w → IsWalkFrom words before taken end v → Runs words before w →
-      Runs words before v → w ≡ v
-  walk_same None taken end w v h k runs other = absurd h
-  walk_same (Some before) taken end w v h k runs other =
+      IsWalkFrom words before taken end w → IsWalkFrom words before taken end v → FollowOn words before w →
+      FollowOn words before v → w ≡ v
+  walk_same None taken end w v h k follows other = absurd h
+  walk_same (Some before) taken end w v h k follows other =
       let o = ap outcomes (sym h.whole) ∙ h.branches ∙ sym k.branches ∙ ap outcomes k.whole in
-      h.whole ∙ walks_same (privilege before) end before h.front h.last k.front k.last (side before taken end w h runs)
+      h.whole
+      ∙ walks_same (privilege before) end before h.front h.last k.front k.last (side before taken end w h follows)
       (side before taken end v k other) o ∙ sym k.whole

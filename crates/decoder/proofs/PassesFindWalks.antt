@@ -50,14 +50,14 @@ module _ (words : Words) (good : IsProgram words) (from : Here) (right : IsHere 
         walk_within words (32 * (count / 2)) (event_of from) taken end ≡ Some w
     within_limit w walks =
         walk_complete words good (event_of from) taken end w (32 * (count / 2)) walks
-        (walk_bound words base count good lies (event_of from) taken end w few walks.fits walks.runs)
+        (walk_bound words base count good lies (event_of from) taken end w few walks.fits walks.follows)
 
     pub measure_short : (r : Result Walked DecodeFault) → IfOk r (λ walked. Finds words from taken end walked) →
         IfOk r (λ walked. walked.count ≤ 32 * (count / 2))
     measure_short (Err fault) found = tt
     measure_short (Ok walked) found =
         let short = walk_bound words base count good lies (event_of from) taken end found.walk few found.walks.fits
-        found.walks.runs in
+        found.walks.follows in
         let counted = found.counted in
         omega arith
 

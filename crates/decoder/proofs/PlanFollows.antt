@@ -5,7 +5,7 @@ use Rattle.std.specs.List.{last_or}
 use Rattle.retire.specs.declared.event.Event.{Event}
 use Rattle.rvclass.specs.Words.{Words, IsProgram}
 use Rattle.legalpath.specs.LastPlace.{last_place}
-use Rattle.legalpath.specs.Legal.{Runs}
+use Rattle.legalpath.specs.Legal.{FollowOn}
 use Rattle.payload.specs.Difference.{aim}
 use Rattle.payload.specs.declared.packet.Packet.{Packet}
 use Rattle.decoder.proofs.StretchEnds.{stretch_last-gives, stretch_place-gives, right_after}
@@ -22,12 +22,12 @@ use Rattle.decoder.specs.declared.settling.Waiting.{Waiting}
 -- What waits has one piece at most.
 waiting_same : (words : Words) → IsProgram words → (before : Option Event) (reported : ℕ) (waiting : Option Waiting)
     (p : Packet) (piece other : List Event) → FitsWaiting words before reported waiting p piece →
-    FitsWaiting words before reported waiting p other → Runs words before piece → Runs words before other →
+    FitsWaiting words before reported waiting p other → FollowOn words before piece → FollowOn words before other →
     piece ≡ other
-waiting_same words program before reported None p piece other fits fits' runs runs' = fits ∙ sym fits'
-waiting_same words program before reported (Some waiting) p piece other fits fits' runs runs' =
+waiting_same words program before reported None p piece other fits fits' follows follows' = fits ∙ sym fits'
+waiting_same words program before reported (Some waiting) p piece other fits fits' follows follows' =
     address_same words program before waiting.outcomes (aim reported waiting.delta) (settled_by (Some p)) piece other
-    fits fits' runs runs'
+    fits fits' follows follows'
 
 module _ (words : Words) (d : Decoder) (p : Packet) where
   pub plans : (settled own : Stretch) (r : Result Unit DecodeFault) → admitted d.phase p ≡ Ok tt →
@@ -53,9 +53,9 @@ module _ (words : Words) (d : Decoder) (p : Packet) where
               admits = admits;
               comes = comes;
               settles = one.0;
-              settled_runs = one.1;
+              settled_follows = one.1;
               fits = subst (λ r. Fits words (last_or d.last first.events) r p None second.events) at fits;
-              runs = subst (λ l. Runs words l second.events) last two.1;
+              follows = subst (λ l. FollowOn words l second.events) last two.1;
             };
       }
 
@@ -73,12 +73,12 @@ module _ (words : Words) (d : Decoder) (p : Packet) where
         none = λ right piece own can.
             let one = first.fits right in
             let same : piece ≡ first.events = waiting_same words program d.last d.reported d.waiting p piece
-            first.events can.settles one.0 can.settled_runs one.1 in
+            first.events can.settles one.0 can.settled_follows one.1 in
             let before : last_or d.last piece ≡ stretch_last d.last settled = ap (last_or d.last) same ∙ sym last in
             let reported : last_place d.reported piece ≡ stretch_place d.reported settled =
             ap (last_place d.reported) same ∙ sym at in
             let fits = subst (λ l. Fits words l (last_place d.reported piece) p None own) before can.fits in
             none.none (subst (RightBefore words) (sym last) (right_after words d.last first.events right one.1)) own
             (subst (λ r. Fits words (stretch_last d.last settled) r p None own) reported fits)
-            (subst (λ l. Runs words l own) before can.runs);
+            (subst (λ l. FollowOn words l own) before can.follows);
       }

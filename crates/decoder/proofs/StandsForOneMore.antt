@@ -6,10 +6,10 @@ use Rattle.std.specs.List.{last_or}
 use Rattle.std.specs.Prelude.{Ok, is_some}
 use Rattle.retire.specs.declared.event.Event.{Event}
 use Rattle.rvclass.specs.Words.{Words, IsProgram}
-use Rattle.legalpath.proofs.RunsLemmas.{runs_split, runs_join, last_or-append}
+use Rattle.legalpath.proofs.FollowOnLemmas.{follow_on_split, follow_on_join, last_or-append}
 use Rattle.legalpath.specs.Join.{join}
 use Rattle.legalpath.specs.LastPlace.{last_place}
-use Rattle.legalpath.specs.Legal.{Runs}
+use Rattle.legalpath.specs.Legal.{FollowOn}
 use Rattle.payload.specs.Difference.{aim}
 use Rattle.payload.specs.declared.packet.Packet.{Packet}
 use Rattle.payload.specs.declared.packet.Packet.TheVariants as packet
@@ -31,7 +31,8 @@ use Rattle.decoder.specs.Stands.{Stands, phase_after, waiting_after}
 use Rattle.decoder.specs.declared.decoding.Decoder.{Decoder}
 use Rattle.decoder.specs.declared.stretch.Stretch.{Stretch}
 use Rattle.decoder.specs.declared.settling.Waiting.{Waiting}
-use Rattle.decoder.proofs.NextPacket.{Ending, ending, opens, opens_only, waits_for, waits_plain, precedes, admits_after, reported_past-after}
+use Rattle.decoder.proofs.NextPacket.{Ending, ending, opens, opens_only, waits_for, waits_plain, precedes, admits_after}
+use Rattle.decoder.proofs.NextPacket.{reported_past-after}
 
 module _ (words : Words) where
   -- The last event of a log that a decoder stands for is right.
@@ -108,7 +109,7 @@ module _ (words : Words) where
   more_settled packets log d p settled own more s none one two can =
       let c = recalled s can in
       let new = feed_more words packets p log more s.described (begins_with packets p s.described.begins c.admits)
-      (takes (last_or None packets) p c.admits c.comes none) c.fits c.runs in
+      (takes (last_or None packets) p c.admits c.comes none) c.fits c.follows in
       let end = reported_end-append words None 0 packets (p ∷ []) None s.described.pieces (more ∷ [])
       s.described.each in
       remembered packets (packets ++ p ∷ []) log d p settled own [] more s one two (last_or-last None packets p) new
@@ -198,10 +199,10 @@ module _ (words : Words) where
       let fits = subst (λ x. Fits words (last_or x piece) (last_place d.reported piece) p None more) s.last c.fits in
       let then_fits = subst (λ x. Fits words (last_or (last_or None log) piece) (last_place x piece) p None more)
       b.reported fits in
-      let runs = subst (λ x. Runs words x (piece ++ more)) s.last
-      (runs_join words d.last piece more c.settled_runs c.runs) in
+      let follows = subst (λ x. FollowOn words x (piece ++ more)) s.last
+      (follow_on_join words d.last piece more c.settled_follows c.follows) in
       let new = settle words front waiting.outcomes waiting.delta p log piece more h
-      (precedes (plain waiting) p c.admits c.comes) first_fits then_fits runs
+      (precedes (plain waiting) p c.admits c.comes) first_fits then_fits follows
       (begins_on front (plain waiting) p h.begins) in
       let end = reported_end-append words None 0 front (plain waiting ∷ p ∷ []) (Some (plain waiting)) h.pieces
       (piece ∷ more ∷ []) h.each in
@@ -303,9 +304,9 @@ module _ (words : Words) where
         comes = next.1;
         settles = subst (λ x. FitsWaiting words (last_or None log) (reported_end 0 packets s.described.pieces) x p [])
             (sym none) refl;
-        settled_runs = tt;
+        settled_follows = tt;
         fits = added.fits;
-        runs = added.runs;
+        follows = added.follows;
       } in
       record { piece = []; more = added.piece; can = kept_in_mind s can }
 
@@ -318,15 +319,15 @@ module _ (words : Words) where
       let all' = subst (λ l. Describes words l other) (append_assoc front (plain waiting ∷ []) (p ∷ [])) all in
       let added = waiting_only words program front waiting.outcomes waiting.delta p log other h all' in
       let next = admits_after (plain waiting) p added.may in
-      let runs = runs_split words (last_or None log) added.piece added.more added.runs in
+      let follows = follow_on_split words (last_or None log) added.piece added.more added.follows in
       let can : CanFollow words (phase_after (Some (plain waiting))) (Some waiting) (last_or None log)
       (reported_end 0 front h.pieces) p added.piece added.more = record {
         admits = next.0;
         comes = next.1;
         settles = added.first_fits;
-        settled_runs = runs.0;
+        settled_follows = follows.0;
         fits = added.then_fits;
-        runs = runs.1;
+        follows = follows.1;
       } in
       let here = subst (λ x. CanFollow words (phase_after (Some (plain waiting))) (Some waiting) x
       (reported_end 0 front h.pieces) p added.piece added.more) (sym s.last) can in

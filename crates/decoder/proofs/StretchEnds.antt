@@ -5,7 +5,7 @@ use Rattle.retire.specs.Events.{place}
 use Rattle.retire.specs.declared.event.Event.{Event}
 use Rattle.rvclass.specs.Words.{Words}
 use Rattle.legalpath.specs.LastPlace.{last_place}
-use Rattle.legalpath.specs.Legal.{Runs}
+use Rattle.legalpath.specs.Legal.{FollowOn}
 use Rattle.decoder.specs.steps.Stretches.{stretch_count, stretch_last, stretch_place, Gives, RightBefore}
 use Rattle.decoder.specs.steps.Walks.{event_of}
 use Rattle.decoder.specs.declared.stretch.Stretch.{Stretch}
@@ -54,8 +54,8 @@ stretch_place-gives words at (Walk walk) events gives =
     let same = walk_last (event_of walk.from) fits.last walk.walked.last fits.front events fits.whole gives.3 in
     ap place (sym same) ∙ sym (ap (last_place at) fits.whole ∙ last_place-last at fits.front fits.last)
 
--- What runs after a right event ends with a right one.
+-- What follows on a right event ends with a right one.
 pub right_after : (words : Words) (before : Option Event) (events : List Event) → RightBefore words before →
-    Runs words before events → RightBefore words (last_or before events)
-right_after words before [] right runs = right
-right_after words before (event ∷ events) right runs = right_after words (Some event) events runs.0 runs.2
+    FollowOn words before events → RightBefore words (last_or before events)
+right_after words before [] right follows = right
+right_after words before (event ∷ events) right follows = right_after words (Some event) events follows.0 follows.2

@@ -9,10 +9,10 @@ use Rattle.retire.specs.declared.event.Event.{Event}
 use Rattle.retire.specs.declared.event.Event.TheVariants.{Retire, Trap}
 use Rattle.rvclass.specs.Words.{Word, Words, IsProgram, LiesIn}
 use Rattle.rvclass.specs.declared.class.Class.TheVariants.{Plain, Jump, Branch, Uninferable, TrapReturn, NotRetirable}
-use Rattle.legalpath.proofs.RunsLemmas.{runs_split}
+use Rattle.legalpath.proofs.FollowOnLemmas.{follow_on_split}
 use Rattle.legalpath.specs.Backward.{is_backward}
-use Rattle.legalpath.specs.Discontinuity.{leaves, is_discontinuity}
-use Rattle.legalpath.specs.Legal.{Runs}
+use Rattle.legalpath.specs.Discontinuity.{hides_its_target, is_discontinuity}
+use Rattle.legalpath.specs.Legal.{FollowOn}
 use Rattle.legalpath.specs.NoneOf.{NoneOf}
 use Rattle.legalpath.specs.OnlyLast.{OnlyLast}
 use Rattle.legalpath.specs.Right.{RetiresOn, Right}
@@ -57,14 +57,14 @@ module _ (words : Words) (good : IsProgram words) (start half : ℕ) (lies : Pla
 
   -- A stretch that neither jumps back nor leaves before its end.
   record Stretch (before : Option Event) (front : List Event) (l : Event) : Type 0 where
-    runs : Runs words before (front ++ l ∷ [])
+    follows : FollowOn words before (front ++ l ∷ [])
     all : AllByRecursion (λ e. is_retirement e ≡ true) (front ++ l ∷ [])
     forward : NoneOf (is_backward words) front
     stays : NoneOf (is_discontinuity words) front
 
   later : {b : Option Event} {e : Event} {front : List Event} {l : Event} → Stretch b (e ∷ front) l →
       Stretch (Some e) front l
-  later s = record { runs = s.runs.2; all = s.all.1; forward = s.forward.1; stays = s.stays.1 }
+  later s = record { follows = s.follows.2; all = s.all.1; forward = s.forward.1; stays = s.stays.1 }
 
   abbrev head_of : List Event → Event → Event
   head_of [] l = l
@@ -72,8 +72,8 @@ module _ (words : Words) (good : IsProgram words) (start half : ℕ) (lies : Pla
 
   head_right : (b : Option Event) (front : List Event) (l : Event) → Stretch b front l →
       Right words (head_of front l) × (is_retirement (head_of front l) ≡ true) × StepFrom words b (head_of front l)
-  head_right b [] l s = (s.runs.0, s.all.0, s.runs.1)
-  head_right b (e ∷ front) l s = (s.runs.0, s.all.0, s.runs.1)
+  head_right b [] l s = (s.follows.0, s.all.0, s.follows.1)
+  head_right b (e ∷ front) l s = (s.follows.0, s.all.0, s.follows.1)
 
   abbrev branches : List Event → ℕ
   branches w = length (outcomes w)
@@ -88,7 +88,7 @@ module _ (words : Words) (good : IsProgram words) (start half : ℕ) (lies : Pla
       is_branch e ≡ false → At e i → At (head_of front l) j → i < j
   up b e front l i j s br hi hj =
       let h = head_right (Some e) front l (later s) in
-      let r : place e < place (head_of front l) = rise_one words good e (head_of front l) s.runs.0 s.all.0 br
+      let r : place e < place (head_of front l) = rise_one words good e (head_of front l) s.follows.0 s.all.0 br
       s.forward.0 s.stays.0 h.2 in
       let x = hi.0 in
       let y = hj.0 in
@@ -141,7 +141,7 @@ module _ (words : Words) (good : IsProgram words) (start half : ℕ) (lies : Pla
   apart (Retire a t p) (Trap y q i c v) br d r same = cc
   apart (Retire a t p) (Retire y u q) br d r same = go (words a) (rw same d) r.0 br
     where
-      go : (word : Option Word) → leaves word ≡ true → RetiresOn word t p → ((t == 4) || (t == 5)) ≡ true → ⊥
+      go : (word : Option Word) → hides_its_target word ≡ true → RetiresOn word t p → ((t == 4) || (t == 5)) ≡ true → ⊥
       go None m k br = absurd k
       go (Some (Plain, n)) m k br = cc
       go (Some (Jump to, n)) m k br = cc
@@ -176,10 +176,10 @@ module _ (words : Words) (good : IsProgram words) (start half : ℕ) (lies : Pla
           subst (λ n. suc (length front) + 2 + i ≤ n * half + half) (sym c) z
       go true br j at zero eq ih =
           let c : branches (e ∷ front) ≡ 1 = one_more e front br ∙ ap suc eq in
-          let last = runs_split words (Some e) front (l ∷ []) s.runs.2 in
+          let last = follow_on_split words (Some e) front (l ∷ []) s.follows.2 in
           let lk = stands l last.1.0 (all_last (λ e. is_retirement e ≡ true) front l s.all.1) in
           let rise = rise_all (Some e) front l j lk.0 (later s) at lk.1 eq in
-          let ne = apart e l br d s.runs.0 in
+          let ne = apart e l br d s.follows.0 in
           let other : i ≢ lk.0 = (λ same. ne (h.0 ∙ ap (λ n. start + (n + n)) same ∙ sym lk.1.0)) in
           let hi = h.1 in
           let hk = lk.1.1 in
@@ -243,48 +243,49 @@ module _ (words : Words) (good : IsProgram words) (start half : ℕ) (lies : Pla
           omega arith
 
   walk_bound_by : (e : Event) (taken : List Bool) (end : End) (w : List Event) → IsWalk words e taken end w →
-      Runs words (Some e) w → length taken ≤ 31 → length w ≤ 32 * half
-  walk_bound_by e taken end w walk runs h =
-      let runs2 = subst (Runs words (Some e)) walk.whole runs in
+      FollowOn words (Some e) w → length taken ≤ 31 → length w ≤ 32 * half
+  walk_bound_by e taken end w walk follows h =
+      let follows2 = subst (FollowOn words (Some e)) walk.whole follows in
       let all2 = retire_front (privilege e) (walk.front ++ walk.last ∷ [])
       (subst (AllByRecursion (RetiresAt (privilege e))) walk.whole walk.retirements.1) in
       let taken2 = ap outcomes (sym walk.whole) ∙ walk.branches in
       let few = fewer walk.front walk.last taken taken2 h in
       subst (λ x. length x ≤ 32 * half) (sym walk.whole)
-      (by_end end walk.front walk.last runs2 all2 walk.forward few walk.ends)
+      (by_end end walk.front walk.last follows2 all2 walk.forward few walk.ends)
     where
-      by_end : (end : End) (front : List Event) (l : Event) → Runs words (Some e) (front ++ l ∷ []) →
+      by_end : (end : End) (front : List Event) (l : Event) → FollowOn words (Some e) (front ++ l ∷ []) →
           AllByRecursion (λ e. is_retirement e ≡ true) (front ++ l ∷ []) → NoneOf (is_backward words) front →
           branches front ≤ 31 → EndsAt words end e front l → length (front ++ l ∷ []) ≤ 32 * half
       by_end AtBranch front l r a f few ends = straight_bound (Some e) front l
-          (record { runs = r; all = a; forward = f; stays = ends.0.1 }) few
+          (record { follows = r; all = a; forward = f; stays = ends.0.1 }) few
       by_end (AtAddress x) front l r a f few ends = straight_bound (Some e) front l
-          (record { runs = r; all = a; forward = f; stays = ends.0.1 }) few
+          (record { follows = r; all = a; forward = f; stays = ends.0.1 }) few
       by_end (AtTarget x) [] l r a f few ends = straight_bound (Some e) [] l
-          (record { runs = r; all = a; forward = f; stays = tt }) few
+          (record { follows = r; all = a; forward = f; stays = tt }) few
       by_end (AtTarget x) (g ∷ front) l r a f few ends = on_target (g ∷ front)
           (only_last (is_discontinuity words) g front ends.0.1) r a f few
         where
           on_target : (front : List Event) → (g : List Event) × (d : Event) × (front ≡ g ++ d ∷ []) ×
               NoneOf (is_discontinuity words) g × (is_discontinuity words d ≡ true) →
-              Runs words (Some e) (front ++ l ∷ []) → AllByRecursion (λ e. is_retirement e ≡ true) (front ++ l ∷ []) →
+              FollowOn words (Some e) (front ++ l ∷ []) → AllByRecursion (λ e. is_retirement e ≡ true) (front ++ l ∷ [])
+              →
               NoneOf (is_backward words) front → branches front ≤ 31 → length (front ++ l ∷ []) ≤ 32 * half
           on_target front (g, d, is, none, leaving) r a f few =
-              let r2 = (runs_split words (Some e) (g ++ d ∷ []) (l ∷ [])
-              (subst (λ x. Runs words (Some e) (x ++ l ∷ [])) is r)).0 in
+              let r2 = (follow_on_split words (Some e) (g ++ d ∷ []) (l ∷ [])
+              (subst (λ x. FollowOn words (Some e) (x ++ l ∷ [])) is r)).0 in
               let a2 = all_front (λ e. is_retirement e ≡ true) (g ++ d ∷ []) (l ∷ [])
               (subst (λ x. AllByRecursion (λ e. is_retirement e ≡ true) (x ++ l ∷ [])) is a) in
               let f2 = all_front (λ e. is_backward words e ≡ false) g (d ∷ [])
               (subst (NoneOf (is_backward words)) is f) in
               let few2 = fewer g d (outcomes front) (sym (ap outcomes is)) few in
               subst (λ x. length (x ++ l ∷ []) ≤ 32 * half) (sym is)
-              (target_bound (Some e) g d l (record { runs = r2; all = a2; forward = f2; stays = none }) leaving
+              (target_bound (Some e) g d l (record { follows = r2; all = a2; forward = f2; stays = none }) leaving
               few2)
 
 -- A walk has at most 32 retirements for each halfword of the program.
 pub walk_bound : (words : Words) (base count : ℕ) → IsProgram words → LiesIn words base count →
     (e : Event) (taken : List Bool) (end : End) (w : List Event) → length taken ≤ 31 → IsWalk words e taken end w →
-    Runs words (Some e) w → length w ≤ 32 * (count / 2)
-walk_bound words base count good lies e taken end w few walk runs =
+    FollowOn words (Some e) w → length w ≤ 32 * (count / 2)
+walk_bound words base count good lies e taken end w few walk follows =
     walk_bound_by words good (base + base % 2) (count / 2) (places_of words base count good lies) e taken end w walk
-    runs few
+    follows few

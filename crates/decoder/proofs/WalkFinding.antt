@@ -1,4 +1,4 @@
--- Each walk that runs is found step by step, and what is found is a walk that runs.
+-- Each walk that follows on is found step by step, and what is found is a walk that follows on.
 use Rattle.std.proofs.Common.{◌≡◌, ℕ, zero, suc, ◌≤◌, Bool, true, false, ◌==◌, cond, List, [], ◌∷◌, ◌++◌}
 use Rattle.std.proofs.Common.{length, Option, Some, None, refl, sym, ap, subst, ◌∙◌, arith, length-append}
 use Rattle.std.specs.List.{AllByRecursion}
@@ -11,7 +11,7 @@ use Rattle.legalpath.specs.Backward.{is_backward}
 use Rattle.legalpath.specs.Discontinuity.{is_discontinuity}
 use Rattle.retire.specs.InRange.{IsPrivilege}
 use Rattle.legalpath.specs.Right.{Right}
-use Rattle.legalpath.specs.Step.{MayStandAt, PrivilegeAfter, Step}
+use Rattle.legalpath.specs.Step.{MayStandAt, MayHavePrivilegeBehind, Step}
 use Rattle.legalpath.specs.Successor.{leads_from, successor}
 use Rattle.legalpath.specs.WordOf.{word_of}
 use Rattle.legalpath.specs.declared.next.Next.{Next}
@@ -22,7 +22,8 @@ use Rattle.decoder.specs.Walk.{End, AtBranch, AtAddress, AtTarget, EndsAt, Retir
 use Rattle.decoder.specs.steps.WalkSteps.{retire_on, is_empty, stops, Move, Stop, Last, On, next_move, last_move}
 use Rattle.decoder.specs.steps.WalkSteps.{target_move, move_to, advance, behind, follow, walk_within}
 use Rattle.decoder.specs.steps.Walks.{WalksOn}
-use Rattle.decoder.proofs.OnOneWord.{retire_on-finds, retire_on-found, empty_is, and_both, same_front, leads_one, leads_any, one_stays, any_leaves, stays, kept, kept_stays}
+use Rattle.decoder.proofs.OnOneWord.{retire_on-finds, retire_on-found, empty_is, and_both, same_front, leads_one}
+use Rattle.decoder.proofs.OnOneWord.{leads_any, one_stays, any_leaves, stays, kept, kept_stays}
 
 module _ (words : Words) (good : IsProgram words) where
   -- A step from a retirement with one successor, and from a discontinuity.
@@ -84,7 +85,7 @@ module _ (words : Words) (good : IsProgram words) where
           let now : Side words good p AtBranch e [] f =
           record {
             before = s.before;
-            runs = (s.runs.0, s.runs.1, tt);
+            follows = (s.follows.0, s.follows.1, tt);
             retirements =
                 (s.retirements.0, tt);
             forward = tt;
@@ -98,7 +99,7 @@ module _ (words : Words) (good : IsProgram words) where
           let now : Side words good p (AtAddress a) e [] f =
           record {
             before = s.before;
-            runs = (s.runs.0, s.runs.1, tt);
+            follows = (s.follows.0, s.follows.1, tt);
             retirements =
                 (s.retirements.0, tt);
             forward = tt;
@@ -120,11 +121,12 @@ module _ (words : Words) (good : IsProgram words) where
   last_finds : (p : ℕ) (end : End) (e l : Event) → Side words good p end e [] l →
       advance words e (outcomes (l ∷ [])) end ≡ Last l
   last_finds p AtBranch e l s =
-      next_finds p e l [] AtBranch s.before s.retirements.0 s.ends.0.0 s.runs.0 s.runs.1 ∙ rw s.ends.1 refl
+      next_finds p e l [] AtBranch s.before s.retirements.0 s.ends.0.0 s.follows.0 s.follows.1 ∙ rw s.ends.1 refl
   last_finds p (AtAddress a) e l s =
       let at : (place l == a) ≡ true = grind (arith, nat_tests, s.ends.1) in
-      next_finds p e l [] (AtAddress a) s.before s.retirements.0 s.ends.0.0 s.runs.0 s.runs.1 ∙ rw at refl
-  last_finds p (AtTarget a) e l s = target_finds p a e l s.before s.retirements.0 s.ends.0 s.runs.0 s.runs.1 s.ends.1
+      next_finds p e l [] (AtAddress a) s.before s.retirements.0 s.ends.0.0 s.follows.0 s.follows.1 ∙ rw at refl
+  last_finds p (AtTarget a) e l s =
+      target_finds p a e l s.before s.retirements.0 s.ends.0 s.follows.0 s.follows.1 s.ends.1
 
   side_finds : (p : ℕ) (end : End) (front : List Event) (e l : Event) (n : ℕ) → Side words good p end e front l →
       length front ≤ n → walk_within words (suc n) e (outcomes (front ++ l ∷ [])) end ≡ Some (front ++ l ∷ [])
@@ -133,18 +135,18 @@ module _ (words : Words) (good : IsProgram words) where
   side_finds p end (f ∷ front) e l (suc n) s le =
       let d = straight words good end e f front l s.ends in
       let moves : advance words e (outcomes (f ∷ front ++ l ∷ [])) end ≡ On f (outcomes (front ++ l ∷ [])) =
-      next_finds p e f (front ++ l ∷ []) end s.before s.retirements.0 d s.runs.0 s.runs.1
+      next_finds p e f (front ++ l ∷ []) end s.before s.retirements.0 d s.follows.0 s.follows.1
       ∙ rw (not_yet p end e f front l s, s.forward.0) refl in
       within_more (suc n) e (outcomes (f ∷ front ++ l ∷ [])) end (On f (outcomes (front ++ l ∷ []))) moves
       ∙ ap (behind f) (side_finds p end front f l n (further words good s) (omega arith))
 
-  -- Each walk that runs is found, in as many steps as it is long or more.
+  -- Each walk that follows on is found, in as many steps as it is long or more.
   pub walk_complete : (e : Event) (taken : List Bool) (end : End) (w : List Event) (n : ℕ) →
       WalksOn words e taken end w → length w ≤ n → walk_within words n e taken end ≡ Some w
   walk_complete e taken end w zero h le =
       absurd (omega (arith, length-append h.fits.front (h.fits.last ∷ []), ap length h.fits.whole))
   walk_complete e taken end w (suc n) h le =
-      let s = side words good e taken end w h.fits h.runs in
+      let s = side words good e taken end w h.fits h.follows in
       let k = ap length h.fits.whole in
       let o : outcomes (h.fits.front ++ h.fits.last ∷ []) ≡ taken = sym (ap outcomes h.fits.whole) ∙ h.fits.branches in
       let short : length h.fits.front ≤ n = omega (arith, length-append h.fits.front (h.fits.last ∷ []), k) in
@@ -159,7 +161,7 @@ module _ (words : Words) (good : IsProgram words) where
     spent : (w : List Event) → outcomes w ≡ left → outcomes (f ∷ w) ≡ taken
 
   stepped : (e : Event) (x : ℕ) (taken : List Bool) (f : Event) (left : List Bool) → is_retirement e ≡ true →
-      IsPrivilege (privilege e) → MayStandAt (successor words e) x → PrivilegeAfter words e (privilege e) →
+      IsPrivilege (privilege e) → MayStandAt (successor words e) x → MayHavePrivilegeBehind words e (privilege e) →
       retire_on x (privilege e) (words x) taken ≡ Some (f, left) → Stepped e taken f left
   stepped e x taken f left r p at level h =
       let found = retire_on-found x (privilege e) (words x) taken (f, left) h in
@@ -185,7 +187,7 @@ module _ (words : Words) (good : IsProgram words) where
       forward = tt;
       ends = ends;
     };
-    runs = (s.right, s.step, tt);
+    follows = (s.right, s.step, tt);
   }
 
   on_front : (end : End) (e f : Event) (front : List Event) (l : Event) → is_discontinuity words e ≡ false →
@@ -208,7 +210,7 @@ module _ (words : Words) (good : IsProgram words) where
       forward = (b, h.fits.forward);
       ends = on_front end e f h.fits.front h.fits.last d h.fits.ends;
     };
-    runs = (s.right, s.step, h.runs);
+    follows = (s.right, s.step, h.follows);
   }
 
   stop_sound : (end : End) (e f : Event) (left : List Bool) → is_discontinuity words e ≡ false →
@@ -235,7 +237,7 @@ module _ (words : Words) (good : IsProgram words) where
       there = subst (λ n. MayStandAt n x) (sym at) refl
 
       level : (e : Event) → is_retirement e ≡ true → is_discontinuity words e ≡ false →
-          PrivilegeAfter words e (privilege e)
+          MayHavePrivilegeBehind words e (privilege e)
       level (Retire a t q) r d = kept (words a) q d
       level (Trap y q i c v) r d = cc
 
@@ -293,7 +295,7 @@ module _ (words : Words) (good : IsProgram words) where
       go Any h = target_sound (Retire a t q) taken end r p (any_leaves (words a) a t h)
       go NoneInside h = tt
 
-  -- What is found is a walk that runs.
+  -- What is found is a walk that follows on.
   pub walk_sound : (n : ℕ) (e : Event) (taken : List Bool) (end : End) (w : List Event) → is_retirement e ≡ true →
       IsPrivilege (privilege e) → walk_within words n e taken end ≡ Some w → WalksOn words e taken end w
   unfolding walk_within

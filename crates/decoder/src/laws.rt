@@ -5,7 +5,7 @@ ghost use Rattle.retire.specs.declared.event.Event.{Event};
 ghost use Rattle.rvclass.specs.Words.{Words, IsProgram, LiesIn};
 ghost use Rattle.payload.specs.declared.packet.Packet.{Packet};
 ghost use Rattle.legalpath.specs.Join.{join};
-ghost use Rattle.legalpath.specs.Legal.{Runs};
+ghost use Rattle.legalpath.specs.Legal.{FollowOn};
 ghost use Rattle.decoder.specs.Describes.{Describes};
 ghost use Rattle.decoder.specs.SettledPieces.{settled_pieces};
 ghost use Rattle.decoder.specs.Walk.{End, IsWalk};
@@ -35,6 +35,6 @@ pub fn first_packets_describe_a_beginning()
 pub fn walks_are_short()
     ensures { (words : Words) (base count : ℕ) (before : Event) (taken : List Bool) (end : End) (walk : List Event) →
         IsProgram words → LiesIn words base count → length taken ≤ 31 →
-        IsWalk words before taken end walk → Runs words (Some before) walk →
+        IsWalk words before taken end walk → FollowOn words (Some before) walk →
         length walk ≤ 32 * (count / 2) }
 {}

@@ -4,7 +4,7 @@ ghost use Rattle.std.specs.Prelude.{◌≡◌, ◌↔◌, ◌≤◌, true, false
 ghost use Rattle.retire.specs.InRange.{IsPrivilege};
 ghost use Rattle.retire.specs.declared.event.Event.TheVariants.{Trap};
 ghost use Rattle.rvclass.specs.Fetch.{words_of};
-ghost use Rattle.legalpath.specs.Legal.{Runs};
+ghost use Rattle.legalpath.specs.Legal.{FollowOn};
 ghost use Rattle.legalpath.specs.Step.{MayStandAfter};
 ghost use Rattle.decoder.specs.steps.Faults.{IsOnTheWay};
 ghost use Rattle.decoder.specs.Fits.{AfterRetirement, FitsSync};
@@ -34,9 +34,9 @@ fn fault_of(why: Why) -> DecodeFault
 
 /// Tests that an event is right by itself and may follow the one before.
 fn follows(program: &Program, before: Option<Event>, event: Event) -> Result<(), DecodeFault>
-    ensures ok { OnOk result (Runs (words_of program.now) before (event ∷ [])) }
+    ensures ok { OnOk result (FollowOn (words_of program.now) before (event ∷ [])) }
     ensures err { IfErr result (λ fault. IsOnTheWay fault
-        × (RightBefore (words_of program.now) before → Runs (words_of program.now) before (event ∷ []) → ⊥)) }
+        × (RightBefore (words_of program.now) before → FollowOn (words_of program.now) before (event ∷ []) → ⊥)) }
 {
     let checked = match before {
         None => check(program, &[event]),

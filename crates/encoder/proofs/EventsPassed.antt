@@ -1,12 +1,15 @@
 -- Events that are passed over.
-use Rattle.std.proofs.Common.{◌≡◌, ℕ, ◌+◌, ◌-◌, ◌≤◌, Bool, true, false, ◌==◌, ◌&&◌, ◌||◌, not, cond, List, [], Some, None, length, take, get_or, refl, sym, ap, ◌∙◌, arith}
+use Rattle.std.proofs.Common.{◌≡◌, ℕ, ◌+◌, ◌-◌, ◌≤◌, Bool, true, false, ◌==◌, ◌&&◌, ◌||◌, not, cond, List, [], Some}
+use Rattle.std.proofs.Common.{None, length, take, get_or, refl, sym, ap, ◌∙◌, arith}
 use Rattle.std.proofs.lemmas.List.{take_more}
 use Rattle.std.specs.List.{last_or}
 use Rattle.std.specs.Prelude.{nat_lt}
 use Rattle.retire.specs.declared.event.Event.{Event}
 use Rattle.retire.specs.declared.event.Event.TheVariants.{Retire, Trap}
 use Rattle.rvclass.specs.Words.{Words}
-use Rattle.encoder.specs.steps.Stepping.{next_due, is_discontinuity_by_type, jumps_back_to, rule_of_quiet, rule_before, is_unreported, is_quiet, pending_with, left_after, due_next, given, after, passes}
+use Rattle.encoder.specs.steps.Stepping.{next_due, is_discontinuity_by_type, jumps_back_to, rule_of_quiet, rule_before}
+use Rattle.encoder.specs.steps.Stepping.{is_unreported, is_quiet, pending_with, left_after, due_next, given, after}
+use Rattle.encoder.specs.steps.Stepping.{passes}
 use Rattle.encoder.specs.declared.due.Due.TheVariants as due
 use Rattle.encoder.specs.declared.encoder.Encoder.{Encoder}
 use Rattle.encoder.proofs.EventsTaken.{after_quiet, given_quiet}
@@ -46,7 +49,8 @@ facts words (Retire at type level) left pending (Retire addr itype priv) h =
       some_left = some;
       few = few.1;
       nothing_due =
-          ap (λ b. cond (not b || (left == 0)) due.Sync (cond (is_discontinuity_by_type type) due.Target due.Nothing)) same.0
+          ap (λ b. cond (not b || (left == 0)) due.Sync (cond (is_discontinuity_by_type type) due.Target due.Nothing))
+          same.0
           ∙ ap (λ b. cond (false || b) due.Sync (cond (is_discontinuity_by_type type) due.Target due.Nothing)) some
           ∙ ap (λ b. cond b due.Target due.Nothing) stays;
       unreported =

@@ -1,5 +1,6 @@
 -- What the code does with an event, by what the encoder holds.
-use Rattle.std.proofs.Common.{◌≡◌, ℕ, ◌≤◌, Bool, true, false, ◌&&◌, not, cond, List, [], ◌∷◌, ◌++◌, length, Some, refl, sym, ap, ◌∙◌}
+use Rattle.std.proofs.Common.{◌≡◌, ℕ, ◌≤◌, Bool, true, false, ◌&&◌, not, cond, List, [], ◌∷◌, ◌++◌, length, Some, refl}
+use Rattle.std.proofs.Common.{sym, ap, ◌∙◌}
 use Rattle.std.specs.Prelude.{nat_lt}
 use Rattle.retire.proofs.OutcomesLemmas.{outcomes-append, outcomes-branch, outcomes-other}
 use Rattle.retire.specs.Events.{place, is_branch, is_taken, outcomes}
@@ -8,7 +9,10 @@ use Rattle.rvclass.specs.Words.{Words}
 use Rattle.payload.specs.declared.packet.Packet.{Packet}
 use Rattle.encoder.specs.Packets.{packet_by, reported_by}
 use Rattle.encoder.specs.Piece.{is_cut}
-use Rattle.encoder.specs.steps.Stepping.{rule_before, rule_of_quiet, cuts_off, jumps_back_to, is_unreported, is_handler_due, is_quiet, next_due, due_next, packets_by, packets_before, reported_before, handler_packet, pending_with, left_after, hold, given, given_with, after, after_with}
+use Rattle.encoder.specs.steps.Stepping.{rule_before, rule_of_quiet, cuts_off, jumps_back_to, is_unreported}
+use Rattle.encoder.specs.steps.Stepping.{is_handler_due, is_quiet, next_due, due_next, packets_by, packets_before}
+use Rattle.encoder.specs.steps.Stepping.{reported_before, handler_packet, pending_with, left_after, hold, given}
+use Rattle.encoder.specs.steps.Stepping.{given_with, after, after_with}
 use Rattle.encoder.specs.declared.due.Due.{Due}
 use Rattle.encoder.specs.declared.due.Due.TheVariants as due
 use Rattle.encoder.specs.declared.encoder.Encoder.{Encoder}

@@ -1,5 +1,6 @@
 -- A log by its last event.
-use Rattle.std.proofs.Common.{◌≡◌, ◌⊎◌, ℕ, Bool, true, false, ◌&&◌, not, cond, List, [], ◌∷◌, ◌++◌, Option, Some, None, refl, ap, ◌∙◌, inl, inr}
+use Rattle.std.proofs.Common.{◌≡◌, ◌⊎◌, ℕ, Bool, true, false, ◌&&◌, not, cond, List, [], ◌∷◌, ◌++◌, Option, Some, None}
+use Rattle.std.proofs.Common.{refl, ap, ◌∙◌, inl, inr}
 use Rattle.std.proofs.lemmas.List.{append-nil}
 use Rattle.std.specs.List.{last_or}
 use Rattle.retire.specs.Events.{is_retirement}
@@ -21,7 +22,8 @@ use Rattle.encoder.specs.Stands.{count_all, reported_after, since_cut, undecided
 use Rattle.encoder.specs.declared.due.Due.{Due}
 use Rattle.encoder.specs.declared.rule.Rule.{Rule}
 use Rattle.encoder.specs.declared.rule.Rule.TheVariants as by
-use Rattle.encoder.proofs.SpotLemmas.{before_last, count_all-append, last_or-snoc, before_last-snoc, decided-snoc, undecided-snoc, since_cut-append}
+use Rattle.encoder.proofs.SpotLemmas.{before_last, count_all-append, last_or-snoc, before_last-snoc, decided-snoc}
+use Rattle.encoder.proofs.SpotLemmas.{undecided-snoc, since_cut-append}
 use Rattle.encoder.proofs.PacketsReached.{spot_after, spots-snoc, Reaches}
 use Rattle.encoder.proofs.RulesByDue.{following}
 

@@ -1,5 +1,6 @@
 -- An event more: what an encoder gives and becomes is what the log's packets ask for.
-use Rattle.std.proofs.Common.{◌≡◌, ℕ, ◌≤◌, Bool, true, false, ◌&&◌, not, cond, List, [], ◌∷◌, ◌++◌, length, Option, Some, None, refl, sym, ap, subst, ◌∙◌, arith}
+use Rattle.std.proofs.Common.{◌≡◌, ℕ, ◌≤◌, Bool, true, false, ◌&&◌, not, cond, List, [], ◌∷◌, ◌++◌, length, Option}
+use Rattle.std.proofs.Common.{Some, None, refl, sym, ap, subst, ◌∙◌, arith}
 use Rattle.std.proofs.lemmas.List.{append-nil}
 use Rattle.std.specs.Prelude.{nat_lt}
 use Rattle.retire.specs.Events.{place, is_retirement, outcomes}
@@ -19,7 +20,8 @@ use Rattle.encoder.specs.Piece.{is_cut, pieces}
 use Rattle.encoder.specs.Rule.{holds, with_handler, rule}
 use Rattle.encoder.specs.Spot.{Spot, spots, count_with}
 use Rattle.encoder.specs.Stands.{count_all, reported_after, since_cut, reported_so_far, untold, AreLeft, Stands}
-use Rattle.encoder.specs.steps.Stepping.{rule_before, is_unreported, is_handler_due, next_due, packets_by, handler_packet, pending_with, left_after, given, after}
+use Rattle.encoder.specs.steps.Stepping.{rule_before, is_unreported, is_handler_due, next_due, packets_by}
+use Rattle.encoder.specs.steps.Stepping.{handler_packet, pending_with, left_after, given, after}
 use Rattle.encoder.specs.declared.due.Due.{Due}
 use Rattle.encoder.specs.declared.due.Due.TheVariants as due
 use Rattle.encoder.specs.declared.encoder.Encoder.{Encoder}
@@ -28,8 +30,10 @@ use Rattle.encoder.proofs.SpotLemmas.{count_all-append, last_or-snoc}
 use Rattle.encoder.proofs.PacketsReached.{spot_after, spots-snoc, Reaches, reaches, reaches_cut, reaches_on}
 use Rattle.encoder.proofs.RulesByDue.{following, is_known-due, due_at-following, rule-before}
 use Rattle.encoder.proofs.CountLemmas.{few_since_cut, left-divides}
-use Rattle.encoder.proofs.LogsByLastEvent.{spot_after-following, Views, view_open, view_known, both_true, rule_known, known-behind, none_before_trap}
-use Rattle.encoder.proofs.EventsTaken.{pending_with-outcomes, pending_with-handler, rule_before-IsOwn, quiet_is, packets_by-own, rule_before-handler, Does, does_quiet, does_handler, does_loud}
+use Rattle.encoder.proofs.LogsByLastEvent.{spot_after-following, Views, view_open, view_known, both_true, rule_known}
+use Rattle.encoder.proofs.LogsByLastEvent.{known-behind, none_before_trap}
+use Rattle.encoder.proofs.EventsTaken.{pending_with-outcomes, pending_with-handler, rule_before-IsOwn, quiet_is}
+use Rattle.encoder.proofs.EventsTaken.{packets_by-own, rule_before-handler, Does, does_quiet, does_handler, does_loud}
 
 module _ (words : Words) (period : ℕ) where
   -- What an encoder gives at an event is what the log's packets so far have more, and its fields are those of the

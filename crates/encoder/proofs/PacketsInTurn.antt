@@ -1,5 +1,6 @@
 -- The packets of a legal log, one event more at a time.
-use Rattle.std.proofs.Common.{◌≡◌, ℕ, ◌+◌, ◌-◌, Bool, true, false, List, [], ◌∷◌, ◌++◌, Option, Some, None, length, take, drop, refl, sym, subst, ◌∙◌, ap, inl, inr, append_assoc, arith, length-append}
+use Rattle.std.proofs.Common.{◌≡◌, ℕ, ◌+◌, ◌-◌, Bool, true, false, List, [], ◌∷◌, ◌++◌, Option, Some, None, length}
+use Rattle.std.proofs.Common.{take, drop, refl, sym, subst, ◌∙◌, ap, inl, inr, append_assoc, arith, length-append}
 use Rattle.std.proofs.lemmas.List.{take-append-drop, append-nil, take_all}
 use Rattle.std.proofs.lemmas.List.Elements.{All-cons, All-head, All-nil}
 use Rattle.std.proofs.lemmas.Option.{slice_get_read}
@@ -15,7 +16,7 @@ use Rattle.rvclass.specs.Image.{Image}
 use Rattle.rvclass.specs.Words.{Words}
 use Rattle.legalpath.specs.Legal.{Legal}
 use Rattle.legalpath.specs.ProgramLog.{ProgramLog}
-use Rattle.legalpath.proofs.RunsLemmas.{runs_split}
+use Rattle.legalpath.proofs.FollowOnLemmas.{follow_on_split}
 use Rattle.payload.specs.Profile.{InProfile}
 use Rattle.payload.specs.declared.packet.Packet.{Packet}
 use Rattle.payload.specs.declared.packet.Packet.TheVariants as packet
@@ -42,7 +43,7 @@ use Rattle.encoder.proofs.PacketsAtEnd.{ends_any}
 -- The first events of a legal log are one.
 pub legal-take : (words : Words) (count : ℕ) (log : List Event) → Legal words log → Legal words (take count log)
 legal-take words count log legal =
-    (runs_split words None (take count log) (drop count log)
+    (follow_on_split words None (take count log) (drop count log)
     (subst (Legal words) (sym (take-append-drop count log)) legal)).0
 
 -- An encoder that stands for the first events stands for one more by a step, which gives the packets that are more.

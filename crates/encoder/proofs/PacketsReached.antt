@@ -11,7 +11,8 @@ use Rattle.encoder.specs.Rule.{rule}
 use Rattle.encoder.specs.Spot.{Spot, spots}
 use Rattle.encoder.specs.Stands.{count_all, reported_after, since_cut}
 use Rattle.encoder.specs.declared.rule.Rule.{Rule}
-use Rattle.encoder.proofs.SpotLemmas.{before_last, spots-append, pieces-append, reports-append, reported_after-append, since_cut-append}
+use Rattle.encoder.proofs.SpotLemmas.{before_last, spots-append, pieces-append, reports-append, reported_after-append}
+use Rattle.encoder.proofs.SpotLemmas.{since_cut-append}
 
 -- The spot of an event after a log, with this event after it.
 abbrev pub spot_after : List Event → Event → Option Event → Spot

@@ -1,5 +1,6 @@
 -- Every packet of a legal log is of the profile.
-use Rattle.std.proofs.Common.{◌≡◌, ℕ, ◌%◌, ◌^◌, ◌≤◌, ◌<◌, Bool, true, false, ◌==◌, cond, List, [], ◌∷◌, ◌++◌, length, Option, Some, None, refl, subst, arith}
+use Rattle.std.proofs.Common.{◌≡◌, ℕ, ◌%◌, ◌^◌, ◌≤◌, ◌<◌, Bool, true, false, ◌==◌, cond, List, [], ◌∷◌, ◌++◌, length}
+use Rattle.std.proofs.Common.{Option, Some, None, refl, subst, arith}
 use Rattle.std.proofs.lemmas.Bool.Decides.{nat_tests}
 use Rattle.std.proofs.lemmas.List.Elements.{All-from_recursion, All-nil, All-cons, All-append, All-head, All-tail}
 use Rattle.std.specs.Prelude.{All}
@@ -9,7 +10,7 @@ use Rattle.retire.specs.Is64Bit.{Is64Bit}
 use Rattle.retire.specs.declared.event.Event.{Event}
 use Rattle.retire.specs.declared.event.Event.TheVariants.{Retire, Trap}
 use Rattle.rvclass.specs.Words.{Words, Word}
-use Rattle.legalpath.specs.Legal.{Runs, Legal}
+use Rattle.legalpath.specs.Legal.{FollowOn, Legal}
 use Rattle.legalpath.specs.Right.{RetiresOn, Right}
 use Rattle.payload.specs.Difference.{difference}
 use Rattle.payload.specs.Profile.{IsAddress, IsPrivilege, IsTrapValue, InProfile}
@@ -134,12 +135,12 @@ module _ (words : Words) (even : IsEven words) where
       go r t false e fresh on = on (room_left front s.event r few t e)
 
   good_spots : (n : ℕ) (b2 b : Option Event) (log : List Event) (next : Option Event) → All Is64Bit log
-      → Runs words b log → AllByRecursion (λ s. IsGood s.event) (spots n b2 b log next)
-  good_spots n b2 b [] next wide runs = tt
-  good_spots n b2 b (event ∷ log) next wide runs = (
-    (runs.0, All-head Is64Bit event log wide),
+      → FollowOn words b log → AllByRecursion (λ s. IsGood s.event) (spots n b2 b log next)
+  good_spots n b2 b [] next wide follows = tt
+  good_spots n b2 b (event ∷ log) next wide follows = (
+    (follows.0, All-head Is64Bit event log wide),
     good_spots (count_with n event) b (Some event) log next
-        (All-tail Is64Bit event log wide) runs.2,
+        (All-tail Is64Bit event log wide) follows.2,
   )
 
   good_decided : (ss : List Spot) → AllByRecursion (λ s. IsGood s.event) ss

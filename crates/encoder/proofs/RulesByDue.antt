@@ -1,5 +1,6 @@
 -- What the code knows of an event before the next one comes, and its rule.
-use Rattle.std.proofs.Common.{◌≡◌, ◌⊎◌, ℕ, ◌+◌, ◌%◌, Bool, true, false, not, ◌&&◌, ◌||◌, ◌==◌, cond, Option, Some, None, refl, sym, ap, ◌∙◌, inl, inr}
+use Rattle.std.proofs.Common.{◌≡◌, ◌⊎◌, ℕ, ◌+◌, ◌%◌, Bool, true, false, not, ◌&&◌, ◌||◌, ◌==◌, cond, Option, Some, None}
+use Rattle.std.proofs.Common.{refl, sym, ap, ◌∙◌, inl, inr}
 use Rattle.std.specs.Prelude.{nat_le}
 use Rattle.retire.specs.Events.{place, is_retirement}
 use Rattle.retire.specs.declared.event.Event.{Event}
@@ -7,7 +8,7 @@ use Rattle.retire.specs.declared.event.Event.TheVariants.{Retire, Trap}
 use Rattle.rvclass.specs.Words.{Words, Word}
 use Rattle.rvclass.specs.declared.class.Class.TheVariants.{Plain, Jump, Branch, Uninferable, TrapReturn, NotRetirable}
 use Rattle.legalpath.specs.Backward.{jumps_back, is_backward}
-use Rattle.legalpath.specs.Discontinuity.{leaves, is_discontinuity}
+use Rattle.legalpath.specs.Discontinuity.{hides_its_target, is_discontinuity}
 use Rattle.legalpath.specs.Right.{RetiresOn, Right}
 use Rattle.legalpath.specs.Step.{MayStandAt, Step}
 use Rattle.legalpath.specs.Successor.{leads_from}
@@ -15,13 +16,15 @@ use Rattle.encoder.specs.Due.{due_at}
 use Rattle.encoder.specs.PacketsSoFar.{is_known}
 use Rattle.encoder.specs.Rule.{holds, is_handler, is_start, is_cut_off, rule}
 use Rattle.encoder.specs.Spot.{Spot, count_with}
-use Rattle.encoder.specs.steps.Stepping.{is_discontinuity_by_type, due_behind_trap, next_due, cuts_off, jumps_back_to, rule_of_quiet, rule_before, is_handler_due}
+use Rattle.encoder.specs.steps.Stepping.{is_discontinuity_by_type, due_behind_trap, next_due, cuts_off, jumps_back_to}
+use Rattle.encoder.specs.steps.Stepping.{rule_of_quiet, rule_before, is_handler_due}
 use Rattle.encoder.specs.declared.due.Due.{Due}
 use Rattle.encoder.specs.declared.due.Due.TheVariants as due
 use Rattle.encoder.specs.declared.rule.Rule.TheVariants as by
 
 -- A right retirement's type tells whether its word leaves.
-word_type : (word : Option Word) (itype priv : ℕ) → RetiresOn word itype priv → leaves word ≡ is_discontinuity_by_type itype
+word_type : (word : Option Word) (itype priv : ℕ) → RetiresOn word itype priv
+    → hides_its_target word ≡ is_discontinuity_by_type itype
 word_type None itype priv r = absurd r
 word_type (Some (Plain, length)) itype priv r = rw r.0 refl
 word_type (Some (Jump to, length)) itype priv r = rw r.0 refl
@@ -112,14 +115,16 @@ module _ (words : Words) (period : ℕ) where
             after = after;
           })
       by_events n b2 b (Retire at type level) a (Retire addr itype priv) r l =
-          ap (λ x. cond (not (priv == level) || x) due.Sync (cond (is_discontinuity_by_type type) due.Target due.Nothing)) (sym l)
+          ap
+          (λ x. cond (not (priv == level) || x) due.Sync
+          (cond (is_discontinuity_by_type type) due.Target due.Nothing)) (sym l)
           ∙ ap (λ x. cond (not (priv == level) || ((n + 1) % period == 0)) due.Sync (cond x due.Target due.Nothing))
           (sym (word_type (words at) type level r.0))
       by_events n b2 b (Trap epc level irq code value) a (Retire addr itype priv) r l =
           by_trap (holds is_retirement b && not (holds (is_discontinuity words) b))
       by_events n b2 b (Retire at type level) a (Trap epc priv interrupt cause tval) r l =
           ap (λ x. cond x due.Trap due.TrapOrHandler) (sym (word_type (words at) type level r.0))
-          ∙ turned (leaves (words at))
+          ∙ turned (hides_its_target (words at))
       by_events n b2 b (Trap at level irq code value) a (Trap epc priv interrupt cause tval) r l = refl
 
   -- A trap or a new start follows a retirement exactly where its due says so.

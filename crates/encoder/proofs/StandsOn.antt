@@ -5,7 +5,7 @@ use Rattle.retire.specs.Is64Bit.{Is64Bit}
 use Rattle.retire.specs.declared.event.Event.{Event}
 use Rattle.retire.specs.declared.event.Event.TheVariants.{Retire, Trap}
 use Rattle.rvclass.specs.Words.{Words}
-use Rattle.legalpath.proofs.RunsLemmas.{runs_split}
+use Rattle.legalpath.proofs.FollowOnLemmas.{follow_on_split}
 use Rattle.legalpath.specs.Legal.{Legal}
 use Rattle.legalpath.specs.Step.{Step, StepFrom}
 use Rattle.encoder.specs.Due.{due_at, due_of_last}
@@ -78,8 +78,8 @@ module _ (words : Words) (period : ℕ) where
       behind : (front : List Event) (held : Event) → Stands words period (front ++ held ∷ []) e
           → Legal words ((front ++ held ∷ []) ++ event ∷ []) → Pushes words period (front ++ held ∷ []) e event
       behind front held stands legal =
-          let parts = runs_split words None (front ++ held ∷ []) (event ∷ []) legal in
-          let mine = runs_split words None front (held ∷ []) parts.0 in
+          let parts = follow_on_split words None (front ++ held ∷ []) (event ∷ []) legal in
+          let mine = follow_on_split words None front (held ∷ []) parts.0 in
           let step : Step words held event =
           subst (λ b. StepFrom words b event) (last_or-snoc None front held) parts.1.1 in
           pushes words period front held event e stands mine.1.0 step

@@ -1,14 +1,15 @@
 -- What judging a log answers.
-use Rattle.std.proofs.Common.{◌≡◌, ◌↔◌, ℕ, ◌+◌, List, [], ◌∷◌, ◌++◌, Option, Some, None, Result, Ok, Err, length, refl, sym, subst, arith, IsOk, IfErr}
+use Rattle.std.proofs.Common.{◌≡◌, ◌↔◌, ℕ, ◌+◌, List, [], ◌∷◌, ◌++◌, Option, Some, None, Result, Ok, Err, length, refl}
+use Rattle.std.proofs.Common.{sym, subst, arith, IsOk, IfErr}
 use Rattle.std.specs.List.{last_or}
 use Rattle.retire.specs.declared.event.Event.{Event}
 use Rattle.rvclass.specs.Words.{Words}
 use Rattle.legalpath.proofs.JudgingLemmas.{left_after, Outcome, judged}
 use Rattle.legalpath.proofs.ReasonLemmas.{none_applies}
-use Rattle.legalpath.proofs.RunsLemmas.{runs_split}
+use Rattle.legalpath.proofs.FollowOnLemmas.{follow_on_split}
 use Rattle.legalpath.specs.FirstFault.{IsFirstFault}
 use Rattle.legalpath.specs.steps.Judging.{judge_all, answer_after, left_at_start, Answer}
-use Rattle.legalpath.specs.Legal.{Runs, Legal}
+use Rattle.legalpath.specs.Legal.{FollowOn, Legal}
 use Rattle.legalpath.specs.Reason.{IsReason}
 use Rattle.legalpath.specs.Right.{Right}
 use Rattle.legalpath.specs.Step.{StepFrom}
@@ -22,25 +23,25 @@ record FaultFrom (words : Words) (before : Option Event) (row : ℕ) (log : List
   event : Event
   rest : List Event
   whole : log ≡ front ++ event ∷ rest
-  runs : Runs words before front
+  follows : FollowOn words before front
   counted : fault.row ≡ row + length front
   reason : IsReason words (last_or before front) event fault.why
 
 -- What judging these events answers.
 abbrev LogOutcome : Words → Option Event → ℕ → List Event → Answer → Type 0
-LogOutcome words before row log (Ok done) = Runs words before log
+LogOutcome words before row log (Ok done) = FollowOn words before log
 LogOutcome words before row log (Err fault) = FaultFrom words before row log fault
 
 goes_on : (words : Words) (before : Option Event) (row : ℕ) (event : Event) (log : List Event) (result : Answer)
     → Right words event → StepFrom words before event → LogOutcome words (Some event) (row + 1) log result
     → LogOutcome words before row (event ∷ log) result
-goes_on words before row event log (Ok done) right step runs = (right, step, runs)
+goes_on words before row event log (Ok done) right step follows = (right, step, follows)
 goes_on words before row event log (Err fault) right step f = record {
   front = event ∷ f.front;
   event = f.event;
   rest = f.rest;
   whole = cc (f.whole);
-  runs = (right, step, f.runs);
+  follows = (right, step, f.follows);
   counted = (let h = f.counted in omega arith);
   reason = f.reason;
 }
@@ -64,7 +65,7 @@ all_judged words before row (event ∷ log) =
       event = event;
       rest = log;
       whole = refl;
-      runs = tt;
+      follows = tt;
       counted = omega arith;
       reason = h;
     }
@@ -72,9 +73,9 @@ all_judged words before row (event ∷ log) =
 fault-not_legal : (words : Words) (log : List Event) (fault : PathFault) → FaultFrom words None 1 log fault
     → ¬ Legal words log
 fault-not_legal words log fault f legal =
-    let runs = runs_split words None f.front (f.event ∷ f.rest)
+    let follows = follow_on_split words None f.front (f.event ∷ f.rest)
     (subst (λ (l : List Event). Legal words l) f.whole legal) in
-    none_applies words (last_or None f.front) f.event fault.why runs.1.0 runs.1.1 f.reason.applies
+    none_applies words (last_or None f.front) f.event fault.why follows.1.0 follows.1.1 f.reason.applies
 
 module _ (words : Words) (log : List Event) (result : Answer) (is : result ≡ judge_all words left_at_start 1 log) where
   outcome : LogOutcome words None 1 log result
@@ -85,7 +86,7 @@ module _ (words : Words) (log : List Event) (result : Answer) (is : result ≡ j
   ok_where_legal = go result outcome
     where
       go : (r : Answer) → LogOutcome words None 1 log r → IsOk r ↔ Legal words log
-      go (Ok done) runs = (λ e. runs, λ legal. refl)
+      go (Ok done) follows = (λ e. follows, λ legal. refl)
       go (Err fault) f = (λ e. cc, λ legal. absurd (fault-not_legal words log fault f legal))
 
   -- An error names the first fault.
@@ -93,13 +94,13 @@ module _ (words : Words) (log : List Event) (result : Answer) (is : result ≡ j
   names_first_fault = go result outcome
     where
       go : (r : Answer) → LogOutcome words None 1 log r → IfErr r (λ fault. IsFirstFault words log fault)
-      go (Ok done) runs = tt
+      go (Ok done) follows = tt
       go (Err fault) f = record {
         front = f.front;
         event = f.event;
         rest = f.rest;
         whole = f.whole;
-        legal = f.runs;
+        legal = f.follows;
         counted = (let h = f.counted in omega arith);
         reason = f.reason;
       }

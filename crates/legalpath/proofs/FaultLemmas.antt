@@ -4,15 +4,16 @@ use Rattle.std.specs.List.{last_or}
 use Rattle.retire.specs.declared.event.Event.{Event}
 use Rattle.rvclass.specs.Words.{Words}
 use Rattle.legalpath.proofs.ReasonLemmas.{none_applies, one_reason}
-use Rattle.legalpath.specs.Legal.{Runs}
+use Rattle.legalpath.specs.Legal.{FollowOn}
 use Rattle.legalpath.specs.Reason.{IsReason}
 use Rattle.legalpath.specs.ReasonLaws.{NamesOneFault}
 use Rattle.legalpath.specs.declared.fault.PathFault.{PathFault}
 use Rattle.legalpath.specs.declared.fault.Why.{Why}
 
--- What runs up to a refused event, and what runs up to another, end at one place with one reason.
+-- What follows on up to a refused event, and what does up to another, end at one place with one reason.
 same_fault : (words : Words) (before : Option Event) (front other : List Event) (e f : Event) (rest more : List Event)
-    (why reason : Why) → front ++ e ∷ rest ≡ other ++ f ∷ more → Runs words before front → Runs words before other
+    (why reason : Why) → front ++ e ∷ rest ≡ other ++ f ∷ more → FollowOn words before front
+    → FollowOn words before other
     → IsReason words (last_or before front) e why → IsReason words (last_or before other) f reason
     → (length front ≡ length other) × (why ≡ reason)
 same_fault words before [] [] e f rest more why reason same r s p q =
@@ -30,10 +31,10 @@ same_fault words before (x ∷ front) [] e f rest more why reason same r s p q =
 same_fault words before (x ∷ front) (y ∷ other) e f rest more why reason same r s p q =
     let is : y ≡ x = cc in
     let tails : front ++ e ∷ rest ≡ other ++ f ∷ more = cc in
-    let runs : Runs words (Some x) other = subst (λ (z : Event). Runs words (Some z) other) is s.2 in
+    let follows : FollowOn words (Some x) other = subst (λ (z : Event). FollowOn words (Some z) other) is s.2 in
     let told : IsReason words (last_or (Some x) other) f reason = subst
     (λ (z : Event). IsReason words (last_or (Some z) other) f reason) is q in
-    let found = same_fault words (Some x) front other e f rest more why reason tails r.2 runs p told in
+    let found = same_fault words (Some x) front other e f rest more why reason tails r.2 follows p told in
     (ap suc found.0, found.1)
 
 pub names_one_fault : NamesOneFault

@@ -1,20 +1,24 @@
 -- What judging an event finds.
-use Rattle.std.proofs.Common.{◌≡◌, ◌⊎◌, ◌≤◌, ◌<◌, ◌≢◌, ℕ, ◌%◌, Bool, true, false, not, ◌&&◌, ◌||◌, ◌==◌, nat_le, Option, Some, None, Result, Ok, Err, if◌then◌else◌, refl, inl, inr, arith}
+use Rattle.std.proofs.Common.{◌≡◌, ◌⊎◌, ◌≤◌, ◌<◌, ◌≢◌, ℕ, ◌%◌, Bool, true, false, not, ◌&&◌, ◌||◌, ◌==◌, nat_le, Option}
+use Rattle.std.proofs.Common.{Some, None, Result, Ok, Err, if◌then◌else◌, refl, inl, inr, arith}
 use Rattle.retire.specs.Events.{place, privilege}
 use Rattle.retire.specs.declared.event.Event.{Event}
 use Rattle.retire.specs.declared.event.Event.TheVariants.{Retire, Trap}
 use Rattle.rvclass.specs.Words.{Word, Words}
 use Rattle.rvclass.specs.declared.class.Class.{Class}
-use Rattle.rvclass.specs.declared.class.Class.TheVariants.{Plain, Jump, Branch, Uninferable, TrapReturn, NotRetirable as NeverRetires}
+use Rattle.rvclass.specs.declared.class.Class.TheVariants.{Plain, Jump, Branch, Uninferable, TrapReturn}
+use Rattle.rvclass.specs.declared.class.Class.TheVariants.{NotRetirable as NeverRetires}
 use Rattle.rvclass.specs.declared.class.Return.TheVariants.{Mret, Sret}
-use Rattle.legalpath.proofs.Telling.{Tells, tells_true, tells_false, tells_eq, tells_le, tells_lt, tells-same, tells-and, tells-or}
-use Rattle.legalpath.specs.Judging.{may_retire_at, may_stand_at}
-use Rattle.legalpath.specs.steps.Judging.{is_privilege, is_type_of, was_left, left_at_start, left_by_retirement, left_by_trap, is_never, judge_retirement, judge_trap, judge}
+use Rattle.legalpath.proofs.Telling.{Tells, tells_true, tells_false, tells_eq, tells_le, tells_lt, tells-same}
+use Rattle.legalpath.proofs.Telling.{tells-and, tells-or}
+use Rattle.legalpath.specs.Allowed.{may_retire_at, may_stand_at}
+use Rattle.legalpath.specs.steps.Judging.{is_privilege, is_type_of, was_left, left_at_start, left_by_retirement}
+use Rattle.legalpath.specs.steps.Judging.{left_by_trap, is_never, judge_retirement, judge_trap, judge}
 use Rattle.legalpath.specs.Reason.{IsNotRetirable, AppliesToRetirement, AppliesToTrap, IsReason, earlier}
 use Rattle.retire.specs.InRange.{IsPrivilege}
 use Rattle.legalpath.specs.Right.{IsTypeOf, MayRetireAt, RetiresOn, Right}
 use Rattle.legalpath.specs.Successor.{leads, leads_from}
-use Rattle.legalpath.specs.Step.{MayStandAt, MayStandAfter, KeepsPrivilege, MayHavePrivilegeAfter, StepFrom}
+use Rattle.legalpath.specs.Step.{MayStandAt, MayStandAfter, LeadsToPrivilege, MayHavePrivilegeAfter, StepFrom}
 use Rattle.legalpath.specs.declared.fault.Why.{Why}
 use Rattle.legalpath.specs.declared.fault.Why.TheVariants.{NotRetirable, WrongType, WrongNext, WrongPrivilege, WrongEpc}
 use Rattle.legalpath.specs.declared.judging.Left.{Left}
@@ -95,7 +99,7 @@ between : (left : Left) (priv : ℕ) → Tells (is_between left priv) ((left.lea
 between left priv = tells-and (tells_le left.least priv) (λ h. tells_le priv left.greatest)
 
 left_on_tells : (addr itype priv after : ℕ) (word : Option Word) → IsPrivilege after
-    → Tells (is_between (left_on addr itype priv word) after) (KeepsPrivilege word priv after)
+    → Tells (is_between (left_on addr itype priv word) after) (LeadsToPrivilege word priv after)
 left_on_tells addr itype priv after word is = on word
   where
     same : (left : Left) → left.least ≡ priv → left.greatest ≡ priv → Tells (is_between left after) (after ≡ priv)
@@ -103,7 +107,8 @@ left_on_tells addr itype priv after word is = on word
         tells-same (λ h. let a = h.0 in let b = h.1 in omega arith) (λ e. (omega arith, omega arith))
         (between left after)
 
-    on : (word : Option Word) → Tells (is_between (left_on addr itype priv word) after) (KeepsPrivilege word priv after)
+    on : (word : Option Word)
+        → Tells (is_between (left_on addr itype priv word) after) (LeadsToPrivilege word priv after)
     on None = same (left_on addr itype priv None) refl refl
     on (Some (Plain, length)) = same (left_on addr itype priv (Some (Plain, length))) refl refl
     on (Some (Jump to, length)) = same (left_on addr itype priv (Some (Jump to, length))) refl refl

@@ -1,6 +1,6 @@
 pub mod Telling
 pub mod JudgingLemmas
-pub mod RunsLemmas
+pub mod FollowOnLemmas
 pub mod ReasonLemmas
 pub mod CheckLemmas
 pub mod FaultLemmas

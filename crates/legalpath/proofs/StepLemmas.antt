@@ -1,12 +1,13 @@
 -- Laws of a step, by the word that the event before stands on.
-use Rattle.std.proofs.Common.{◌≡◌, ◌⊎◌, ℕ, ◌+◌, ◌<◌, ◌≤◌, true, false, ◌||◌, ◌==◌, Option, Some, None, refl, sym, ◌∙◌, inl, inr, arith}
+use Rattle.std.proofs.Common.{◌≡◌, ◌⊎◌, ℕ, ◌+◌, ◌<◌, ◌≤◌, true, false, ◌||◌, ◌==◌, Option, Some, None, refl, sym, ◌∙◌}
+use Rattle.std.proofs.Common.{inl, inr, arith}
 use Rattle.std.proofs.lemmas.Bool.Decides.{nat_tests}
 use Rattle.rvclass.specs.Words.{Word}
 use Rattle.rvclass.specs.declared.class.Class.TheVariants.{Plain, Jump, Branch, Uninferable, TrapReturn, NotRetirable}
 use Rattle.legalpath.specs.Backward.{jumps_back}
-use Rattle.legalpath.specs.Discontinuity.{leaves}
+use Rattle.legalpath.specs.Discontinuity.{hides_its_target}
 use Rattle.legalpath.specs.Right.{RetiresOn}
-use Rattle.legalpath.specs.Step.{MayStandAt, KeepsPrivilege}
+use Rattle.legalpath.specs.Step.{MayStandAt, LeadsToPrivilege}
 use Rattle.legalpath.specs.Successor.{leads_from}
 use Rattle.legalpath.specs.declared.next.Next.TheVariants.{One}
 
@@ -40,7 +41,8 @@ same_type (Some (TrapReturn ret, length)) itype other priv level r s taken = r.0
 same_type (Some (NotRetirable, length)) itype other priv level r s taken = absurd r.0
 
 -- A word that leads to no address that it does not tell leads to one.
-pub leads_to_one : (word : Option Word) (addr itype priv : ℕ) → leaves word ≡ false → RetiresOn word itype priv
+pub leads_to_one : (word : Option Word) (addr itype priv : ℕ) → hides_its_target word ≡ false
+    → RetiresOn word itype priv
     → (to : ℕ) × (leads_from addr itype word ≡ One to)
 leads_to_one None addr itype priv stays r = absurd r
 leads_to_one (Some (Plain, length)) addr itype priv stays r = (addr + length, refl)
@@ -50,7 +52,7 @@ leads_to_one (Some (Uninferable, length)) addr itype priv stays r = cc
 leads_to_one (Some (TrapReturn ret, length)) addr itype priv stays r = cc
 leads_to_one (Some (NotRetirable, length)) addr itype priv stays r = absurd r.0
 
-pub one_place : (word : Option Word) (addr itype at other : ℕ) → leaves word ≡ false
+pub one_place : (word : Option Word) (addr itype at other : ℕ) → hides_its_target word ≡ false
     → MayStandAt (leads_from addr itype word) at → MayStandAt (leads_from addr itype word) other → at ≡ other
 one_place None addr itype at other stays s t = absurd s
 one_place (Some (Plain, length)) addr itype at other stays s t = s ∙ sym t
@@ -63,7 +65,7 @@ one_place (Some (NotRetirable, length)) addr itype at other stays s t = absurd s
 -- That address is above the word's, unless it is a branch or jumps back.
 pub rises : (word : Option Word) (addr itype priv at : ℕ) → ((w : Word) → word ≡ Some w → 2 ≤ w.1)
     → RetiresOn word itype priv → ((itype == 4) || (itype == 5)) ≡ false → jumps_back addr word ≡ false
-    → leaves word ≡ false → MayStandAt (leads_from addr itype word) at → addr < at
+    → hides_its_target word ≡ false → MayStandAt (leads_from addr itype word) at → addr < at
 rises None addr itype priv at long r branch back stays s = absurd r
 rises (Some (Plain, length)) addr itype priv at long r branch back stays s = omega (arith, long (Plain, length) refl)
 rises (Some (Jump to, length)) addr itype priv at long r branch back stays s =
@@ -79,7 +81,8 @@ rises (Some (TrapReturn ret, length)) addr itype priv at long r branch back stay
 rises (Some (NotRetirable, length)) addr itype priv at long r branch back stays s = absurd r.0
 
 -- And the privilege stays.
-pub keeps : (word : Option Word) (priv after : ℕ) → leaves word ≡ false → KeepsPrivilege word priv after → after ≡ priv
+pub keeps : (word : Option Word) (priv after : ℕ) → hides_its_target word ≡ false → LeadsToPrivilege word priv after
+    → after ≡ priv
 keeps None priv after stays k = k
 keeps (Some (Plain, length)) priv after stays k = k
 keeps (Some (Jump to, length)) priv after stays k = k

@@ -6,12 +6,12 @@ use Rattle.rvclass.specs.declared.class.Class.TheVariants.{Uninferable, TrapRetu
 use Rattle.legalpath.specs.WordOf.{word_of}
 
 -- The word, if there is one, leads to an address that it does not tell.
-abbrev pub leaves : Option Word → Bool
-leaves (Some (Uninferable, length)) = true
-leaves (Some (TrapReturn ret, length)) = true
-leaves _ = false
+abbrev pub hides_its_target : Option Word → Bool
+hides_its_target (Some (Uninferable, length)) = true
+hides_its_target (Some (TrapReturn ret, length)) = true
+hides_its_target _ = false
 
 -- An uninferable discontinuity: a retirement of a jump to an address that a register holds, or of a
 -- return from a trap.
 abbrev pub is_discontinuity : Words → Event → Bool
-is_discontinuity words event = leaves (word_of words event)
+is_discontinuity words event = hides_its_target (word_of words event)

@@ -7,11 +7,11 @@ use Rattle.legalpath.specs.Step.{StepFrom}
 
 -- Each of these events is right by itself and may follow the one before it, the first of them this
 -- one, where there is one.
-abbrev pub Runs : Words → Option Event → List Event → Type 0
-Runs words before [] = Unit {0}
-Runs words before (event ∷ events) =
-    Right words event × StepFrom words before event × Runs words (Some event) events
+abbrev pub FollowOn : Words → Option Event → List Event → Type 0
+FollowOn words before [] = Unit {0}
+FollowOn words before (event ∷ events) =
+    Right words event × StepFrom words before event × FollowOn words (Some event) events
 
 -- A log is legal: each event is right by itself, and each may follow the one before.
 abbrev pub Legal : Words → List Event → Type 0
-Legal words log = Runs words None log
+Legal words log = FollowOn words None log

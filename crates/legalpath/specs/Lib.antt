@@ -12,8 +12,8 @@ pub mod OnlyLast
 pub mod Join
 pub mod LastPlace
 pub mod StepLaws
-pub mod RunsLaws
+pub mod FollowOnLaws
 pub mod ReasonLaws
 pub mod ProgramLog
-pub mod Judging
+pub mod Allowed
 pub mod steps

@@ -9,7 +9,8 @@ use Rattle.retire.specs.InRange.{IsPrivilege}
 use Rattle.legalpath.specs.Right.{IsTypeOf, MayRetireAt}
 use Rattle.legalpath.specs.Step.{MayStandAfter, MayHavePrivilegeAfter}
 use Rattle.legalpath.specs.declared.fault.Why.{Why}
-use Rattle.legalpath.specs.declared.fault.Why.TheVariants.{OffProgram, NotRetirable, WrongType, WrongNext, WrongPrivilege, WrongEpc}
+use Rattle.legalpath.specs.declared.fault.Why.TheVariants.{OffProgram, NotRetirable, WrongType, WrongNext}
+use Rattle.legalpath.specs.declared.fault.Why.TheVariants.{WrongPrivilege, WrongEpc}
 
 -- There is a word, and it does not retire.
 abbrev pub IsNotRetirable : Option Word → Type 0

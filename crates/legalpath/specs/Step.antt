@@ -21,22 +21,22 @@ MayStandAt NoneInside at = ⊥
 -- The column of privileges after a retirement: on this word, if there is one, it leads from the
 -- first privilege to the second. SRET leads to U-mode or S-mode, MRET to any mode; no other word
 -- changes the mode.
-abbrev pub KeepsPrivilege : Option Word → ℕ → ℕ → Type 0
-KeepsPrivilege (Some (TrapReturn Mret, length)) priv after = Unit {0}
-KeepsPrivilege (Some (TrapReturn Sret, length)) priv after = after ≤ 1
-KeepsPrivilege _ priv after = after ≡ priv
+abbrev pub LeadsToPrivilege : Option Word → ℕ → ℕ → Type 0
+LeadsToPrivilege (Some (TrapReturn Mret, length)) priv after = Unit {0}
+LeadsToPrivilege (Some (TrapReturn Sret, length)) priv after = after ≤ 1
+LeadsToPrivilege _ priv after = after ≡ priv
 
 -- The column of privileges: an event may have this privilege after another. A trap is handled in
 -- S-mode or M-mode, and in no mode below the one that it was taken from.
-abbrev pub PrivilegeAfter : Words → Event → ℕ → Type 0
-PrivilegeAfter words (Retire addr itype priv) after = KeepsPrivilege (words addr) priv after
-PrivilegeAfter words (Trap epc priv interrupt cause tval) after = (1 ≤ after) × (priv ≤ after)
+abbrev pub MayHavePrivilegeBehind : Words → Event → ℕ → Type 0
+MayHavePrivilegeBehind words (Retire addr itype priv) after = LeadsToPrivilege (words addr) priv after
+MayHavePrivilegeBehind words (Trap epc priv interrupt cause tval) after = (1 ≤ after) × (priv ≤ after)
 
 -- One event may follow another.
 abbrev pub Step : Words → Event → Event → Type 0
 Step words before event =
     MayStandAt (successor words before) (place event)
-    × PrivilegeAfter words before (privilege event)
+    × MayHavePrivilegeBehind words before (privilege event)
 
 -- An event may stand at this place after the one before; anywhere where there is none.
 abbrev pub MayStandAfter : Words → Option Event → ℕ → Type 0
@@ -46,7 +46,7 @@ MayStandAfter words (Some before) at = MayStandAt (successor words before) at
 -- An event may have this privilege after the one before; any where there is none.
 abbrev pub MayHavePrivilegeAfter : Words → Option Event → ℕ → Type 0
 MayHavePrivilegeAfter words None after = Unit {0}
-MayHavePrivilegeAfter words (Some before) after = PrivilegeAfter words before after
+MayHavePrivilegeAfter words (Some before) after = MayHavePrivilegeBehind words before after
 
 -- An event may follow the one before; any may where there is none.
 abbrev pub StepFrom : Words → Option Event → Event → Type 0

@@ -3,7 +3,7 @@
 ghost use Rattle.std.specs.Prelude.{◌≡◌, ◌↔◌, ◌+◌, ◌^◌, ◌<◌, ◌≤◌, IfOk, IsTrue};
 ghost use Rattle.retire.specs.Is64Bit.{Is64Bit};
 ghost use Rattle.rvclass.specs.Fetch.{words_of};
-ghost use Rattle.legalpath.specs.Judging.{greatest_after, may_retire_at, may_stand_at};
+ghost use Rattle.legalpath.specs.Allowed.{greatest_after, may_retire_at, may_stand_at};
 ghost use Rattle.legalpath.specs.Right.{MayRetireAt};
 ghost use Rattle.legalpath.specs.Step.{MayStandAt};
 ghost use Rattle.legalpath.specs.steps.Judging as judging;

@@ -1,7 +1,7 @@
 //! What the definitions of legal logs promise of one another.
 
 ghost use Rattle.legalpath.specs.ReasonLaws.{RefusesTheIllegal, NamesOneFault};
-ghost use Rattle.legalpath.specs.RunsLaws.{SplitsAndJoins};
+ghost use Rattle.legalpath.specs.FollowOnLaws.{SplitsAndJoins};
 ghost use Rattle.legalpath.specs.StepLaws.{LeadsToOne, FollowersStandTogether, FollowersStandAbove};
 ghost use Rattle.legalpath.specs.StepLaws.{FollowersKeepPrivilege};
 

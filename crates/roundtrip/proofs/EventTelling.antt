@@ -1,5 +1,6 @@
 -- What each event of a log tells, in the state that it comes in.
-use Rattle.std.proofs.Common.{◌≡◌, ℕ, ◌+◌, ◌^◌, ◌<◌, Bool, true, false, ◌&&◌, not, List, [], ◌∷◌, Option, Some, None, refl, sym, ◌∙◌, arith}
+use Rattle.std.proofs.Common.{◌≡◌, ℕ, ◌+◌, ◌^◌, ◌<◌, Bool, true, false, ◌&&◌, not, List, [], ◌∷◌, Option, Some, None}
+use Rattle.std.proofs.Common.{refl, sym, ◌∙◌, arith}
 use Rattle.retire.specs.Events.{is_retirement}
 use Rattle.retire.specs.declared.event.Event.{Event}
 use Rattle.retire.specs.declared.event.Event.TheVariants.{Retire, Trap}
@@ -13,7 +14,8 @@ use Rattle.encoder.specs.declared.rule.Rule.{Rule}
 use Rattle.encoder.specs.declared.rule.Rule.TheVariants as by
 use Rattle.decoder.specs.Fits.{AfterInferable}
 use Rattle.roundtrip.proofs.RuleFacts.{TellsOf, and_second, same_privilege}
-use Rattle.roundtrip.proofs.Telling.{Told, Quiet, NotHandled, InRangeAfter, Handles, AtCut, AfterTrap, TellsOn, cut, not_handled}
+use Rattle.roundtrip.proofs.Telling.{Told, Quiet, NotHandled, InRangeAfter, Handles, AtCut, AfterTrap, TellsOn, cut}
+use Rattle.roundtrip.proofs.Telling.{not_handled}
 use Rattle.roundtrip.proofs.QuietTelling.{quiet_retirement_told}
 
 -- A right retirement stands in range, since its word does.

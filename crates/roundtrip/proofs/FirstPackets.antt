@@ -1,12 +1,13 @@
 -- The packets of a legal log describe it, and the first of them describe its first events.
-use Rattle.std.proofs.Common.{◌≡◌, ℕ, ◌+◌, List, [], ◌∷◌, ◌++◌, length, take, drop, Option, Some, None, refl, sym, ap, subst, ◌∙◌}
+use Rattle.std.proofs.Common.{◌≡◌, ℕ, ◌+◌, List, [], ◌∷◌, ◌++◌, length, take, drop, Option, Some, None, refl, sym, ap}
+use Rattle.std.proofs.Common.{subst, ◌∙◌}
 use Rattle.std.proofs.Math.Seq.{take-append_seam}
 use Rattle.std.proofs.lemmas.List.{take-append-drop}
 use Rattle.retire.specs.declared.event.Event.{Event}
 use Rattle.retire.specs.declared.event.Event.TheVariants.{Retire, Trap}
 use Rattle.rvclass.specs.Words.{Words, IsProgram}
 use Rattle.legalpath.specs.Join.{join}
-use Rattle.legalpath.specs.Legal.{Runs, Legal}
+use Rattle.legalpath.specs.Legal.{FollowOn, Legal}
 use Rattle.payload.specs.declared.packet.Packet.TheVariants as packet
 use Rattle.payload.specs.declared.packet.Support.TheVariants.{Open}
 use Rattle.encoder.specs.Packets.{packets}
@@ -28,50 +29,50 @@ use Rattle.roundtrip.proofs.Telling.{Told, NotHandled, State, AtCut, InStretch, 
 module _ (words : Words) (program : IsProgram words) (period : ℕ) where
   -- From any event of a log on, its pieces tell its events.
   events_told : (events : List Event) (number : ℕ) (since : Option Event) (front : List Event)
-      (before_that before : Option Event) (reported : ℕ) (by_last : Rule) → Runs words before events
+      (before_that before : Option Event) (reported : ℕ) (by_last : Rule) → FollowOn words before events
       → (state : State words period since front before_that before number events reported)
       → Told words since reported by_last front events (explicit_in by_last state)
       (pieces words period front (spots number before_that before events None))
-  events_told [] number since front before_that before reported by_last runs (AtCut handled known) =
+  events_told [] number since front before_that before reported by_last follows (AtCut handled known) =
       record { fit = (tt, refl, tt); whole = refl; head = refl }
-  events_told [] number since front before_that before reported by_last runs (InStretch quiet known on) = absurd on
-  events_told [] number since front before_that before reported by_last runs (AfterTrap handles) = cc
+  events_told [] number since front before_that before reported by_last follows (InStretch quiet known on) = absurd on
+  events_told [] number since front before_that before reported by_last follows (AfterTrap handles) = cc
   events_told (Trap epc priv interrupt cause tval ∷ events) number since front before_that before reported by_last
-      runs (AtCut handled known) =
+      follows (AtCut handled known) =
       let trap = Trap epc priv interrupt cause tval in
       trap_told words period epc priv interrupt cause tval number before reported by_last events _
       (with_handler words before (first_event events None)) refl
       (λ since front reported by_last state. events_told events number since front before (Some trap) reported by_last
-      runs.2 state)
+      follows.2 state)
   events_told (Trap epc priv interrupt cause tval ∷ events) number since front before_that before reported by_last
-      runs (InStretch quiet known on) = absurd on
+      follows (InStretch quiet known on) = absurd on
   events_told (Trap epc priv interrupt cause tval ∷ events) number since front before_that before reported by_last
-      runs (AfterTrap handles) = cc
-  events_told (Retire addr itype priv ∷ events) number since front before_that before reported by_last runs
+      follows (AfterTrap handles) = cc
+  events_told (Retire addr itype priv ∷ events) number since front before_that before reported by_last follows
       (AtCut handled known) =
       let last = Retire addr itype priv in
       at_cut_told words period addr itype priv number before_that reported by_last events _
-      (address_in_range words program addr itype priv runs.0) before _ handled known
+      (address_in_range words program addr itype priv follows.0) before _ handled known
       (rule_tells_of words period number before_that before last (first_event events None))
       (λ since front reported by_last state. events_told events (number + 1) since front before (Some last) reported
-      by_last runs.2 state)
-  events_told (Retire addr itype priv ∷ events) number since front before_that before reported by_last runs
+      by_last follows.2 state)
+  events_told (Retire addr itype priv ∷ events) number since front before_that before reported by_last follows
       (InStretch {since = first} {before = previous} quiet known on) =
       let last = Retire addr itype priv in
       in_stretch_told words period addr itype priv number before_that reported by_last events _
-      (address_in_range words program addr itype priv runs.0) first front previous _ quiet known on
+      (address_in_range words program addr itype priv follows.0) first front previous _ quiet known on
       (rule_tells_of words period number before_that (Some previous) last (first_event events None))
       (λ since front reported by_last state. events_told events (number + 1) since front (Some previous) (Some last)
-      reported by_last runs.2 state)
-  events_told (Retire addr itype priv ∷ events) number since front before_that before reported by_last runs
+      reported by_last follows.2 state)
+  events_told (Retire addr itype priv ∷ events) number since front before_that before reported by_last follows
       (AfterTrap {epc = epc} {priv = level} {interrupt = interrupt} {cause = cause} {tval = tval} handles) =
       let last = Retire addr itype priv in
       let trap = Trap epc level interrupt cause tval in
       handler_told words period addr itype priv number before_that reported by_last events _
-      (address_in_range words program addr itype priv runs.0) epc level interrupt cause tval _ handles
+      (address_in_range words program addr itype priv follows.0) epc level interrupt cause tval _ handles
       (rule_tells_of words period number before_that (Some trap) last (first_event events None))
       (λ since front reported by_last state. events_told events (number + 1) since front (Some trap) (Some last)
-      reported by_last runs.2 state)
+      reported by_last follows.2 state)
 
   first_not_handled : (log : List Event) → NotHandled words None None log
   first_not_handled [] = tt

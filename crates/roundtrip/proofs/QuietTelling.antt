@@ -1,12 +1,13 @@
 -- What a retirement tells that comes in a quiet stretch.
-use Rattle.std.proofs.Common.{◌≡◌, ℕ, ◌+◌, ◌^◌, ◌<◌, Bool, true, false, ◌||◌, List, [], ◌∷◌, ◌++◌, Option, Some, None, refl, sym, ap, subst, ◌∙◌, append_assoc}
+use Rattle.std.proofs.Common.{◌≡◌, ℕ, ◌+◌, ◌^◌, ◌<◌, Bool, true, false, ◌||◌, List, [], ◌∷◌, ◌++◌, Option, Some, None}
+use Rattle.std.proofs.Common.{refl, sym, ap, subst, ◌∙◌, append_assoc}
 use Rattle.std.proofs.Math.Bool.{or-false}
 use Rattle.std.specs.Prelude.{is_none}
 use Rattle.retire.specs.Events.{privilege, outcomes}
 use Rattle.retire.specs.declared.event.Event.{Event}
 use Rattle.retire.specs.declared.event.Event.TheVariants.{Retire, Trap}
 use Rattle.rvclass.specs.Words.{Words}
-use Rattle.legalpath.proofs.RunsLemmas.{last_or-append}
+use Rattle.legalpath.proofs.FollowOnLemmas.{last_or-append}
 use Rattle.legalpath.specs.Backward.{is_backward}
 use Rattle.legalpath.specs.Discontinuity.{is_discontinuity}
 use Rattle.payload.proofs.Differences.{aim-difference}
@@ -24,7 +25,8 @@ use Rattle.decoder.specs.Settling.{makes_explicit, explicit_or_target, settled_b
 use Rattle.decoder.specs.Walk.{AtBranch, AtAddress, AtTarget, EndsAt, RetiresAt, IsWalk, IsWalkFrom}
 use Rattle.roundtrip.proofs.QuietLemmas.{all-snoc, none_early-none, none_early-last, none_early-snoc}
 use Rattle.roundtrip.proofs.RuleFacts.{TellsOf, and_first}
-use Rattle.roundtrip.proofs.Telling.{Told, Quiet, GoesOn, AtCut, InStretch, explicit_before, TellsOn, cut, quiet_walks, not_handled}
+use Rattle.roundtrip.proofs.Telling.{Told, Quiet, GoesOn, AtCut, InStretch, explicit_before, TellsOn, cut, quiet_walks}
+use Rattle.roundtrip.proofs.Telling.{not_handled}
 
 -- A plain address packet before one that does not make it explicit has a walk to a target.
 as_target : (words : Words) (before : Option Event) (taken : List Bool) (addr : ℕ) (next : Packet) (walk : List Event)

@@ -2,7 +2,7 @@
 use Rattle.std.specs.Prelude.{ℕ, nat_le, Bool, true, Option, Some, None}
 use Rattle.rvclass.specs.Words.{Word}
 use Rattle.rvclass.specs.declared.class.Class.{Class}
-use Rattle.legalpath.specs.Judging.{greatest_after}
+use Rattle.legalpath.specs.Allowed.{greatest_after}
 
 -- The privilege may stay after a retirement of this class: it is not above the greatest that is left.
 abbrev pub may_stay : Class → ℕ → Bool

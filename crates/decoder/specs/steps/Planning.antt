@@ -4,7 +4,7 @@ use Rattle.std.specs.List.{last_or}
 use Rattle.retire.specs.declared.event.Event.{Event}
 use Rattle.rvclass.specs.Words.{Words}
 use Rattle.legalpath.specs.LastPlace.{last_place}
-use Rattle.legalpath.specs.Legal.{Runs}
+use Rattle.legalpath.specs.Legal.{FollowOn}
 use Rattle.payload.specs.Difference.{aim}
 use Rattle.payload.specs.declared.packet.Packet.{Packet}
 use Rattle.payload.specs.declared.packet.Packet.TheVariants as packet
@@ -69,9 +69,9 @@ pub record CanFollow (words : Words) (phase : Phase) (waiting : Option Waiting) 
   pub admits : admitted phase packet ≡ Ok tt
   pub comes : MayCome phase waiting packet
   pub settles : FitsWaiting words last reported waiting packet settled
-  pub settled_runs : Runs words last settled
+  pub settled_follows : FollowOn words last settled
   pub fits : Fits words (last_or last settled) (last_place reported settled) packet None own
-  pub runs : Runs words (last_or last settled) own
+  pub follows : FollowOn words (last_or last settled) own
 
 -- The same after what a decoder remembers.
 abbrev pub CanFollowAt : Words → Decoder → Packet → List Event → List Event → Type 0

@@ -4,7 +4,7 @@ use Rattle.std.specs.List.{last_or}
 use Rattle.retire.specs.Events.{place}
 use Rattle.retire.specs.declared.event.Event.{Event}
 use Rattle.rvclass.specs.Words.{Words}
-use Rattle.legalpath.specs.Legal.{Runs}
+use Rattle.legalpath.specs.Legal.{FollowOn}
 use Rattle.legalpath.specs.Right.{Right}
 use Rattle.decoder.specs.steps.Faults.{IsOnTheWay}
 use Rattle.decoder.specs.steps.Walks.{event_of, end_of, IsHere, WalksOn}
@@ -52,17 +52,17 @@ RightBefore words (Some before) = Right words before
 pub record Suits (words : Words) (before : Option Event) (Fit : List Event → Type 0) (stretch : Stretch) : Type 0 where
   pub events : List Event
   pub gives : Gives words stretch events
-  pub fits : RightBefore words before → Fit events × Runs words before events
+  pub fits : RightBefore words before → Fit events × FollowOn words before events
 
 -- These events fit and may follow the event before.
 abbrev pub SuitsOne : Words → Option Event → (List Event → Type 0) → List Event → Type 0
-SuitsOne words before Fit events = RightBefore words before → Fit events × Runs words before events
+SuitsOne words before Fit events = RightBefore words before → Fit events × FollowOn words before events
 
 -- No events fit and may follow the event before, and the fault is of a kind that tells so.
 pub record SuitsNone (words : Words) (before : Option Event) (Fit : List Event → Type 0) (fault : DecodeFault) : Type
     0 where
   pub named : IsOnTheWay fault
-  pub none : RightBefore words before → (events : List Event) → Fit events → Runs words before events → ⊥
+  pub none : RightBefore words before → (events : List Event) → Fit events → FollowOn words before events → ⊥
 
 -- There is room for the events of the stretch.
 abbrev pub HasRoomFor : Words → Stretch → ℕ → ℕ → Type 0

@@ -10,7 +10,7 @@ use Rattle.rvclass.specs.Words.{Word, Words}
 use Rattle.rvclass.specs.declared.class.Class.{Class}
 use Rattle.rvclass.specs.declared.class.Class.TheVariants.{Plain, Jump, Branch, Uninferable, TrapReturn, NotRetirable}
 use Rattle.legalpath.specs.Backward.{is_backward}
-use Rattle.legalpath.specs.Judging.{may_retire_at}
+use Rattle.legalpath.specs.Allowed.{may_retire_at}
 use Rattle.legalpath.specs.Successor.{successor}
 use Rattle.legalpath.specs.WordOf.{word_of}
 use Rattle.legalpath.specs.declared.next.Next.{Next}

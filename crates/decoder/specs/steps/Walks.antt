@@ -5,7 +5,7 @@ use Rattle.retire.specs.InRange.{IsPrivilege}
 use Rattle.retire.specs.declared.event.Event.{Event}
 use Rattle.retire.specs.declared.event.Event.TheVariants.{Retire}
 use Rattle.rvclass.specs.Words.{Words}
-use Rattle.legalpath.specs.Legal.{Runs}
+use Rattle.legalpath.specs.Legal.{FollowOn}
 use Rattle.legalpath.specs.Successor.{leads_from}
 use Rattle.decoder.specs.steps.Leads.{may_stay_on}
 use Rattle.decoder.specs.Walk.{End, AtBranch, AtAddress, AtTarget, IsWalk}
@@ -34,10 +34,10 @@ Carries words here =
 abbrev pub IsHere : Words → Here → Type 0
 IsHere words here = Carries words here × IsPrivilege here.privilege
 
--- A walk from this event that runs after it.
+-- A walk from this event that follows on from it.
 pub record WalksOn (words : Words) (from : Event) (taken : List Bool) (end : End) (walk : List Event) : Type 0 where
   pub fits : IsWalk words from taken end walk
-  pub runs : Runs words (Some from) walk
+  pub follows : FollowOn words (Some from) walk
 
 -- There is such a walk, of so many retirements, and this is the last of them.
 pub record Finds (words : Words) (from : Here) (taken : List Bool) (end : End) (walked : Walked) : Type 0 where

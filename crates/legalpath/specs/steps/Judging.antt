@@ -1,16 +1,19 @@
 -- How this crate's code judges a log, event by event: what each leaves to the next, and the tests by
 -- that. What a log's answer means is said in the files on legal logs and on first faults.
-use Rattle.std.specs.Prelude.{ℕ, ◌+◌, ◌%◌, ◌==◌, ◌&&◌, ◌||◌, nat_le, nat_lt, not, max, if◌then◌else◌, Bool, true, false, List, [], ◌∷◌, Option, Some, None, Result, Ok, Err}
+use Rattle.std.specs.Prelude.{ℕ, ◌+◌, ◌%◌, ◌==◌, ◌&&◌, ◌||◌, nat_le, nat_lt, not, max, if◌then◌else◌, Bool, true, false}
+use Rattle.std.specs.Prelude.{List, [], ◌∷◌, Option, Some, None, Result, Ok, Err}
 use Rattle.retire.specs.declared.event.Event.{Event}
 use Rattle.retire.specs.declared.event.Event.TheVariants.{Retire, Trap}
 use Rattle.rvclass.specs.Words.{Word, Words}
 use Rattle.rvclass.specs.declared.class.Class.{Class}
-use Rattle.rvclass.specs.declared.class.Class.TheVariants.{Plain, Jump, Branch, Uninferable, TrapReturn, NotRetirable as NeverRetires}
-use Rattle.legalpath.specs.Judging.{greatest_after, may_retire_at, may_stand_at}
+use Rattle.rvclass.specs.declared.class.Class.TheVariants.{Plain, Jump, Branch, Uninferable, TrapReturn}
+use Rattle.rvclass.specs.declared.class.Class.TheVariants.{NotRetirable as NeverRetires}
+use Rattle.legalpath.specs.Allowed.{greatest_after, may_retire_at, may_stand_at}
 use Rattle.legalpath.specs.Successor.{leads}
 use Rattle.legalpath.specs.declared.fault.PathFault.{PathFault}
 use Rattle.legalpath.specs.declared.fault.Why.{Why}
-use Rattle.legalpath.specs.declared.fault.Why.TheVariants.{OffProgram, NotRetirable, WrongType, WrongNext, WrongPrivilege, WrongEpc}
+use Rattle.legalpath.specs.declared.fault.Why.TheVariants.{OffProgram, NotRetirable, WrongType, WrongNext}
+use Rattle.legalpath.specs.declared.fault.Why.TheVariants.{WrongPrivilege, WrongEpc}
 use Rattle.legalpath.specs.declared.judging.Left.{Left}
 use Rattle.legalpath.specs.declared.next.Next.TheVariants.{Any}
 

@@ -3,5 +3,5 @@ use Rattle.decoder.proofs.WalkBound.{walk_bound}
 use Rattle.decoder.proofs.laws.walks_are_short.Goals as goal
 
 pub returns : goal.returns
-returns c = λ words base count before taken end walk program lies few walks runs. walk_bound words base count program
-    lies before taken end walk few walks runs
+returns c = λ words base count before taken end walk program lies few walks follows. walk_bound words base count program
+    lies before taken end walk few walks follows

@@ -84,7 +84,8 @@ returns-clause-stands c =
     last_of_first events at (omega (arith, from, past)) within in
     let held = Some (get_or events (at - 1) (Retire 0 0 0)) in
     let passed_on : Encoder = record e { left = c.loop-at.left; pending = c.loop-at.pending } in
-    let same : record passed_on { held = last_or None (take at events); due = due.Nothing } ≡ record passed_on { held = held } =
+    let same : record passed_on { held = last_or None (take at events); due = due.Nothing } ≡ record passed_on
+    { held = held } =
     ap (λ h. record passed_on { held = h; due = due.Nothing }) last
     ∙ ap (λ d. record passed_on { held = held; due = d }) (sym asked) in
     subst (λ n. Stands words (e.between + 1) (take n events)

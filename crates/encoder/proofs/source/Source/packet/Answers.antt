@@ -7,7 +7,8 @@ use Rattle.payload.specs.declared.packet.Packet.TheVariants as packet
 use Rattle.encoder.specs.SourceAt.{SourceAt}
 use Rattle.encoder.specs.steps.SourceFields.{packets_of_log, stands_at, AreTaken}
 use Rattle.encoder.specs.declared.source.Stage.TheVariants as stage
-use Rattle.encoder.proofs.PacketsInTurn.{Ran, ran_by, given_running, profile_running, end_some, end_none, given_closing, further}
+use Rattle.encoder.proofs.PacketsInTurn.{Ran, ran_by, given_running, profile_running, end_some, end_none, given_closing}
+use Rattle.encoder.proofs.PacketsInTurn.{further}
 use Rattle.encoder.proofs.source.Source.packet.Goals as goal
 
 module _ (g : _) (c : goal.In-Some g) where

@@ -1,4 +1,4 @@
--- The tests by which a place and a privilege are judged, of which other crates ask too.
+-- What is allowed where, as tests of which other crates ask too.
 use Rattle.std.specs.Prelude.{ℕ, ◌==◌, nat_le, Bool, true, false}
 use Rattle.rvclass.specs.declared.class.Class.{Class}
 use Rattle.rvclass.specs.declared.class.Class.TheVariants.{TrapReturn}

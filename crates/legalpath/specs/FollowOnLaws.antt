@@ -3,12 +3,12 @@ use Rattle.std.specs.Prelude.{◌↔◌, List, ◌++◌, Option}
 use Rattle.std.specs.List.{last_or}
 use Rattle.retire.specs.declared.event.Event.{Event}
 use Rattle.rvclass.specs.Words.{Words}
-use Rattle.legalpath.specs.Legal.{Runs}
+use Rattle.legalpath.specs.Legal.{FollowOn}
 
--- Two stretches joined run after an event exactly where the first runs after that event, and the
--- second after the last event of the first.
+-- Two stretches joined follow on an event exactly where the first follows on that event, and the second
+-- on the last event of the first.
 abbrev pub SplitsAndJoins : Type 0
 SplitsAndJoins =
     (words : Words) (before : Option Event) (front rest : List Event) →
-    Runs words before (front ++ rest)
-    ↔ (Runs words before front × Runs words (last_or before front) rest)
+    FollowOn words before (front ++ rest)
+    ↔ (FollowOn words before front × FollowOn words (last_or before front) rest)
