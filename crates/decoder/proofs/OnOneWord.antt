@@ -11,7 +11,7 @@ use Rattle.rvclass.specs.Words.{Word}
 use Rattle.rvclass.specs.declared.class.Class.TheVariants.{Plain, Jump, Branch, Uninferable, TrapReturn, NotRetirable}
 use Rattle.rvclass.specs.declared.class.Return.TheVariants.{Mret, Sret}
 use Rattle.legalpath.specs.Discontinuity.{hides_its_target}
-use Rattle.retire.specs.InRange.{IsPrivilege}
+use Rattle.retire.specs.Privilege.{IsPrivilege}
 use Rattle.legalpath.specs.Right.{RetiresOn}
 use Rattle.legalpath.specs.Step.{MayStandAt, LeadsToPrivilege}
 use Rattle.legalpath.specs.Successor.{leads_from}

@@ -9,7 +9,7 @@ use Rattle.retire.specs.declared.event.Event.TheVariants.{Retire, Trap}
 use Rattle.rvclass.specs.Words.{Words, IsProgram}
 use Rattle.legalpath.specs.Backward.{is_backward}
 use Rattle.legalpath.specs.Discontinuity.{is_discontinuity}
-use Rattle.retire.specs.InRange.{IsPrivilege}
+use Rattle.retire.specs.Privilege.{IsPrivilege}
 use Rattle.legalpath.specs.Right.{Right}
 use Rattle.legalpath.specs.Step.{MayStandAt, MayHavePrivilegeBehind, Step}
 use Rattle.legalpath.specs.Successor.{leads_from, successor}

@@ -9,13 +9,9 @@ use Rattle.decoder.specs.Settling.{waits}
 -- The support packet that opens a trace comes nowhere but first, and the one that tells that the last
 -- instruction was reported follows an address packet with plain bits.
 abbrev pub MayFollow : Packet → Packet → Type 0
-MayFollow before (packet.Sync taken priv address) = Unit {0}
-MayFollow before (packet.Trap taken priv cause interrupt handler address tval) = Unit {0}
 MayFollow before (packet.Support support.Open) = ⊥
 MayFollow before (packet.Support support.EndedRep) = waits before ≡ true
-MayFollow before (packet.Support support.EndedNtr) = Unit {0}
-MayFollow before (packet.Address outcomes delta report) = Unit {0}
-MayFollow before (packet.Map outcomes) = Unit {0}
+MayFollow before other = Unit {0}
 
 -- Nothing follows a packet that closes a trace.
 abbrev pub MayPrecede : Packet → Option Packet → Type 0
@@ -29,13 +25,8 @@ first (packet ∷ packets) next = Some packet
 
 -- The packet opens a trace.
 abbrev pub IsOpen : Packet → Type 0
-IsOpen (packet.Sync taken priv address) = ⊥
-IsOpen (packet.Trap taken priv cause interrupt handler address tval) = ⊥
 IsOpen (packet.Support support.Open) = Unit {0}
-IsOpen (packet.Support support.EndedRep) = ⊥
-IsOpen (packet.Support support.EndedNtr) = ⊥
-IsOpen (packet.Address outcomes delta report) = ⊥
-IsOpen (packet.Map outcomes) = ⊥
+IsOpen other = ⊥
 
 -- The first packet, if there is one, opens the trace.
 abbrev pub Begins : List Packet → Type 0

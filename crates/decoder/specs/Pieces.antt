@@ -12,11 +12,8 @@ use Rattle.decoder.specs.Order.{MayPrecede, first}
 -- The last reported address after a packet with this piece: the place of its last event, where it has
 -- an event. A full branch map reports no address.
 abbrev pub reported_after : Packet → ℕ → List Event → ℕ
-reported_after (packet.Sync taken priv address) reported piece = last_place reported piece
-reported_after (packet.Trap taken priv cause interrupt handler address tval) reported piece = last_place reported piece
-reported_after (packet.Support support) reported piece = last_place reported piece
-reported_after (packet.Address outcomes delta report) reported piece = last_place reported piece
 reported_after (packet.Map outcomes) reported piece = reported
+reported_after other reported piece = last_place reported piece
 
 -- Each packet has its piece, in order. The first comes after this event and this last reported
 -- address, the last before this packet.

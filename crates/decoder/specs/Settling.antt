@@ -18,11 +18,8 @@ pub data AddressKind : Type 0 where
 abbrev pub makes_explicit : Packet → Bool
 makes_explicit (packet.Sync taken priv address) = true
 makes_explicit (packet.Trap taken priv cause interrupt handler address tval) = true
-makes_explicit (packet.Support support.Open) = false
 makes_explicit (packet.Support support.EndedRep) = true
-makes_explicit (packet.Support support.EndedNtr) = false
-makes_explicit (packet.Address outcomes delta bits) = false
-makes_explicit (packet.Map outcomes) = false
+makes_explicit other = false
 
 -- Explicit where this says so, and else a target.
 abbrev pub explicit_or_target : Bool → AddressKind
@@ -43,10 +40,5 @@ settled report.Notify next = Explicit
 
 -- The packet waits for the one that follows it.
 abbrev pub waits : Packet → Bool
-waits (packet.Sync taken priv address) = false
-waits (packet.Trap taken priv cause interrupt handler address tval) = false
-waits (packet.Support support) = false
 waits (packet.Address outcomes delta report.Plain) = true
-waits (packet.Address outcomes delta report.Updiscon) = false
-waits (packet.Address outcomes delta report.Notify) = false
-waits (packet.Map outcomes) = false
+waits other = false

@@ -26,14 +26,8 @@ phase_after (Some packet) = running_or_closed (is_closing_packet packet)
 
 -- What waits after the last packet: an address packet with plain bits.
 abbrev pub waiting_after : Option Packet → Option Waiting
-waiting_after None = None
-waiting_after (Some (packet.Sync taken priv address)) = None
-waiting_after (Some (packet.Trap taken priv cause interrupt handler address tval)) = None
-waiting_after (Some (packet.Support support)) = None
 waiting_after (Some (packet.Address taken delta report.Plain)) = Some (record { outcomes = taken; delta = delta })
-waiting_after (Some (packet.Address taken delta report.Updiscon)) = None
-waiting_after (Some (packet.Address taken delta report.Notify)) = None
-waiting_after (Some (packet.Map taken)) = None
+waiting_after other = None
 
 -- A decoder stands for packets and a log: the packets describe the log, and the decoder's fields are
 -- those of both.

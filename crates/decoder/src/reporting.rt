@@ -1,7 +1,6 @@
 //! The events that a packet reports by itself: the retirement of a synchronisation, and a trap.
 
 ghost use Rattle.std.specs.Prelude.{◌≡◌, ◌↔◌, ◌≤◌, true, false, [], ◌∷◌, Some, IsTrue, IfOk, IfErr, OnOk};
-ghost use Rattle.retire.specs.InRange.{IsPrivilege};
 ghost use Rattle.retire.specs.declared.event.Event.TheVariants.{Trap};
 ghost use Rattle.rvclass.specs.Fetch.{words_of};
 ghost use Rattle.legalpath.specs.Legal.{FollowOn};
@@ -17,7 +16,7 @@ use crate::stepping::{Course, Goal, Here, may_stay, type_of};
 use crate::stretch::Stretch;
 use legalpath::{Next, Why, check, leads, may_stand_at, successor};
 use payload::Outcomes;
-use retire::Event;
+use retire::{Event, is_privilege};
 use rvclass::Program;
 
 /// What a reason why an event is illegal says of the decoding.
@@ -48,13 +47,6 @@ fn follows(program: &Program, before: Option<Event>, event: Event) -> Result<(),
     }
 }
 
-/// Whether a privilege is one of the three.
-fn is_privilege(privilege: u8) -> bool
-    ensures { IsTrue result ↔ IsPrivilege privilege }
-{
-    privilege <= 3 && privilege != 2
-}
-
 /// The retirement that a walk starts from: the event before it.
 #[inline]
 pub fn start(program: &Program, before: &Option<Event>) -> Result<Here, DecodeFault>
@@ -73,7 +65,7 @@ pub fn start(program: &Program, before: &Option<Event>) -> Result<Here, DecodeFa
     else {
         return Err(DecodeFault::WrongPlace);
     };
-    if !is_privilege(privilege) {
+    if !is_privilege(u64::from(privilege)) {
         return Err(DecodeFault::WrongPrivilege);
     }
     let Some((class, length)) = program.at(addr) else {

@@ -14,6 +14,7 @@ ghost use Rattle.decoder.specs.steps.Walks.{event_of, end_of, Carries};
 use crate::fault::DecodeFault;
 use legalpath::{Next, greatest_after, leads, may_retire_at};
 use payload::Outcomes;
+use retire::{ITYPE_NOT_TAKEN, ITYPE_OTHER, ITYPE_TAKEN, ITYPE_TRAP_RETURN, ITYPE_UNINFERABLE};
 use rvclass::{Class, Program};
 
 /// A retirement, and where it leads.
@@ -144,10 +145,10 @@ fn step_plain(addr: u64, length: u8, here: &mut Here, used: usize, course: &Cour
     ensures carries { (words : Words) → words addr ≡ Some (Plain, length) → steps.StepCarries words here.new result }
 {
     here.addr = addr;
-    here.itype = 0;
+    here.itype = ITYPE_OTHER;
     here.next = Next::One(addr + u64::from(length));
     here.stays = true;
-    if ends(addr, 0, used, course) {
+    if ends(addr, ITYPE_OTHER, used, course) {
         Step::Ends
     } else {
         Step::Goes
@@ -194,20 +195,20 @@ pub fn type_of(class: Class, used: &mut usize, course: &Course) -> Result<u8, De
     ensures named { IfErr result IsOnTheWay }
 {
     match class {
-        Class::Plain | Class::Jump(_) => Ok(0),
+        Class::Plain | Class::Jump(_) => Ok(ITYPE_OTHER),
         Class::Branch(_) => match course.outcomes.get(*used) {
             Some(true) => {
                 *used += 1;
-                Ok(5)
+                Ok(ITYPE_TAKEN)
             }
             Some(false) => {
                 *used += 1;
-                Ok(4)
+                Ok(ITYPE_NOT_TAKEN)
             }
             None => Err(DecodeFault::Branches),
         },
-        Class::Uninferable => Ok(6),
-        Class::TrapReturn(_) => Ok(3),
+        Class::Uninferable => Ok(ITYPE_UNINFERABLE),
+        Class::TrapReturn(_) => Ok(ITYPE_TRAP_RETURN),
         Class::NotRetirable => Err(DecodeFault::OffProgram),
     }
 }
@@ -237,7 +238,8 @@ fn ends(addr: u64, itype: u8, used: usize, course: &Course) -> bool
         (drop used course.now.outcomes) }
 {
     match course.goal {
-        Goal::Branch => (itype == 4 || itype == 5) && are_used(used, course),
+        Goal::Branch => (itype == ITYPE_NOT_TAKEN || itype == ITYPE_TAKEN)
+            && are_used(used, course),
         Goal::Address(to) => addr == to && are_used(used, course),
         Goal::Target(_) => false,
     }

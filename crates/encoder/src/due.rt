@@ -3,7 +3,7 @@
 ghost use Rattle.std.specs.Prelude.{◌≡◌};
 ghost use Rattle.encoder.specs.steps.Stepping.{next_due, is_discontinuity_by_type, cuts_off, is_handler_due};
 
-use retire::Event;
+use retire::{Event, ITYPE_TRAP_RETURN, ITYPE_UNINFERABLE};
 
 /// What is known of the rule of an event before the next one comes.
 #[derive(Clone, Copy, Debug, PartialEq, Eq)]
@@ -90,5 +90,5 @@ pub fn due_behind(held: &Option<Event>, due: Due, left: u16, event: &Event) -> D
 pub fn is_discontinuity(itype: u8) -> bool
     ensures { result ≡ is_discontinuity_by_type itype }
 {
-    itype == 3 || itype == 6
+    itype == ITYPE_TRAP_RETURN || itype == ITYPE_UNINFERABLE
 }

@@ -6,7 +6,7 @@ ghost use Rattle.legalpath.specs.Backward.{jumps_back};
 ghost use Rattle.encoder.specs.steps.Stepping.{rule_before, rule_at_end, jumps_back_to};
 
 use crate::due::Due;
-use retire::Event;
+use retire::{Event, ITYPE_OTHER};
 use rvclass::{Class, Program};
 
 /// By which rule an event is reported.
@@ -73,14 +73,14 @@ pub fn rule_at_end(due: Due) -> Rule
 }
 
 /// Whether a retirement is a backward jump, where this event comes next. Only what does not stand
-/// above a retirement of type 0 can be the target of one, so few words are looked at.
+/// above a retirement of no other type can be the target of one, so few words are looked at.
 #[inline(always)]
 pub fn jumps_back(program: &Program, event: &Event, next: &Event) -> bool
     ensures { result ≡ jumps_back_to (words_of program.now) event.now next.now }
 {
     match event {
         Event::Retire { addr, itype, .. } => {
-            *itype == 0 && next.place() <= *addr && is_backward(program, *addr)
+            *itype == ITYPE_OTHER && next.place() <= *addr && is_backward(program, *addr)
         }
         Event::Trap { .. } => false,
     }

@@ -12,10 +12,10 @@ use Rattle.rvclass.specs.declared.class.Return.TheVariants.{Mret, Sret}
 use Rattle.legalpath.proofs.Telling.{Tells, tells_true, tells_false, tells_eq, tells_le, tells_lt, tells-same}
 use Rattle.legalpath.proofs.Telling.{tells-and, tells-or}
 use Rattle.legalpath.specs.Allowed.{may_retire_at, may_stand_at}
-use Rattle.legalpath.specs.steps.Judging.{is_privilege, is_type_of, was_left, left_at_start, left_by_retirement}
+use Rattle.legalpath.specs.steps.Judging.{is_type_of, was_left, left_at_start, left_by_retirement}
 use Rattle.legalpath.specs.steps.Judging.{left_by_trap, is_never, judge_retirement, judge_trap, judge}
 use Rattle.legalpath.specs.Reason.{IsNotRetirable, AppliesToRetirement, AppliesToTrap, IsReason, earlier}
-use Rattle.retire.specs.InRange.{IsPrivilege}
+use Rattle.retire.specs.Privilege.{IsPrivilege, is_privilege}
 use Rattle.legalpath.specs.Right.{IsTypeOf, MayRetireAt, RetiresOn, Right}
 use Rattle.legalpath.specs.Successor.{leads, leads_from}
 use Rattle.legalpath.specs.Step.{MayStandAt, MayStandAfter, LeadsToPrivilege, MayHavePrivilegeAfter, StepFrom}

@@ -8,7 +8,7 @@ use Rattle.rvclass.specs.declared.class.Class.TheVariants.{Plain, Jump, Branch, 
 use Rattle.rvclass.specs.declared.class.Class.TheVariants.{NotRetirable as NeverRetires}
 use Rattle.legalpath.proofs.JudgingLemmas.{step_parts, Outcome, judged}
 use Rattle.legalpath.specs.Reason.{IsNotRetirable, AppliesToRetirement, Applies, IsReason, earlier}
-use Rattle.retire.specs.InRange.{IsPrivilege}
+use Rattle.retire.specs.Privilege.{IsPrivilege}
 use Rattle.legalpath.specs.Right.{RetiresOn, Right}
 use Rattle.legalpath.specs.Step.{MayStandAfter, MayHavePrivilegeAfter, StepFrom}
 use Rattle.legalpath.specs.declared.fault.Why.{Why}

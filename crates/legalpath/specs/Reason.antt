@@ -5,7 +5,7 @@ use Rattle.retire.specs.declared.event.Event.{Event}
 use Rattle.retire.specs.declared.event.Event.TheVariants.{Retire, Trap}
 use Rattle.rvclass.specs.Words.{Word, Words}
 use Rattle.rvclass.specs.declared.class.Class.TheVariants.{NotRetirable as NeverRetires}
-use Rattle.retire.specs.InRange.{IsPrivilege}
+use Rattle.retire.specs.Privilege.{IsPrivilege}
 use Rattle.legalpath.specs.Right.{IsTypeOf, MayRetireAt}
 use Rattle.legalpath.specs.Step.{MayStandAfter, MayHavePrivilegeAfter}
 use Rattle.legalpath.specs.declared.fault.Why.{Why}

@@ -1,6 +1,7 @@
 -- Which events are right by themselves.
 use Rattle.std.specs.Prelude.{ℕ, ◌≡◌, ◌≤◌, ◌<◌, ◌%◌, ◌⊎◌, true, Option, Some, None}
-use Rattle.retire.specs.InRange.{IsPrivilege}
+use Rattle.retire.specs.Itype as types
+use Rattle.retire.specs.Privilege.{IsPrivilege}
 use Rattle.retire.specs.declared.event.Event.{Event}
 use Rattle.retire.specs.declared.event.Event.TheVariants.{Retire, Trap}
 use Rattle.rvclass.specs.Words.{Word, Words}
@@ -11,11 +12,11 @@ use Rattle.rvclass.specs.declared.class.Return.TheVariants.{Mret, Sret}
 -- A retirement of this class has this type, as the E-Trace specification's "Instruction Trace
 -- Interface" numbers `itype`.
 abbrev pub IsTypeOf : Class → ℕ → Type 0
-IsTypeOf Plain itype = itype ≡ 0
-IsTypeOf (Jump to) itype = itype ≡ 0
-IsTypeOf (Branch to) itype = (itype ≡ 4) ⊎ (itype ≡ 5)
-IsTypeOf Uninferable itype = itype ≡ 6
-IsTypeOf (TrapReturn ret) itype = itype ≡ 3
+IsTypeOf Plain itype = itype ≡ types.other
+IsTypeOf (Jump to) itype = itype ≡ types.other
+IsTypeOf (Branch to) itype = (itype ≡ types.not_taken) ⊎ (itype ≡ types.taken)
+IsTypeOf Uninferable itype = itype ≡ types.uninferable
+IsTypeOf (TrapReturn ret) itype = itype ≡ types.trap_return
 IsTypeOf NotRetirable itype = ⊥
 
 -- A word of this class may retire at this privilege: MRET in M-mode alone, SRET not in U-mode (the

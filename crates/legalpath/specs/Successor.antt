@@ -1,5 +1,6 @@
 -- Where an event leads.
 use Rattle.std.specs.Prelude.{ℕ, ◌+◌, ◌==◌, if◌then◌else◌, Option, Some, None}
+use Rattle.retire.specs.Itype as types
 use Rattle.retire.specs.declared.event.Event.{Event}
 use Rattle.retire.specs.declared.event.Event.TheVariants.{Retire, Trap}
 use Rattle.rvclass.specs.Words.{Word, Words}
@@ -9,11 +10,11 @@ use Rattle.legalpath.specs.declared.next.Next.{Next}
 use Rattle.legalpath.specs.declared.next.Next.TheVariants.{One, Any, NoneInside}
 
 -- Where a retirement of a type leads from an address, by the class and the length of the word
--- there; a branch was taken where the type is 5.
+-- there; a branch was taken where the type says so.
 abbrev pub leads : ℕ → ℕ → Class → ℕ → Next
 leads addr itype Plain length = One (addr + length)
 leads addr itype (Jump to) length = One to
-leads addr itype (Branch to) length = One (if itype == 5 then to else addr + length)
+leads addr itype (Branch to) length = One (if itype == types.taken then to else addr + length)
 leads addr itype Uninferable length = Any
 leads addr itype (TrapReturn ret) length = Any
 leads addr itype NotRetirable length = NoneInside

@@ -10,7 +10,9 @@ ghost use Rattle.legalpath.specs.steps.Judging as judging;
 
 use crate::fault::Why;
 use crate::next::{Next, leads};
-use retire::Event;
+use retire::{
+    Event, ITYPE_NOT_TAKEN, ITYPE_OTHER, ITYPE_TAKEN, ITYPE_TRAP_RETURN, ITYPE_UNINFERABLE,
+};
 use rvclass::{Class, Program, Return};
 
 /// What an event leaves to the one that follows it.
@@ -134,10 +136,10 @@ fn is_type_of(class: Class, itype: u8) -> bool
     ensures { result ≡ judging.is_type_of class itype }
 {
     match class {
-        Class::Plain | Class::Jump(_) => itype == 0,
-        Class::Branch(_) => itype == 4 || itype == 5,
-        Class::Uninferable => itype == 6,
-        Class::TrapReturn(_) => itype == 3,
+        Class::Plain | Class::Jump(_) => itype == ITYPE_OTHER,
+        Class::Branch(_) => itype == ITYPE_NOT_TAKEN || itype == ITYPE_TAKEN,
+        Class::Uninferable => itype == ITYPE_UNINFERABLE,
+        Class::TrapReturn(_) => itype == ITYPE_TRAP_RETURN,
         Class::NotRetirable => false,
     }
 }

@@ -4,7 +4,7 @@ ghost use Rattle.std.specs.Prelude.{◌≡◌, ◌+◌, ◌^◌, ◌<◌};
 ghost use Rattle.rvclass.specs.Fetch.{words_of};
 ghost use Rattle.legalpath.specs.Successor as path;
 
-use retire::Event;
+use retire::{Event, ITYPE_TAKEN};
 use rvclass::{Class, Program};
 
 /// Where the event after another may stand.
@@ -45,7 +45,7 @@ pub fn leads(addr: u64, itype: u8, class: Class, length: u8) -> Next
     match class {
         Class::Plain => Next::One(behind),
         Class::Jump(to) => Next::One(to),
-        Class::Branch(to) => Next::One(if itype == 5 { to } else { behind }),
+        Class::Branch(to) => Next::One(if itype == ITYPE_TAKEN { to } else { behind }),
         Class::Uninferable | Class::TrapReturn(_) => Next::Any,
         Class::NotRetirable => Next::NoneInside,
     }

@@ -1,5 +1,7 @@
 -- The field at the front of a text is the one that ends where fields end.
-use Rattle.std.proofs.Common.{◌≡◌, ◌≤◌, ◌<◌, ◌==◌, ◌&&◌, ◌||◌, ◌++◌, ◌∙◌, ◌-◌, Bool, ℕ, zero, suc, List, [], ◌∷◌, Option, None, take, drop, get_or, length, nat_le, nat_lt, true, false, arith, refl, subst, sym, ap, inl, inr, rules}
+use Rattle.std.proofs.Common.{◌≡◌, ◌≤◌, ◌<◌, ◌==◌, ◌&&◌, ◌||◌, ◌++◌, ◌∙◌, ◌-◌, Bool, ℕ, zero, suc, List, [], ◌∷◌}
+use Rattle.std.proofs.Common.{Option, None, take, drop, get_or, length, nat_le, nat_lt, true, false, arith, refl, subst}
+use Rattle.std.proofs.Common.{sym, ap, inl, inr, rules}
 use Rattle.std.specs.List.{list_all, list_any}
 use Rattle.std.proofs.Math.Seq.{drop-append_seam}
 use Rattle.std.proofs.lemmas.List.{append_cancel_right, length-append, length-drop, take_all}
@@ -128,8 +130,12 @@ pub field-numeral : (text : List ℕ) (number : Option ℕ) (rest : List ℕ) �
     → length rest < length text
     → (digits : List ℕ) × (is_numeral digits ≡ true) × (without_prefix text ≡ digits ++ rest)
 field-numeral text number rest (field, e, spells) end n =
-    let some = field-some field rest text e n in
-    (without_prefix field, spelt-numeral field number spells some, ap without_prefix e ∙ without_prefix-front field rest some end)
+    let some = field-some field rest text e n in (
+      without_prefix field,
+      spelt-numeral field number spells some,
+      ap without_prefix e
+          ∙ without_prefix-front field rest some end,
+    )
 
 -- A text of the same length has no prefix.
 pub no_prefix-same : (text digits : List ℕ) → digits ≡ without_prefix text → length digits ≡ length text
@@ -147,7 +153,8 @@ first_digit c [] number spells =
 first_digit c (b ∷ field) number spells = elim (cases_Bool (is_prefix c b)) [
   | inl y ↦ rw (eqb-true c 48 (and-both (c == 48) ((b == 120) || (b == 88)) y).0) refl
   | inr n ↦
-      let numeral : is_numeral (c ∷ b ∷ field) ≡ true = rw n at (spelt-numeral (c ∷ b ∷ field) number spells (omega arith)) in
+      let numeral : is_numeral (c ∷ b ∷ field) ≡ true =
+      rw n at (spelt-numeral (c ∷ b ∷ field) number spells (omega arith)) in
       (and-both (is_hex_digit c) (list_all is_hex_digit (b ∷ field)) (numeral-digits (c ∷ b ∷ field) numeral)).0
 ]
 
@@ -167,7 +174,8 @@ field-filled text number [] ([], e, spells) end some digit = let same = ap lengt
 field-filled text number (c ∷ rest) ([], e, spells) end some digit =
     absurd (false≢true (sym (end-no_digit c end) ∙ rw e at digit))
 field-filled text number rest (c ∷ field, e, spells) end some digit =
-    let same : length text ≡ length ((c ∷ field) ++ rest) = ap length e in let both = length-append (c ∷ field) rest in omega (arith, same, both)
+    let same : length text ≡ length ((c ∷ field) ++ rest) = ap length e in let both = length-append (c ∷ field) rest in
+    omega (arith, same, both)
 
 -- A digit with a comma behind it is the field.
 pub field-one : (text : List ℕ) (number : Option ℕ) (rest more : List ℕ) → HasField text number rest → EndsField rest
@@ -175,7 +183,8 @@ pub field-one : (text : List ℕ) (number : Option ℕ) (rest more : List ℕ) �
     → take (length text - 1) (drop 1 text) ≡ 44 ∷ more → take (length text - 1) (drop 1 text) ≡ rest
 field-one text number rest more h end some digit comma =
     let size = length-drop 1 text in
-    let whole : take (length text - 1) (drop 1 text) ≡ drop 1 text = take_all (length text - 1) (drop 1 text) (omega (arith, size)) in
+    let whole : take (length text - 1) (drop 1 text) ≡ drop 1 text =
+    take_all (length text - 1) (drop 1 text) (omega (arith, size)) in
     whole ∙ after-one h (sym whole ∙ comma)
   where
     or-second : (x y z : Bool) → (x || (y || z)) ≡ false → y ≡ false
@@ -193,7 +202,11 @@ field-one text number rest more h end some digit comma =
         let second : b ∷ (field ++ rest) ≡ 44 ∷ more = rw e at mark in
         let is : b ≡ 44 = cc second in
         let plain : list_any (needs_byte default_writer) (c ∷ b ∷ field) ≡ false = spells.2 in
-        absurd (false≢true (sym (or-second (needs_byte default_writer c) (needs_byte default_writer b) (list_any (needs_byte default_writer) field) plain) ∙ rw is refl))
+        absurd
+        (false≢true
+        (sym
+        (or-second (needs_byte default_writer c) (needs_byte default_writer b)
+        (list_any (needs_byte default_writer) field) plain) ∙ rw is refl))
 
 -- The fields that end alike are one.
 pub same_number : (text : List ℕ) (m n : Option ℕ) (rest more : List ℕ) → HasField text m rest → HasField text n more

@@ -1,5 +1,6 @@
 -- The digits of a number, read one by one.
-use Rattle.std.proofs.Common.{◌≡◌, ◌≤◌, ◌<◌, ◌^◌, ◌*◌, ◌+◌, ◌==◌, ℕ, List, [], ◌∷◌, true, false, Some, None, length, take, get_or, arith, rules, refl, add-one, lit<, inl, inr}
+use Rattle.std.proofs.Common.{◌≡◌, ◌≤◌, ◌<◌, ◌^◌, ◌*◌, ◌+◌, ◌==◌, ℕ, List, [], ◌∷◌, true, false, Some, None, length}
+use Rattle.std.proofs.Common.{take, get_or, arith, rules, refl, add-one, lit<, inl, inr}
 use Rattle.std.specs.Char.{digit_value}
 use Rattle.std.specs.List.{list_all}
 use Rattle.std.specs.Str.Parse.{digits_value}
@@ -49,19 +50,23 @@ hex_value-small byte other =
 
 pub list_all-digit_more : (text : List ℕ) (i : ℕ) → i < length text → (hex_value (get_or text i 0) ≡ 16 → ⊥)
     → list_all is_hex_digit (take i text) ≡ true → list_all is_hex_digit (take (i + 1) text) ≡ true
-list_all-digit_more text i n other all = rw (list_all_more is_hex_digit text i 0 n, all, is_hex_digit-value (get_or text i 0) other) refl
+list_all-digit_more text i n other all =
+    rw (list_all_more is_hex_digit text i 0 n, all, is_hex_digit-value (get_or text i 0) other) refl
 
 pub digits_value-digit_more : (text : List ℕ) (i : ℕ) → i < length text → (hex_value (get_or text i 0) ≡ 16 → ⊥)
     → digits_value 16 (take (i + 1) text) ≡ digits_value 16 (take i text) * 16 + hex_value (get_or text i 0)
-digits_value-digit_more text i n other = rw (digits_value_more 16 text i n, is_hex_digit-value (get_or text i 0) other) refl
+digits_value-digit_more text i n other =
+    rw (digits_value_more 16 text i n, is_hex_digit-value (get_or text i 0) other) refl
 
-pub list_all-digit_none : (text : List ℕ) (i : ℕ) → i < length text → hex_value (get_or text i 0) ≡ 16 → list_all is_hex_digit text ≡ false
+pub list_all-digit_none : (text : List ℕ) (i : ℕ) → i < length text → hex_value (get_or text i 0) ≡ 16
+    → list_all is_hex_digit text ≡ false
 list_all-digit_none text i n e = list_all_at is_hex_digit text i 0 n (is_hex_digit-no_value (get_or text i 0) e)
 
 pub digits_number-other : (text : List ℕ) → list_all is_hex_digit text ≡ false → digits_number text ≡ None
 digits_number-other text e = rw e (search rules)
 
-pub digits_number-digits : (text : List ℕ) → (length text == 0) ≡ false → length text ≤ 16 → list_all is_hex_digit text ≡ true
+pub digits_number-digits : (text : List ℕ) → (length text == 0) ≡ false → length text ≤ 16
+    → list_all is_hex_digit text ≡ true
     → digits_number text ≡ Some (digits_value 16 text)
 digits_number-digits [] e n all = cc e
 digits_number-digits (c ∷ rest) e n all = rw all (search (rules, arith))

@@ -1,5 +1,6 @@
 -- The records of a text with no quote are its lines, each parted at its commas.
-use Rattle.std.proofs.Common.{◌≡◌, ◌==◌, ◌&&◌, ◌++◌, ◌∙◌, ◌⊎◌, ℕ, List, [], ◌∷◌, Bool, true, false, not, Option, Some, None, map, refl, sym, ap, inl, inr, append_assoc, append-nil}
+use Rattle.std.proofs.Common.{◌≡◌, ◌==◌, ◌&&◌, ◌++◌, ◌∙◌, ◌⊎◌, ℕ, List, [], ◌∷◌, Bool, true, false, not, Option, Some}
+use Rattle.std.proofs.Common.{None, map, refl, sym, ap, inl, inr, append_assoc, append-nil}
 use Rattle.std.specs.List.{filter, onto_first, slice_split}
 use Rattle.std.proofs.lemmas.Bool.{cases_Bool, eqb-true}
 use Rattle.csv.specs.Machine.{Read, next_record}
@@ -70,7 +71,8 @@ row-first c (first ∷ others) = rw (attach-nil (c ∷ first)) refl
 
 abbrev Within : List ℕ → Type 0
 Within text =
-    (s : State) (fields : List (List ℕ)) (field : List ℕ) → (s ≡ st.StartField) ⊎ (s ≡ st.InField) → records_within s fields field text ≡ row fields field (slice_split is_line_end text)
+    (s : State) (fields : List (List ℕ)) (field : List ℕ) → (s ≡ st.StartField) ⊎ (s ≡ st.InField)
+    → records_within s fields field text ≡ row fields field (slice_split is_line_end text)
 
 abbrev Left : List ℕ → Type 0
 Left text = (s : State) → IsStart s → records_left s text ≡ lines_parted text
@@ -122,10 +124,15 @@ comma-no_end c y = rw (eqb-true c 44 y) refl
 
 within-more : (c : ℕ) (text : List ℕ) → (c == 34) ≡ false → Left text → Within text → Within (c ∷ text)
 within-more c text q left within s fields field at = elim (cases_Bool (c == 44)) [
-  | inl y ↦ rw (comma-no_end c y, eqb-true c 44 y) (within-comma 44 text s fields field at refl refl ∙ within st.StartField (fields ++ field ∷ []) [] (inl refl) ∙ sym (row-comma fields field (slice_split is_line_end text)))
+  | inl y ↦
+      rw (comma-no_end c y, eqb-true c 44 y)
+      (within-comma 44 text s fields field at refl refl ∙ within st.StartField (fields ++ field ∷ []) [] (inl refl)
+      ∙ sym (row-comma fields field (slice_split is_line_end text)))
   | inr n ↦ elim (cases_Bool (is_line_end c)) [
     | inl y ↦ rw (y, append-nil field) (within-end c text s fields field at q n y left)
-    | inr m ↦ rw m (within-byte c text s fields field at q n m ∙ within st.InField fields (field ++ c ∷ []) (inr refl) ∙ sym (row-byte fields field c (slice_split is_line_end text) n))
+    | inr m ↦
+        rw m (within-byte c text s fields field at q n m ∙ within st.InField fields (field ++ c ∷ []) (inr refl)
+        ∙ sym (row-byte fields field c (slice_split is_line_end text) n))
   ]
 ]
 

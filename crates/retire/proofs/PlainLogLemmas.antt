@@ -1,5 +1,7 @@
 -- The rows of a plain log, one at a time, and that a log is written plain.
-use Rattle.std.proofs.Common.{◌≡◌, ◌≤◌, ◌<◌, ◌&&◌, ◌||◌, ◌==◌, ◌++◌, ◌∙◌, ◌+◌, Bool, ℕ, List, [], ◌∷◌, Option, Some, None, Result, Ok, Err, map, nat_eq, nat_lt, IfOk, take, drop, length, true, false, arith, refl, subst, sym, ap, inl, inr, rules, append_assoc}
+use Rattle.std.proofs.Common.{◌≡◌, ◌≤◌, ◌<◌, ◌&&◌, ◌||◌, ◌==◌, ◌++◌, ◌∙◌, ◌+◌, Bool, ℕ, List, [], ◌∷◌, Option, Some}
+use Rattle.std.proofs.Common.{None, Result, Ok, Err, map, nat_eq, nat_lt, IfOk, take, drop, length, true, false, arith}
+use Rattle.std.proofs.Common.{refl, subst, sym, ap, inl, inr, rules, append_assoc}
 use Rattle.std.specs.Cmp.Lexicographic.{pointwise}
 use Rattle.std.specs.List.{flat_map, join_with_byte, list_all, list_any}
 use Rattle.std.proofs.lemmas.Bool.{cases_Bool}
@@ -110,8 +112,10 @@ five-fields row a b c d e text end rest event whole ends known =
     elim (cases_Bool (is_garbled d (number_of d) || is_garbled e (number_of e))) [
       | inl garbled ↦ cc (rw garbled at known)
       | inr clean ↦
-          let good : known_event row (number_of a) (number_of b) (number_of c) (number_of d) (number_of e) ≡ Ok event = rw clean at known in
-          let (x, y, z, is_x, is_y, is_z) = known-numbers row (number_of a) (number_of b) (number_of c) (number_of d) (number_of e) event good in
+          let good : known_event row (number_of a) (number_of b) (number_of c) (number_of d) (number_of e) ≡ Ok event =
+          rw clean at known in
+          let (x, y, z, is_x, is_y, is_z) =
+          known-numbers row (number_of a) (number_of b) (number_of c) (number_of d) (number_of e) event good in
           let cleans = or-both (is_garbled d (number_of d)) (is_garbled e (number_of e)) clean in
           five-numbers row x y z a b c d e text end rest event whole ends is_x is_y is_z cleans.0 cleans.1 good
     ]
@@ -135,7 +139,8 @@ plain-next row text ([], events, empty, all) some = let none = ap length empty i
 plain-next row text (fields ∷ rows, events, (rest, line, lines), all) some = elim (cases_Bool (nat_lt limit row)) [
   | inl long ↦ cc (rw long at all)
   | inr short ↦
-      let (event, more, first, others, whole) = with_event-ok (row_event row fields) (events_from (row + 1) rows) events (rw short at all) in
+      let (event, more, first, others, whole) =
+      with_event-ok (row_event row fields) (events_from (row + 1) rows) events (rw short at all) in
       (search (rules, arith), (rest, plain-row row fields text rest event line first, (rows, more, lines, others)))
 ]
 
@@ -143,13 +148,19 @@ lines-written : (events : List Event) → AreLines (map event_fields events) (fl
 unfolding AreLines
 lines-written [] = refl
 lines-written (event ∷ events) =
-    let rest = flat_map event_line events in
-    (rest, (10 ∷ rest, append_assoc (join_with_byte 44 (event_fields event)) (10 ∷ []) rest, inl refl), lines-written events)
+    let rest = flat_map event_line events in (
+      rest,
+      (10 ∷ rest, append_assoc (join_with_byte 44 (event_fields event)) (10 ∷ []) rest, inl refl),
+      lines-written events,
+    )
 
 pub written_is_plain : WrittenIsPlain
 written_is_plain events ranged few =
-    let rest = flat_map event_line events in
-    (rest, (10 ∷ rest, refl, inl refl), (map event_fields events, events, lines-written events, events_from-fields 1 events ranged (omega arith)))
+    let rest = flat_map event_line events in (
+      rest,
+      (10 ∷ rest, refl, inl refl),
+      (map event_fields events, events, lines-written events, events_from-fields 1 events ranged (omega arith)),
+    )
 
 -- A plain log begins with the header's fields, and its lines go on behind them.
 pub header-front : (text line : List ℕ) → line ≡ join_with_byte 44 header → IsPlainLog text
@@ -171,7 +182,8 @@ pub plain-all : (row : ℕ) (text : List ℕ) (empty : Bool) → limit < row →
     → ArePlainRows row text → empty ≡ true
 plain-all row [] empty past e plain = e
 plain-all row (c ∷ text) empty past e plain =
-    let next = plain-next row (c ∷ text) plain (omega arith) in absurd (let within = next.0 in omega (arith, within, past))
+    let next = plain-next row (c ∷ text) plain (omega arith) in
+    absurd (let within = next.0 in omega (arith, within, past))
 
 -- What is read of rows is read of their log.
 pub reads-log : (answer : Result Bool LogFault) (P Q : Type 0) → (Q → P) → IfOk answer (λ all. P → all ≡ true)

@@ -1,5 +1,7 @@
 -- A row at the front of a text.
-use Rattle.std.proofs.Common.{◌≡◌, ◌≢◌, ◌≤◌, ◌<◌, ◌==◌, ◌&&◌, ◌||◌, ◌++◌, ◌∙◌, ◌+◌, ◌-◌, get_or, Bool, ℕ, List, [], ◌∷◌, Option, Some, None, Result, Ok, Err, nat_eq, take, drop, length, true, false, codes, arith, refl, subst, sym, ap, inl, inr, rules}
+use Rattle.std.proofs.Common.{◌≡◌, ◌≢◌, ◌≤◌, ◌<◌, ◌==◌, ◌&&◌, ◌||◌, ◌++◌, ◌∙◌, ◌+◌, ◌-◌, get_or, Bool, ℕ, List, [], ◌∷◌}
+use Rattle.std.proofs.Common.{Option, Some, None, Result, Ok, Err, nat_eq, take, drop, length, true, false, codes}
+use Rattle.std.proofs.Common.{arith, refl, subst, sym, ap, inl, inr, rules}
 use Rattle.std.specs.List.{join_with_byte, list_all, list_any}
 use Rattle.std.specs.Str.Parse.{AllDigits, digits_value}
 use Rattle.std.proofs.lemmas.Bool.{cases_Bool, eqb-true, false≢true}
@@ -63,7 +65,11 @@ digits-number : (text : List ℕ) (value count : ℕ) → HasDigits text value c
     → digits_number (take count text) ≡ Some value
 digits-number text value count (few, within, digits, e) some =
     let n = length-front count text within in
-    rw (digits_number-numeral (take count text) (omega (arith, n, some)) (omega (arith, n, few)) (all-AllDigits (take count text) digits), e) refl
+    rw (
+      digits_number-numeral (take count text) (omega (arith, n, some)) (omega (arith, n, few))
+          (all-AllDigits (take count text) digits),
+      e,
+    ) refl
 
 pub no_garbled : (field : List ℕ) (value : ℕ) → is_garbled field (Some value) ≡ false
 no_garbled [] value = refl
@@ -75,7 +81,11 @@ field-some text rest value count h some e =
     let all = all-AllDigits (take count text) h.2 in (
       take count text,
       rw e (sym (take-append-drop count text)),
-      (rw (without_prefix-AllDigits (take count text) all) (digits-number text value count h some), no_garbled (take count text) value, list_any-AllDigits (take count text) all),
+      (
+        rw (without_prefix-AllDigits (take count text) all) (digits-number text value count h some),
+        no_garbled (take count text) value,
+        list_any-AllDigits (take count text) all,
+      ),
     )
 
 pub field-none : (text rest : List ℕ) (count : ℕ) → count ≡ 0 → rest ≡ drop count text → HasField text None rest
@@ -99,7 +109,11 @@ field-prefixed a b digits rest value count prefix h some e =
     let needs = needs_prefix a b prefix in (
       a ∷ b ∷ take count digits,
       rw e (ap (λ t. a ∷ b ∷ t) (sym (take-append-drop count digits))),
-      (rw prefix (digits-number digits value count h some), no_garbled (a ∷ b ∷ take count digits) value, rw (needs.0, needs.1) (list_any-AllDigits (take count digits) all)),
+      (
+        rw prefix (digits-number digits value count h some),
+        no_garbled (a ∷ b ∷ take count digits) value,
+        rw (needs.0, needs.1) (list_any-AllDigits (take count digits) all),
+      ),
     )
 
 -- A text is shorter by its prefix, or has none.
@@ -114,7 +128,8 @@ prefix-of (a ∷ b ∷ rest) digits e n = elim (cases_Bool (is_prefix a b)) [
 
 -- A field with a comma after it.
 field-comma : (fields : List (List ℕ)) (x tail : List ℕ) → list_any (needs_byte default_writer) x ≡ false
-    → next_record default_config st.StartField fields [] (x ++ 44 ∷ tail) ≡ next_record default_config st.StartField (fields ++ x ∷ []) [] tail
+    → next_record default_config st.StartField fields [] (x ++ 44 ∷ tail) ≡ next_record default_config st.StartField
+    (fields ++ x ∷ []) [] tail
 unfolding next_record
 field-comma fields [] tail p = refl
 field-comma fields (b ∷ rest) tail p =
@@ -123,7 +138,8 @@ field-comma fields (b ∷ rest) tail p =
 
 -- The first field of a record.
 field-first : (x tail : List ℕ) → list_any (needs_byte default_writer) x ≡ false
-    → next_record default_config st.StartRecord [] [] (x ++ 44 ∷ tail) ≡ next_record default_config st.StartField [] [] (x ++ 44 ∷ tail)
+    → next_record default_config st.StartRecord [] [] (x ++ 44 ∷ tail) ≡ next_record default_config st.StartField [] []
+    (x ++ 44 ∷ tail)
 field-first [] tail p = record-same [] [] 44 tail refl refl
 field-first (b ∷ rest) tail p =
     let q = plain-byte b (or-left _ _ p) in record-same [] [] b (rest ++ 44 ∷ tail) q.2 q.3
@@ -149,14 +165,26 @@ field-last fields [] end rest p (inr (inl e)) =
 field-last fields [] end rest p (inr (inr e)) =
     ((fields ++ [] ∷ [], st.StartRecord, []), rw e.0 refl, refl, rw e.1 refl)
 field-last fields (b ∷ more) end rest p (inl e) =
-    let q = plain-byte b (or-left _ _ p) in
-    ((fields ++ (b ∷ more) ∷ [], st.StartRecord, rest), rw e (start-same fields [] b (more ++ 10 ∷ rest) q.1 ∙ plain-run fields [] (b ∷ more) (10 ∷ rest) p), refl, refl)
+    let q = plain-byte b (or-left _ _ p) in (
+      (fields ++ (b ∷ more) ∷ [], st.StartRecord, rest),
+      rw e (start-same fields [] b (more ++ 10 ∷ rest) q.1 ∙ plain-run fields [] (b ∷ more) (10 ∷ rest) p),
+      refl,
+      refl,
+    )
 field-last fields (b ∷ more) end rest p (inr (inl e)) =
-    let q = plain-byte b (or-left _ _ p) in
-    ((fields ++ (b ∷ more) ∷ [], st.AfterCr, 10 ∷ rest), rw e (start-same fields [] b (more ++ 13 ∷ 10 ∷ rest) q.1 ∙ plain-run fields [] (b ∷ more) (13 ∷ 10 ∷ rest) p), refl, left-feed rest)
+    let q = plain-byte b (or-left _ _ p) in (
+      (fields ++ (b ∷ more) ∷ [], st.AfterCr, 10 ∷ rest),
+      rw e (start-same fields [] b (more ++ 13 ∷ 10 ∷ rest) q.1 ∙ plain-run fields [] (b ∷ more) (13 ∷ 10 ∷ rest) p),
+      refl,
+      left-feed rest,
+    )
 field-last fields (b ∷ more) end rest p (inr (inr e)) =
-    let q = plain-byte b (or-left _ _ p) in
-    ((fields ++ (b ∷ more) ∷ [], st.StartRecord, []), rw e.0 (start-same fields [] b (more ++ []) q.1 ∙ plain-run fields [] (b ∷ more) [] p), refl, rw e.1 refl)
+    let q = plain-byte b (or-left _ _ p) in (
+      (fields ++ (b ∷ more) ∷ [], st.StartRecord, []),
+      rw e.0 (start-same fields [] b (more ++ []) q.1 ∙ plain-run fields [] (b ∷ more) [] p),
+      refl,
+      rw e.1 refl,
+    )
 
 -- No byte of a field calls for quotes.
 abbrev IsPlainField : List ℕ → Type 0
@@ -165,7 +193,8 @@ IsPlainField field = list_any (needs_byte default_writer) field ≡ false
 -- Five fields and the end of their line are a record, and what follows the line is left.
 line-record : (f1 f2 f3 f4 f5 end rest : List ℕ) → IsPlainField f1 → IsPlainField f2 → IsPlainField f3
     → IsPlainField f4 → IsPlainField f5 → EndsLine end rest
-    → records_left st.StartRecord (f1 ++ 44 ∷ (f2 ++ 44 ∷ (f3 ++ 44 ∷ (f4 ++ 44 ∷ (f5 ++ end))))) ≡ (f1 ∷ f2 ∷ f3 ∷ f4 ∷ f5 ∷ []) ∷ records_left st.StartRecord rest
+    → records_left st.StartRecord (f1 ++ 44 ∷ (f2 ++ 44 ∷ (f3 ++ 44 ∷ (f4 ++ 44 ∷ (f5 ++ end))))) ≡
+    (f1 ∷ f2 ∷ f3 ∷ f4 ∷ f5 ∷ []) ∷ records_left st.StartRecord rest
 line-record f1 f2 f3 f4 f5 end rest p1 p2 p3 p4 p5 ends =
     let (p, found, fields, left) = field-last (f1 ∷ f2 ∷ f3 ∷ f4 ∷ []) f5 end rest p5 ends in
     let read = field-first f1 _ p1 ∙ field-comma [] f1 _ p1 ∙ field-comma (f1 ∷ []) f2 _ p2
@@ -188,11 +217,12 @@ pub row-fields : (row a b c : ℕ) (text t1 t2 t3 t4 t5 rest : List ℕ) (n1 n2 
     → HasCell text n1 t1 → HasCell t1 n2 t2 → HasCell t2 n3 t3 → HasCell t3 n4 t4 → HasField t4 n5 t5
     → EndsLine t5 rest
     → n1 ≡ Some a → n2 ≡ Some b → n3 ≡ Some c → numbers_event row a b c n4 n5 ≡ Ok event → HasRow row text event rest
-row-fields row a b c text t1 t2 t3 t4 t5 rest n1 n2 n3 n4 n5 event (f1, e1, s1) (f2, e2, s2) (f3, e3, s3) (f4, e4, s4) (f5, e5, s5) end x1 x2 x3 known = (
-  f1 ∷ f2 ∷ f3 ∷ f4 ∷ f5 ∷ [],
-  row_event-known row a b c f1 f2 f3 f4 f5 n4 n5 event (s1.0 ∙ x1) (s2.0 ∙ x2) (s3.0 ∙ x3) s4 s5 known,
-  rw (e1, e2, e3, e4, e5) (line-record f1 f2 f3 f4 f5 t5 rest s1.2 s2.2 s3.2 s4.2 s5.2 end),
-)
+row-fields row a b c text t1 t2 t3 t4 t5 rest n1 n2 n3 n4 n5 event (f1, e1, s1) (f2, e2, s2) (f3, e3, s3) (f4, e4, s4)
+    (f5, e5, s5) end x1 x2 x3 known = (
+      f1 ∷ f2 ∷ f3 ∷ f4 ∷ f5 ∷ [],
+      row_event-known row a b c f1 f2 f3 f4 f5 n4 n5 event (s1.0 ∙ x1) (s2.0 ∙ x2) (s3.0 ∙ x3) s4 s5 known,
+      rw (e1, e2, e3, e4, e5) (line-record f1 f2 f3 f4 f5 t5 rest s1.2 s2.2 s3.2 s4.2 s5.2 end),
+    )
 
 records_left-empty : (rest : List ℕ) → length rest ≡ 0 → records_left st.StartRecord rest ≡ []
 unfolding next_record
@@ -206,18 +236,22 @@ pub plain-end : (log : Result (List Event) LogFault) (row : ℕ) (events : List 
 plain-end log row events rest e empty = e ∙ rw (records_left-empty rest empty) (after-end events row)
 
 -- One row more.
-pub plain-more : (log : Result (List Event) LogFault) (row : ℕ) (events : List Event) (event : Event) (rest more : List ℕ) → log ≡ after events (events_from row (records_left st.StartRecord rest))
+pub plain-more : (log : Result (List Event) LogFault) (row : ℕ) (events : List Event) (event : Event)
+    (rest more : List ℕ) → log ≡ after events (events_from row (records_left st.StartRecord rest))
     → row ≤ limit → HasRow row rest event more
     → log ≡ after (events ++ event ∷ []) (events_from (row + 1) (records_left st.StartRecord more))
 plain-more log row events event rest more e few (fields, known, left) =
-    e ∙ rw (left, events_from-event row fields (records_left st.StartRecord more) event few known) (after-after events (event ∷ []) _)
+    e ∙ rw (left, events_from-event row fields (records_left st.StartRecord more) event few known)
+    (after-after events (event ∷ []) _)
 
 -- A text that begins with the header's line holds the events of what follows it.
 header-line : (end rest : List ℕ) → EndsLine end rest
     → log_of (records_of (join_with_byte 44 header ++ end)) ≡ events_from 1 (records_left st.StartRecord rest)
 unfolding strip_bom
 header-line end rest ends =
-    rw (line-record (codes "addr") (codes "itype") (codes "priv") (codes "cause") (codes "tval") end rest refl refl refl refl refl ends) refl
+    rw
+    (line-record (codes "addr") (codes "itype") (codes "priv") (codes "cause") (codes "tval") end rest refl refl
+    refl refl refl ends) refl
 
 pub plain-header : (text line end rest : List ℕ) → pointwise nat_eq (take (length line) text) line ≡ true
     → end ≡ drop (length line) text → line ≡ join_with_byte 44 header
@@ -240,7 +274,8 @@ field-digit text value digit some same is unlike =
     let none : digits_value 16 (take 0 text) ≡ 0 = refl in
     let whole : value ≡ digits_value 16 (take 1 text) = omega (arith, more, none, same, is) in
     let size = length-drop 1 text in
-    field-some text (take (length text - 1) (drop 1 text)) value 1 (omega arith, omega arith, all, whole) (omega arith) (take_all (length text - 1) (drop 1 text) (omega (arith, size)))
+    field-some text (take (length text - 1) (drop 1 text)) value 1 (omega arith, omega arith, all, whole) (omega arith)
+    (take_all (length text - 1) (drop 1 text) (omega (arith, size)))
 
 -- What holds of a text holds of the same text.
 pub cell-on : {t u : List ℕ} {number : Option ℕ} {rest : List ℕ} → t ≡ u → HasCell u number rest

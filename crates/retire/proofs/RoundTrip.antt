@@ -1,5 +1,7 @@
 -- What is written is read back.
-use Rattle.std.proofs.Common.{◌≡◌, ◌≢◌, ◌⊎◌, ◌≤◌, ◌<◌, ◌^◌, ◌%◌, ◌==◌, ◌+◌, ◌++◌, ◌∙◌, ◌&&◌, ℕ, List, [], ◌∷◌, All, Bool, true, false, None, Ok, lit<, codes, length, map, nat_lt, arith, rules, refl, ap, inl, inr, append-nil}
+use Rattle.std.proofs.Common.{◌≡◌, ◌≢◌, ◌⊎◌, ◌≤◌, ◌<◌, ◌^◌, ◌%◌, ◌==◌, ◌+◌, ◌++◌, ◌∙◌, ◌&&◌, ℕ, List, [], ◌∷◌, All}
+use Rattle.std.proofs.Common.{Bool, true, false, None, Ok, lit<, codes, length, map, nat_lt, arith, rules, refl, ap}
+use Rattle.std.proofs.Common.{inl, inr, append-nil}
 use Rattle.std.proofs.lemmas.Bool.{ne_eqb}
 use Rattle.std.proofs.lemmas.List.Elements.{All-head, All-tail}
 use Rattle.std.specs.List.{flat_map, join_with_byte, list_any}
@@ -12,9 +14,10 @@ use Rattle.csv.specs.declared.parser.State.TheVariants.{StartRecord}
 use Rattle.retire.specs.Log.{events_from, limit}
 use Rattle.retire.specs.LogText.{event_fields, event_line, hex, line_of}
 use Rattle.retire.specs.Number.{number_of}
-use Rattle.retire.specs.InRange.{IsAddress, IsInRange, IsPrivilege, IsRetirementType}
+use Rattle.retire.specs.InRange.{IsAddress, IsInRange, IsRetirementType}
+use Rattle.retire.specs.Privilege.{IsPrivilege, is_privilege}
 use Rattle.retire.specs.ReadBack.{ReadsBack}
-use Rattle.retire.specs.Row.{is_garbled, is_privilege, numbers_event, row_event}
+use Rattle.retire.specs.Row.{is_garbled, numbers_event, row_event}
 use Rattle.retire.specs.steps.RowsLeft.{records_left}
 use Rattle.retire.specs.declared.event.Event.{Event}
 use Rattle.retire.specs.declared.event.Event.TheVariants.{Retire, Trap}
@@ -25,15 +28,18 @@ use Rattle.retire.proofs.RecordsLemmas.{records_left-none, records_left-some}
 -- No byte of these fields calls for quotes.
 pub data ArePlain : List (List ℕ) → Type 0 where
   plain-nil : ArePlain []
-  plain-cons : (field : List ℕ) (rest : List (List ℕ)) → list_any (needs_byte default_writer) field ≡ false → ArePlain rest → ArePlain (field ∷ rest)
+  plain-cons : (field : List ℕ) (rest : List (List ℕ)) → list_any (needs_byte default_writer) field ≡ false
+      → ArePlain rest → ArePlain (field ∷ rest)
 
 -- Such fields are written with commas between them.
-row_body-plain : (field : List ℕ) (rest : List (List ℕ)) → ArePlain (field ∷ rest) → row_body default_writer (field ∷ rest) ≡ join_with_byte 44 (field ∷ rest)
+row_body-plain : (field : List ℕ) (rest : List (List ℕ)) → ArePlain (field ∷ rest)
+    → row_body default_writer (field ∷ rest) ≡ join_with_byte 44 (field ∷ rest)
 unfolding fields_text
 row_body-plain field [] (plain-cons f r plain p) = rw (plain, append-nil) refl
 row_body-plain field (next ∷ rest) (plain-cons f r plain p) = rw (plain, row_body-plain next rest p) refl
 
-row_text-plain : (a b : List ℕ) (rest : List (List ℕ)) → ArePlain (a ∷ b ∷ rest) → row_text default_writer (a ∷ b ∷ rest) ≡ line_of (a ∷ b ∷ rest)
+row_text-plain : (a b : List ℕ) (rest : List (List ℕ)) → ArePlain (a ∷ b ∷ rest)
+    → row_text default_writer (a ∷ b ∷ rest) ≡ line_of (a ∷ b ∷ rest)
 unfolding is_blank
 row_text-plain a b rest p = rw (row_body-plain a (b ∷ rest) p) refl
 
@@ -56,18 +62,25 @@ records_left-line a b fields rest p =
 
 records_left-event : (event : Event) (rest : List ℕ) → IsInRange event
     → records_left StartRecord (event_line event ++ rest) ≡ event_fields event ∷ records_left StartRecord rest
-records_left-event (Retire addr itype priv) rest (address, type, privilege) = records_left-line (hex addr) (hex itype) _ rest (
+records_left-event (Retire addr itype priv) rest (address, type, privilege) =
+    records_left-line (hex addr) (hex itype) _ rest (
     plain-cons _ _ (list_any-hex addr address.0) (plain-cons _ _ (list_any-hex itype (small_type itype type)) (
-    plain-cons _ _ (list_any-hex priv (small_privilege priv privilege)) (plain-cons _ _ refl (plain-cons _ _ refl plain-nil)))))
-records_left-event (Trap epc priv true cause tval) rest (address, privilege, below, value, none) = records_left-line (hex epc) (hex 2) _ rest (
+    plain-cons _ _ (list_any-hex priv (small_privilege priv privilege))
+    (plain-cons _ _ refl (plain-cons _ _ refl plain-nil)))))
+records_left-event (Trap epc priv true cause tval) rest (address, privilege, below, value, none) =
+    records_left-line (hex epc) (hex 2) _ rest (
     plain-cons _ _ (list_any-hex epc address.0) (plain-cons _ _ (list_any-hex 2 (lit< tt)) (
-    plain-cons _ _ (list_any-hex priv (small_privilege priv privilege)) (plain-cons _ _ (list_any-hex cause (small_cause cause below)) (plain-cons _ _ refl plain-nil)))))
-records_left-event (Trap epc priv false cause tval) rest (address, privilege, below, value, none) = records_left-line (hex epc) (hex 1) _ rest (
+    plain-cons _ _ (list_any-hex priv (small_privilege priv privilege))
+    (plain-cons _ _ (list_any-hex cause (small_cause cause below)) (plain-cons _ _ refl plain-nil)))))
+records_left-event (Trap epc priv false cause tval) rest (address, privilege, below, value, none) =
+    records_left-line (hex epc) (hex 1) _ rest (
     plain-cons _ _ (list_any-hex epc address.0) (plain-cons _ _ (list_any-hex 1 (lit< tt)) (
-    plain-cons _ _ (list_any-hex priv (small_privilege priv privilege)) (plain-cons _ _ (list_any-hex cause (small_cause cause below)) (
+    plain-cons _ _ (list_any-hex priv (small_privilege priv privilege))
+    (plain-cons _ _ (list_any-hex cause (small_cause cause below)) (
     plain-cons _ _ (list_any-hex tval value) plain-nil)))))
 
-records_left-events : (events : List Event) → All IsInRange events → records_left StartRecord (flat_map event_line events) ≡ map event_fields events
+records_left-events : (events : List Event) → All IsInRange events
+    → records_left StartRecord (flat_map event_line events) ≡ map event_fields events
 unfolding next_record
 records_left-events [] h = records_left-none StartRecord [] refl
 records_left-events (event ∷ rest) h =
@@ -95,8 +108,10 @@ is_low_cause : (cause : ℕ) → cause < 64 → nat_lt 63 cause ≡ false
 is_low_cause cause below = search (rules, arith)
 
 -- The numbers of a retirement.
-numbers_event-Retire : (row addr itype priv : ℕ) → IsInRange (Retire addr itype priv) → numbers_event row addr itype priv None None ≡ Ok (Retire addr itype priv)
-numbers_event-Retire row addr itype priv (address, inl e, privilege) = rw (is_even addr address, e, is_privilege-IsPrivilege priv privilege) refl
+numbers_event-Retire : (row addr itype priv : ℕ) → IsInRange (Retire addr itype priv)
+    → numbers_event row addr itype priv None None ≡ Ok (Retire addr itype priv)
+numbers_event-Retire row addr itype priv (address, inl e, privilege) =
+    rw (is_even addr address, e, is_privilege-IsPrivilege priv privilege) refl
 numbers_event-Retire row addr itype priv (address, inr (low, high), privilege) =
     let known : nat_lt 6 itype ≡ false = search (rules, arith) in
     let no_exception : (itype == 1) ≡ false = ne_eqb itype 1 (λ e. absurd (omega (arith, e))) in
@@ -106,7 +121,11 @@ numbers_event-Retire row addr itype priv (address, inr (low, high), privilege) =
 -- The row of an event holds it.
 row_event-fields : (row : ℕ) (event : Event) → IsInRange event → row_event row (event_fields event) ≡ Ok event
 row_event-fields row (Retire addr itype priv) h =
-    rw (number_of-hex addr h.0.0, number_of-hex itype (small_type itype h.1), number_of-hex priv (small_privilege priv h.2))
+    rw (
+      number_of-hex addr h.0.0,
+      number_of-hex itype (small_type itype h.1),
+      number_of-hex priv (small_privilege priv h.2),
+    )
     (numbers_event-Retire row addr itype priv h)
 row_event-fields row (Trap epc priv true cause tval) (address, privilege, below, value, none) =
     rw (
@@ -134,17 +153,23 @@ row_event-fields row (Trap epc priv false cause tval) (address, privilege, below
       is_low_cause cause below,
     ) refl
 
-pub events_from-fields : (row : ℕ) (events : List Event) → All IsInRange events → row + length events ≤ limit + 1 → events_from row (map event_fields events) ≡ Ok events
+pub events_from-fields : (row : ℕ) (events : List Event) → All IsInRange events → row + length events ≤ limit + 1
+    → events_from row (map event_fields events) ≡ Ok events
 unfolding events_from
 events_from-fields row [] h n = refl
 events_from-fields row (event ∷ rest) h n =
-    let one = events_from-event row (event_fields event) (map event_fields rest) event (omega arith) (row_event-fields row event (All-head IsInRange event rest h)) in
+    let one =
+    events_from-event row (event_fields event) (map event_fields rest) event (omega arith)
+    (row_event-fields row event (All-head IsInRange event rest h)) in
     let more = events_from-fields (row + 1) rest (All-tail IsInRange event rest h) (omega arith) in
     one ∙ rw more refl
 
 pub reads_back : ReadsBack
 unfolding strip_bom
 reads_back events h n =
-    let first = records_left-line (codes "addr") (codes "itype") (codes "priv" ∷ codes "cause" ∷ codes "tval" ∷ []) (flat_map event_line events)
-    (plain-cons _ _ refl (plain-cons _ _ refl (plain-cons _ _ refl (plain-cons _ _ refl (plain-cons _ _ refl plain-nil))))) in
+    let first =
+    records_left-line (codes "addr") (codes "itype") (codes "priv" ∷ codes "cause" ∷ codes "tval" ∷ [])
+    (flat_map event_line events)
+    (plain-cons _ _ refl
+    (plain-cons _ _ refl (plain-cons _ _ refl (plain-cons _ _ refl (plain-cons _ _ refl plain-nil))))) in
     rw (first, records_left-events events h) (events_from-fields 1 events h (omega arith))

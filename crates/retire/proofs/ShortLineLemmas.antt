@@ -22,7 +22,8 @@ more n some = ne_eqb (n / 16) 0 (λ e. absurd (omega (arith, e)))
 hex-eight : (n seven six five four three two one : ℕ) → seven ≡ n / 16 → six ≡ seven / 16 → five ≡ six / 16
     → four ≡ five / 16 → three ≡ four / 16 → two ≡ three / 16 → one ≡ two / 16
     → 268435456 ≤ n → n ≤ 4294967295
-    → hex n ≡ glyph one ∷ glyph (two % 16) ∷ glyph (three % 16) ∷ glyph (four % 16) ∷ glyph (five % 16) ∷ glyph (six % 16) ∷ glyph (seven % 16) ∷ glyph (n % 16) ∷ []
+    → hex n ≡ glyph one ∷ glyph (two % 16) ∷ glyph (three % 16) ∷ glyph (four % 16) ∷ glyph (five % 16) ∷ glyph
+    (six % 16) ∷ glyph (seven % 16) ∷ glyph (n % 16) ∷ []
 unfolding digits
 hex-eight n seven six five four three two one e7 e6 e5 e4 e3 e2 e1 low high =
     let last : one / 16 ≡ 0 = omega arith in
@@ -48,7 +49,9 @@ hex-eight n seven six five four three two one e7 e6 e5 e4 e3 e2 e1 low high =
 
 -- The digits of eight, two in each byte.
 hex-bytes : (n : ℕ) → 268435456 ≤ n → n ≤ 4294967295
-    → hex n ≡ glyph (n / 16777216 / 16) ∷ glyph (n / 16777216 % 16) ∷ glyph (n / 65536 % 256 / 16) ∷ glyph (n / 65536 % 256 % 16) ∷ glyph (n / 256 % 256 / 16) ∷ glyph (n / 256 % 256 % 16) ∷ glyph (n % 256 / 16) ∷ glyph (n % 256 % 16) ∷ []
+    → hex n ≡ glyph (n / 16777216 / 16) ∷ glyph (n / 16777216 % 16) ∷ glyph (n / 65536 % 256 / 16) ∷ glyph
+    (n / 65536 % 256 % 16) ∷ glyph (n / 256 % 256 / 16) ∷ glyph (n / 256 % 256 % 16) ∷ glyph (n % 256 / 16) ∷ glyph
+    (n % 256 % 16) ∷ []
 hex-bytes n low high =
     let e1 : n / 16777216 / 16 ≡ n / 16 / 16 / 16 / 16 / 16 / 16 / 16 = omega arith in
     let e2 : n / 16777216 % 16 ≡ n / 16 / 16 / 16 / 16 / 16 / 16 % 16 = omega arith in
@@ -61,6 +64,8 @@ hex-bytes n low high =
     rw (e1, e2, e3, e4, e5, e6, e7, e8) (hex-eight n _ _ _ _ _ _ _ refl refl refl refl refl refl refl low high)
 
 pub short-line : (n itype priv : ℕ) → 268435456 ≤ n → n ≤ 4294967295 → itype < 16 → priv < 16
-    → glyph (n / 16777216 / 16) ∷ glyph (n / 16777216 % 16) ∷ glyph (n / 65536 % 256 / 16) ∷ glyph (n / 65536 % 256 % 16) ∷ glyph (n / 256 % 256 / 16) ∷ glyph (n / 256 % 256 % 16) ∷ glyph (n % 256 / 16) ∷ glyph (n % 256 % 16)
+    → glyph (n / 16777216 / 16) ∷ glyph (n / 16777216 % 16) ∷ glyph (n / 65536 % 256 / 16) ∷ glyph
+    (n / 65536 % 256 % 16) ∷ glyph (n / 256 % 256 / 16) ∷ glyph (n / 256 % 256 % 16) ∷ glyph (n % 256 / 16) ∷ glyph
+    (n % 256 % 16)
     ∷ 44 ∷ glyph itype ∷ 44 ∷ glyph priv ∷ 44 ∷ 44 ∷ 10 ∷ [] ≡ event_line (Retire n itype priv)
 short-line n itype priv low high type level = rw (hex-bytes n low high, hex-one itype type, hex-one priv level) refl

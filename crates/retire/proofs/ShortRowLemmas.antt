@@ -1,5 +1,6 @@
 -- The row of a retirement at an address of eight digits.
-use Rattle.std.proofs.Common.{◌≡◌, ◌≤◌, ◌||◌, ◌++◌, ◌∙◌, Bool, ℕ, List, [], ◌∷◌, Option, Some, None, Ok, take, drop, length, true, false, arith, refl, sym, ap, inl, inr, subst}
+use Rattle.std.proofs.Common.{◌≡◌, ◌≤◌, ◌||◌, ◌++◌, ◌∙◌, Bool, ℕ, List, [], ◌∷◌, Option, Some, None, Ok, take, drop}
+use Rattle.std.proofs.Common.{length, true, false, arith, refl, sym, ap, inl, inr, subst}
 use Rattle.std.specs.List.{list_any}
 use Rattle.std.proofs.lemmas.Bool.{false≢true}
 use Rattle.std.proofs.lemmas.List.{append-nil, drop_all, length-take, take-append-drop}
@@ -79,8 +80,13 @@ address-cell text digits behind rest addr front back h comma =
     let whole : text ≡ digits ++ behind = sym (take-append-drop 8 text) ∙ ap (λ t. t ++ drop 8 text) (sym front)
     ∙ ap (λ t. digits ++ t) (sym back) in
     let size = length-take 8 text in
-    let short : length digits ≤ 8 = rw front (omega (arith, size)) in
-    (digits, whole ∙ ap (λ t. digits ++ t) comma, whole-spells digits (Some addr) (drop 8 digits) (field-some digits (drop 8 digits) addr 8 h (omega arith) refl) (drop_all 8 digits short))
+    let short : length digits ≤ 8 = rw front (omega (arith, size)) in (
+      digits,
+      whole
+          ∙ ap (λ t. digits ++ t) comma,
+      whole-spells digits (Some addr) (drop 8 digits)
+          (field-some digits (drop 8 digits) addr 8 h (omega arith) refl) (drop_all 8 digits short),
+    )
 
 -- A row of eight digits, two of one digit, and two empty fields.
 pub short-fields : (row addr second third i p : ℕ) (text digits behind rest : List ℕ) (event : Event)
@@ -94,7 +100,8 @@ short-fields row addr second third i p text digits behind rest event front back 
     let type = digit-cell i second (p ∷ 44 ∷ 44 ∷ 10 ∷ rest) is_i some_i in
     let level = digit-cell p third (44 ∷ 10 ∷ rest) is_p some_p in
     let cause = empty-cell (10 ∷ rest) in (
-      row-fields row addr second third text _ _ _ _ (10 ∷ rest) rest _ _ _ None None event first type level cause ([], refl, (refl, refl, refl)) (inl refl) refl refl refl known,
+      row-fields row addr second third text _ _ _ _ (10 ∷ rest) rest _ _ _ None None event first type level cause
+          ([], refl, (refl, refl, refl)) (inl refl) refl refl refl known,
       λ more plain.
           let e1 = cell-ends first plain.first in
           let e2 = cell-ends type (cell-on e1 plain.second) in

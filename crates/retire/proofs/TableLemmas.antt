@@ -1,5 +1,6 @@
 -- A table holds a function's values: they are compared at each place, by computing.
-use Rattle.std.proofs.Common.{◌≡◌, ◌<◌, ◌==◌, ◌&&◌, ℕ, zero, suc, List, Bool, true, false, get_or, refl, arith, inl, inr}
+use Rattle.std.proofs.Common.{◌≡◌, ◌<◌, ◌==◌, ◌&&◌, ℕ, zero, suc, List, Bool, true, false, get_or, refl, arith, inl}
+use Rattle.std.proofs.Common.{inr}
 use Rattle.std.proofs.lemmas.Bool.{cases_eq, eqb-true}
 
 -- The two agree below n.
@@ -17,7 +18,8 @@ unfolding agree_below
 agree_at f g zero h b low = absurd (omega arith)
 agree_at f g (suc n) h b low =
     let both = both_of (f n == g n) (agree_below f g n) h in
-    elim (cases_eq b n) [ inl same ↦ rw same (eqb-true (f n) (g n) both.0) | inr other ↦ agree_at f g n both.1 b (omega arith) ]
+    elim (cases_eq b n)
+    [ inl same ↦ rw same (eqb-true (f n) (g n) both.0) | inr other ↦ agree_at f g n both.1 b (omega arith) ]
 
 pub table-at : (table : List ℕ) (f : ℕ → ℕ) (n b : ℕ) → b < n → agree_below (λ k. get_or table k 0) f n ≡ true
     → get_or table b 0 ≡ f b

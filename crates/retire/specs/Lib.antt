@@ -1,3 +1,5 @@
+pub mod Itype
+pub mod Privilege
 pub mod Events
 pub mod Is64Bit
 pub mod Number

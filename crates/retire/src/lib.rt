@@ -1,4 +1,4 @@
-//! The events of a core, and logs of them: reading a log's text with every refusal named, and
+//! The events of a hart, and logs of them: reading a log's text with every refusal named, and
 //! writing it so that it reads back.
 #![tactic(auto)]
 
@@ -7,9 +7,11 @@ mod fault;
 mod field;
 mod hex;
 mod in_memory;
+mod itype;
 mod laws;
 mod line;
 mod plain;
+mod privilege;
 mod read;
 mod row;
 mod short_line;
@@ -20,7 +22,9 @@ pub use event::Event;
 pub use fault::{LogFault, WriteFault};
 pub use hex::number;
 pub use in_memory::read_log_from_slice;
+pub use itype::{ITYPE_NOT_TAKEN, ITYPE_OTHER, ITYPE_TAKEN, ITYPE_TRAP_RETURN, ITYPE_UNINFERABLE};
 pub use laws::{plain_is_parted, read_is_in_range, written_is_plain, written_is_read_back};
+pub use privilege::is_privilege;
 pub use read::read_log;
 pub use write::write_log;
 

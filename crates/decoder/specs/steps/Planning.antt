@@ -24,23 +24,14 @@ use Rattle.decoder.specs.declared.settling.Waiting.{Waiting}
 
 -- The packet may come in this phase of a trace, by its kind and by what waits.
 abbrev pub MayCome : Phase → Option Waiting → Packet → Type 0
-MayCome phase waiting (packet.Sync taken priv address) = Unit {0}
-MayCome phase waiting (packet.Trap taken priv cause interrupt handler address tval) = Unit {0}
 MayCome phase waiting (packet.Support support.Open) = phase ≡ Unopened
 MayCome phase waiting (packet.Support support.EndedRep) = is_some waiting ≡ true
-MayCome phase waiting (packet.Support support.EndedNtr) = Unit {0}
-MayCome phase waiting (packet.Address taken delta report) = Unit {0}
-MayCome phase waiting (packet.Map taken) = Unit {0}
+MayCome phase waiting other = Unit {0}
 
 -- A trace that was not opened takes a packet that opens it.
 abbrev pub admitted_first : Packet → Result Unit DecodeFault
-admitted_first (packet.Sync taken priv address) = Err NotOpened
-admitted_first (packet.Trap taken priv cause interrupt handler address tval) = Err NotOpened
 admitted_first (packet.Support support.Open) = Ok tt
-admitted_first (packet.Support support.EndedRep) = Err NotOpened
-admitted_first (packet.Support support.EndedNtr) = Err NotOpened
-admitted_first (packet.Address taken delta report) = Err NotOpened
-admitted_first (packet.Map taken) = Err NotOpened
+admitted_first other = Err NotOpened
 
 -- Whether the trace takes a packet in this phase.
 abbrev pub admitted : Phase → Packet → Result Unit DecodeFault
@@ -56,11 +47,8 @@ FitsWaiting words before reported (Some waiting) packet piece =
 
 -- The last reported address after the packet, where this is the place of its last event.
 abbrev pub reported_past : Packet → ℕ → ℕ → ℕ
-reported_past (packet.Sync taken priv address) reported at = at
-reported_past (packet.Trap taken priv cause interrupt handler address tval) reported at = at
-reported_past (packet.Support support) reported at = at
-reported_past (packet.Address taken delta report) reported at = at
 reported_past (packet.Map taken) reported at = reported
+reported_past other reported at = at
 
 -- The events of what waits, and then those of the packet itself, after this event and this last reported
 -- address.

@@ -4,6 +4,7 @@ use Rattle.std.specs.Prelude.{ℕ, zero, suc, ◌+◌, ◌≡◌, ◌≤◌, ◌
 use Rattle.std.specs.Prelude.{length, drop, Option, Some, None, Result, Ok, Err}
 use Rattle.std.specs.List.{last_or}
 use Rattle.retire.specs.Events.{place, privilege, is_branch}
+use Rattle.retire.specs.Itype as types
 use Rattle.retire.specs.declared.event.Event.{Event}
 use Rattle.retire.specs.declared.event.Event.TheVariants.{Retire}
 use Rattle.rvclass.specs.Words.{Word, Words}
@@ -29,13 +30,13 @@ use Rattle.decoder.specs.declared.walking.Walked.{Walked}
 -- The type of a retirement of this class by the oldest of these outcomes, and the outcomes that it
 -- leaves; none where the class does not retire, or is a branch and no outcome is left.
 abbrev pub type_on : Class → List Bool → Option (ℕ × List Bool)
-type_on Plain taken = Some (0, taken)
-type_on (Jump to) taken = Some (0, taken)
+type_on Plain taken = Some (types.other, taken)
+type_on (Jump to) taken = Some (types.other, taken)
 type_on (Branch to) [] = None
-type_on (Branch to) (true ∷ taken) = Some (5, taken)
-type_on (Branch to) (false ∷ taken) = Some (4, taken)
-type_on Uninferable taken = Some (6, taken)
-type_on (TrapReturn ret) taken = Some (3, taken)
+type_on (Branch to) (true ∷ taken) = Some (types.taken, taken)
+type_on (Branch to) (false ∷ taken) = Some (types.not_taken, taken)
+type_on Uninferable taken = Some (types.uninferable, taken)
+type_on (TrapReturn ret) taken = Some (types.trap_return, taken)
 type_on NotRetirable taken = None
 
 -- The retirement of this type, if there is one, with the outcomes that it leaves.

@@ -3,6 +3,7 @@
 use Rattle.std.specs.Prelude.{ℕ, ◌-◌, ◌==◌, ◌&&◌, ◌||◌, not, nat_le, nat_lt, Bool, true, false, List, [], ◌∷◌, ◌++◌}
 use Rattle.std.specs.Prelude.{length, Option, Some, None, if◌then◌else◌}
 use Rattle.retire.specs.Events.{place, privilege, is_branch, is_taken}
+use Rattle.retire.specs.Itype as types
 use Rattle.retire.specs.declared.event.Event.{Event}
 use Rattle.retire.specs.declared.event.Event.TheVariants.{Retire, Trap}
 use Rattle.rvclass.specs.Words.{Words}
@@ -22,7 +23,7 @@ use Rattle.encoder.specs.declared.rule.Rule.TheVariants as by
 
 -- A retirement of this type is an uninferable discontinuity.
 abbrev pub is_discontinuity_by_type : ℕ → Bool
-is_discontinuity_by_type itype = (itype == 3) || (itype == 6)
+is_discontinuity_by_type itype = (itype == types.trap_return) || (itype == types.uninferable)
 
 -- What is due of a retirement behind a trap of which this is due.
 abbrev pub due_behind_trap : Due → Due
@@ -52,7 +53,7 @@ cuts_off other = false
 -- The event is a backward jump, by its type, by where the next one stands, and by its word.
 abbrev pub jumps_back_to : Words → Event → Event → Bool
 jumps_back_to words (Retire addr itype priv) next =
-    (itype == 0) && nat_le (place next) addr && jumps_back addr (words addr)
+    (itype == types.other) && nat_le (place next) addr && jumps_back addr (words addr)
 jumps_back_to words (Trap epc priv interrupt cause tval) next = false
 
 -- The rule of an event of which nothing is due, before one of which this is due.

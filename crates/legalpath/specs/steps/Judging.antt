@@ -2,6 +2,8 @@
 -- that. What a log's answer means is said in the files on legal logs and on first faults.
 use Rattle.std.specs.Prelude.{ℕ, ◌+◌, ◌%◌, ◌==◌, ◌&&◌, ◌||◌, nat_le, nat_lt, not, max, if◌then◌else◌, Bool, true, false}
 use Rattle.std.specs.Prelude.{List, [], ◌∷◌, Option, Some, None, Result, Ok, Err}
+use Rattle.retire.specs.Itype as types
+use Rattle.retire.specs.Privilege.{is_privilege}
 use Rattle.retire.specs.declared.event.Event.{Event}
 use Rattle.retire.specs.declared.event.Event.TheVariants.{Retire, Trap}
 use Rattle.rvclass.specs.Words.{Word, Words}
@@ -17,17 +19,13 @@ use Rattle.legalpath.specs.declared.fault.Why.TheVariants.{WrongPrivilege, Wrong
 use Rattle.legalpath.specs.declared.judging.Left.{Left}
 use Rattle.legalpath.specs.declared.next.Next.TheVariants.{Any}
 
--- The privilege is 0, 1 or 3.
-abbrev pub is_privilege : ℕ → Bool
-is_privilege priv = (priv == 0) || (priv == 1) || (priv == 3)
-
 -- A retirement of this class has this type.
 abbrev pub is_type_of : Class → ℕ → Bool
-is_type_of Plain itype = itype == 0
-is_type_of (Jump to) itype = itype == 0
-is_type_of (Branch to) itype = (itype == 4) || (itype == 5)
-is_type_of Uninferable itype = itype == 6
-is_type_of (TrapReturn ret) itype = itype == 3
+is_type_of Plain itype = itype == types.other
+is_type_of (Jump to) itype = itype == types.other
+is_type_of (Branch to) itype = (itype == types.not_taken) || (itype == types.taken)
+is_type_of Uninferable itype = itype == types.uninferable
+is_type_of (TrapReturn ret) itype = itype == types.trap_return
 is_type_of NeverRetires itype = false
 
 -- This is a privilege, and one that was left.

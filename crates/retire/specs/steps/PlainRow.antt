@@ -1,5 +1,6 @@
 -- What the front of a text holds, where it has no quotes.
-use Rattle.std.specs.Prelude.{◌≡◌, ◌+◌, ◌≤◌, ◌++◌, ⊤, ℕ, List, [], ◌∷◌, take, length, true, false, Option, Some, Ok, if◌then◌else◌}
+use Rattle.std.specs.Prelude.{◌≡◌, ◌+◌, ◌≤◌, ◌++◌, ⊤, ℕ, List, [], ◌∷◌, take, length, true, false, Option, Some, Ok}
+use Rattle.std.specs.Prelude.{if◌then◌else◌}
 use Rattle.std.specs.List.{list_all, list_any}
 use Rattle.std.specs.Str.Parse.{digits_value}
 use Rattle.csv.specs.Quoting.{needs_byte}
@@ -19,12 +20,14 @@ digit_count (byte ∷ rest) = if is_hex_digit byte then digit_count rest + 1 els
 -- A text begins with so many hexadecimal digits, at most sixteen, of this value.
 abbrev pub HasDigits : List ℕ → ℕ → ℕ → Type 0
 HasDigits text value count =
-    (count ≤ 16) × (count ≤ length text) × (list_all is_hex_digit (take count text) ≡ true) × (value ≡ digits_value 16 (take count text))
+    (count ≤ 16) × (count ≤ length text) × (list_all is_hex_digit (take count text) ≡ true)
+    × (value ≡ digits_value 16 (take count text))
 
 -- A field spells this number, or is empty where there is none, and none of its bytes calls for quotes.
 abbrev pub Spells : List ℕ → Option ℕ → Type 0
 Spells field number =
-    (number_of field ≡ number) × (is_garbled field number ≡ false) × (list_any (needs_byte default_writer) field ≡ false)
+    (number_of field ≡ number) × (is_garbled field number ≡ false)
+    × (list_any (needs_byte default_writer) field ≡ false)
 
 -- A text is a field that spells this number, and then the rest.
 abbrev pub HasField : List ℕ → Option ℕ → List ℕ → Type 0
@@ -42,7 +45,8 @@ HasCell text number rest = (field : List ℕ) × (text ≡ field ++ 44 ∷ rest)
 -- A text is a line that holds this event, and then the rest.
 abbrev pub HasRow : ℕ → List ℕ → Event → List ℕ → Type 0
 HasRow row text event rest =
-    (fields : List (List ℕ)) × (row_event row fields ≡ Ok event) × (records_left StartRecord text ≡ fields ∷ records_left StartRecord rest)
+    (fields : List (List ℕ)) × (row_event row fields ≡ Ok event)
+    × (records_left StartRecord text ≡ fields ∷ records_left StartRecord rest)
 
 -- A text is a line of five fields that spell the numbers of an event, and then the rest.
 pub record IsPlainRow (row : ℕ) (text rest : List ℕ) : Type 0 where

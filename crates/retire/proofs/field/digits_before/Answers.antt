@@ -2,7 +2,8 @@
 use Rattle.std.proofs.Common.{arith, get_or, refl, sym}
 use Rattle.std.proofs.lemmas.List.{take_all}
 use Rattle.retire.proofs.FieldLemmas.{digit_count-all, digit_count-at, digit_count-past}
-use Rattle.retire.proofs.NumberLemmas.{below_room, digits_value-digit_more, hex_value-small, is_hex_digit-no_value, is_hex_digit-value, list_all-digit_more, one_digit_more}
+use Rattle.retire.proofs.NumberLemmas.{below_room, digits_value-digit_more, hex_value-small, is_hex_digit-no_value}
+use Rattle.retire.proofs.NumberLemmas.{is_hex_digit-value, list_all-digit_more, one_digit_more}
 use Rattle.retire.proofs.field.digits_before.Goals as goal
 
 pub overflow_mul-value : goal.overflow_mul-value
@@ -23,15 +24,19 @@ loop-i-preserved c =
     rw (c.from.ensures, c.value_of-digit.ensures) (record {
       few = omega arith;
       small =
-          one_digit_more c.loop-i.value c.loop-i.i _ c.loop-i.invariant.small (hex_value-small (get_or c.args.text.now c.loop-i.i 0) other);
+          one_digit_more c.loop-i.value c.loop-i.i _ c.loop-i.invariant.small
+          (hex_value-small (get_or c.args.text.now c.loop-i.i 0) other);
       digits = list_all-digit_more c.args.text.now c.loop-i.i c.loop-i-test.true other c.loop-i.invariant.digits;
       value =
-          rw (digits_value-digit_more c.args.text.now c.loop-i.i c.loop-i-test.true other, ← c.loop-i.invariant.value) refl;
+          rw (digits_value-digit_more c.args.text.now c.loop-i.i c.loop-i-test.true other, ← c.loop-i.invariant.value)
+          refl;
     })
 
 pub returns-then-digit-eq-NO_DIGIT-clause-all : goal.returns-then-digit-eq-NO_DIGIT-clause-all
 returns-then-digit-eq-NO_DIGIT-clause-all c =
-    let none = is_hex_digit-no_value (get_or c.args.text.now c.loop-i.i 0) (rw c.value_of-digit.ensures at c.if-digit-eq-NO_DIGIT.true) in
+    let none =
+    is_hex_digit-no_value (get_or c.args.text.now c.loop-i.i 0)
+    (rw c.value_of-digit.ensures at c.if-digit-eq-NO_DIGIT.true) in
     sym (digit_count-at c.args.text.now c.loop-i.i c.loop-i-test.true c.loop-i.invariant.digits none)
 
 pub returns-then-i-eq16-clause-long : goal.returns-then-i-eq16-clause-long

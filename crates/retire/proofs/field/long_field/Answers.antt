@@ -6,7 +6,9 @@ use Rattle.retire.proofs.field.long_field.Goals as goal
 pub returns-then-digits-text-clause-reads : goal.returns-then-digits-text-clause-reads
 returns-then-digits-text-clause-reads c = λ number rest h end n.
     let (digits, numeral, e) = field-numeral c.args.text.now number rest h end n in
-    let same = no_prefix-same c.args.text.now c.after_prefix-digits.result.now c.after_prefix-digits.ensures c.if-digits-text.true in
+    let same =
+    no_prefix-same c.args.text.now c.after_prefix-digits.result.now c.after_prefix-digits.ensures
+    c.if-digits-text.true in
     c.unprefixed.ensures.reads digits rest (sym same ∙ c.after_prefix-digits.ensures ∙ e) numeral end
 
 pub returns-else-digits-text-clause-reads : goal.returns-else-digits-text-clause-reads

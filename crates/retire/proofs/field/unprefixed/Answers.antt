@@ -13,8 +13,14 @@ returns-in_err-found-clause-reads c = λ field rest e numeral end.
 
 pub returns-clause-field : goal.returns-clause-field
 returns-clause-field c = elim c.if-found-eq0.branch [
-  | then-found-eq0 w ↦ rw w.number-is (field-none c.args.text.now c.split_at.result.1.now c.in_ok-found.found.count w.if-found-eq0.true c.split_at.ensures.back)
-  | else-found-eq0 w ↦ rw w.number-is (field-some c.args.text.now c.split_at.result.1.now c.in_ok-found.found.value c.in_ok-found.found.count c.in_ok-found.ensures.digits (omega arith) c.split_at.ensures.back)
+  | then-found-eq0 w ↦
+      rw w.number-is
+      (field-none c.args.text.now c.split_at.result.1.now c.in_ok-found.found.count w.if-found-eq0.true
+      c.split_at.ensures.back)
+  | else-found-eq0 w ↦
+      rw w.number-is
+      (field-some c.args.text.now c.split_at.result.1.now c.in_ok-found.found.value c.in_ok-found.found.count
+      c.in_ok-found.ensures.digits (omega arith) c.split_at.ensures.back)
 ]
 
 pub returns-clause-reads : goal.returns-clause-reads

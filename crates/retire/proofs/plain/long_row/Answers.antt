@@ -65,8 +65,10 @@ returns-in_err-third-clause-reads c = λ rest p.
 
 pub returns-in-Ok-clause-row : goal.returns-in-Ok-clause-row
 returns-in-Ok-clause-row c =
-    row-fields c.args.row c.in_ok-first.first c.in_ok-second.second c.in_ok-third.third c.args.text.now _ _ _ _ _ c.in_ok-rest.rest.now _ _ _ _ _ c.in-Ok.event
-    c.in_ok-addr.ensures.cell c.in_ok-itype.ensures.cell c.in_ok-privilege.ensures.cell c.in_ok-cause.ensures.cell c.in_ok-tval.ensures.field c.in_ok-rest.ensures.ends
+    row-fields c.args.row c.in_ok-first.first c.in_ok-second.second c.in_ok-third.third c.args.text.now _ _ _ _ _
+    c.in_ok-rest.rest.now _ _ _ _ _ c.in-Ok.event
+    c.in_ok-addr.ensures.cell c.in_ok-itype.ensures.cell c.in_ok-privilege.ensures.cell c.in_ok-cause.ensures.cell
+    c.in_ok-tval.ensures.field c.in_ok-rest.ensures.ends
     c.in_ok-first.was c.in_ok-second.was c.in_ok-third.was (sym c.in-Ok.ensures)
 
 pub returns-in-Ok-clause-reads : goal.returns-in-Ok-clause-reads

@@ -8,12 +8,14 @@ use Rattle.retire.proofs.plain.plain_rows.Goals as goal
 
 pub returns-then-is_empty-clause-told : goal.returns-then-is_empty-clause-told
 returns-then-is_empty-clause-told g c =
-    λ _. plain-end _ c.loop-row.row c.loop-row.events.items c.loop-row.rest.now c.loop-row.invariant.told (search (rules, arith))
+    λ _. plain-end _ c.loop-row.row c.loop-row.events.items c.loop-row.rest.now c.loop-row.invariant.told
+    (search (rules, arith))
 
 pub returns-in_default-clause-reads : goal.returns-in_default-clause-reads
 returns-in_default-clause-reads g c = λ plain.
     let some = not_empty c.loop-row.rest.now c.is_empty.result c.is_empty.ensures c.if-is_empty.false in
-    let (within, (rest, row, more)) = plain-next c.loop-row.row c.loop-row.rest.now (c.loop-row.invariant.plain plain) some in
+    let (within, (rest, row, more)) =
+    plain-next c.loop-row.row c.loop-row.rest.now (c.loop-row.invariant.plain plain) some in
     absurd (c.in_default.ensures.reads rest row)
 
 pub loop-row-preserved : goal.loop-row-preserved
@@ -24,17 +26,22 @@ loop-row-preserved g c =
     record {
       count = rw (len, c.loop-row.invariant.count) refl;
       told =
-          rw items (plain-more _ c.loop-row.row c.loop-row.events.items c.in-Some.plain.event c.loop-row.rest.now c.in-Some.plain.rest.now c.loop-row.invariant.told (omega arith) c.in-Some.ensures.row);
+          rw items
+          (plain-more _ c.loop-row.row c.loop-row.events.items c.in-Some.plain.event c.loop-row.rest.now
+          c.in-Some.plain.rest.now c.loop-row.invariant.told (omega arith) c.in-Some.ensures.row);
       plain = λ plain.
           let some = not_empty c.loop-row.rest.now c.is_empty.result c.is_empty.ensures c.if-is_empty.false in
-          let (within, (rest, row, more)) = plain-next c.loop-row.row c.loop-row.rest.now (c.loop-row.invariant.plain plain) some in
+          let (within, (rest, row, more)) =
+          plain-next c.loop-row.row c.loop-row.rest.now (c.loop-row.invariant.plain plain) some in
           subst (λ t. ArePlainRows (c.loop-row.row + 1) t) (sym (c.in-Some.ensures.reads rest row)) more;
     }
 
 pub returns-clause-told : goal.returns-clause-told
 returns-clause-told g c =
-    λ all. plain-end _ c.loop-row.row c.loop-row.events.items c.loop-row.rest.now c.loop-row.invariant.told (search (rules, arith))
+    λ all. plain-end _ c.loop-row.row c.loop-row.events.items c.loop-row.rest.now c.loop-row.invariant.told
+    (search (rules, arith))
 
 pub returns-clause-reads : goal.returns-clause-reads
 returns-clause-reads g c =
-    λ plain. plain-all c.loop-row.row c.loop-row.rest.now c.is_empty-2.result (omega arith) c.is_empty-2.ensures (c.loop-row.invariant.plain plain)
+    λ plain. plain-all c.loop-row.row c.loop-row.rest.now c.is_empty-2.result (omega arith) c.is_empty-2.ensures
+    (c.loop-row.invariant.plain plain)

@@ -8,6 +8,7 @@ use Rattle.retire.proofs.plain.plain_rows.Given as goal
 abbrev pub invariant-loop-row : goal.invariant-loop-row
 invariant-loop-row g l = record {
   count : vec_len l.events + 1 ≡ l.row;
-  told : events_from 1 (records_left StartRecord l.fn.text) ≡ after l.events.items (events_from l.row (records_left StartRecord l.rest));
+  told : events_from 1 (records_left StartRecord l.fn.text) ≡ after l.events.items
+      (events_from l.row (records_left StartRecord l.rest));
   plain : ArePlainRows 1 l.fn.text → ArePlainRows l.row l.rest;
 }

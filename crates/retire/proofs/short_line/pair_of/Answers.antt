@@ -8,9 +8,11 @@ use Rattle.retire.proofs.short_line.pair_of.Goals as goal
 pub returns-clause-first : goal.returns-clause-first
 unfolding agree_below
 returns-clause-first c =
-    rw c.from.ensures (agree_at (λ k. get_or PAIRS k 0 % 256) (λ k. digit_glyph false (k / 16)) 256 refl c.args.value (omega arith))
+    rw c.from.ensures
+    (agree_at (λ k. get_or PAIRS k 0 % 256) (λ k. digit_glyph false (k / 16)) 256 refl c.args.value (omega arith))
 
 pub returns-clause-second : goal.returns-clause-second
 unfolding agree_below
 returns-clause-second c =
-    rw c.from.ensures (agree_at (λ k. get_or PAIRS k 0 / 256) (λ k. digit_glyph false (k % 16)) 256 refl c.args.value (omega arith))
+    rw c.from.ensures
+    (agree_at (λ k. get_or PAIRS k 0 / 256) (λ k. digit_glyph false (k % 16)) 256 refl c.args.value (omega arith))

@@ -1,6 +1,7 @@
 -- The digits so far, and their number, are carried by hand.
 use Rattle.std.proofs.Common.{◌<◌, arith, get_or, length, refl, rules}
-use Rattle.retire.proofs.NumberLemmas.{below_room, digits_value-digit_more, hex_value-small, list_all-digit_more, one_digit_more}
+use Rattle.retire.proofs.NumberLemmas.{below_room, digits_value-digit_more, hex_value-small, list_all-digit_more}
+use Rattle.retire.proofs.NumberLemmas.{one_digit_more}
 use Rattle.retire.proofs.short_row.eight_digits.Goals as goal
 
 pub overflow_mul-value : goal.overflow_mul-value
@@ -22,8 +23,12 @@ loop-byte-preserved c =
     rw (c.from.ensures, c.value_of-digit.ensures) (record {
       few = omega arith;
       small =
-          one_digit_more c.loop-byte.value c.loop-byte.byte-index _ c.loop-byte.invariant.small (hex_value-small (get_or c.args.digits.now c.loop-byte.byte-index 0) other);
+          one_digit_more c.loop-byte.value c.loop-byte.byte-index _ c.loop-byte.invariant.small
+          (hex_value-small (get_or c.args.digits.now c.loop-byte.byte-index 0) other);
       digits = list_all-digit_more c.args.digits.now c.loop-byte.byte-index within other c.loop-byte.invariant.digits;
       value =
-          rw (digits_value-digit_more c.args.digits.now c.loop-byte.byte-index within other, ← c.loop-byte.invariant.value) refl;
+          rw (
+            digits_value-digit_more c.args.digits.now c.loop-byte.byte-index within other,
+            ← c.loop-byte.invariant.value,
+          ) refl;
     })
