@@ -16,11 +16,8 @@ use Rattle.payload.specs.Spelling.{payload_of}
 use Rattle.payload.specs.declared.packet.Packet.{Packet}
 use Rattle.payload.specs.declared.packet.Packet.TheVariants as packet
 use Rattle.payload.specs.declared.packet.Support.TheVariants.{Open}
-use Rattle.encoder.proofs.SpotLemmas.{last_or-snoc}
-use Rattle.encoder.specs.Packets.{closing, closing_packet, last_rule, packets, reports}
-use Rattle.encoder.specs.Piece.{pieces_of}
-use Rattle.encoder.specs.declared.rule.Rule.{Rule}
-use Rattle.encoder.specs.declared.rule.Rule.TheVariants as by
+use Rattle.encoder.proofs.ClosingPacket.{packets_end}
+use Rattle.encoder.specs.Packets.{packets}
 use Rattle.message.specs.OfHart.{packet_or_none, packets_in}
 use Rattle.message.specs.declared.message.Message.{Message}
 use Rattle.funnel.specs.Payloads.{payloads_in}
@@ -52,24 +49,8 @@ last_or-take b [] n x is = cc
 last_or-take b (a ∷ xs) zero x is = is
 last_or-take b (a ∷ xs) (suc n) x is = last_or-take (Some a) xs n x is
 
-closing_closes : (rule : Rule) → is_closing_packet (packet.Support (closing rule)) ≡ true
-closing_closes (by.Trap handler) = refl
-closing_closes by.Handler = refl
-closing_closes by.Sync = refl
-closing_closes (by.Target cut_off) = refl
-closing_closes by.Explicit = refl
-closing_closes by.Notify = refl
-closing_closes by.Unreported = refl
-
 module _ (words : Words) (period : ℕ) (log : List Event) where
-  -- The packets of a log have ended.
-  all_ended : has_ended (packets words period log) ≡ true
-  all_ended =
-      let ps = pieces_of words period log in
-      ap closes (last_or-snoc (Some (packet.Support Open)) (reports 0 ps) (closing_packet words period log))
-      ∙ closing_closes (last_rule by.Unreported ps)
-
-  -- Its first packets have ended exactly where they are all.
+  -- The first packets of a log have ended exactly where they are all.
   pub first_ended : (count : ℕ) → count ≤ length (packets words period log)
       → has_ended (take count (packets words period log)) ≡ (count == length (packets words period log))
   first_ended zero few = sym (ne_eqb zero (length (packets words period log)) (λ same. omega (arith, same)))
@@ -94,6 +75,6 @@ module _ (words : Words) (period : ℕ) (log : List Event) where
       by_count : (suc n ≡ length all) ⊎ (suc n ≡ length all → ⊥) → has_ended (take (suc n) all) ≡ (suc n == length all)
       by_count (inl whole) =
           ap has_ended (take_all (suc n) all (omega (arith, whole)))
-          ∙ all_ended
+          ∙ packets_end words period log
           ∙ sym (eq-eqb (suc n) (length all) whole)
       by_count (inr other) = ended ∙ going other (is_closing_packet last) refl ∙ sym (ne_eqb (suc n) (length all) other)

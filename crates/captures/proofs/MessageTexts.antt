@@ -1,5 +1,6 @@
 -- What is written of messages, a message at a time and a log at a time.
-use Rattle.std.proofs.Common.{ℕ, suc, ◌+◌, ◌≡◌, refl, ◌<◌, ◌≤◌, ◌⊎◌, inl, inr, List, [], ◌∷◌, ◌++◌, Option, Some, None, length, take, slice_get, sym, subst, ap, ◌∙◌, arith, append_assoc, get_or}
+use Rattle.std.proofs.Common.{ℕ, suc, ◌+◌, ◌≡◌, refl, ◌<◌, ◌≤◌, ◌⊎◌, inl, inr, List, [], ◌∷◌, ◌++◌, Option, Some, None}
+use Rattle.std.proofs.Common.{length, take, slice_get, sym, subst, ap, ◌∙◌, arith, append_assoc, get_or}
 use Rattle.std.proofs.KnownBytes.{Appends-trans}
 use Rattle.std.proofs.lemmas.List.{append-nil, length-map, length-take-le, take_all, take_more}
 use Rattle.std.proofs.lemmas.Option.{get_or_from_slice_get, slice_get_cases, slice_get_within}
@@ -22,11 +23,16 @@ capture_is [] = refl
 capture_is (message ∷ messages) = ap (λ l. message_bytes message ++ l) (capture_is messages)
 
 messages_from-snoc : (hart number : ℕ) (front : List (List ℕ)) (payload : List ℕ)
-    → messages_from hart number (front ++ payload ∷ []) ≡ messages_from hart number front ++ record { hart = hart; number = number + length front; payload = payload } ∷ []
+    → messages_from hart number (front ++ payload ∷ []) ≡ messages_from hart number front ++ record
+    { hart = hart; number = number + length front; payload = payload } ∷ []
 messages_from-snoc hart number [] payload = ap (λ n. messages_from hart n (payload ∷ [])) (omega arith)
 messages_from-snoc hart number (first ∷ front) payload =
     let next : number + 1 + length front ≡ number + suc (length front) = omega arith in
-    ap (λ l. record { hart = hart; number = number; payload = first } ∷ l) (messages_from-snoc hart (number + 1) front payload ∙ ap (λ n. messages_from hart (number + 1) front ++ record { hart = hart; number = n; payload = payload } ∷ []) next)
+    ap (λ l. record { hart = hart; number = number; payload = first } ∷ l)
+    (messages_from-snoc hart (number + 1) front payload
+    ∙ ap
+    (λ n. messages_from hart (number + 1) front ++ record { hart = hart; number = n; payload = payload } ∷
+    []) next)
 
 -- A log has no more payloads than events, and the two at its ends.
 pub few_payloads : (period : ℕ) (log : ProgramLog) → length (payloads period log) ≤ length log.events + 2
@@ -37,9 +43,11 @@ few_payloads period log =
     omega (arith, mapped, few)
 
 -- One message more, of payloads.
-text-take_more : (text : Message → List ℕ) (hart i : ℕ) (items : List (List ℕ)) (payload : List ℕ) → slice_get items i ≡ Some payload
+text-take_more : (text : Message → List ℕ) (hart i : ℕ) (items : List (List ℕ)) (payload : List ℕ)
+    → slice_get items i ≡ Some payload
     → flat_map text (messages_from hart 0 (take (i + 1) items))
-    ≡ flat_map text (messages_from hart 0 (take i items)) ++ text (record { hart = hart; number = i; payload = payload })
+    ≡ flat_map text (messages_from hart 0 (take i items)) ++ text
+    (record { hart = hart; number = i; payload = payload })
 text-take_more text hart i items payload found =
     let within : i < length items = slice_get_within items i payload found in
     let is : get_or items i [] ≡ payload = get_or_from_slice_get items i payload [] found in
@@ -47,48 +55,72 @@ text-take_more text hart i items payload found =
     let message : Message = record { hart = hart; number = i; payload = payload } in
     let front = messages_from hart 0 (take i items) in
     ap (λ l. flat_map text (messages_from hart 0 l)) (take_more items i [] within ∙ ap (λ x. take i items ++ x ∷ []) is)
-    ∙ ap (flat_map text) (messages_from-snoc hart 0 (take i items) payload ∙ ap (λ n. front ++ record { hart = hart; number = n; payload = payload } ∷ []) (omega (arith, count)))
+    ∙ ap (flat_map text)
+    (messages_from-snoc hart 0 (take i items) payload
+    ∙ ap (λ n. front ++ record { hart = hart; number = n; payload = payload } ∷ []) (omega (arith, count)))
     ∙ flat_map-append text front (message ∷ [])
     ∙ ap (λ l. flat_map text front ++ l) (append-nil (text message))
 
 -- Messages were written, and then the next.
-pub written_more : (text : Message → List ℕ) (old mid new : Option (List ℕ)) (hart i : ℕ) (items : List (List ℕ)) (payload : List ℕ) → slice_get items i ≡ Some payload
-    → Appends old mid (flat_map text (messages_from hart 0 (take i items))) → Appends mid new (text (record { hart = hart; number = i; payload = payload }))
+pub written_more : (text : Message → List ℕ) (old mid new : Option (List ℕ)) (hart i : ℕ) (items : List (List ℕ))
+    (payload : List ℕ) → slice_get items i ≡ Some payload
+    → Appends old mid (flat_map text (messages_from hart 0 (take i items)))
+    → Appends mid new (text (record { hart = hart; number = i; payload = payload }))
     → Appends old new (flat_map text (messages_from hart 0 (take (i + 1) items)))
 written_more text old mid new hart i items payload found first then =
-    subst (Appends old new) (sym (text-take_more text hart i items payload found)) (Appends-trans old mid new _ _ first then)
+    subst (Appends old new) (sym (text-take_more text hart i items payload found))
+    (Appends-trans old mid new _ _ first then)
 
 -- The messages of as many payloads as there are were written.
-pub written_all : (text : Message → List ℕ) (old new : Option (List ℕ)) (hart i : ℕ) (items : List (List ℕ)) → length items ≤ i
-    → Appends old new (flat_map text (messages_from hart 0 (take i items))) → Appends old new (flat_map text (messages_from hart 0 items))
-written_all text old new hart i items over = subst (λ l. Appends old new (flat_map text (messages_from hart 0 l))) (take_all i items over)
+pub written_all : (text : Message → List ℕ) (old new : Option (List ℕ)) (hart i : ℕ) (items : List (List ℕ))
+    → length items ≤ i
+    → Appends old new (flat_map text (messages_from hart 0 (take i items)))
+    → Appends old new (flat_map text (messages_from hart 0 items))
+written_all text old new hart i items over =
+    subst (λ l. Appends old new (flat_map text (messages_from hart 0 l))) (take_all i items over)
 
 -- No payload is left, so all messages were written.
-pub written_through : (text : Message → List ℕ) (old new : Option (List ℕ)) (hart i : ℕ) (items : List (List ℕ)) → slice_get items i ≡ None
-    → Appends old new (flat_map text (messages_from hart 0 (take i items))) → Appends old new (flat_map text (messages_from hart 0 items))
+pub written_through : (text : Message → List ℕ) (old new : Option (List ℕ)) (hart i : ℕ) (items : List (List ℕ))
+    → slice_get items i ≡ None
+    → Appends old new (flat_map text (messages_from hart 0 (take i items)))
+    → Appends old new (flat_map text (messages_from hart 0 items))
 written_through text old new hart i items none = go (slice_get_cases items i).1
   where
-    go : ((payload : List ℕ) × (i < length items) × (slice_get items i ≡ Some payload) × (get_or items i payload ≡ payload)) ⊎ ((length items ≤ i) × (slice_get items i ≡ None))
-        → Appends old new (flat_map text (messages_from hart 0 (take i items))) → Appends old new (flat_map text (messages_from hart 0 items))
+    go : ((payload : List ℕ) × (i < length items) × (slice_get items i ≡ Some payload)
+        × (get_or items i payload ≡ payload)) ⊎ ((length items ≤ i) × (slice_get items i ≡ None))
+        → Appends old new (flat_map text (messages_from hart 0 (take i items)))
+        → Appends old new (flat_map text (messages_from hart 0 items))
     go (inl some) = let found = some.2 in cc
     go (inr past) = written_all text old new hart i items past.0
 
 messages_of_harts-snoc : (period hart : ℕ) (logs : List ProgramLog) (log : ProgramLog)
-    → messages_of_harts period hart (logs ++ log ∷ []) ≡ messages_of_harts period hart logs ++ messages_from (hart + length logs) 0 (payloads period log)
+    → messages_of_harts period hart (logs ++ log ∷ []) ≡ messages_of_harts period hart logs ++ messages_from
+    (hart + length logs) 0 (payloads period log)
 messages_of_harts-snoc period hart [] log =
-    append-nil (messages_from hart 0 (payloads period log)) ∙ ap (λ h. messages_from h 0 (payloads period log)) (omega arith)
+    append-nil (messages_from hart 0 (payloads period log))
+    ∙ ap (λ h. messages_from h 0 (payloads period log)) (omega arith)
 messages_of_harts-snoc period hart (first ∷ logs) log =
     let next : hart + 1 + length logs ≡ hart + suc (length logs) = omega arith in
-    ap (λ l. messages_from hart 0 (payloads period first) ++ l) (messages_of_harts-snoc period (hart + 1) logs log ∙ ap (λ h. messages_of_harts period (hart + 1) logs ++ messages_from h 0 (payloads period log)) next)
-    ∙ sym (append_assoc (messages_from hart 0 (payloads period first)) (messages_of_harts period (hart + 1) logs) (messages_from (hart + suc (length logs)) 0 (payloads period log)))
+    ap (λ l. messages_from hart 0 (payloads period first) ++ l)
+    (messages_of_harts-snoc period (hart + 1) logs log
+    ∙ ap (λ h. messages_of_harts period (hart + 1) logs ++ messages_from h 0 (payloads period log)) next)
+    ∙ sym
+    (append_assoc (messages_from hart 0 (payloads period first)) (messages_of_harts period (hart + 1) logs)
+    (messages_from (hart + suc (length logs)) 0 (payloads period log)))
 
 -- One hart more.
-pub text-take_more_harts : (text : Message → List ℕ) (period i : ℕ) (logs : List ProgramLog) (log : ProgramLog) → i < length logs → log ≡ get_or logs i log
+pub text-take_more_harts : (text : Message → List ℕ) (period i : ℕ) (logs : List ProgramLog) (log : ProgramLog)
+    → i < length logs → log ≡ get_or logs i log
     → flat_map text (messages_of_harts period 0 (take (i + 1) logs))
-    ≡ flat_map text (messages_of_harts period 0 (take i logs)) ++ flat_map text (messages_from i 0 (payloads period log))
+    ≡ flat_map text (messages_of_harts period 0 (take i logs)) ++ flat_map text
+    (messages_from i 0 (payloads period log))
 text-take_more_harts text period i logs log within is =
     let count : length (take i logs) ≡ i = length-take-le i logs (omega arith) in
-    ap (λ l. flat_map text (messages_of_harts period 0 l)) (take_more logs i log within ∙ ap (λ l. take i logs ++ l ∷ []) (sym is))
+    ap (λ l. flat_map text (messages_of_harts period 0 l))
+    (take_more logs i log within ∙ ap (λ l. take i logs ++ l ∷ []) (sym is))
     ∙ ap (flat_map text) (messages_of_harts-snoc period 0 (take i logs) log)
-    ∙ flat_map-append text (messages_of_harts period 0 (take i logs)) (messages_from (0 + length (take i logs)) 0 (payloads period log))
-    ∙ ap (λ h. flat_map text (messages_of_harts period 0 (take i logs)) ++ flat_map text (messages_from h 0 (payloads period log))) (omega (arith, count))
+    ∙ flat_map-append text (messages_of_harts period 0 (take i logs))
+    (messages_from (0 + length (take i logs)) 0 (payloads period log))
+    ∙ ap
+    (λ h. flat_map text (messages_of_harts period 0 (take i logs)) ++ flat_map text
+    (messages_from h 0 (payloads period log))) (omega (arith, count))

@@ -1,5 +1,6 @@
 -- The message that stands behind the first ones of a capture.
-use Rattle.std.proofs.Common.{◌≡◌, ℕ, ◌≤◌, ◌^◌, All, true, false, List, [], ◌∷◌, ◌++◌, Option, Some, None, Ok, length, get_or, slice_get, refl, sym, ap, subst, ◌∙◌, arith}
+use Rattle.std.proofs.Common.{◌≡◌, ℕ, ◌≤◌, ◌^◌, All, true, false, List, [], ◌∷◌, ◌++◌, Option, Some, None, Ok, length}
+use Rattle.std.proofs.Common.{get_or, slice_get, refl, sym, ap, subst, ◌∙◌, arith}
 use Rattle.std.specs.List.{last_or}
 use Rattle.std.proofs.lemmas.List.{append_assoc}
 use Rattle.std.proofs.lemmas.List.Elements.{All-weaker}
@@ -29,14 +30,16 @@ use Rattle.roundtrip.proofs.FirstPackets.{packets_describe}
 use Rattle.message.proofs.OfHartLemmas.{of_hart-append, of_hart-own}
 use Rattle.message.proofs.HartMessages.{expected_of, packets_in-cons, packets_of-append}
 use Rattle.captures.proofs.LogMessages.{IsSent, all_sent, of_hart-log, packets_of-log, number-front}
-use Rattle.captures.proofs.SoundLogs.{IsSound, sound_logs, packets_end}
+use Rattle.encoder.proofs.ClosingPacket.{packets_end}
+use Rattle.captures.proofs.SoundLogs.{IsSound, sound_logs}
 use Rattle.captures.specs.Messages.{messages_of_harts}
 use Rattle.message.specs.OfHart.{of_hart, packets_in, packets_of}
 use Rattle.encoder.specs.Payloads.{payloads}
 use Rattle.captures.specs.Returned.{IsCaptureOf}
 
 -- Packets with another behind them have not ended.
-not_ended : (words : Words) (before : Option Event) (reported : ℕ) (front : List Packet) (packet : Packet) (rest : List Packet) (next : Option Packet) (pieces : List (List Event))
+not_ended : (words : Words) (before : Option Event) (reported : ℕ) (front : List Packet) (packet : Packet)
+    (rest : List Packet) (next : Option Packet) (pieces : List (List Event))
     → Pieces words before reported (front ++ packet ∷ rest) next pieces → has_ended front ≡ false
 not_ended words before reported [] packet rest next pieces each = refl
 not_ended words before reported (p ∷ front) packet rest next [] each = absurd each
@@ -47,11 +50,13 @@ not_ended words before reported (p ∷ q ∷ front) packet rest next (piece ∷ 
 -- A demultiplexer takes the message, and the packets of its hart with this one describe a log.
 pub record IsNext (words : Words) (harts : ℕ) (messages : List Message) (message : Message) : Type 0 where
   pub packet : Packet
-  pub taken : AreAccepted (newcomers harts) messages → accepting (expected_after (newcomers harts) messages) message ≡ Ok packet
+  pub taken : AreAccepted (newcomers harts) messages
+      → accepting (expected_after (newcomers harts) messages) message ≡ Ok packet
   pub log : List Event
   pub described : Describes words (packets_of message.hart messages ++ packet ∷ []) log
 
-module _ (program : Image) (period : ℕ) (logs : List ProgramLog) (bytes : List ℕ) (sent : IsCaptureOf program period logs bytes) (few : length logs ≤ 2 ^ 16) where
+module _ (program : Image) (period : ℕ) (logs : List ProgramLog) (bytes : List ℕ)
+    (sent : IsCaptureOf program period logs bytes) (few : length logs ≤ 2 ^ 16) where
   abbrev all : List Message
   all = messages_of_harts period 0 logs
 
@@ -66,59 +71,83 @@ module _ (program : Image) (period : ℕ) (logs : List ProgramLog) (bytes : List
   all_ranges = All-weaker (IsSent (length logs)) IsMessage (λ message is. is.ranges) all as_sent
 
   -- The packets of a hart's messages are those of its log.
-  packets_at : (hart : ℕ) (log : ProgramLog) → slice_get logs hart ≡ Some log → packets_of hart all ≡ packets (words_of program) period log.events
+  packets_at : (hart : ℕ) (log : ProgramLog) → slice_get logs hart ≡ Some log
+      → packets_of hart all ≡ packets (words_of program) period log.events
   packets_at hart log at =
       packets_of-log period hart logs log at (All_at (IsSound period) logs hart log at sound)
-      ∙ ap (λ (p : Image). packets (words_of p) period log.events) (All_at (λ (l : ProgramLog). l.program ≡ program) logs hart log at sent.same)
+      ∙ ap (λ (p : Image). packets (words_of p) period log.events)
+      (All_at (λ (l : ProgramLog). l.program ≡ program) logs hart log at sent.same)
 
   -- Where there is a log, the bytes of the program are an image.
   pub program_image : (hart : ℕ) (log : ProgramLog) → slice_get logs hart ≡ Some log → IsImage program
   program_image hart log at =
-      subst IsImage (All_at (λ (l : ProgramLog). l.program ≡ program) logs hart log at sent.same) (All_at (IsSound period) logs hart log at sound).image
+      subst IsImage (All_at (λ (l : ProgramLog). l.program ≡ program) logs hart log at sent.same)
+      (All_at (IsSound period) logs hart log at sound).image
 
   -- They describe it.
-  pub log_described : (hart : ℕ) (log : ProgramLog) → slice_get logs hart ≡ Some log → Describes (words_of program) (packets_of hart all) log.events
+  pub log_described : (hart : ℕ) (log : ProgramLog) → slice_get logs hart ≡ Some log
+      → Describes (words_of program) (packets_of hart all) log.events
   log_described hart log at =
       let same = All_at (λ (l : ProgramLog). l.program ≡ program) logs hart log at sent.same in
-      let legal = subst (λ (p : Image). Legal (words_of p) log.events) same (All_at (IsSound period) logs hart log at sound).legal in
-      let describe = packets_describe (words_of program) (words_of-IsProgram program (program_image hart log at)) period log.events legal in
+      let legal =
+      subst (λ (p : Image). Legal (words_of p) log.events) same
+      (All_at (IsSound period) logs hart log at sound).legal in
+      let describe =
+      packets_describe (words_of program) (words_of-IsProgram program (program_image hart log at)) period log.events
+      legal in
       subst (λ ps. Describes (words_of program) ps log.events) (sym (packets_at hart log at)) describe
 
   -- They end its trace.
-  pub log_ended : (hart : ℕ) (log : ProgramLog) → slice_get logs hart ≡ Some log → has_ended (packets_of hart all) ≡ true
+  pub log_ended : (hart : ℕ) (log : ProgramLog) → slice_get logs hart ≡ Some log
+      → has_ended (packets_of hart all) ≡ true
   log_ended hart log at = ap has_ended (packets_at hart log at) ∙ packets_end (words_of program) period log.events
 
   -- A demultiplexer that accepted the messages before takes the one behind them.
-  takes : (messages : List Message) (message : Message) (later : List Message) (packet : Packet) → all ≡ messages ++ message ∷ later
-      → IsSent (length logs) message → reading message.payload ≡ Ok packet → has_ended (packets_of message.hart messages) ≡ false
-      → AreAccepted (newcomers (length logs)) messages → accepting (expected_after (newcomers (length logs)) messages) message ≡ Ok packet
+  takes : (messages : List Message) (message : Message) (later : List Message) (packet : Packet)
+      → all ≡ messages ++ message ∷ later
+      → IsSent (length logs) message → reading message.payload ≡ Ok packet
+      → has_ended (packets_of message.hart messages) ≡ false
+      → AreAccepted (newcomers (length logs)) messages
+      → accepting (expected_after (newcomers (length logs)) messages) message ≡ Ok packet
   takes messages message later packet whole is read going accepted =
       let hart = message.hart in
       let log = get_or logs hart (log_of program []) in
       let at = slice_get-get_or logs hart (log_of program []) is.known in
-      let own = sym (of_hart-log period 0 hart hart logs log (omega arith) at) ∙ ap (of_hart hart) whole ∙ of_hart-append hart messages (message ∷ later)
+      let own = sym (of_hart-log period 0 hart hart logs log (omega arith) at) ∙ ap (of_hart hart) whole
+      ∙ of_hart-append hart messages (message ∷ later)
       ∙ ap (λ l. of_hart hart messages ++ l) (of_hart-own message later) in
       let number = number-front hart 0 (payloads period log) (of_hart hart messages) message (of_hart hart later) own in
       let few = is.few in
       let counted = accepted_counted (length logs) messages accepted in
       ap (λ h. answer_of h message) (counted.each hart is.known)
-      ∙ answer-next (expected_of hart messages) message packet going (omega (arith, number, few)) (omega (arith, number)) read
+      ∙ answer-next (expected_of hart messages) message packet going (omega (arith, number, few))
+      (omega (arith, number)) read
 
   -- The message behind the first ones.
-  pub next_message : (messages : List Message) (message : Message) (later : List Message) → all ≡ messages ++ message ∷ later → IsNext (words_of program) (length logs) messages message
+  pub next_message : (messages : List Message) (message : Message) (later : List Message)
+      → all ≡ messages ++ message ∷ later → IsNext (words_of program) (length logs) messages message
   next_message messages message later whole =
       let hart = message.hart in
-      let is = All-middle (IsSent (length logs)) messages message later (subst (All (IsSent (length logs))) whole as_sent) in
+      let is =
+      All-middle (IsSent (length logs)) messages message later (subst (All (IsSent (length logs))) whole as_sent) in
       let log = get_or logs hart (log_of program []) in
       let at = slice_get-get_or logs hart (log_of program []) is.known in
       let before = packets_of hart messages in
       let rest = packets_of hart later in
-      let split : packets_of hart all ≡ before ++ is.packet ∷ rest = ap (packets_of hart) whole ∙ packets_of-append hart messages (message ∷ later)
-      ∙ ap (λ l. before ++ l) (ap packets_in (of_hart-own message later) ∙ packets_in-cons message (of_hart hart later) is.packet is.read) in
-      let joined : packets_of hart all ≡ (before ++ is.packet ∷ []) ++ rest = split ∙ sym (append_assoc before (is.packet ∷ []) rest) in
+      let split : packets_of hart all ≡ before ++ is.packet ∷ rest = ap (packets_of hart) whole
+      ∙ packets_of-append hart messages (message ∷ later)
+      ∙ ap (λ l. before ++ l)
+      (ap packets_in (of_hart-own message later) ∙ packets_in-cons message (of_hart hart later) is.packet is.read)
+      in
+      let joined : packets_of hart all ≡ (before ++ is.packet ∷ []) ++ rest =
+      split ∙ sym (append_assoc before (is.packet ∷ []) rest) in
       let described = log_described hart log at in
-      let front = (front_describes (words_of program) (before ++ is.packet ∷ []) rest log.events (subst (λ ps. Describes (words_of program) ps log.events) joined described)).0 in
-      let going = not_ended (words_of program) None 0 before is.packet rest None described.pieces (subst (λ ps. Pieces (words_of program) None 0 ps None described.pieces) split described.each) in
+      let front =
+      (front_describes (words_of program) (before ++ is.packet ∷ []) rest log.events
+      (subst (λ ps. Describes (words_of program) ps log.events) joined described)).0 in
+      let going =
+      not_ended (words_of program) None 0 before is.packet rest None described.pieces
+      (subst (λ ps. Pieces (words_of program) None 0 ps None described.pieces) split described.each) in
       record {
         packet = is.packet;
         taken = λ accepted. takes messages message later is.packet whole is is.read going accepted;

@@ -1,5 +1,6 @@
 -- The messages of a capture that are told one after the other.
-use Rattle.std.proofs.Common.{◌≡◌, ◌≤◌, ◌<◌, ◌+◌, ◌++◌, ◌||◌, ℕ, Bool, List, [], ◌∷◌, Option, length, sym, ap, ◌∙◌, arith, subst}
+use Rattle.std.proofs.Common.{◌≡◌, ◌≤◌, ◌<◌, ◌+◌, ◌++◌, ◌||◌, ℕ, Bool, List, [], ◌∷◌, Option, length, sym, ap, ◌∙◌}
+use Rattle.std.proofs.Common.{arith, subst}
 use Rattle.std.specs.Prelude.{All}
 use Rattle.std.specs.Io.KnownBytes.{Appends}
 use Rattle.std.specs.List.{list_any}
@@ -26,7 +27,8 @@ pub record HasTold (bytes left : List ℕ) (count : ℕ) (bad : Bool) (old new :
   pub room : count + length left ≤ length bytes
 
 -- One message more.
-pub told-next : (bytes left next : List ℕ) (count : ℕ) (bad : Bool) (m : Message) (old before after : Option (List ℕ)) → HasTold bytes left count bad old before
+pub told-next : (bytes left next : List ℕ) (count : ℕ) (bad : Bool) (m : Message) (old before after : Option (List ℕ))
+    → HasTold bytes left count bad old before
     → IsMessage m → Appends before after (line_of m)
     → left ≡ message_bytes m ++ next → length next < length left
     → HasTold bytes next (count + 1) (bad || is_refused m) old after
@@ -41,12 +43,17 @@ told-next bytes left next count bad m old before after told is line begins fewer
       whole = told.whole ∙ ap (λ (l : List ℕ). capture messages ++ l) begins ∙ sym (capture_next messages m next);
       counted = omega (arith, counted, more);
       refused = ap (λ b. b || is_refused m) told.refused ∙ any-snoc messages;
-      text = subst (Appends old after) (text-snoc messages) (Appends-trans old before after (dump_text messages) (line_of m) told.text line);
+      text =
+          subst (Appends old after) (text-snoc messages)
+          (Appends-trans old before after (dump_text messages) (line_of m) told.text line);
       room = omega (arith, room, fewer);
     }
   where
     text-snoc : (messages : List Message) → dump_text messages ++ line_of m ≡ dump_text (messages ++ m ∷ [])
     text-snoc messages = flat_map_more line_of [] messages m
 
-    any-snoc : (messages : List Message) → (list_any is_refused messages || is_refused m) ≡ list_any is_refused (messages ++ m ∷ [])
-    any-snoc messages = sym (list_any-append is_refused messages (m ∷ []) ∙ ap (λ b. list_any is_refused messages || b) (or-false (is_refused m)))
+    any-snoc : (messages : List Message)
+        → (list_any is_refused messages || is_refused m) ≡ list_any is_refused (messages ++ m ∷ [])
+    any-snoc messages =
+        sym (list_any-append is_refused messages (m ∷ [])
+        ∙ ap (λ b. list_any is_refused messages || b) (or-false (is_refused m)))

@@ -15,7 +15,8 @@ use Rattle.captures.specs.declared.outcome.CaptureFault.{CaptureFault}
 use Rattle.captures.specs.declared.outcome.CaptureFault.TheVariants as fault
 
 -- After these messages the bytes begin with one that is not received.
-pub record BeginsRefused (words : Words) (harts : ℕ) (messages : List Message) (bytes : List ℕ) (why : ReceiveFault) : Type 0 where
+pub record BeginsRefused (words : Words) (harts : ℕ) (messages : List Message) (bytes : List ℕ)
+    (why : ReceiveFault) : Type 0 where
   pub message : Message
   pub rest : List ℕ
   pub ranges : IsMessage message
@@ -36,7 +37,8 @@ Stops words harts messages bytes (Some stop) =
 
 -- The bytes are the capture of messages and some rest. A demultiplexer of so many harts accepts the messages, each in
 -- its turn; the lists are what they describe; and decoding stops before the rest.
-pub record IsDecoded (words : Words) (harts : ℕ) (bytes : List ℕ) (lists : List (List Event)) (closed : List Bool) (stop : Option (ℕ × CaptureFault)) : Type 0 where
+pub record IsDecoded (words : Words) (harts : ℕ) (bytes : List ℕ) (lists : List (List Event)) (closed : List Bool)
+    (stop : Option (ℕ × CaptureFault)) : Type 0 where
   pub messages : List Message
   pub rest : List ℕ
   pub ranges : All IsMessage messages

@@ -38,7 +38,8 @@ dump_text messages = flat_map line_of messages
 
 -- The bytes are the capture of messages and some rest, before which the dump ends. The lines of the messages were
 -- appended, and it tells whether a payload is bad.
-pub record IsDump (bytes : List ℕ) (bad : Bool) (fault : Option (ℕ × MessageFault)) (old new : Option (List ℕ)) : Type 0 where
+pub record IsDump (bytes : List ℕ) (bad : Bool) (fault : Option (ℕ × MessageFault))
+    (old new : Option (List ℕ)) : Type 0 where
   pub messages : List Message
   pub rest : List ℕ
   pub ranges : All IsMessage messages

@@ -8,7 +8,8 @@ use Rattle.message.specs.declared.message.Message.{Message}
 -- The hart, the number and the payload's bytes, two digits a byte, parted by spaces.
 abbrev pub hex_line : Message → List ℕ
 hex_line message =
-    decimal message.hart ++ (codes " " ++ (decimal message.number ++ (codes " " ++ (encode_lower message.payload ++ codes "\n"))))
+    decimal message.hart ++
+    (codes " " ++ (decimal message.number ++ (codes " " ++ (encode_lower message.payload ++ codes "\n"))))
 
 -- The lines of messages, in order.
 abbrev pub hex_text : List Message → List ℕ

@@ -1,7 +1,7 @@
 -- The texts of packets.
 use Rattle.std.specs.Prelude.{ℕ, ◌==◌, Bool, true, false, if◌then◌else◌, List, ◌++◌, Result, Ok, Err, codes, length}
 use Rattle.std.specs.List.{flat_map}
-use Rattle.std.specs.Fmt.{digits}
+use Rattle.retire.specs.LogText.{hex}
 use Rattle.payload.specs.declared.fault.PackFault.{PackFault}
 use Rattle.payload.specs.declared.fault.PackFault.TheVariants as fault
 use Rattle.payload.specs.declared.packet.Packet.{Packet}
@@ -10,10 +10,6 @@ use Rattle.payload.specs.declared.packet.Support.{Support}
 use Rattle.payload.specs.declared.packet.Support.TheVariants as support
 use Rattle.payload.specs.declared.packet.Report.{Report}
 use Rattle.payload.specs.declared.packet.Report.TheVariants as report
-
--- A number in lower-case hexadecimal.
-abbrev pub hex : ℕ → List ℕ
-hex n = digits 16 false n
 
 -- A branch's bit of a branch map: 0 where it was taken.
 abbrev pub branch_text : Bool → List ℕ
@@ -55,7 +51,8 @@ where_text address privilege taken =
 abbrev pub packet_text : Packet → List ℕ
 packet_text (packet.Sync taken privilege address) = codes "sync addr" ++ where_text address privilege taken
 packet_text (packet.Trap taken privilege cause interrupt handler address tval) =
-    codes "trap " ++ (cause_text interrupt cause tval ++ (codes " " ++ (place_text handler ++ where_text address privilege taken)))
+    codes "trap " ++
+    (cause_text interrupt cause tval ++ (codes " " ++ (place_text handler ++ where_text address privilege taken)))
 packet_text (packet.Support kind) = support_text kind
 packet_text (packet.Address outcomes delta why) =
     codes "address diff=" ++ (hex delta ++ (codes " map=" ++ (map_text outcomes ++ (codes " " ++ report_text why))))

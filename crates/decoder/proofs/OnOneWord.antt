@@ -87,10 +87,6 @@ pub empty_is : (o : List Bool) → is_empty o ≡ true → [] ≡ o
 empty_is [] h = refl
 empty_is (x ∷ o) h = cc
 
-pub and_both : (x y : Bool) → (x && y) ≡ true → (x ≡ true) × (y ≡ true)
-and_both true y h = (refl, h)
-and_both false y h = cc
-
 pub same_front : (f : Event) (w v : List Event) → outcomes w ≡ outcomes v → outcomes (f ∷ w) ≡ outcomes (f ∷ v)
 same_front f w v o = go (is_branch f) refl
   where

@@ -14,7 +14,7 @@ use Rattle.encoder.specs.declared.due.Due.TheVariants as due
 use Rattle.encoder.specs.declared.encoder.Encoder.{Encoder}
 use Rattle.encoder.proofs.EventsTaken.{after_quiet, given_quiet}
 use Rattle.encoder.proofs.SpotLemmas.{last_or-snoc}
-use Rattle.encoder.proofs.LogsByLastEvent.{both_true}
+use Rattle.retire.proofs.BothTrue.{both_true}
 
 -- The last of the first events.
 pub last_of_first : (events : List Event) (at : ℕ) → 1 ≤ at → at ≤ length events

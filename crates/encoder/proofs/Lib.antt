@@ -8,6 +8,7 @@ pub mod OneEventMore
 pub mod StandsOn
 pub mod ProfileLemmas
 pub mod PacketsAtEnd
+pub mod ClosingPacket
 pub mod EventsPassed
 pub mod PacketsInTurn
 pub mod WorkedLogs

@@ -26,6 +26,7 @@ use Rattle.encoder.proofs.SpotLemmas.{before_last, count_all-append, last_or-sno
 use Rattle.encoder.proofs.SpotLemmas.{undecided-snoc, since_cut-append}
 use Rattle.encoder.proofs.PacketsReached.{spot_after, spots-snoc, Reaches}
 use Rattle.encoder.proofs.RulesByDue.{following}
+use Rattle.retire.proofs.BothTrue.{both_true}
 
 -- Every log is empty or has a last event.
 pub by_last : (log : List Event) → (log ≡ []) ⊎ ((front : List Event) × (last : Event) × (log ≡ front ++ last ∷ []))
@@ -43,10 +44,6 @@ spot_after-following log held next a after =
     ∙ ap (λ b. record last { number = count_with (count_all 0 log) held; before_that = b })
     (before_last-snoc None None log held)
     ∙ ap (λ b. record (following (spot_after log held a) next after) { before = b }) (last_or-snoc None log held)
-
-pub both_true : (x y : Bool) → (x && y) ≡ true → (x ≡ true) × (y ≡ true)
-both_true true y h = (refl, h)
-both_true false y h = cc
 
 module _ (words : Words) (period : ℕ) where
   -- What a log's packets so far are, what they report last and leave untold, and what is due of its last event.

@@ -30,10 +30,11 @@ use Rattle.encoder.proofs.SpotLemmas.{count_all-append, last_or-snoc}
 use Rattle.encoder.proofs.PacketsReached.{spot_after, spots-snoc, Reaches, reaches, reaches_cut, reaches_on}
 use Rattle.encoder.proofs.RulesByDue.{following, is_known-due, due_at-following, rule-before}
 use Rattle.encoder.proofs.CountLemmas.{few_since_cut, left-divides}
-use Rattle.encoder.proofs.LogsByLastEvent.{spot_after-following, Views, view_open, view_known, both_true, rule_known}
+use Rattle.encoder.proofs.LogsByLastEvent.{spot_after-following, Views, view_open, view_known, rule_known}
 use Rattle.encoder.proofs.LogsByLastEvent.{known-behind, none_before_trap}
 use Rattle.encoder.proofs.EventsTaken.{pending_with-outcomes, pending_with-handler, rule_before-IsOwn, quiet_is}
 use Rattle.encoder.proofs.EventsTaken.{packets_by-own, rule_before-handler, Does, does_quiet, does_handler, does_loud}
+use Rattle.retire.proofs.BothTrue.{both_true}
 
 module _ (words : Words) (period : ℕ) where
   -- What an encoder gives at an event is what the log's packets so far have more, and its fields are those of the

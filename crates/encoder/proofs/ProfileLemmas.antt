@@ -25,7 +25,7 @@ use Rattle.encoder.specs.Spot.{Spot, count_with, spots, spots_of}
 use Rattle.encoder.specs.declared.rule.Rule.{Rule}
 use Rattle.encoder.specs.declared.rule.Rule.TheVariants as by
 use Rattle.encoder.proofs.CountLemmas.{IsTrapRule, trap_rule, room_left, one_at_most, length_outcomes-snoc}
-use Rattle.encoder.proofs.LogsByLastEvent.{both_true}
+use Rattle.retire.proofs.BothTrue.{both_true}
 
 -- Words stand at even addresses.
 abbrev pub IsEven : Words → Type 0

@@ -1,10 +1,13 @@
 -- What the first byte tells of a payload that is not closing.
-use Rattle.std.proofs.Common.{◌≡◌, ◌≢◌, ◌+◌, ◌-◌, ◌*◌, ◌%◌, ◌^◌, ◌≤◌, ◌==◌, ◌⊎◌, ℕ, suc, Bool, true, false, cond, eqb, eqb-true, List, [], ◌∷◌, length, get_or, Option, Some, None, inl, inr, refl, sym, ◌∙◌, arith}
+use Rattle.std.proofs.Common.{◌≡◌, ◌≢◌, ◌+◌, ◌-◌, ◌*◌, ◌%◌, ◌^◌, ◌≤◌, ◌==◌, ◌⊎◌, ℕ, suc, Bool, true, false, cond, eqb}
+use Rattle.std.proofs.Common.{eqb-true, List, [], ◌∷◌, length, get_or, Option, Some, None, inl, inr, refl, sym, ◌∙◌}
+use Rattle.std.proofs.Common.{arith}
 use Rattle.std.proofs.lemmas.Bool.{cases_lt}
 use Rattle.payload.specs.Bytes.{number}
 use Rattle.payload.specs.Closing.{is_closing, is_closing_packet, is_closing_reading}
 use Rattle.payload.specs.Extension.{extended}
-use Rattle.payload.specs.Faults.{bits_of, part, is_sync, is_trap, is_support, is_address_alone, is_map_alone, address_behind_map, first_fault}
+use Rattle.payload.specs.Faults.{bits_of, part, is_sync, is_trap, is_support, is_address_alone, is_map_alone}
+use Rattle.payload.specs.Faults.{address_behind_map, first_fault}
 use Rattle.payload.specs.Reading.{packet_in, fault_or, support_from, trap_from, address_from, outcomes_from}
 use Rattle.payload.specs.declared.fault.PackFault.{PackFault}
 use Rattle.payload.specs.declared.packet.Packet.{Packet}

@@ -1,7 +1,9 @@
 -- A hart that sends keeps what every state of the funnel machine keeps.
-use Rattle.std.proofs.Common.{◌≡◌, ◌≢◌, ◌⊎◌, inl, inr, ◌<◌, ◌≤◌, ℕ, Bool, true, false, cond, List, [], ◌∷◌, ◌++◌, Option, Some, None, length, slice_get, nat_lt, refl, sym, ap, subst, ◌∙◌, arith}
+use Rattle.std.proofs.Common.{◌≡◌, ◌≢◌, ◌⊎◌, inl, inr, ◌<◌, ◌≤◌, ℕ, Bool, true, false, cond, List, [], ◌∷◌, ◌++◌}
+use Rattle.std.proofs.Common.{Option, Some, None, length, slice_get, nat_lt, refl, sym, ap, subst, ◌∙◌, arith}
 use Rattle.std.proofs.lemmas.Bool.{cases_eq, cases_lt, ltb-true}
-use Rattle.std.proofs.lemmas.List.{append_assoc, get_or_past, get_or-set_other, get_or-set_same, length-set, length_push}
+use Rattle.std.proofs.lemmas.List.{append_assoc, get_or_past, get_or-set_other, get_or-set_same, length-set}
+use Rattle.std.proofs.lemmas.List.{length_push}
 use Rattle.message.proofs.OfHartLemmas.{of_hart-next, of_hart-other}
 use Rattle.message.specs.OfHart.{of_hart}
 use Rattle.message.specs.declared.message.Message.{Message}

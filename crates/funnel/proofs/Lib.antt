@@ -4,7 +4,6 @@ pub mod KeptSending
 pub mod KeptTaking
 pub mod EveryState
 mod WorkedTurns
-pub mod ListPlaces
 pub mod OrderLemmas
 pub mod RuleSteps
 pub mod PassSteps

@@ -1,10 +1,11 @@
 -- The ports of a funnel, with one more.
-use Rattle.std.proofs.Common.{◌≡◌, ◌+◌, ℕ, List, [], ◌∷◌, ◌++◌, length, All, Some, get_or, slice_get, sym, ap, ◌∙◌, subst, arith, length-append}
+use Rattle.std.proofs.Common.{◌≡◌, ◌+◌, ℕ, List, [], ◌∷◌, ◌++◌, length, All, Some, get_or, slice_get, sym, ap, ◌∙◌}
+use Rattle.std.proofs.Common.{subst, arith, length-append}
 use Rattle.std.proofs.lemmas.Option.{slice_get-get_or}
 use mathlib.Core.Logic.{dite}
 use native.Mathlib.Decide.{dec_le}
 use Rattle.funnel.specs.Ends.{FunnelId, PortView, new_port, AreNewPorts}
-use Rattle.funnel.proofs.ListPlaces.{get_longer, get_behind}
+use Rattle.funnel.proofs.Places.{slice_get-behind, slice_get-front}
 
 pub new_ports_next : (funnel : FunnelId) (n : ℕ) (ports : List PortView) → AreNewPorts funnel n ports
     → AreNewPorts funnel (n + 1) (ports ++ new_port funnel n ∷ [])
@@ -14,9 +15,9 @@ new_ports_next funnel n ports all =
       omega (arith, length-append ports (new ∷ [])),
       λ h below. dite (dec_le n h)
           (λ past. let same : h ≡ n = omega arith in
-          ap (slice_get (ports ++ new ∷ [])) (same ∙ sym len) ∙ get_behind ports new []
+          ap (slice_get (ports ++ new ∷ [])) (same ∙ sym len) ∙ slice_get-behind ports new []
           ∙ ap (λ (k : ℕ). Some (new_port funnel k)) (sym same))
-          (λ before. get_longer ports (new ∷ []) h _ (all.1 h (omega arith))),
+          (λ before. slice_get-front ports (new ∷ []) h _ (all.1 h (omega arith))),
     )
 
 -- A new port was handed out and pushed.

@@ -1,11 +1,12 @@
 -- The order of one hart's messages, with one more and of the first of them.
-use Rattle.std.proofs.Common.{◌≡◌, ◌+◌, ◌||◌, ℕ, zero, suc, Bool, true, false, List, [], ◌∷◌, ◌++◌, length, Some, slice_get, sym, refl, ap, ◌∙◌, ⊎_elim, arith, length-append, append-nil}
+use Rattle.std.proofs.Common.{◌≡◌, ◌+◌, ◌||◌, ℕ, zero, suc, Bool, true, false, List, [], ◌∷◌, ◌++◌, length, Some}
+use Rattle.std.proofs.Common.{slice_get, sym, refl, ap, ◌∙◌, ⊎_elim, arith, length-append, append-nil}
 use Rattle.std.proofs.lemmas.Bool.{true≢false}
 use Rattle.payload.specs.Closing.{is_closing}
 use Rattle.message.specs.declared.message.Message.{Message}
 use Rattle.funnel.specs.Order.{AreInOrder}
 use Rattle.funnel.specs.Ends.{has_closing, EndsClosing}
-use Rattle.funnel.proofs.ListPlaces.{get_end, get_longer}
+use Rattle.funnel.proofs.Places.{slice_get-front, slice_get-next}
 
 -- None of the messages is closing.
 abbrev pub NoneCloses : List Message → Type 0
@@ -30,10 +31,10 @@ in_order-next messages x order none number = record {
   numbered = λ n m e. ⊎_elim (λ t. order.numbered n m t)
       (λ (t : (n ≡ length messages) × (x ≡ m)).
       (ap (λ (y : Message). y.hart) (sym t.1), ap (λ (y : Message). y.number) (sym t.1) ∙ number ∙ sym t.0))
-      (get_end messages x m n e);
+      (slice_get-next messages x n m e);
   closes_last = λ n m e c. ⊎_elim (λ t. absurd (true≢false (sym c ∙ none n m t)))
       (λ (t : (n ≡ length messages) × (x ≡ m)). let k = t.0 in omega (arith, length-append messages (x ∷ [])))
-      (get_end messages x m n e);
+      (slice_get-next messages x n m e);
 }
 
 empty : {A : Type 0} (l : List A) → length l ≡ 0 → l ≡ []
@@ -45,7 +46,7 @@ pub ends_whole : (hart : ℕ) (whole front rest : List Message) → whole ≡ fr
     → EndsClosing front → front ≡ whole
 ends_whole hart whole front rest e order ends =
     let at : slice_get whole ends.0 ≡ Some ends.1 =
-    ap (λ l. slice_get l ends.0) e ∙ get_longer front rest ends.0 ends.1 ends.3 in
+    ap (λ l. slice_get l ends.0) e ∙ slice_get-front front rest ends.0 ends.1 ends.3 in
     let long : length whole ≡ ends.0 + 1 = order.closes_last ends.0 ends.1 at ends.4 in
     let some : length front ≡ ends.0 + 1 = ends.2 in
     let none : length rest ≡ 0 = let k = ap length e in omega (arith, length-append front rest) in

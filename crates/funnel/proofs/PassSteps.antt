@@ -1,5 +1,6 @@
 -- The steps at the views that ports and the outlet know.
-use Rattle.std.proofs.Common.{◌≡◌, ◌+◌, ◌<◌, ◌^◌, nat_le, ℕ, Bool, true, false, List, [], ◌∷◌, ◌++◌, length, Option, Some, sym, refl, ap, ◌∙◌, subst, arith, length-append}
+use Rattle.std.proofs.Common.{◌≡◌, ◌+◌, ◌<◌, ◌^◌, nat_le, ℕ, Bool, true, false, List, [], ◌∷◌, ◌++◌, length, Option}
+use Rattle.std.proofs.Common.{Some, sym, refl, ap, ◌∙◌, subst, arith, length-append}
 use Rattle.std.proofs.lemmas.Bool.Decides.{nat_tests}
 use Rattle.crossbeam_channel.specs.Fifo.{Pushes, Pops, Forks, Merges, Learns}
 use Rattle.payload.specs.Closing.{is_closing}
@@ -32,7 +33,8 @@ may_send n pass v x is number unfinished closing =
     let sent = sent_of v in
     let P : View → Type 0 = λ u. Pushes Kept n pass u x (SendsOn u x) in (
       subst P (sym is)
-          (sends_on n pass sent x number (none_closes sent (none_sent sent unfinished)) (few_sent sent unfinished) closing),
+          (sends_on n pass sent x number (none_closes sent (none_sent sent unfinished)) (few_sent sent unfinished)
+          closing),
       λ items views k at. tt,
     )
 
@@ -43,7 +45,8 @@ may_send_last n pass v x is number unfinished closing =
     let sent = sent_of v in
     let P : View → Type 0 = λ u. Pushes Kept n pass u x (SendsLast u x) in (
       subst P (sym is)
-          (sends_last n pass sent x number (none_closes sent (none_sent sent unfinished)) (few_sent sent unfinished) closing),
+          (sends_last n pass sent x number (none_closes sent (none_sent sent unfinished)) (few_sent sent unfinished)
+          closing),
       λ items views k at. tt,
     )
 

@@ -1,5 +1,8 @@
 -- What stands at a place of a list that another list, or one element, stands behind.
-use Rattle.std.proofs.Common.{◌≡◌, ◌⊎◌, inl, inr, ℕ, zero, suc, List, [], ◌∷◌, ◌++◌, Some, length, get_or, replicate, slice_get, refl, ap}
+use Rattle.std.proofs.Common.{◌≡◌, ◌⊎◌, ◌<◌, inl, inr, ⊎_elim, ℕ, zero, suc, List, [], ◌∷◌, ◌++◌, Some, length, get_or}
+use Rattle.std.proofs.Common.{replicate, slice_get, refl, sym, ap, arith}
+use mathlib.Core.Option.{some, some-ne-none}
+use lib.ListN.{get_elem?}
 use Rattle.std.proofs.lemmas.Option.{same_Some}
 
 -- What stands at a place still stands there with more behind it.
@@ -22,6 +25,28 @@ slice_get-next (a ∷ front) last (suc n) x is = behind (slice_get-next front la
         → (slice_get front n ≡ Some x) ⊎ ((suc n ≡ suc (length front)) × (last ≡ x))
     behind (inl before) = inl before
     behind (inr here) = inr (ap suc here.0, here.1)
+
+-- What stands right behind a list.
+pub slice_get-behind : {X : Type 0} (front : List X) (x : X) (more : List X)
+    → slice_get (front ++ x ∷ more) (length front) ≡ Some x
+slice_get-behind [] x more = refl
+slice_get-behind (a ∷ front) x more = slice_get-behind front x more
+
+-- Each place within a list has something.
+pub slice_get-some : {X : Type 0} (xs : List X) (n : ℕ) → n < length xs → (x : X) × (slice_get xs n ≡ Some x)
+slice_get-some [] n within = absurd (omega arith)
+slice_get-some (x ∷ xs) zero within = (x, refl)
+slice_get-some (x ∷ xs) (suc n) within = slice_get-some xs n (omega arith)
+
+-- With one element more, what stands at a place stood there before, or is that element.
+pub get_elem-next : {X : Type 0} (front : List X) (last x : X) (n : ℕ) → get_elem? (front ++ last ∷ []) n ≡ some x
+    → (get_elem? front n ≡ some x) ⊎ ((n ≡ length front) × (last ≡ x))
+get_elem-next [] last x zero is = inr (refl, cc)
+get_elem-next [] last x (suc n) is = absurd (some-ne-none x (sym is))
+get_elem-next (a ∷ front) last x zero is = inl is
+get_elem-next (a ∷ front) last x (suc n) is =
+    ⊎_elim (λ t. inl t) (λ (t : (n ≡ length front) × (last ≡ x)). inr (ap suc t.0, t.1))
+    (get_elem-next front last x n is)
 
 -- Each element of a list of one value repeated is that value, and so is what is read behind it.
 pub get_or-repeated : {X : Type 0} (count n : ℕ) (x : X) → get_or (replicate count x) n x ≡ x

@@ -1,5 +1,7 @@
 -- Each step keeps the rule, whatever the number of ports.
-use Rattle.std.proofs.Common.{◌≡◌, ◌≢◌, ◌⊎◌, ◌+◌, ◌<◌, ◌≤◌, ◌^◌, ℕ, zero, suc, true, false, List, [], ◌∷◌, ◌++◌, length, set, Option, Some, None, slice_get, sym, refl, ap, ◌∙◌, subst, inl, inr, ⊎_elim, append_assoc, arith, length-append}
+use Rattle.std.proofs.Common.{◌≡◌, ◌≢◌, ◌⊎◌, ◌+◌, ◌<◌, ◌≤◌, ◌^◌, ℕ, zero, suc, true, false, List, [], ◌∷◌, ◌++◌, length}
+use Rattle.std.proofs.Common.{set, Option, Some, None, slice_get, sym, refl, ap, ◌∙◌, subst, inl, inr, ⊎_elim}
+use Rattle.std.proofs.Common.{append_assoc, arith, length-append}
 use mathlib.Core.Option.{some, some-ne-none}
 use lib.ListN.{get_elem?}
 use mathlib.Core.Logic.{dite}
@@ -16,7 +18,7 @@ use Rattle.funnel.specs.declared.rule.View.{View}
 use Rattle.funnel.specs.declared.rule.View.TheVariants as V
 use Rattle.funnel.specs.Order.{AreInOrder}
 use Rattle.funnel.specs.Rule.{Fits, Kept, newborn, TakesOne, Compares, SendsOn, SendsLast}
-use Rattle.funnel.proofs.ListPlaces.{at_end, get_longer, get_behind, get_some}
+use Rattle.funnel.proofs.Places.{get_elem-next, slice_get-behind, slice_get-front, slice_get-some}
 use Rattle.funnel.proofs.OrderLemmas.{NoneCloses, in_order-next}
 
 abbrev All : (ℕ → View → Type 0) → List View → Type 0
@@ -51,7 +53,7 @@ begins = record {
   list = [];
   fits = λ p v e. ⊎_elim (λ (t : get_elem? [] p ≡ some v). absurd (some-ne-none v (sym t)))
       (λ (t : (p ≡ 0) × (newborn ≡ v)). subst (Fits 0 [] [] None [] [] p) t.1 (t.0, refl, refl, refl, refl))
-      (at_end [] newborn v p e);
+      (get_elem-next [] newborn v p e);
   in_order = λ h. record { numbered = λ n m e. cc; closes_last = λ n m e c. cc };
   few = λ h. omega arith;
   strangers = λ h _. refl;
@@ -108,7 +110,8 @@ pushes n pass s x number none room items views _ k at =
             (subst (AreInOrder h) (sym here) (in_order-next s x order none number)))
             (λ (t : _ × (j ≢ h)). subst (AreInOrder j) (sym (others j t.1)) (k.in_order j)) (eqb_tells j h);
         few = λ j. ⊎_elim
-            (λ (t : _ × (j ≡ h)). let e = ap length here in let same = ap (λ i. length (of_hart i (k.taken ++ more))) t.1 in
+            (λ (t : _ × (j ≡ h)). let e = ap length here in let same =
+            ap (λ i. length (of_hart i (k.taken ++ more))) t.1 in
             omega (arith, length-append s (x ∷ [])))
             (λ (t : _ × (j ≢ h)). let e = ap length (others j t.1) in let f = k.few j in omega arith) (eqb_tells j h);
         strangers = λ j past. others j (λ e. absurd (omega arith)) ∙ k.strangers j past;
@@ -130,8 +133,10 @@ sends_last n pass s x number none room last items views r k at =
     let p = pushes n pass s x number none room items views r k at in (p.0, p.1, (p.2, last))
 
 -- A view that a take leaves as it fits.
-passed_by : (o : ℕ) (seats : List ℕ) (t u : List Message) (told : Option ℕ) (l : List Message) (items more : List Message)
-    (p : ℕ) (v : View) → p ≢ o → u ++ more ≡ t ++ items → Fits o seats t told l items p v → Fits o seats u told l more p v
+passed_by : (o : ℕ) (seats : List ℕ) (t u : List Message) (told : Option ℕ) (l : List Message)
+    (items more : List Message)
+    (p : ℕ) (v : View) → p ≢ o → u ++ more ≡ t ++ items → Fits o seats t told l items p v
+    → Fits o seats u told l more p v
 passed_by o seats t u told l items more p (V.Outlet m a b c) other same f = absurd (other f.0)
 passed_by o seats t u told l items more p (V.Port g s) other same f = (f.0, f.1 ∙ ap (of_hart g) (sym same))
 passed_by o seats t u told l items more p V.Spent other same f = tt
@@ -155,9 +160,10 @@ takes pass made taken told list x items views k at =
     ∙ ap (λ l. of_hart h l ++ x ∷ of_hart h items) (sym mine.2) in
     let order : AreInOrder h (of_hart h taken ++ x ∷ of_hart h items) = subst (AreInOrder h) front (k.in_order h) in
     let number : x.number ≡ length (of_hart h taken) =
-    (order.numbered (length (of_hart h taken)) x (get_behind (of_hart h taken) x (of_hart h items))).1 in
+    (order.numbered (length (of_hart h taken)) x (slice_get-behind (of_hart h taken) x (of_hart h items))).1 in
     let below : x.number < 2 ^ 32 =
-    let f = k.few h in let e = ap length front in omega (arith, length-append (of_hart h taken) (x ∷ of_hart h items)) in
+    let f = k.few h in let e = ap length front in
+    omega (arith, length-append (of_hart h taken) (x ∷ of_hart h items)) in
     let known : h < made = ⊎_elim (λ (t : h < length k.seats). let m = mine.1 in omega arith)
     (λ (t : length k.seats ≤ h). let gone = sym front ∙ k.strangers h t in absurd
     (let e = ap length gone in omega (arith, length-append (of_hart h taken) (x ∷ of_hart h items))))
@@ -169,7 +175,8 @@ takes pass made taken told list x items views k at =
         taken = now;
         told = k.told;
         list = k.list;
-        fits = all_set (Fits k.outlet k.seats now k.told k.list items) views pass w (mine.0, mine.1, refl, mine.3, mine.4)
+        fits =
+            all_set (Fits k.outlet k.seats now k.told k.list items) views pass w (mine.0, mine.1, refl, mine.3, mine.4)
             (λ j u other e. passed_by k.outlet k.seats k.taken now k.told k.list (x ∷ items) items j u
             (λ q. other (q ∙ sym mine.0)) same (k.fits j u e));
         in_order = λ j. subst (AreInOrder j) (sym (ap (of_hart j) same)) (k.in_order j);
@@ -188,7 +195,7 @@ takes pass made taken told list x items views k at =
 kept_by : (o : ℕ) (seats : List ℕ) (t : List Message) (told : Option ℕ) (l : List Message) (items : List Message)
     (new p : ℕ) (v : View) → p ≢ o → Fits o seats t told l items p v → Fits o (seats ++ new ∷ []) t told l items p v
 kept_by o seats t told l items new p (V.Outlet m a b c) other f = absurd (other f.0)
-kept_by o seats t told l items new p (V.Port g s) other f = (get_longer seats (new ∷ []) g p f.0, f.1)
+kept_by o seats t told l items new p (V.Port g s) other f = (slice_get-front seats (new ∷ []) g p f.0, f.1)
 kept_by o seats t told l items new p V.Spent other f = tt
 
 -- The outlet may hand out the next port.
@@ -216,13 +223,13 @@ forks pass made taken told list items views k at =
       list = k.list;
       fits = λ p u e. ⊎_elim (λ (t : get_elem? cut p ≡ some u). old p u t)
           (λ (t : (p ≡ new) × (right ≡ u)). subst (F p) t.1
-          (ap (slice_get seats) mine.1 ∙ get_behind k.seats new [] ∙ ap Some (sym t.0), sym empty))
-          (at_end cut right u p e);
+          (ap (slice_get seats) mine.1 ∙ slice_get-behind k.seats new [] ∙ ap Some (sym t.0), sym empty))
+          (get_elem-next cut right u p e);
       in_order = k.in_order;
       few = k.few;
       strangers = λ j past. k.strangers j (omega (arith, length-append k.seats (new ∷ [])));
-      settled = λ g p t e. let known = get_some k.seats g (k.told_made g t) in
-          let here : slice_get seats g ≡ Some known.0 = get_longer k.seats (new ∷ []) g known.0 known.1 in
+      settled = λ g p t e. let known = slice_get-some k.seats g (k.told_made g t) in
+          let here : slice_get seats g ≡ Some known.0 = slice_get-front k.seats (new ∷ []) g known.0 known.1 in
           let q : known.0 ≡ p = cc in
           let was = k.settled g p t (known.1 ∙ ap Some q) in (
             at_longer cut (right ∷ []) p V.Spent
@@ -233,7 +240,8 @@ forks pass made taken told list items views k at =
     }
 
 -- A view that taking in another port leaves as it fits.
-beside : (o : ℕ) (seats : List ℕ) (t : List Message) (told told' : Option ℕ) (l l' : List Message) (items : List Message)
+beside : (o : ℕ) (seats : List ℕ) (t : List Message) (told told' : Option ℕ) (l l' : List Message)
+    (items : List Message)
     (p : ℕ) (v : View) → p ≢ o → Fits o seats t told l items p v → Fits o seats t told' l' items p v
 beside o seats t told told' l l' items p (V.Outlet m a b c) other f = absurd (other f.0)
 beside o seats t told told' l l' items p (V.Port g s) other f = f
@@ -245,7 +253,8 @@ set_there (x ∷ xs) zero a b e = refl
 set_there (x ∷ xs) (suc i) a b e = set_there xs i a b e
 
 -- The outlet may take in a port, whose list it notes.
-pub merges : (pass made : ℕ) (taken : List Message) (told : Option ℕ) (list : List Message) (other h : ℕ) (s : List Message)
+pub merges : (pass made : ℕ) (taken : List Message) (told : Option ℕ) (list : List Message) (other h : ℕ)
+    (s : List Message)
     → Merges Kept pass (V.Outlet made taken told list) other (V.Port h s) (V.Outlet made taken (Some h) s) V.Spent
 merges pass made taken told list other h s items views k at two at' =
     let v = V.Outlet made taken told list in
@@ -284,7 +293,7 @@ pub learns : (pass made : ℕ) (taken : List Message) (told : Option ℕ) (list 
 learns pass made taken told list items views k at h is =
     let mine = k.fits pass (V.Outlet made taken told list) at in
     let told_now : k.told ≡ Some h = sym mine.3 ∙ is in
-    let seat = get_some k.seats h (k.told_made h told_now) in
+    let seat = slice_get-some k.seats h (k.told_made h told_now) in
     let known : k.list ≡ of_hart h (k.taken ++ items) = (k.settled h seat.0 told_now seat.1).1 in
     let whole : list ≡ of_hart h (taken ++ items) = mine.4 ∙ known ∙ ap (λ t. of_hart h (t ++ items)) (sym mine.2) in (
       whole ∙ of_hart-append h taken items,

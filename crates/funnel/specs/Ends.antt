@@ -1,5 +1,6 @@
 -- What contracts see of a funnel's ports, of its outlet and of its receipts.
-use Rattle.std.specs.Prelude.{◌≡◌, ◌+◌, ◌<◌, ◌^◌, ◌++◌, ◌∷◌, [], length, ℕ, List, Bool, true, ◌||◌, nat_le, Some, slice_get}
+use Rattle.std.specs.Prelude.{◌≡◌, ◌+◌, ◌<◌, ◌^◌, ◌++◌, ◌∷◌, [], length, ℕ, List, Bool, true, ◌||◌, nat_le, Some}
+use Rattle.std.specs.Prelude.{slice_get}
 use Rattle.std.specs.List.{list_any}
 use Rattle.atomic_table.specs.Seated.{TableId}
 use Rattle.atomic_table.specs.declared.badge.Badge.{Badge}
@@ -48,7 +49,8 @@ IsBeginning front whole = (rest : List Message) × (whole ≡ front ++ rest)
 -- The last of the messages has a closing payload.
 abbrev pub EndsClosing : List Message → Type 0
 EndsClosing messages =
-    (n : ℕ) × (last : Message) × (length messages ≡ n + 1) × (slice_get messages n ≡ Some last) × (is_closing last.payload ≡ true)
+    (n : ℕ) × (last : Message) × (length messages ≡ n + 1) × (slice_get messages n ≡ Some last)
+    × (is_closing last.payload ≡ true)
 
 -- The port of a hart that sent nothing.
 abbrev pub new_port : FunnelId → ℕ → PortView

@@ -1,5 +1,6 @@
 -- The funnel machine: harts send messages into a queue of bounded length, from which they are taken in order.
-use Rattle.std.specs.Prelude.{ℕ, ◌++◌, nat_lt, if◌then◌else◌, List, [], ◌∷◌, Option, Some, None, length, replicate, slice_get, slice_index_or, slice_set}
+use Rattle.std.specs.Prelude.{ℕ, ◌++◌, nat_lt, if◌then◌else◌, List, [], ◌∷◌, Option, Some, None, length, replicate}
+use Rattle.std.specs.Prelude.{slice_get, slice_index_or, slice_set}
 use Rattle.message.specs.declared.message.Message.{Message}
 use Rattle.funnel.specs.Payloads.{payloads_of}
 use Rattle.funnel.specs.declared.turn.Turn.{Turn}

@@ -1,5 +1,7 @@
--- The rule of the channel: of each hart, what was taken and then what the channel holds is in order, and a live port knows just that list.
-use Rattle.std.specs.Prelude.{◌≡◌, ◌+◌, ◌<◌, ◌≤◌, ◌^◌, ℕ, false, true, List, [], ◌∷◌, ◌++◌, length, Option, Some, None, slice_get}
+-- The rule of the channel: of each hart, what was taken and then what the channel holds is in order, and a live port
+-- knows just that list.
+use Rattle.std.specs.Prelude.{◌≡◌, ◌+◌, ◌<◌, ◌≤◌, ◌^◌, ℕ, false, true, List, [], ◌∷◌, ◌++◌, length, Option, Some, None}
+use Rattle.std.specs.Prelude.{slice_get}
 use mathlib.Core.Option.{some}
 use lib.ListN.{get_elem?}
 use Rattle.payload.specs.Closing.{is_closing}
@@ -69,7 +71,8 @@ Compares (V.Outlet made taken told list) queue =
 Compares (V.Port _ _) queue = Unit {0}
 Compares V.Spent queue = Unit {0}
 
--- What a pass may know: the outlet's pass knows what was taken, a hart's one live pass all that the hart sent, and any other nothing.
+-- What a pass may know: the outlet's pass knows what was taken, a hart's one live pass all that the hart sent, and any
+-- other nothing.
 abbrev pub Fits : ℕ → List ℕ → List Message → Option ℕ → List Message → List Message → ℕ → View → Type 0
 Fits outlet seats taken told list queue pass (V.Outlet m t u l) =
     (pass ≡ outlet) × (m ≡ length seats) × (t ≡ taken) × (u ≡ told) × (l ≡ list)

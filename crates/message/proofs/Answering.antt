@@ -1,5 +1,6 @@
 -- What is answered to a message, by the tests in their order.
-use Rattle.std.proofs.Common.{◌≡◌, ◌<◌, ◌≤◌, ◌^◌, ◌⊎◌, ◌↔◌, ℕ, Bool, true, false, Option, Some, None, Result, Ok, Err, arith, nat_lt, refl, sym, inl, inr, length, slice_get, ap, if◌then◌else◌}
+use Rattle.std.proofs.Common.{◌≡◌, ◌<◌, ◌≤◌, ◌^◌, ◌⊎◌, ◌↔◌, ℕ, Bool, true, false, Option, Some, None, Result, Ok, Err}
+use Rattle.std.proofs.Common.{arith, nat_lt, refl, sym, inl, inr, length, slice_get, ap, if◌then◌else◌}
 use Rattle.std.specs.Prelude.{IsSomeAnd}
 use Rattle.std.proofs.lemmas.Bool.{ltb-true, ltb-false, lt-ltb, le-ltb}
 use Rattle.std.proofs.lemmas.Option.{slice_get_cases}
@@ -14,7 +15,8 @@ use Rattle.message.specs.declared.fault.DemuxFault.{DemuxFault}
 use Rattle.message.specs.declared.fault.DemuxFault.TheVariants as fault
 
 -- The next number of an open hart answers its packet.
-pub answer-next : (h : Hart) (m : Message) (packet : Packet) → h.closed ≡ false → h.expected < 2 ^ 63 → m.number ≡ h.expected → reading m.payload ≡ Ok packet
+pub answer-next : (h : Hart) (m : Message) (packet : Packet) → h.closed ≡ false → h.expected < 2 ^ 63
+    → m.number ≡ h.expected → reading m.payload ≡ Ok packet
     → answer h m ≡ Ok packet
 answer-next h m packet going few next read =
     let few_yet = lt-ltb h.expected (2 ^ 63) few in
@@ -32,10 +34,13 @@ by_tests : (h : Hart) (m : Message) (P : Answer → Type 0)
     → (is_over h ≡ false → h.expected < m.number → P (Err (fault.Gap h.expected)))
     → (is_over h ≡ false → h.expected ≡ m.number → P (packet_or_fault (reading m.payload)))
     → P (answer h m)
-by_tests h m P over low high next = go (is_over h) (nat_lt m.number h.expected) (nat_lt h.expected m.number) refl refl refl
+by_tests h m P over low high next =
+    go (is_over h) (nat_lt m.number h.expected) (nat_lt h.expected m.number) refl refl refl
   where
     go : (o l g : Bool) → is_over h ≡ o → nat_lt m.number h.expected ≡ l → nat_lt h.expected m.number ≡ g
-        → P (if o then Err fault.AfterClose else if l then Err fault.Repeat else if g then Err (fault.Gap h.expected) else packet_or_fault (reading m.payload))
+        → P
+        (if o then Err fault.AfterClose else if l then Err fault.Repeat else if g then Err (fault.Gap h.expected)
+        else packet_or_fault (reading m.payload))
     go true l g p q r = over p
     go false true g p q r = low p (ltb-true m.number h.expected q)
     go false false true p q r = high p (ltb-true h.expected m.number r)
@@ -64,7 +69,8 @@ kind-packet_or_fault (Ok packet) = inl refl
 kind-packet_or_fault (Err why) = inr refl
 
 -- What a payload gives is no answer of another kind.
-unpacked_apart : (a : Answer) (r : Result Packet PackFault) → (kind a ≡ 0 → ⊥) → (kind a ≡ 5 → ⊥) → packet_or_fault r ≡ a → ⊥
+unpacked_apart : (a : Answer) (r : Result Packet PackFault) → (kind a ≡ 0 → ⊥) → (kind a ≡ 5 → ⊥)
+    → packet_or_fault r ≡ a → ⊥
 unpacked_apart a (Ok packet) p q e = p (sym (ap kind e))
 unpacked_apart a (Err why) p q e = q (sym (ap kind e))
 
@@ -77,14 +83,20 @@ after_close h m = by_tests h m (λ r. (r ≡ Err fault.AfterClose) ↔ (is_over 
     (λ over. (λ e. over, λ w. refl))
     (λ going low. (λ e. absurd (apart _ _ (inr (omega arith)) e), λ w. absurd (not_both _ w going)))
     (λ going high. (λ e. absurd (apart _ _ (inr (omega arith)) e), λ w. absurd (not_both _ w going)))
-    (λ going next. (λ e. absurd (unpacked_apart _ (reading m.payload) (λ k. omega (arith, k)) (λ k. omega (arith, k)) e), λ w. absurd (not_both _ w going)))
+    (λ going next. (
+      λ e. absurd (unpacked_apart _ (reading m.payload) (λ k. omega (arith, k)) (λ k. omega (arith, k)) e),
+      λ w. absurd (not_both _ w going),
+    ))
 
 repeat : (h : Hart) (m : Message) → (answer h m ≡ Err fault.Repeat) ↔ (Going h × (m.number < h.expected))
 repeat h m = by_tests h m (λ r. (r ≡ Err fault.Repeat) ↔ (Going h × (m.number < h.expected)))
     (λ over. (λ e. absurd (apart _ _ (inl (omega arith)) e), λ w. absurd (not_both _ over w.0)))
     (λ going low. (λ e. (going, low), λ w. refl))
     (λ going high. (λ e. absurd (apart _ _ (inr (omega arith)) e), λ w. absurd (let l = w.1 in omega (arith, l, high))))
-    (λ going next. (λ e. absurd (unpacked_apart _ (reading m.payload) (λ k. omega (arith, k)) (λ k. omega (arith, k)) e), λ w. absurd (let l = w.1 in omega (arith, l, next))))
+    (λ going next. (
+      λ e. absurd (unpacked_apart _ (reading m.payload) (λ k. omega (arith, k)) (λ k. omega (arith, k)) e),
+      λ w. absurd (let l = w.1 in omega (arith, l, next)),
+    ))
 
 -- The number that a gap tells.
 abbrev gap_of : Answer → ℕ
@@ -95,12 +107,23 @@ gap_of (Err fault.Repeat) = 0
 gap_of (Err (fault.Gap expected)) = expected
 gap_of (Err (fault.Packet why)) = 0
 
-gap : (h : Hart) (m : Message) (k : ℕ) → (answer h m ≡ Err (fault.Gap k)) ↔ (Going h × ((h.expected ≡ k) × (k < m.number)))
+gap : (h : Hart) (m : Message) (k : ℕ)
+    → (answer h m ≡ Err (fault.Gap k)) ↔ (Going h × ((h.expected ≡ k) × (k < m.number)))
 gap h m k = by_tests h m (λ r. (r ≡ Err (fault.Gap k)) ↔ (Going h × ((h.expected ≡ k) × (k < m.number))))
     (λ over. (λ e. absurd (apart _ _ (inl (omega arith)) e), λ w. absurd (not_both _ over w.0)))
-    (λ going low. (λ e. absurd (apart _ _ (inl (omega arith)) e), λ w. absurd (let a = w.1.0 in let b = w.1.1 in omega (arith, a, b, low))))
-    (λ going high. (λ e. let same : h.expected ≡ k = ap gap_of e in (going, (same, omega (arith, same, high))), λ w. ap (λ n. Err (fault.Gap n)) w.1.0))
-    (λ going next. (λ e. absurd (unpacked_apart _ (reading m.payload) (λ n. omega (arith, n)) (λ n. omega (arith, n)) e), λ w. absurd (let a = w.1.0 in let b = w.1.1 in omega (arith, a, b, next))))
+    (λ going low. (
+      λ e. absurd (apart _ _ (inl (omega arith)) e),
+      λ w. absurd (let a = w.1.0 in let b = w.1.1 in omega (arith, a, b, low)),
+    ))
+    (λ going high. (
+      λ e. let same : h.expected ≡ k = ap gap_of e in
+          (going, (same, omega (arith, same, high))),
+      λ w. ap (λ n. Err (fault.Gap n)) w.1.0,
+    ))
+    (λ going next. (
+      λ e. absurd (unpacked_apart _ (reading m.payload) (λ n. omega (arith, n)) (λ n. omega (arith, n)) e),
+      λ w. absurd (let a = w.1.0 in let b = w.1.1 in omega (arith, a, b, next)),
+    ))
 
 -- What a payload gave to an answer, or else this.
 abbrev reading_of : Result Packet PackFault → Answer → Result Packet PackFault
@@ -124,38 +147,56 @@ unpacked_kind r a w e =
     let high = w.1 in
     unpacked_apart a r (λ k. omega (arith, k, low)) (λ k. omega (arith, k, high)) (sym e)
 
-unpacked : (h : Hart) (m : Message) (r : Result Packet PackFault) → (answer h m ≡ packet_or_fault r) ↔ (Going h × (h.expected ≡ m.number) × (reading m.payload ≡ r))
-unpacked h m r = by_tests h m (λ a. (a ≡ packet_or_fault r) ↔ (Going h × (h.expected ≡ m.number) × (reading m.payload ≡ r)))
+unpacked : (h : Hart) (m : Message) (r : Result Packet PackFault)
+    → (answer h m ≡ packet_or_fault r) ↔ (Going h × (h.expected ≡ m.number) × (reading m.payload ≡ r))
+unpacked h m r =
+    by_tests h m (λ a. (a ≡ packet_or_fault r) ↔ (Going h × (h.expected ≡ m.number) × (reading m.payload ≡ r)))
     (λ over. (λ e. absurd (unpacked_kind r _ (omega arith, omega arith) e), λ w. absurd (not_both _ over w.0)))
-    (λ going low. (λ e. absurd (unpacked_kind r _ (omega arith, omega arith) e), λ w. absurd (let n = w.1 in omega (arith, n, low))))
-    (λ going high. (λ e. absurd (unpacked_kind r _ (omega arith, omega arith) e), λ w. absurd (let n = w.1 in omega (arith, n, high))))
+    (λ going low. (
+      λ e. absurd (unpacked_kind r _ (omega arith, omega arith) e),
+      λ w. absurd (let n = w.1 in omega (arith, n, low)),
+    ))
+    (λ going high. (
+      λ e. absurd (unpacked_kind r _ (omega arith, omega arith) e),
+      λ w. absurd (let n = w.1 in omega (arith, n, high)),
+    ))
     (λ going next. (λ e. (going, next, packet_or_fault-back (reading m.payload) r e), λ w. ap packet_or_fault w.2))
 
 -- AfterClose is answered exactly where the hart is known and over.
-pub answer-after_close : (o : Option Hart) (m : Message) → (answer_of o m ≡ Err fault.AfterClose) ↔ IsSomeAnd o (λ h. is_over h ≡ true)
+pub answer-after_close : (o : Option Hart) (m : Message)
+    → (answer_of o m ≡ Err fault.AfterClose) ↔ IsSomeAnd o (λ h. is_over h ≡ true)
 answer-after_close None m = (λ e. absurd (apart _ _ (inl (omega arith)) e), λ w. absurd w)
 answer-after_close (Some h) m = after_close h m
 
 -- Repeat is answered exactly where the hart is known and open, and the number below the expected one.
-pub answer-repeat : (o : Option Hart) (m : Message) → (answer_of o m ≡ Err fault.Repeat) ↔ IsSomeAnd o (λ h. Going h × (m.number < h.expected))
+pub answer-repeat : (o : Option Hart) (m : Message)
+    → (answer_of o m ≡ Err fault.Repeat) ↔ IsSomeAnd o (λ h. Going h × (m.number < h.expected))
 answer-repeat None m = (λ e. absurd (apart _ _ (inl (omega arith)) e), λ w. absurd w)
 answer-repeat (Some h) m = repeat h m
 
 -- Gap is answered exactly where the hart is known and open, and the number above the expected one, which is told.
-pub answer-gap : (o : Option Hart) (m : Message) (k : ℕ) → (answer_of o m ≡ Err (fault.Gap k)) ↔ IsSomeAnd o (λ h. Going h × ((h.expected ≡ k) × (k < m.number)))
+pub answer-gap : (o : Option Hart) (m : Message) (k : ℕ)
+    → (answer_of o m ≡ Err (fault.Gap k)) ↔ IsSomeAnd o (λ h. Going h × ((h.expected ≡ k) × (k < m.number)))
 answer-gap None m k = (λ e. absurd (apart _ _ (inl (omega arith)) e), λ w. absurd w)
 answer-gap (Some h) m k = gap h m k
 
 -- What the payload gives is answered exactly where the hart is known and open, and the number is the expected one.
 pub answer-unpacked : (o : Option Hart) (m : Message) (r : Result Packet PackFault)
-    → (answer_of o m ≡ packet_or_fault r) ↔ (IsSomeAnd o (λ h. Going h × (h.expected ≡ m.number)) × (reading m.payload ≡ r))
+    → (answer_of o m ≡ packet_or_fault r) ↔
+    (IsSomeAnd o (λ h. Going h × (h.expected ≡ m.number)) × (reading m.payload ≡ r))
 answer-unpacked None m r = (λ e. absurd (unpacked_kind r _ (omega arith, omega arith) e), λ w. absurd w.0)
-answer-unpacked (Some h) m r = let law = unpacked h m r in (λ e. let w = law.0 e in ((w.0, w.1), w.2), λ w. law.1 (w.0.0, w.0.1, w.1))
+answer-unpacked (Some h) m r = let law = unpacked h m r in
+    (λ e. let w = law.0 e in ((w.0, w.1), w.2), λ w. law.1 (w.0.0, w.0.1, w.1))
 
 -- Stranger is answered exactly where the hart is not known.
-pub answer-stranger : (harts : Harts) (m : Message) → (answer_of (slice_get harts m.hart) m ≡ Err fault.Stranger) ↔ (length harts ≤ m.hart)
+pub answer-stranger : (harts : Harts) (m : Message)
+    → (answer_of (slice_get harts m.hart) m ≡ Err fault.Stranger) ↔ (length harts ≤ m.hart)
 answer-stranger harts m = elim (slice_get_cases harts m.hart).1 [
-  | inl known ↦ rw known.2 (λ e. absurd (known_hart known.0 m e), λ past. absurd (let within = known.1 in omega (arith, within, past)))
+  | inl known ↦
+      rw known.2 (
+        λ e. absurd (known_hart known.0 m e),
+        λ past. absurd (let within = known.1 in omega (arith, within, past)),
+      )
   | inr past ↦ rw past.1 (λ e. past.0, λ w. refl)
 ]
   where

@@ -1,7 +1,11 @@
 -- What bytes begin with, by the tests in their order.
-use Rattle.std.proofs.Common.{◌≡◌, ◌<◌, ◌≤◌, ◌↔◌, ◌+◌, ◌-◌, ◌==◌, ◌||◌, ◌++◌, ℕ, zero, suc, Bool, true, false, nat_lt, if◌then◌else◌, List, [], ◌∷◌, Option, Some, None, Result, Ok, Err, IfOk, IfSome, length, take, drop, replicate, slice_index, refl, sym, ap, subst, ◌∙◌, arith, inl, inr, take-append-drop, length-take-le}
+use Rattle.std.proofs.Common.{◌≡◌, ◌<◌, ◌≤◌, ◌↔◌, ◌+◌, ◌-◌, ◌==◌, ◌||◌, ◌++◌, ℕ, zero, suc, Bool, true, false, nat_lt}
+use Rattle.std.proofs.Common.{if◌then◌else◌, List, [], ◌∷◌, Option, Some, None, Result, Ok, Err, IfOk, IfSome, length}
+use Rattle.std.proofs.Common.{take, drop, replicate, slice_index, refl, sym, ap, subst, ◌∙◌, arith, inl, inr}
+use Rattle.std.proofs.Common.{take-append-drop, length-take-le}
 use Rattle.std.proofs.lemmas.Bool.{ltb-true, ltb-false, le-ltb, eqb-true, eqb-false, ne_eqb, or_cases, or_parts}
-use Rattle.std.proofs.lemmas.List.{length-append, length-drop, length-replicate, drop-drop, get_or-take, get_or_append_left}
+use Rattle.std.proofs.lemmas.List.{length-append, length-drop, length-replicate, drop-drop, get_or-take}
+use Rattle.std.proofs.lemmas.List.{get_or_append_left}
 use lib.Seq.{take-append_seam}
 use Rattle.message.specs.Capture.{message_bytes}
 use Rattle.message.specs.Cut.{IsCut, IsMessage, IsBadLength}
@@ -22,11 +26,15 @@ by_tests : (bytes : List ℕ) (P : Answer → Type 0)
     → (length bytes ≡ 0 → P (Ok None))
     → (1 ≤ length bytes → length bytes ≤ 10 → P (Err fault.Short))
     → (11 ≤ length bytes → IsBadLength (slice_index bytes 10) → P (Err fault.BadLength))
-    → (11 ≤ length bytes → 1 ≤ slice_index bytes 10 → slice_index bytes 10 ≤ 18 → length bytes < 11 + slice_index bytes 10 → P (Err fault.Short))
+    → (11 ≤ length bytes → 1 ≤ slice_index bytes 10 → slice_index bytes 10 ≤ 18
+    → length bytes < 11 + slice_index bytes 10 → P (Err fault.Short))
     → (1 ≤ slice_index bytes 10 → slice_index bytes 10 ≤ 18 → 11 + slice_index bytes 10 ≤ length bytes
     → P (Ok (Some (message_of (take 11 bytes) (take (slice_index bytes 10) (drop 11 bytes))))))
     → P (first_message bytes)
-by_tests bytes P none few bad cut whole = go (length bytes == 0) refl (nat_lt (length bytes) 11) refl (slice_index bytes 10 == 0 || nat_lt 18 (slice_index bytes 10)) refl (nat_lt (length (drop 11 bytes)) (slice_index bytes 10)) refl
+by_tests bytes P none few bad cut whole =
+    go (length bytes == 0) refl (nat_lt (length bytes) 11) refl
+    (slice_index bytes 10 == 0 || nat_lt 18 (slice_index bytes 10)) refl
+    (nat_lt (length (drop 11 bytes)) (slice_index bytes 10)) refl
   where
     count : ℕ
     count = slice_index bytes 10
@@ -37,8 +45,11 @@ by_tests bytes P none few bad cut whole = go (length bytes == 0) refl (nat_lt (l
       | inr high ↦ inr (ltb-true 18 count high)
     ]
 
-    go : (n : Bool) → (length bytes == 0) ≡ n → (h : Bool) → nat_lt (length bytes) 11 ≡ h → (b : Bool) → (count == 0 || nat_lt 18 count) ≡ b → (s : Bool) → nat_lt (length (drop 11 bytes)) count ≡ s
-        → P (if n then Ok None else if h then Err fault.Short else if b then Err fault.BadLength else if s then Err fault.Short else Ok (Some (message_of (take 11 bytes) (take count (drop 11 bytes)))))
+    go : (n : Bool) → (length bytes == 0) ≡ n → (h : Bool) → nat_lt (length bytes) 11 ≡ h → (b : Bool)
+        → (count == 0 || nat_lt 18 count) ≡ b → (s : Bool) → nat_lt (length (drop 11 bytes)) count ≡ s
+        → P
+        (if n then Ok None else if h then Err fault.Short else if b then Err fault.BadLength else if s then Err
+        fault.Short else Ok (Some (message_of (take 11 bytes) (take count (drop 11 bytes)))))
     go true n h hs b bs s ss = none (eqb-true (length bytes) 0 n)
     go false n true h b bs s ss =
         let some = eqb-false (length bytes) 0 n in
@@ -86,24 +97,34 @@ count_in_head bytes = get_or-take 11 bytes 10 0 (omega arith)
 few_is_cut : (bytes : List ℕ) → AreBytes bytes → 1 ≤ length bytes → length bytes ≤ 10 → IsCut bytes
 few_is_cut bytes are some few =
     let zeros = replicate (11 - length bytes) 0 in
-    let long : length (bytes ++ zeros) ≡ 11 = let both = length-append bytes zeros in let more = length-replicate {A = ℕ} (11 - length bytes) 0 in omega (arith, both, more, few) in
-    subst IsCut (take-append_seam bytes zeros) (IsCut-head (bytes ++ zeros) (length bytes) long (AreBytes-padded (11 - length bytes) bytes are) some few)
+    let long : length (bytes ++ zeros) ≡ 11 = let both = length-append bytes zeros in let more =
+    length-replicate {A = ℕ} (11 - length bytes) 0 in omega (arith, both, more, few) in
+    subst IsCut (take-append_seam bytes zeros)
+    (IsCut-head (bytes ++ zeros) (length bytes) long (AreBytes-padded (11 - length bytes) bytes are) some few)
 
 -- A whole head and not all of its payload begin a message.
-head_is_cut : (bytes : List ℕ) → AreBytes bytes → 11 ≤ length bytes → 1 ≤ slice_index bytes 10 → slice_index bytes 10 ≤ 18 → length bytes < 11 + slice_index bytes 10 → IsCut bytes
+head_is_cut : (bytes : List ℕ) → AreBytes bytes → 11 ≤ length bytes → 1 ≤ slice_index bytes 10
+    → slice_index bytes 10 ≤ 18 → length bytes < 11 + slice_index bytes 10 → IsCut bytes
 head_is_cut bytes are head some few less =
     let count = slice_index bytes 10 in
     let rest = drop 11 bytes in
     let left = length-drop 11 bytes in
     let zeros = replicate (count - length rest) 0 in
-    let long : length (rest ++ zeros) ≡ count = let both = length-append rest zeros in let more = length-replicate {A = ℕ} (count - length rest) 0 in omega (arith, both, more, left, less) in
+    let long : length (rest ++ zeros) ≡ count = let both = length-append rest zeros in let more =
+    length-replicate {A = ℕ} (count - length rest) 0 in omega (arith, both, more, left, less) in
     let told : length (rest ++ zeros) ≡ slice_index (take 11 bytes) 10 = long ∙ sym (count_in_head bytes) in
-    let joined : take 11 bytes ++ take (length rest) (rest ++ zeros) ≡ bytes = ap (λ (l : List ℕ). take 11 bytes ++ l) (take-append_seam rest zeros) ∙ take-append-drop 11 bytes in
-    subst IsCut joined (IsCut-payload (take 11 bytes) (rest ++ zeros) (length rest) (length-take-le 11 bytes head) (AreBytes-take 11 bytes are) (AreBytes-padded (count - length rest) rest (AreBytes-drop 11 bytes are)) told (omega (arith, long, some)) (omega (arith, long, few)) (omega (arith, long, left, less, head)))
+    let joined : take 11 bytes ++ take (length rest) (rest ++ zeros) ≡ bytes =
+    ap (λ (l : List ℕ). take 11 bytes ++ l) (take-append_seam rest zeros) ∙ take-append-drop 11 bytes in
+    subst IsCut joined
+    (IsCut-payload (take 11 bytes) (rest ++ zeros) (length rest) (length-take-le 11 bytes head)
+    (AreBytes-take 11 bytes are) (AreBytes-padded (count - length rest) rest (AreBytes-drop 11 bytes are)) told
+    (omega (arith, long, some)) (omega (arith, long, few)) (omega (arith, long, left, less, head)))
 
 -- Of a cut message the byte for the payload's length, where it is there, tells a length that fits.
-cut_length : (bytes : List ℕ) (cut : IsCut bytes) → 11 ≤ length bytes → slice_index bytes 10 ≡ length cut.message.payload
-cut_length bytes cut head = sym (get_or_append_left bytes cut.rest 0 10 (omega (arith, head))) ∙ ap (λ (l : List ℕ). slice_index l 10) cut.whole
+cut_length : (bytes : List ℕ) (cut : IsCut bytes) → 11 ≤ length bytes
+    → slice_index bytes 10 ≡ length cut.message.payload
+cut_length bytes cut head = sym (get_or_append_left bytes cut.rest 0 10 (omega (arith, head)))
+    ∙ ap (λ (l : List ℕ). slice_index l 10) cut.whole
 
 -- A cut message is not as long as its head and its payload.
 cut_short : (bytes : List ℕ) (cut : IsCut bytes) → length bytes < 11 + length cut.message.payload
@@ -126,10 +147,22 @@ kind (Err fault.Write) = 5
 pub first_message-end : (bytes : List ℕ) → (first_message bytes ≡ Ok None) ↔ (bytes ≡ [])
 first_message-end bytes = by_tests bytes (λ r. (r ≡ Ok None) ↔ (bytes ≡ []))
     (λ none. (λ e. length-zero bytes none, λ is. refl))
-    (λ some few. (λ e. absurd (let k = ap kind e in omega (arith, k)), λ is. absurd (let n = ap length is in omega (arith, n, some))))
-    (λ head bad. (λ e. absurd (let k = ap kind e in omega (arith, k)), λ is. absurd (let n = ap length is in omega (arith, n, head))))
-    (λ head some few less. (λ e. absurd (let k = ap kind e in omega (arith, k)), λ is. absurd (let n = ap length is in omega (arith, n, head))))
-    (λ some few fits. (λ e. absurd (let k = ap kind e in omega (arith, k)), λ is. absurd (let n = ap length is in omega (arith, n, fits))))
+    (λ some few. (
+      λ e. absurd (let k = ap kind e in omega (arith, k)),
+      λ is. absurd (let n = ap length is in omega (arith, n, some)),
+    ))
+    (λ head bad. (
+      λ e. absurd (let k = ap kind e in omega (arith, k)),
+      λ is. absurd (let n = ap length is in omega (arith, n, head)),
+    ))
+    (λ head some few less. (
+      λ e. absurd (let k = ap kind e in omega (arith, k)),
+      λ is. absurd (let n = ap length is in omega (arith, n, head)),
+    ))
+    (λ some few fits. (
+      λ e. absurd (let k = ap kind e in omega (arith, k)),
+      λ is. absurd (let n = ap length is in omega (arith, n, fits)),
+    ))
   where
     length-zero : (xs : List ℕ) → length xs ≡ 0 → xs ≡ []
     length-zero [] none = refl
@@ -138,11 +171,18 @@ first_message-end bytes = by_tests bytes (λ r. (r ≡ Ok None) ↔ (bytes ≡ [
 -- Short is answered exactly where the bytes begin a message and are not all of it.
 pub first_message-short : (bytes : List ℕ) → AreBytes bytes → (first_message bytes ≡ Err fault.Short) ↔ IsCut bytes
 first_message-short bytes are = by_tests bytes (λ r. (r ≡ Err fault.Short) ↔ IsCut bytes)
-    (λ none. (λ e. absurd (let k = ap kind e in omega (arith, k)), λ cut. absurd (let some = cut.some in omega (arith, none, some))))
+    (λ none. (
+      λ e. absurd (let k = ap kind e in omega (arith, k)),
+      λ cut. absurd (let some = cut.some in omega (arith, none, some)),
+    ))
     (λ some few. (λ e. few_is_cut bytes are some few, λ cut. refl))
     (λ head bad. (λ e. absurd (let k = ap kind e in omega (arith, k)), λ cut. absurd (in_range head bad cut)))
     (λ head some few less. (λ e. head_is_cut bytes are head some few less, λ cut. refl))
-    (λ some few fits. (λ e. absurd (let k = ap kind e in omega (arith, k)), λ cut. absurd (let told = cut_length bytes cut (omega (arith, fits)) in let short = cut_short bytes cut in omega (arith, fits, told, short))))
+    (λ some few fits. (
+      λ e. absurd (let k = ap kind e in omega (arith, k)),
+      λ cut. absurd (let told = cut_length bytes cut (omega (arith, fits)) in let short = cut_short bytes cut in
+          omega (arith, fits, told, short)),
+    ))
   where
     in_range : 11 ≤ length bytes → IsBadLength (slice_index bytes 10) → IsCut bytes → ⊥
     in_range head bad cut =
@@ -153,7 +193,11 @@ first_message-short bytes are = by_tests bytes (λ r. (r ≡ Err fault.Short) �
 
 -- The message that bytes begin with stands in their front.
 abbrev pub Stands : List ℕ → Answer → Type 0
-Stands bytes r = IfOk r (λ found. IfSome found (λ m. (bytes ≡ message_bytes m ++ drop (11 + length m.payload) bytes) × (11 + length m.payload ≤ length bytes)))
+Stands bytes r =
+    IfOk r
+    (λ found. IfSome found
+    (λ m. (bytes ≡ message_bytes m ++ drop (11 + length m.payload) bytes)
+    × (11 + length m.payload ≤ length bytes)))
 
 pub first_message-stands : (bytes : List ℕ) → AreBytes bytes → Stands bytes (first_message bytes)
 first_message-stands bytes are = by_tests bytes (Stands bytes)
@@ -166,18 +210,29 @@ first_message-stands bytes are = by_tests bytes (Stands bytes)
     count : ℕ
     count = slice_index bytes 10
 
-    stands : 11 + count ≤ length bytes → Stands bytes (Ok (Some (message_of (take 11 bytes) (take count (drop 11 bytes)))))
+    stands : 11 + count ≤ length bytes
+        → Stands bytes (Ok (Some (message_of (take 11 bytes) (take count (drop 11 bytes)))))
     stands fits =
         let m = message_of (take 11 bytes) (take count (drop 11 bytes)) in
         let left = length-drop 11 bytes in
-        let long : length (take count (drop 11 bytes)) ≡ count = length-take-le count (drop 11 bytes) (omega (arith, left, fits)) in
-        let head = head_bytes-read m (take 11 bytes) (length-take-le 11 bytes (omega (arith, fits))) (AreBytes-take 11 bytes are) refl refl (long ∙ sym (count_in_head bytes)) in
-        let behind : drop 11 bytes ≡ take count (drop 11 bytes) ++ drop (11 + length m.payload) bytes = sym (take-append-drop count (drop 11 bytes)) ∙ ap (λ (l : List ℕ). take count (drop 11 bytes) ++ l) (drop-drop count 11 bytes ∙ ap (λ n. drop (11 + n) bytes) (sym long)) in
-        let whole : bytes ≡ take 11 bytes ++ (take count (drop 11 bytes) ++ drop (11 + length m.payload) bytes) = sym (take-append-drop 11 bytes) ∙ ap (λ (l : List ℕ). take 11 bytes ++ l) behind in
-        (whole ∙ ap (λ (l : List ℕ). l ++ (m.payload ++ drop (11 + length m.payload) bytes)) (sym head), omega (arith, long, fits))
+        let long : length (take count (drop 11 bytes)) ≡ count =
+        length-take-le count (drop 11 bytes) (omega (arith, left, fits)) in
+        let head =
+        head_bytes-read m (take 11 bytes) (length-take-le 11 bytes (omega (arith, fits)))
+        (AreBytes-take 11 bytes are) refl refl (long ∙ sym (count_in_head bytes)) in
+        let behind : drop 11 bytes ≡ take count (drop 11 bytes) ++ drop (11 + length m.payload) bytes =
+        sym (take-append-drop count (drop 11 bytes))
+        ∙ ap (λ (l : List ℕ). take count (drop 11 bytes) ++ l)
+        (drop-drop count 11 bytes ∙ ap (λ n. drop (11 + n) bytes) (sym long)) in
+        let whole : bytes ≡ take 11 bytes ++ (take count (drop 11 bytes) ++ drop (11 + length m.payload) bytes) =
+        sym (take-append-drop 11 bytes) ∙ ap (λ (l : List ℕ). take 11 bytes ++ l) behind in (
+          whole ∙ ap (λ (l : List ℕ). l ++ (m.payload ++ drop (11 + length m.payload) bytes)) (sym head),
+          omega (arith, long, fits),
+        )
 
 -- A message that bytes begin with is what they begin with.
-pub first_message-reads_back : (m : Message) (rest : List ℕ) → IsMessage m → first_message (message_bytes m ++ rest) ≡ Ok (Some m)
+pub first_message-reads_back : (m : Message) (rest : List ℕ) → IsMessage m
+    → first_message (message_bytes m ++ rest) ≡ Ok (Some m)
 first_message-reads_back m rest is =
     let count = length m.payload in
     let some = is.some in
@@ -188,6 +243,7 @@ first_message-reads_back m rest is =
     let whole : nat_lt (length bytes) 11 ≡ false = le-ltb (length bytes) 11 (omega arith) in
     let none : (count == 0) ≡ false = ne_eqb count 0 (λ e. omega (arith, e, some)) in
     let high : nat_lt 18 count ≡ false = le-ltb 18 count few in
-    let fits : nat_lt (length (m.payload ++ rest)) count ≡ false = le-ltb (length (m.payload ++ rest)) count (omega (arith, long)) in
+    let fits : nat_lt (length (m.payload ++ rest)) count ≡ false =
+    le-ltb (length (m.payload ++ rest)) count (omega (arith, long)) in
     let same = message_in-message_bytes m rest is in
     rw (begun, whole, none, high, fits) (ap (λ n. Ok (Some n)) same)

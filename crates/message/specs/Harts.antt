@@ -1,5 +1,6 @@
 -- What a demultiplexer expects of each hart.
-use Rattle.std.specs.Prelude.{◌^◌, ℕ, nat_lt, not, ◌||◌, Bool, false, List, Option, Some, None, IsSomeAnd, IsTrue, IsFalse, slice_get}
+use Rattle.std.specs.Prelude.{◌^◌, ℕ, nat_lt, not, ◌||◌, Bool, false, List, Option, Some, None, IsSomeAnd, IsTrue}
+use Rattle.std.specs.Prelude.{IsFalse, slice_get}
 use Rattle.message.specs.declared.hart.Hart.{Hart}
 
 -- What is expected of hart h stands at place h.

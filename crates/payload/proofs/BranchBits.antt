@@ -1,5 +1,6 @@
 -- Bits that read as an address packet or as a map are its fields, and its fields read as the packet.
-use Rattle.std.proofs.Common.{◌≡◌, ℕ, ◌+◌, ◌-◌, ◌/◌, ◌^◌, ◌≤◌, inl, inr, ◌==◌, Bool, false, List, [], ◌∷◌, length, Ok, refl, sym, ap, ◌∙◌, subst, arith, eqb-true, ne_eqb}
+use Rattle.std.proofs.Common.{◌≡◌, ℕ, ◌+◌, ◌-◌, ◌/◌, ◌^◌, ◌≤◌, inl, inr, ◌==◌, Bool, false, List, [], ◌∷◌, length, Ok}
+use Rattle.std.proofs.Common.{refl, sym, ap, ◌∙◌, subst, arith, eqb-true, ne_eqb}
 use Rattle.std.proofs.lemmas.Bool.{eqb-false}
 use Rattle.payload.specs.Faults.{part, address_behind_map}
 use Rattle.payload.specs.Fields.{total}

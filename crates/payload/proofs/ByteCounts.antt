@@ -1,5 +1,6 @@
 -- How many bytes a magnitude takes.
-use Rattle.std.proofs.Common.{◌≡◌, ℕ, zero, suc, ◌+◌, ◌-◌, ◌*◌, ◌/◌, ◌^◌, ◌<◌, ◌≤◌, inl, inr, true, false, ltb, arith, le-ltb, lt-ltb}
+use Rattle.std.proofs.Common.{◌≡◌, ℕ, zero, suc, ◌+◌, ◌-◌, ◌*◌, ◌/◌, ◌^◌, ◌<◌, ◌≤◌, inl, inr, true, false, ltb, arith}
+use Rattle.std.proofs.Common.{le-ltb, lt-ltb}
 use Rattle.std.proofs.Math.Nat.{pow-le-pow_right, pow-suc}
 use Rattle.std.proofs.lemmas.Nat.{leading_length}
 use Rattle.std.proofs.lemmas.Bool.{cases_lt}

@@ -1,5 +1,6 @@
 -- Numbers that go on with copies of their top bit.
-use Rattle.std.proofs.Common.{◌≡◌, ℕ, zero, suc, ◌+◌, ◌-◌, ◌*◌, ◌/◌, ◌%◌, ◌^◌, ◌<◌, ◌≤◌, inl, inr, refl, sym, ap, ◌∙◌, arith, le-ltb, lt-ltb}
+use Rattle.std.proofs.Common.{◌≡◌, ℕ, zero, suc, ◌+◌, ◌-◌, ◌*◌, ◌/◌, ◌%◌, ◌^◌, ◌<◌, ◌≤◌, inl, inr, refl, sym, ap, ◌∙◌}
+use Rattle.std.proofs.Common.{arith, le-ltb, lt-ltb}
 use Prim.Native.Nat.{min}
 use Rattle.std.proofs.Math.Nat.{pow-le-pow_right, pow-suc, suc-mul, min-eq_left, min-eq_right, mod-eq_of_lt}
 use Rattle.std.proofs.lemmas.Nat.{pow-add, mod_low, pow_pos, shr_high}

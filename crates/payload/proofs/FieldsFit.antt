@@ -1,8 +1,10 @@
 -- The fields of each packet of the profile fit their widths.
-use Rattle.std.proofs.Common.{◌≡◌, ℕ, ◌-◌, ◌/◌, ◌^◌, ◌<◌, ◌≤◌, Bool, true, false, List, [], ◌∷◌, length, refl, subst, arith}
+use Rattle.std.proofs.Common.{◌≡◌, ℕ, ◌-◌, ◌/◌, ◌^◌, ◌<◌, ◌≤◌, Bool, true, false, List, [], ◌∷◌, length, refl, subst}
+use Rattle.std.proofs.Common.{arith}
 use Rattle.payload.specs.Fields.{Field, field, total}
 use Rattle.payload.specs.Outcomes.{map_width, map_of}
-use Rattle.payload.specs.PacketFields.{branch_of, flag_of, trap_fields, unused_bits, branches_fields, fields_with, address_fields, report_fields}
+use Rattle.payload.specs.PacketFields.{branch_of, flag_of, trap_fields, unused_bits, branches_fields, fields_with}
+use Rattle.payload.specs.PacketFields.{address_fields, report_fields}
 use Rattle.payload.specs.Profile.{IsAddress, AreOutcomes, InProfile}
 use Rattle.payload.specs.declared.packet.Packet.{Packet}
 use Rattle.payload.specs.declared.packet.Packet.TheVariants as packet

@@ -1,16 +1,24 @@
 -- Reading one kind after the other names the first fault, or else the packet.
-use Rattle.std.proofs.Common.{◌≡◌, ℕ, zero, suc, ◌+◌, ◌-◌, ◌*◌, ◌%◌, ◌^◌, ◌<◌, ◌≤◌, inl, inr, Bool, true, false, cond, ltb, ◌==◌, ◌&&◌, not, List, [], length, Some, None, Ok, Err, refl, sym, ap, ◌∙◌, arith, eq-eqb, ne_eqb, eqb-true, lt-ltb, le-ltb, ltb-false}
+use Rattle.std.proofs.Common.{◌≡◌, ℕ, zero, suc, ◌+◌, ◌-◌, ◌*◌, ◌%◌, ◌^◌, ◌<◌, ◌≤◌, inl, inr, Bool, true, false, cond}
+use Rattle.std.proofs.Common.{ltb, ◌==◌, ◌&&◌, not, List, [], length, Some, None, Ok, Err, refl, sym, ap, ◌∙◌, arith}
+use Rattle.std.proofs.Common.{eq-eqb, ne_eqb, eqb-true, lt-ltb, le-ltb, ltb-false}
 use Rattle.std.proofs.lemmas.Bool.{cases_lt, eqb-false}
 use Rattle.std.proofs.lemmas.Nat.{mod_below, pow_pos}
 use Rattle.payload.specs.Bytes.{number, IsBytes}
 use Rattle.payload.specs.Extension.{extended, magnitude}
-use Rattle.payload.specs.Faults.{bits_of, part, is_sync, is_trap, is_interrupt, is_support, is_address_alone, trap_width, is_status, is_bad_tail, is_bad_report_at, address_behind_map, first_fault_of_bits}
-use Rattle.payload.specs.Reading.{support_from, report_from, trap_from, address_from, outcomes_from, packet_in, fault_or, reading}
-use Rattle.payload.specs.steps.ReadingByKind.{sync_reading, trap_reading, support_reading, report_in, reported, address_reading, map_reading, branches_reading, reading_of_bits, reading_by_kind}
+use Rattle.payload.specs.Faults.{bits_of, part, is_sync, is_trap, is_interrupt, is_support, is_address_alone}
+use Rattle.payload.specs.Faults.{trap_width, is_status, is_bad_tail, is_bad_report_at, address_behind_map}
+use Rattle.payload.specs.Faults.{first_fault_of_bits}
+use Rattle.payload.specs.Reading.{support_from, report_from, trap_from, address_from, outcomes_from, packet_in}
+use Rattle.payload.specs.Reading.{fault_or, reading}
+use Rattle.payload.specs.steps.ReadingByKind.{sync_reading, trap_reading, support_reading, report_in, reported}
+use Rattle.payload.specs.steps.ReadingByKind.{address_reading, map_reading, branches_reading, reading_of_bits}
+use Rattle.payload.specs.steps.ReadingByKind.{reading_by_kind}
 use Rattle.payload.specs.declared.packet.Packet.{Packet}
 use Rattle.payload.specs.declared.packet.Packet.TheVariants as packet
 use Rattle.payload.specs.declared.packet.Support.TheVariants as support
-use Rattle.payload.specs.declared.fault.PackFault.TheVariants.{Empty, TooLong, BadPad, Unsupported, BadPrivilege, BadReport}
+use Rattle.payload.specs.declared.fault.PackFault.TheVariants.{Empty, TooLong, BadPad, Unsupported, BadPrivilege}
+use Rattle.payload.specs.declared.fault.PackFault.TheVariants.{BadReport}
 use Rattle.payload.proofs.AddressBits.{three_bits}
 use Rattle.payload.proofs.ByteLists.{number-lt}
 use Rattle.payload.proofs.Choices.{both_true}

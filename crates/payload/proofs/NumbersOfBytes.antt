@@ -1,8 +1,11 @@
 -- Reading bytes as numbers.
-use Rattle.std.proofs.Common.{◌≡◌, ℕ, zero, suc, ◌+◌, ◌-◌, ◌*◌, ◌/◌, ◌%◌, ◌^◌, ◌<◌, ◌≤◌, ◌⊎◌, inl, inr, List, [], ◌∷◌, ◌++◌, length, take, drop, get_or, replicate, refl, sym, ap, ◌∙◌, arith, append_assoc, length-drop}
+use Rattle.std.proofs.Common.{◌≡◌, ℕ, zero, suc, ◌+◌, ◌-◌, ◌*◌, ◌/◌, ◌%◌, ◌^◌, ◌<◌, ◌≤◌, ◌⊎◌, inl, inr, List, [], ◌∷◌}
+use Rattle.std.proofs.Common.{◌++◌, length, take, drop, get_or, replicate, refl, sym, ap, ◌∙◌, arith, append_assoc}
+use Rattle.std.proofs.Common.{length-drop}
 use Rattle.std.proofs.Math.Nat.{pow-suc, pow-le-pow_right, mul_comm, div-div-eq-div-mul, zero-div}
 use Rattle.std.proofs.lemmas.Nat.{pow-add}
-use Rattle.std.proofs.lemmas.List.{length-append, length-replicate, drop-replicate, append-nil, take-append-drop, drop-drop}
+use Rattle.std.proofs.lemmas.List.{length-append, length-replicate, drop-replicate, append-nil, take-append-drop}
+use Rattle.std.proofs.lemmas.List.{drop-drop}
 use Rattle.std.proofs.Math.Seq.{take-suc}
 use Rattle.std.specs.Int.{byte_worth, sum_through, from_le_bytes, w16, w32, w64, w128}
 use Rattle.payload.specs.Bytes.{number, IsBytes}
@@ -171,7 +174,8 @@ overlapped k xs h some few =
     let count : length xs - k + j ≡ k = omega arith in
     let behind : drop j last ≡ drop k xs = drop-drop j (length xs - k) xs ∙ ap (λ n. drop n xs) count in
     let part : number (take k last) / 2 ^ (8 * j) ≡ number (drop k xs) =
-    ap (λ l. number l / 2 ^ (8 * j)) (take_whole last k size) ∙ sym (number-drop j last (bytes-drop (length xs - k) xs h))
+    ap (λ l. number l / 2 ^ (8 * j)) (take_whole last k size)
+    ∙ sym (number-drop j last (bytes-drop (length xs - k) xs h))
     ∙ ap number behind in
     ap (λ n. number (take k xs) + 2 ^ (8 * k) * n) part
     ∙ ap (λ n. number (take k xs) + 2 ^ (8 * n) * number (drop k xs)) (sym (take_length xs k some))
@@ -187,7 +191,8 @@ pub two_parts : (k : ℕ) (xs : List ℕ) (a b : ℕ) → IsBytes xs → k ≤ l
 two_parts k xs a b h some few short is_a is_b =
     let x = b / 2 ^ (8 * (2 * k - length xs)) in
     let whole : a + 2 ^ (8 * k) * x ≡ number xs = rw (is_a, is_b) (overlapped k xs h some few) in
-    let wide : 2 ^ (8 * length xs) ≤ 2 ^ 128 = pow-le-pow_right {n = 2} (omega arith) {j = 128} (omega (arith, short)) in
+    let wide : 2 ^ (8 * length xs) ≤ 2 ^ 128 =
+    pow-le-pow_right {n = 2} (omega arith) {j = 128} (omega (arith, short)) in
     small_sum a (2 ^ (8 * k) * x) (x * 2 ^ (8 * k)) (number xs) (2 ^ (8 * length xs)) whole (mul_comm x (2 ^ (8 * k)))
     (number-lt xs h) wide
 

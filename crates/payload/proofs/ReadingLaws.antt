@@ -1,5 +1,7 @@
 -- What bytes unpack to, against what they spell.
-use Rattle.std.proofs.Common.{◌≡◌, ℕ, ◌*◌, ◌^◌, ◌<◌, ◌≤◌, inl, inr, false, cond, ltb, ◌==◌, List, [], ◌∷◌, length, Option, Some, None, Ok, Err, refl, sym, ◌∙◌, subst, arith, eqb-true, ne_eqb, ltb-false, le-ltb}
+use Rattle.std.proofs.Common.{◌≡◌, ℕ, ◌*◌, ◌^◌, ◌<◌, ◌≤◌, inl, inr, false, cond, ltb, ◌==◌, List, [], ◌∷◌, length}
+use Rattle.std.proofs.Common.{Option, Some, None, Ok, Err, refl, sym, ◌∙◌, subst, arith, eqb-true, ne_eqb, ltb-false}
+use Rattle.std.proofs.Common.{le-ltb}
 use Rattle.std.proofs.lemmas.Bool.{eqb-false}
 use Rattle.std.proofs.lemmas.Nat.{pow_pos}
 use Rattle.std.specs.Result.{result_err}
@@ -8,7 +10,8 @@ use Rattle.payload.specs.PacketFields.{unused_bits, fields_with, fields}
 use Rattle.payload.specs.Faults.{bits_of, part, is_sync, is_trap, is_support, is_address_alone}
 use Rattle.payload.specs.Profile.{InProfile}
 use Rattle.payload.specs.Reading.{fault_or, reading}
-use Rattle.payload.specs.steps.ReadingByKind.{sync_reading, trap_reading, support_reading, address_reading, branches_reading, reading_of_bits, reading_by_kind}
+use Rattle.payload.specs.steps.ReadingByKind.{sync_reading, trap_reading, support_reading, address_reading}
+use Rattle.payload.specs.steps.ReadingByKind.{branches_reading, reading_of_bits, reading_by_kind}
 use Rattle.payload.specs.Spelling.{Spelt, IsShortest, payload_of}
 use Rattle.payload.specs.declared.packet.Packet.{Packet}
 use Rattle.payload.specs.declared.packet.Packet.TheVariants as packet

@@ -1,5 +1,6 @@
 -- Bits that read as a sync packet are its fields, and its fields read as the packet.
-use Rattle.std.proofs.Common.{◌≡◌, ◌≢◌, ℕ, zero, suc, ◌*◌, ◌/◌, ◌<◌, inl, inr, Bool, true, false, eqb, ◌==◌, Ok, Err, refl, arith, eq-eqb, ne_eqb}
+use Rattle.std.proofs.Common.{◌≡◌, ◌≢◌, ℕ, zero, suc, ◌*◌, ◌/◌, ◌<◌, inl, inr, Bool, true, false, eqb, ◌==◌, Ok, Err}
+use Rattle.std.proofs.Common.{refl, arith, eq-eqb, ne_eqb}
 use Rattle.payload.specs.Faults.{part}
 use Rattle.payload.specs.PacketFields.{branch_of}
 use Rattle.payload.specs.steps.ReadingByKind.{padded, sync_reading}

@@ -1,5 +1,6 @@
 -- Bits that read as a trap packet are its fields, and its fields read as the packet.
-use Rattle.std.proofs.Common.{◌≡◌, ◌≢◌, ℕ, zero, suc, ◌-◌, ◌*◌, ◌^◌, ◌<◌, inl, inr, Bool, true, false, cond, ◌==◌, Ok, Err, refl, arith, ne_eqb}
+use Rattle.std.proofs.Common.{◌≡◌, ◌≢◌, ℕ, zero, suc, ◌-◌, ◌*◌, ◌^◌, ◌<◌, inl, inr, Bool, true, false, cond, ◌==◌, Ok}
+use Rattle.std.proofs.Common.{Err, refl, arith, ne_eqb}
 use Rattle.std.proofs.lemmas.Bool.{eqb-false}
 use Rattle.payload.specs.Extension.{magnitude}
 use Rattle.payload.specs.Faults.{part, is_interrupt, trap_width}

@@ -1,5 +1,6 @@
 -- Tests on numbers of 144 bits.
-use Rattle.std.proofs.Common.{◌≡◌, ◌≢◌, ℕ, ◌+◌, ◌-◌, ◌*◌, ◌/◌, ◌%◌, ◌^◌, ◌<◌, ◌≤◌, inl, inr, false, ltb, ◌==◌, refl, sym, ap, ◌∙◌, arith, le-ltb, lt-ltb, eq-eqb, ne_eqb, bit_and}
+use Rattle.std.proofs.Common.{◌≡◌, ◌≢◌, ℕ, ◌+◌, ◌-◌, ◌*◌, ◌/◌, ◌%◌, ◌^◌, ◌<◌, ◌≤◌, inl, inr, false, ltb, ◌==◌, refl}
+use Rattle.std.proofs.Common.{sym, ap, ◌∙◌, arith, le-ltb, lt-ltb, eq-eqb, ne_eqb, bit_and}
 use Rattle.std.proofs.Math.Nat.{pow-le-pow_right, add-mul-mod_self_left}
 use Rattle.std.proofs.lemmas.Nat.{one_shl, and_mask, field_of, pow-add}
 use Rattle.std.proofs.lemmas.Bool.{cases_lt}

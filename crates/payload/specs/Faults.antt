@@ -1,12 +1,14 @@
 -- Why bytes are no payload of a packet: the tests in their order.
-use Rattle.std.specs.Prelude.{ℕ, ◌+◌, ◌*◌, ◌/◌, ◌%◌, ◌^◌, nat_lt, ◌==◌, ◌&&◌, ◌||◌, not, if◌then◌else◌, Bool, List, length, Option, Some, None}
+use Rattle.std.specs.Prelude.{ℕ, ◌+◌, ◌*◌, ◌/◌, ◌%◌, ◌^◌, nat_lt, ◌==◌, ◌&&◌, ◌||◌, not, if◌then◌else◌, Bool, List}
+use Rattle.std.specs.Prelude.{length, Option, Some, None}
 use Rattle.payload.specs.Bytes.{number}
 use Rattle.payload.specs.Extension.{extended}
 use Rattle.payload.specs.Layout as layout
 use Rattle.payload.specs.Layout.{Place}
 use Rattle.payload.specs.Outcomes.{map_width}
 use Rattle.payload.specs.declared.fault.PackFault.{PackFault}
-use Rattle.payload.specs.declared.fault.PackFault.TheVariants.{Empty, TooLong, BadPad, Unsupported, BadPrivilege, BadReport}
+use Rattle.payload.specs.declared.fault.PackFault.TheVariants.{Empty, TooLong, BadPad, Unsupported, BadPrivilege}
+use Rattle.payload.specs.declared.fault.PackFault.TheVariants.{BadReport}
 
 -- The 144 bits that bytes spell, which go on with copies of the last byte's top bit.
 abbrev pub bits_of : List ℕ → ℕ

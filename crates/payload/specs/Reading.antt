@@ -1,6 +1,8 @@
 -- What bytes unpack to.
-use Rattle.std.specs.Prelude.{ℕ, ◌+◌, ◌*◌, ◌==◌, not, if◌then◌else◌, Bool, List, [], Option, Some, None, Result, Ok, Err}
-use Rattle.payload.specs.Faults.{bits_of, part, field_at, is_sync, is_trap, is_interrupt, is_support, is_address_alone, is_map_alone, address_behind_map, first_fault}
+use Rattle.std.specs.Prelude.{ℕ, ◌+◌, ◌*◌, ◌==◌, not, if◌then◌else◌, Bool, List, [], Option, Some, None, Result, Ok}
+use Rattle.std.specs.Prelude.{Err}
+use Rattle.payload.specs.Faults.{bits_of, part, field_at, is_sync, is_trap, is_interrupt, is_support, is_address_alone}
+use Rattle.payload.specs.Faults.{is_map_alone, address_behind_map, first_fault}
 use Rattle.payload.specs.Layout as layout
 use Rattle.payload.specs.Outcomes.{outcomes}
 use Rattle.payload.specs.declared.packet.Packet.{Packet}

@@ -1,3 +1,4 @@
+pub mod BothTrue
 pub mod TableLemmas
 pub mod NumberLemmas
 pub mod RowLemmas

@@ -17,7 +17,7 @@ below_room value i h n =
     let k : 16 ^ 15 ≡ 2 ^ 60 = refl in
     omega (arith, m, k, h)
 
-pub one_digit_more : (value i d : ℕ) → value < 16 ^ i → d < 16 → value * 16 + d < 16 ^ (i + 1)
+one_digit_more : (value i d : ℕ) → value < 16 ^ i → d < 16 → value * 16 + d < 16 ^ (i + 1)
 one_digit_more value i d h n =
     let e : 16 ^ (i + 1) ≡ 16 ^ i * 16 = rw add-one (pow-suc 16 i) in
     rw e (omega (arith, h, n))
@@ -57,6 +57,30 @@ pub digits_value-digit_more : (text : List ℕ) (i : ℕ) → i < length text �
     → digits_value 16 (take (i + 1) text) ≡ digits_value 16 (take i text) * 16 + hex_value (get_or text i 0)
 digits_value-digit_more text i n other =
     rw (digits_value_more 16 text i n, is_hex_digit-value (get_or text i 0) other) refl
+
+-- So many bytes of a text were read: they are digits, and this is their number.
+pub record AreRead (text : List ℕ) (count value : ℕ) : Type 0 where
+  pub small : value < 16 ^ count
+  pub digits : list_all is_hex_digit (take count text) ≡ true
+  pub spelt : value ≡ digits_value 16 (take count text)
+
+-- There is room for one digit more.
+pub room_for_digit : (text : List ℕ) (count value : ℕ) → AreRead text count value → count < 16
+    → (hex_value (get_or text count 0) ≡ 16 → ⊥) → value * 16 + hex_value (get_or text count 0) < 2 ^ 64
+room_for_digit text count value read few other =
+    let room = below_room value count read.small few in
+    let digit = hex_value-small (get_or text count 0) other in
+    omega (arith, room, digit)
+
+-- It is read.
+pub digit_read : (text : List ℕ) (count value : ℕ) → AreRead text count value → count < length text
+    → (hex_value (get_or text count 0) ≡ 16 → ⊥)
+    → AreRead text (count + 1) (value * 16 + hex_value (get_or text count 0))
+digit_read text count value read within other = record {
+  small = one_digit_more value count _ read.small (hex_value-small (get_or text count 0) other);
+  digits = list_all-digit_more text count within other read.digits;
+  spelt = rw (digits_value-digit_more text count within other, ← read.spelt) refl;
+}
 
 pub list_all-digit_none : (text : List ℕ) (i : ℕ) → i < length text → hex_value (get_or text i 0) ≡ 16
     → list_all is_hex_digit text ≡ false

@@ -10,6 +10,7 @@ use Rattle.csv.specs.declared.parser.State.TheVariants as st
 use Rattle.retire.specs.PlainText.{PlainIsParted, is_filled, is_line_end, is_plain, lines_parted, parted}
 use Rattle.retire.specs.steps.RowsLeft.{IsStart, records_left}
 use Rattle.retire.proofs.RecordsLemmas.{records_left-none, records_left-some}
+use Rattle.retire.proofs.BothTrue.{both_true}
 
 -- The records from the middle of one: its fields so far, and the bytes of the field at hand.
 abbrev records_within : State → List (List ℕ) → List ℕ → List ℕ → List (List (List ℕ))
@@ -148,10 +149,6 @@ no_return c n = elim (cases_Bool (c == 13)) [
   | inr m ↦ m
 ]
 
-and-both : (a b : Bool) → (a && b) ≡ true → (a ≡ true) × (b ≡ true)
-and-both true b e = (refl, e)
-and-both false b e = cc e
-
 not-false : (a : Bool) → not a ≡ true → a ≡ false
 not-false true e = cc e
 not-false false e = refl
@@ -182,7 +179,7 @@ left-more c text left within s start = elim (cases_Bool (is_line_end c)) [
 both : (text : List ℕ) → is_plain text ≡ true → Left text × Within text
 both [] h = (left-nil, within-nil)
 both (c ∷ text) h =
-    let parts = and-both (not (c == 34)) (is_plain text) h in
+    let parts = both_true (not (c == 34)) (is_plain text) h in
     let more = both text parts.1 in
     let within = within-more c text (not-false (c == 34) parts.0) more.0 more.1 in
     (left-more c text more.0 within, within)
@@ -193,7 +190,7 @@ pub left-plain : (text : List ℕ) (s : State) → is_plain text ≡ true → Is
 left-plain text s h start = (both text h).0 s start
 
 is_plain-tail : (c : ℕ) (text : List ℕ) → is_plain (c ∷ text) ≡ true → is_plain text ≡ true
-is_plain-tail c text h = (and-both (not (c == 34)) (is_plain text) h).1
+is_plain-tail c text h = (both_true (not (c == 34)) (is_plain text) h).1
 
 is_plain-strip : (text : List ℕ) → is_plain text ≡ true → is_plain (strip_bom text) ≡ true
 unfolding strip_bom

@@ -19,17 +19,14 @@ use Rattle.retire.proofs.HexLemmas.{list_any-AllDigits}
 use Rattle.retire.proofs.PlainRowLemmas.{all-AllDigits, needs_prefix, no_garbled}
 use Rattle.retire.proofs.RangeLemmas.{with_event-ok}
 use Rattle.retire.proofs.RoundTrip.{events_from-fields}
-
-and-both : (a b : Bool) → (a && b) ≡ true → (a ≡ true) × (b ≡ true)
-and-both true b e = (refl, e)
-and-both false b e = cc e
+use Rattle.retire.proofs.BothTrue.{both_true}
 
 or-both : (a b : Bool) → (a || b) ≡ false → (a ≡ false) × (b ≡ false)
 or-both false b e = (refl, e)
 or-both true b e = cc e
 
 numeral-plain : (text : List ℕ) → is_numeral text ≡ true → list_any (needs_byte default_writer) text ≡ false
-numeral-plain text e = list_any-AllDigits text (all-AllDigits text (and-both _ (list_all is_hex_digit text) e).1)
+numeral-plain text e = list_any-AllDigits text (all-AllDigits text (both_true _ (list_all is_hex_digit text) e).1)
 
 spelling-plain : (field : List ℕ) → is_numeral (without_prefix field) ≡ true
     → list_any (needs_byte default_writer) field ≡ false

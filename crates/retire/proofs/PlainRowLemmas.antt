@@ -26,10 +26,7 @@ use Rattle.retire.proofs.PlainLemmas.{left-end, left-within}
 use Rattle.retire.proofs.HexLemmas.{digits_number-numeral, list_any-AllDigits, without_prefix-AllDigits}
 use Rattle.retire.proofs.NumberLemmas.{digit_below_16, digits_value-digit_more, list_all-digit_more}
 use Rattle.retire.proofs.RecordsLemmas.{records_left-none, records_left-some}
-
-and-both : (a b : Bool) → (a && b) ≡ true → (a ≡ true) × (b ≡ true)
-and-both true b e = (refl, e)
-and-both false b e = cc e
+use Rattle.retire.proofs.BothTrue.{both_true}
 
 or-left : (a b : Bool) → (a || b) ≡ false → a ≡ false
 or-left false b e = refl
@@ -54,7 +51,7 @@ plain-byte b e = (other b 44 e refl, other b 34 e refl, other b 13 e refl, other
 pub all-AllDigits : (text : List ℕ) → list_all is_hex_digit text ≡ true → AllDigits 16 text
 all-AllDigits [] h = tt
 all-AllDigits (c ∷ rest) h =
-    let parts = and-both (is_hex_digit c) (list_all is_hex_digit rest) h in
+    let parts = both_true (is_hex_digit c) (list_all is_hex_digit rest) h in
     (digit_below_16 c parts.0, all-AllDigits rest parts.1)
 
 length-front : (count : ℕ) (text : List ℕ) → count ≤ length text → length (take count text) ≡ count
@@ -93,7 +90,7 @@ field-none text rest count none e = ([], rw (e, none) refl, (refl, refl, refl))
 
 pub needs_prefix : (a b : ℕ) → is_prefix a b ≡ true
     → (needs_byte default_writer a ≡ false) × (needs_byte default_writer b ≡ false)
-needs_prefix a b h = let parts = and-both (a == 48) ((b == 120) || (b == 88)) h in (
+needs_prefix a b h = let parts = both_true (a == 48) ((b == 120) || (b == 88)) h in (
   rw (eqb-true a 48 parts.0) refl,
   elim (cases_Bool (b == 120)) [
     | inl y ↦ rw (eqb-true b 120 y) refl

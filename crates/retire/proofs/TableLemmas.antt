@@ -2,22 +2,19 @@
 use Rattle.std.proofs.Common.{◌≡◌, ◌<◌, ◌==◌, ◌&&◌, ℕ, zero, suc, List, Bool, true, false, get_or, refl, arith, inl}
 use Rattle.std.proofs.Common.{inr}
 use Rattle.std.proofs.lemmas.Bool.{cases_eq, eqb-true}
+use Rattle.retire.proofs.BothTrue.{both_true}
 
 -- The two agree below n.
 unfoldable pub agree_below : (ℕ → ℕ) → (ℕ → ℕ) → ℕ → Bool
 agree_below f g zero = true
 agree_below f g (suc n) = (f n == g n) && agree_below f g n
 
-both_of : (a b : Bool) → (a && b) ≡ true → (a ≡ true) × (b ≡ true)
-both_of true b e = (refl, e)
-both_of false b e = cc e
-
 -- So they do at each place below n.
 pub agree_at : (f g : ℕ → ℕ) (n : ℕ) → agree_below f g n ≡ true → (b : ℕ) → b < n → f b ≡ g b
 unfolding agree_below
 agree_at f g zero h b low = absurd (omega arith)
 agree_at f g (suc n) h b low =
-    let both = both_of (f n == g n) (agree_below f g n) h in
+    let both = both_true (f n == g n) (agree_below f g n) h in
     elim (cases_eq b n)
     [ inl same ↦ rw same (eqb-true (f n) (g n) both.0) | inr other ↦ agree_at f g n both.1 b (omega arith) ]
 

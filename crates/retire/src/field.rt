@@ -7,7 +7,7 @@ ghost use Rattle.retire.specs.steps.PlainRow.{EndsField, HasCell, HasDigits, Has
 
 use crate::hex::{NO_DIGIT, after_prefix, value_of};
 
-// The digits at the front of a text.
+/// The digits at the front of a text.
 #[derive(Clone, Copy)]
 struct Digits {
     value: u64,

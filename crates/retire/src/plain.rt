@@ -16,7 +16,7 @@ use crate::row::event_of_numbers;
 use crate::short_row::{PlainRow, short_row};
 use std::alloc::Allocator;
 
-// The bytes of a short row, for a guess at how many rows a text has.
+/// The bytes of a short row, for a guess at how many rows a text has.
 const ROW_BYTES: usize = 12;
 
 /// What follows the end of a line.

@@ -14,10 +14,10 @@ use csv::{ByteRecord, Reader, ReaderBuilder};
 use std::alloc::{Allocator, Global};
 use std::io::Read;
 
-// The most rows of a log.
+/// The most rows of a log.
 pub(crate) const ROWS: u32 = 16_777_216;
 
-// What an error of the reader tells.
+/// What an error of the reader tells.
 fn fault_of(error: csv::Error) -> LogFault
     ensures { result ≡ fault_of_error error }
 {
@@ -28,7 +28,7 @@ fn fault_of(error: csv::Error) -> LogFault
     }
 }
 
-// Reads the next record, if there is one.
+/// Reads the next record, if there is one.
 fn next_record<R: Read + Drop>(
     reader: &mut Reader<R>,
     line: &mut ByteRecord,
@@ -47,7 +47,7 @@ fn next_record<R: Read + Drop>(
     }
 }
 
-// The events of the rows that the reader has left.
+/// The events of the rows that the reader has left.
 fn read_rows<A: Allocator, R: Read + Drop>(
     mut events: Vec<Event, A>,
     reader: &mut Reader<R>,
@@ -80,7 +80,7 @@ fn read_rows<A: Allocator, R: Read + Drop>(
     Ok(events)
 }
 
-// The events of the log that the reader stands before.
+/// The events of the log that the reader stands before.
 fn read_records<A: Allocator, R: Read + Drop>(
     events: Vec<Event, A>,
     global: Global,

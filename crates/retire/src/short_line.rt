@@ -8,7 +8,7 @@ ghost use Rattle.retire.specs.declared.event.Event.TheVariants.{Retire};
 /// How many bytes such a line has.
 pub(crate) const SHORT_LINE: usize = 15;
 
-// The lower-case digits.
+/// The lower-case digits.
 #[rattlefmt::skip]
 static DIGITS: [u8; 16] = [
     b'0', b'1', b'2', b'3', b'4', b'5', b'6', b'7', b'8', b'9', b'a', b'b', b'c', b'd', b'e', b'f',
@@ -23,7 +23,7 @@ pub(crate) fn digit_of(value: u8) -> u8
     DIGITS[usize::from(value)]
 }
 
-// The two lower-case digits of each byte, the first one in the low bits.
+/// The two lower-case digits of each byte, the first one in the low bits.
 #[rattlefmt::skip]
 static PAIRS: [u16; 256] = [
     0x3030, 0x3130, 0x3230, 0x3330, 0x3430, 0x3530, 0x3630, 0x3730,

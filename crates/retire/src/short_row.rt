@@ -16,7 +16,7 @@ pub struct PlainRow<'a> {
     pub rest: &'a [u8],
 }
 
-// The digits of a type and of a privilege behind an address, and what follows the line.
+/// The digits of a type and of a privilege behind an address, and what follows the line.
 #[derive(Clone, Copy)]
 struct Tail<'a> {
     itype: u8,

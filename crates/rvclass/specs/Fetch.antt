@@ -1,5 +1,6 @@
 -- The words of an image, by the RISC-V Unprivileged ISA's "Base Instruction-Length Encoding".
-use Rattle.std.specs.Prelude.{ℕ, ◌+◌, ◌-◌, ◌*◌, ◌%◌, ◌^◌, nat_le, ◌==◌, ◌&&◌, not, if◌then◌else◌, Bool, length, slice_index, Some, None}
+use Rattle.std.specs.Prelude.{ℕ, ◌+◌, ◌-◌, ◌*◌, ◌%◌, ◌^◌, nat_le, ◌==◌, ◌&&◌, not, if◌then◌else◌, Bool, length}
+use Rattle.std.specs.Prelude.{slice_index, Some, None}
 use Rattle.rvclass.specs.Bits.{bits}
 use Rattle.rvclass.specs.Image.{Image}
 use Rattle.rvclass.specs.Word16.{class16}

@@ -1,5 +1,6 @@
 -- What bytes begin with.
-use Rattle.std.specs.Prelude.{ℕ, ◌==◌, ◌||◌, nat_lt, if◌then◌else◌, List, length, take, drop, slice_index, Option, Some, None, Result, Ok, Err}
+use Rattle.std.specs.Prelude.{ℕ, ◌==◌, ◌||◌, nat_lt, if◌then◌else◌, List, length, take, drop, slice_index, Option, Some}
+use Rattle.std.specs.Prelude.{None, Result, Ok, Err}
 use Rattle.byteorder.specs.Endian.{little_number}
 use Rattle.message.specs.declared.message.Message.{Message}
 use Rattle.message.specs.declared.fault.MessageFault.{MessageFault}
@@ -7,7 +8,8 @@ use Rattle.message.specs.declared.fault.MessageFault.TheVariants as fault
 
 -- The message of a head and a payload.
 abbrev pub message_of : List ℕ → List ℕ → Message
-message_of head payload = record { hart = little_number 2 head; number = little_number 8 (drop 2 head); payload = payload }
+message_of head payload =
+    record { hart = little_number 2 head; number = little_number 8 (drop 2 head); payload = payload }
 
 -- The message of a head and the payload that so many of the bytes behind it are, where they are that many.
 abbrev pub with_payload : List ℕ → List ℕ → ℕ → Result (Option Message) MessageFault

@@ -1,7 +1,9 @@
 -- What bytes unpack to, one kind of packet after the other, as `unpack` reads them: the same as `reading`.
-use Rattle.std.specs.Prelude.{ℕ, ◌+◌, ◌-◌, ◌*◌, ◌^◌, nat_lt, ◌==◌, ◌&&◌, not, if◌then◌else◌, Bool, List, [], length, Option, Some, None, Result, Ok, Err}
+use Rattle.std.specs.Prelude.{ℕ, ◌+◌, ◌-◌, ◌*◌, ◌^◌, nat_lt, ◌==◌, ◌&&◌, not, if◌then◌else◌, Bool, List, [], length}
+use Rattle.std.specs.Prelude.{Option, Some, None, Result, Ok, Err}
 use Rattle.payload.specs.Extension.{magnitude}
-use Rattle.payload.specs.Faults.{bits_of, part, field_at, is_sync, is_trap, trap_width, is_support, is_address_alone, address_behind_map}
+use Rattle.payload.specs.Faults.{bits_of, part, field_at, is_sync, is_trap, trap_width, is_support, is_address_alone}
+use Rattle.payload.specs.Faults.{address_behind_map}
 use Rattle.payload.specs.Layout as layout
 use Rattle.payload.specs.Reading.{sync_from, trap_from, outcomes_from}
 use Rattle.payload.specs.declared.packet.Packet.{Packet}
@@ -10,7 +12,8 @@ use Rattle.payload.specs.declared.packet.Support.TheVariants as support
 use Rattle.payload.specs.declared.packet.Report.{Report}
 use Rattle.payload.specs.declared.packet.Report.TheVariants as report
 use Rattle.payload.specs.declared.fault.PackFault.{PackFault}
-use Rattle.payload.specs.declared.fault.PackFault.TheVariants.{Empty, TooLong, BadPad, Unsupported, BadPrivilege, BadReport}
+use Rattle.payload.specs.declared.fault.PackFault.TheVariants.{Empty, TooLong, BadPad, Unsupported, BadPrivilege}
+use Rattle.payload.specs.declared.fault.PackFault.TheVariants.{BadReport}
 
 -- A packet of so many bits, where all further bits are copies of its last.
 abbrev pub padded : ℕ → ℕ → Packet → Result Packet PackFault

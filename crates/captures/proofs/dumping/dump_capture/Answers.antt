@@ -12,7 +12,10 @@ loop-message-preserved g c =
     let left = c.loop-message.messages in
     let next = c.next.new.self in
     let ranges = subst (λ o. IfSome o (λ m. IsMessage m)) found c.in-Ok-Some.ensures.ranges in
-    let begins = subst (λ o. IfSome o (λ (m : Message). left ≡ message_bytes m ++ next)) found c.in-Ok-Some.ensures.message in
-    let shorter = subst (λ o. IfSome o (λ (m : Message). length next < length left)) found c.in-Ok-Some.ensures.shorter in
+    let begins =
+    subst (λ o. IfSome o (λ (m : Message). left ≡ message_bytes m ++ next)) found c.in-Ok-Some.ensures.message in
+    let shorter =
+    subst (λ o. IfSome o (λ (m : Message). length next < length left)) found c.in-Ok-Some.ensures.shorter in
     rw (c.in-Ok.ensures.refused)
-    (told-next c.args.capture.now left next c.loop-message.count c.loop-message.bad c.in-Ok-Some.message _ _ _ c.loop-message.invariant ranges c.in-Ok.ensures.text begins shorter)
+    (told-next c.args.capture.now left next c.loop-message.count c.loop-message.bad c.in-Ok-Some.message _ _ _
+    c.loop-message.invariant ranges c.in-Ok.ensures.text begins shorter)

@@ -4,7 +4,8 @@ use Rattle.captures.proofs.ToldMessages.{HasTold}
 use Rattle.captures.proofs.dumping.dump_capture.Given as goal
 
 abbrev pub invariant-loop-message : goal.invariant-loop-message
-invariant-loop-message g l = HasTold l.capture l.messages l.count l.bad (g.W.Write.contents l.initial.sink) (g.W.Write.contents l.sink)
+invariant-loop-message g l =
+    HasTold l.capture l.messages l.count l.bad (g.W.Write.contents l.initial.sink) (g.W.Write.contents l.sink)
 
 abbrev pub decreases-loop-message : goal.decreases-loop-message
 decreases-loop-message g l = length l.messages

@@ -7,5 +7,8 @@ use Rattle.captures.proofs.dumping.write_message_line.Goals as goal
 
 pub returns-in-Ok-clause-text : goal.returns-in-Ok-clause-text
 returns-in-Ok-clause-text g c =
-    let same : c.unpack-unpacked.result ≡ reading c.args.message.now.payload = c.unpack-unpacked.ensures.value ∙ ap reading c.bytes.ensures.same in
-    subst (λ read. Appends (g.W.Write.contents c.args.sink.now) (g.W.Write.contents c.writeln.new.self) (line_with c.args.message.now read)) same c.in-Ok.ensures.bytes
+    let same : c.unpack-unpacked.result ≡ reading c.args.message.now.payload = c.unpack-unpacked.ensures.value
+    ∙ ap reading c.bytes.ensures.same in
+    subst
+    (λ read. Appends (g.W.Write.contents c.args.sink.now) (g.W.Write.contents c.writeln.new.self)
+    (line_with c.args.message.now read)) same c.in-Ok.ensures.bytes

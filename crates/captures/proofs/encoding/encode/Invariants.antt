@@ -5,4 +5,6 @@ use Rattle.captures.specs.Messages.{messages_of_harts}
 use Rattle.captures.proofs.encoding.encode.Given as goal
 
 abbrev pub invariant-loop-hart : goal.invariant-loop-hart
-invariant-loop-hart g l = Appends (g.W.Write.contents l.fn.sink) (g.W.Write.contents l.sink) (flat_map g.F.Form.text (messages_of_harts l.period 0 (take l.hart l.logs)))
+invariant-loop-hart g l =
+    Appends (g.W.Write.contents l.fn.sink) (g.W.Write.contents l.sink)
+    (flat_map g.F.Form.text (messages_of_harts l.period 0 (take l.hart l.logs)))

@@ -13,8 +13,10 @@ loop-number-preserved g c =
     let found = sym (c.next.ensures.given period number log at) ∙ c.in-Some.is in
     let on = c.next.ensures.goes_on period number log at in (
       subst (λ result. IsAt period log (number_behind number result) c.next.new.self) c.in-Some.is on,
-      written_more g.F.Form.text (g.W.Write.contents c.args.sink.now) (g.W.Write.contents c.loop-number.sink) (g.W.Write.contents c.write.new.sink)
-          c.args.hart number (payloads period log) c.in-Some.payload found c.loop-number.invariant.1 c.in_ok-write.ensures.text,
+      written_more g.F.Form.text (g.W.Write.contents c.args.sink.now) (g.W.Write.contents c.loop-number.sink)
+          (g.W.Write.contents c.write.new.sink)
+          c.args.hart number (payloads period log) c.in-Some.payload found c.loop-number.invariant.1
+          c.in_ok-write.ensures.text,
     )
 
 pub returns-in_default-clause-text : goal.returns-in_default-clause-text
@@ -23,7 +25,8 @@ returns-in_default-clause-text g c =
     let log = c.args.log.now in
     let number = c.loop-number.number in
     let none = sym (c.next.ensures.given period number log c.loop-number.invariant.0) ∙ c.in_default.is in
-    written_through g.F.Form.text (g.W.Write.contents c.args.sink.now) (g.W.Write.contents c.loop-number.sink) c.args.hart number (payloads period log) none c.loop-number.invariant.1
+    written_through g.F.Form.text (g.W.Write.contents c.args.sink.now) (g.W.Write.contents c.loop-number.sink)
+    c.args.hart number (payloads period log) none c.loop-number.invariant.1
 
 pub returns-clause-text : goal.returns-clause-text
 returns-clause-text g c =
@@ -33,4 +36,5 @@ returns-clause-text g c =
     let few = few_payloads period log in
     let same = ap length c.events.ensures.events in
     let over : length (payloads period log) ≤ number = omega (arith, few, same, c.loop-number-test.false) in
-    written_all g.F.Form.text (g.W.Write.contents c.args.sink.now) (g.W.Write.contents c.loop-number.sink) c.args.hart number (payloads period log) over c.loop-number.invariant.1
+    written_all g.F.Form.text (g.W.Write.contents c.args.sink.now) (g.W.Write.contents c.loop-number.sink) c.args.hart
+    number (payloads period log) over c.loop-number.invariant.1

@@ -10,4 +10,5 @@ use Rattle.captures.proofs.encoding.encode_log.Given as goal
 abbrev pub invariant-loop-number : goal.invariant-loop-number
 invariant-loop-number g l =
     IsAt l.period l.log l.number l.source
-    × Appends (g.W.Write.contents l.fn.sink) (g.W.Write.contents l.sink) (flat_map g.F.Form.text (messages_from l.hart 0 (take l.number (payloads l.period l.log))))
+    × Appends (g.W.Write.contents l.fn.sink) (g.W.Write.contents l.sink)
+    (flat_map g.F.Form.text (messages_from l.hart 0 (take l.number (payloads l.period l.log))))

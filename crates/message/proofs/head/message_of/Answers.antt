@@ -9,4 +9,6 @@ returns-clause-value c = search rules
 
 pub returns-clause-ranges : goal.returns-clause-ranges
 returns-clause-ranges c =
-    subst IsMessage (sym (returns-clause-value c)) (message_of-ranges c.args.head.now c.args.payload.now (λ i. omega (arith, c.type_inv.head i)) (λ i. omega (arith, c.type_inv.payload i)) c.requires.some c.requires.few)
+    subst IsMessage (sym (returns-clause-value c))
+    (message_of-ranges c.args.head.now c.args.payload.now (λ i. omega (arith, c.type_inv.head i))
+    (λ i. omega (arith, c.type_inv.payload i)) c.requires.some c.requires.few)

@@ -13,8 +13,10 @@ returns-then-branch-length-clause-short g c =
     let room : length c.fill.new.room ≡ c.in-Ok.length = search rules in
     let bytes : AreBytes c.args.head.now = λ i. omega (arith, c.type_inv.head i) in
     let told = c.in-Ok.ensures.length in
-    λ _. Consumes-whole _ _ _ (λ rest. IsCut (c.args.head.now ++ rest)) filled.consumed (filled.ended (omega (arith, room, c.if-branch-length.true)))
-    (IsCut-payload c.args.head.now c.fill.new.room c.in_ok-fill.field-0 c.requires bytes filled.bytes (room ∙ told.0) (omega (arith, room, told.1)) (omega (arith, room, told.2)) (omega (arith, room, c.if-branch-length.true)))
+    λ _. Consumes-whole _ _ _ (λ rest. IsCut (c.args.head.now ++ rest)) filled.consumed
+    (filled.ended (omega (arith, room, c.if-branch-length.true)))
+    (IsCut-payload c.args.head.now c.fill.new.room c.in_ok-fill.field-0 c.requires bytes filled.bytes (room ∙ told.0)
+    (omega (arith, room, told.1)) (omega (arith, room, told.2)) (omega (arith, room, c.if-branch-length.true)))
 
 pub returns-clause-head : goal.returns-clause-head
 returns-clause-head g c =
@@ -22,5 +24,7 @@ returns-clause-head g c =
     let room : length c.fill.new.room ≡ c.in-Ok.length = search rules in
     let made = c.message_of.ensures.value in
     let payload : length c.message_of.result.payload ≡ c.in-Ok.length =
-    ap (λ m. length m.payload) made ∙ ap length (take-append-le c.in-Ok.length c.fill.new.room _ (omega (arith, room))) ∙ length-take-le c.in-Ok.length c.fill.new.room (omega (arith, room)) in
-    head_bytes-read c.message_of.result c.args.head.now c.requires bytes (ap (λ m. m.hart) made) (ap (λ m. m.number) made) (payload ∙ c.in-Ok.ensures.length.0)
+    ap (λ m. length m.payload) made ∙ ap length (take-append-le c.in-Ok.length c.fill.new.room _ (omega (arith, room)))
+    ∙ length-take-le c.in-Ok.length c.fill.new.room (omega (arith, room)) in
+    head_bytes-read c.message_of.result c.args.head.now c.requires bytes (ap (λ m. m.hart) made)
+    (ap (λ m. m.number) made) (payload ∙ c.in-Ok.ensures.length.0)

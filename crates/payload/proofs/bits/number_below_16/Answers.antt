@@ -8,7 +8,8 @@ pub returns-then-count-ge8-clause-value : goal.returns-then-count-ge8-clause-val
 returns-then-count-ge8-clause-value c =
     two_parts 8 c.args.bytes.now c.from.result c.from-then-count-ge8.result
     (bytes_from_each c.args.bytes.now (λ i. omega (arith, c.type_inv.bytes i))) (omega (arith, c.if-count-ge8.true))
-    (omega (arith, c.requires.few, c.if-count-ge8.true)) (omega (arith, c.requires.few)) (c.from.ensures ∙ c.word.ensures) (c.from-then-count-ge8.ensures ∙ c.word-then-count-ge8.ensures)
+    (omega (arith, c.requires.few, c.if-count-ge8.true)) (omega (arith, c.requires.few))
+    (c.from.ensures ∙ c.word.ensures) (c.from-then-count-ge8.ensures ∙ c.word-then-count-ge8.ensures)
 
 pub returns-then-count-ge8-clause-below : goal.returns-then-count-ge8-clause-below
 returns-then-count-ge8-clause-below c =
@@ -18,8 +19,11 @@ returns-then-count-ge8-clause-below c =
 pub returns-then-count-ge4-clause-value : goal.returns-then-count-ge4-clause-value
 returns-then-count-ge4-clause-value c =
     two_parts 4 c.args.bytes.now c.from-then-count-ge4.result c.from-then-count-ge4-2.result
-    (bytes_from_each c.args.bytes.now (λ i. omega (arith, c.type_inv.bytes i))) (omega (arith, c.if-count-ge4.true, c.if-count-ge8.false))
-    (omega (arith, c.requires.few, c.if-count-ge4.true, c.if-count-ge8.false)) (omega (arith, c.requires.few)) (c.from-then-count-ge4.ensures ∙ c.half.ensures) (c.from-then-count-ge4-2.ensures ∙ c.half-then-count-ge4.ensures)
+    (bytes_from_each c.args.bytes.now (λ i. omega (arith, c.type_inv.bytes i)))
+    (omega (arith, c.if-count-ge4.true, c.if-count-ge8.false))
+    (omega (arith, c.requires.few, c.if-count-ge4.true, c.if-count-ge8.false)) (omega (arith, c.requires.few))
+    (c.from-then-count-ge4.ensures ∙ c.half.ensures)
+    (c.from-then-count-ge4-2.ensures ∙ c.half-then-count-ge4.ensures)
 
 pub returns-then-count-ge4-clause-below : goal.returns-then-count-ge4-clause-below
 returns-then-count-ge4-clause-below c =
@@ -29,5 +33,8 @@ returns-then-count-ge4-clause-below c =
 pub returns-then-count-ge2-clause-value : goal.returns-then-count-ge2-clause-value
 returns-then-count-ge2-clause-value c =
     two_parts 2 c.args.bytes.now c.from-then-count-ge2.result c.from-then-count-ge2-2.result
-    (bytes_from_each c.args.bytes.now (λ i. omega (arith, c.type_inv.bytes i))) (omega (arith, c.if-count-ge2.true, c.if-count-ge4.false))
-    (omega (arith, c.requires.few, c.if-count-ge2.true, c.if-count-ge4.false)) (omega (arith, c.requires.few)) (c.from-then-count-ge2.ensures ∙ c.pair.ensures) (c.from-then-count-ge2-2.ensures ∙ c.pair-then-count-ge2.ensures)
+    (bytes_from_each c.args.bytes.now (λ i. omega (arith, c.type_inv.bytes i)))
+    (omega (arith, c.if-count-ge2.true, c.if-count-ge4.false))
+    (omega (arith, c.requires.few, c.if-count-ge2.true, c.if-count-ge4.false)) (omega (arith, c.requires.few))
+    (c.from-then-count-ge2.ensures ∙ c.pair.ensures)
+    (c.from-then-count-ge2-2.ensures ∙ c.pair-then-count-ge2.ensures)

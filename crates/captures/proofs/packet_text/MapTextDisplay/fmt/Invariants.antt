@@ -7,4 +7,5 @@ use Rattle.captures.proofs.packet_text.MapTextDisplay.fmt.Given as goal
 
 abbrev pub invariant-loop-place : goal.invariant-loop-place
 invariant-loop-place g l =
-    IsPlainFormatter l.initial.f → HasWritten g.W.Write.write_str_gives l.initial.f (flat_map branch_text (take l.place l.self.0.now)) l.f
+    IsPlainFormatter l.initial.f
+    → HasWritten g.W.Write.write_str_gives l.initial.f (flat_map branch_text (take l.place l.self.0.now)) l.f

@@ -5,7 +5,8 @@ use Rattle.message.proofs.in_memory.Messages.next.Goals as goal
 
 pub returns-clause-message : goal.returns-clause-message
 returns-clause-message c =
-    passed-message c.args.self.now c.pass.new.self c.pass.result c.pass.ensures.bytes c.pass.ensures.value c.pass.ensures.state
+    passed-message c.args.self.now c.pass.new.self c.pass.result c.pass.ensures.bytes c.pass.ensures.value
+    c.pass.ensures.state
 
 pub returns-clause-shorter : goal.returns-clause-shorter
 returns-clause-shorter c = passed-shorter c.args.self.now c.pass.new.self c.pass.result (returns-clause-message c)
@@ -15,7 +16,8 @@ returns-clause-short c = rw (c.pass.ensures.value) (first_message-short c.args.s
 
 pub returns-clause-reads_back : goal.returns-clause-reads_back
 returns-clause-reads_back c = λ message rest is begins.
-    passed-reads_back c.args.self.now c.pass.new.self c.pass.result message rest is begins c.pass.ensures.value c.pass.ensures.state
+    passed-reads_back c.args.self.now c.pass.new.self c.pass.result message rest is begins c.pass.ensures.value
+    c.pass.ensures.state
 
 pub returns-clause-ended : goal.returns-clause-ended
 returns-clause-ended c = λ none.

@@ -4,7 +4,8 @@ use Rattle.payload.specs.Bytes.{low_bytes}
 use Rattle.payload.proofs.ByteLists.{bytes_first, low_bytes-mod, length-low_bytes}
 use Rattle.payload.proofs.LongNumbers.{low_bytes-split}
 use Rattle.payload.proofs.payload.Payload.of_low_bytes.Goals as goal
-use Rattle.payload.proofs.payload.Payload.of_low_bytes.Goals.{then-count-lt8, else-count-lt8+then-count-lt16, else-count-lt8+else-count-lt16}
+use Rattle.payload.proofs.payload.Payload.of_low_bytes.Goals.{then-count-lt8, else-count-lt8+then-count-lt16}
+use Rattle.payload.proofs.payload.Payload.of_low_bytes.Goals.{else-count-lt8+else-count-lt16}
 
 held : (c : goal.Joined-count-lt8) → c.if-count-lt8.bytes.items ≡ low_bytes c.args.count c.args.n
 held c =

@@ -1,0 +1,28 @@
+-- The last packet of a log closes its trace.
+use Rattle.std.proofs.Common.{◌≡◌, ℕ, true, List, Some, refl, ap, ◌∙◌}
+use Rattle.retire.specs.declared.event.Event.{Event}
+use Rattle.rvclass.specs.Words.{Words}
+use Rattle.payload.specs.Closing.{is_closing_packet}
+use Rattle.payload.specs.Ended.{closes, has_ended}
+use Rattle.payload.specs.declared.packet.Packet.TheVariants as packet
+use Rattle.payload.specs.declared.packet.Support.TheVariants.{Open}
+use Rattle.encoder.specs.Packets.{closing, closing_packet, last_rule, packets, reports}
+use Rattle.encoder.specs.Piece.{pieces_of}
+use Rattle.encoder.specs.declared.rule.Rule.{Rule}
+use Rattle.encoder.specs.declared.rule.Rule.TheVariants as by
+use Rattle.encoder.proofs.SpotLemmas.{last_or-snoc}
+
+closing_closes : (rule : Rule) → is_closing_packet (packet.Support (closing rule)) ≡ true
+closing_closes (by.Trap handler) = refl
+closing_closes by.Handler = refl
+closing_closes by.Sync = refl
+closing_closes (by.Target cut_off) = refl
+closing_closes by.Explicit = refl
+closing_closes by.Notify = refl
+closing_closes by.Unreported = refl
+
+pub packets_end : (words : Words) (period : ℕ) (log : List Event) → has_ended (packets words period log) ≡ true
+packets_end words period log =
+    let ps = pieces_of words period log in
+    ap closes (last_or-snoc (Some (packet.Support Open)) (reports 0 ps) (closing_packet words period log))
+    ∙ closing_closes (last_rule by.Unreported ps)
