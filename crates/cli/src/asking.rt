@@ -1,8 +1,9 @@
 //! What the words of a command line ask for.
 
-ghost use Rattle.std.specs.Prelude.{◌≡◌, IfOk, [], codes, map, string_bytes, unwrap_or};
-ghost use Rattle.clap.specs.Words.{FailsBy, fault_of, first_value, found_of, one_of, rows_of};
-ghost use Rattle.cli.specs.Asking.{Asks, IsHarts, IsPeriod, WordsAsk, texts_of};
+ghost use Rattle.std.specs.Prelude.{◌≡◌, ◌⊎◌, IfErr, IfOk, [], codes, map, string_bytes, unwrap_or};
+ghost use Rattle.clap.specs.Words.{FailsBy, fault_of, first_value, found_of, kind_of, one_of, rows_of};
+ghost use Rattle.clap.specs.declared.error.kind.ErrorKind.TheVariants as kind;
+ghost use Rattle.cli.specs.Asking.{AreRefused, Asks, IsHarts, IsPeriod, WordsAsk, texts_of};
 ghost use Rattle.cli.specs.Grammar.{IsSubcommand, program_app};
 ghost use Rattle.subcommands.specs.Limits.{IsWithinLimits};
 
@@ -121,6 +122,8 @@ pub fn asked<'a>(alloc: Global, words: &'a [String]) -> Result<Asked<'a>, Error>
     ensures found { IfOk result (WordsAsk (map string_bytes words.now)) }
     ensures limits { IfOk result IsWithinLimits }
     ensures refused { FailsBy (fault_of program_app (map string_bytes words.now)) result }
+    // The same of an error, in words that need no `clap`.
+    ensures fault { IfErr result (λ error. (kind_of error ≡ kind.OutOfMemory) ⊎ AreRefused (map string_bytes words.now)) }
 {
     let matches = program(alloc)?.try_get_matches_from(words)?;
     match matches.subcommand() {

@@ -1,5 +1,6 @@
 mod FromFiles
 mod HartTexts
+mod JudgedLogs
 mod LegalLogs
 mod Runs
 mod Tables

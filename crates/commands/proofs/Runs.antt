@@ -30,3 +30,19 @@ pub prints : (Prints : Printed → Type 0) (ended : Result Status Fault) (old ne
     → IsPrinted Prints ended old new → PrintsUnlessDenied Prints ended old new
 prints Prints (Ok status) old new printed = printed
 prints Prints (Err why) old new printed = inr printed
+
+-- What is printed at first, and then nothing more, is what is printed in the end.
+pub goes_on : (First Prints : Printed → Type 0) (ended : Result Status Fault) (old mid new : Option (List ℕ))
+    → ((printed : Printed) → First printed → Prints printed)
+    → PrintsUnlessDenied First ended old mid → Keeps mid new → PrintsUnlessDenied Prints ended old new
+goes_on First Prints (Ok status) old mid new leads is kept = record {
+  text = is.text;
+  prints = leads (record { text = is.text; ended = Ok status }) is.prints;
+  appended = appends-keeps old mid new is.text is.appended kept;
+}
+goes_on First Prints (Err why) old mid new leads (inl denied) kept = inl denied
+goes_on First Prints (Err why) old mid new leads (inr is) kept = inr (record {
+  text = is.text;
+  prints = leads (record { text = is.text; ended = Err why }) is.prints;
+  appended = appends-keeps old mid new is.text is.appended kept;
+})

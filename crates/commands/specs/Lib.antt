@@ -6,5 +6,7 @@ pub mod Known
 pub mod Found
 pub mod Printed
 pub mod Encoding
+pub mod Checking
+pub mod Dumping
 pub mod Decoded
 pub mod CarriedOut

@@ -1,15 +1,18 @@
 //! The subcommand `check`.
 
-ghost use Rattle.std.specs.Prelude.{◌≡◌, ◌≤◌, ◌^◌, ◌↔◌, IfOk, IfSome, IsTrue, length};
-ghost use Rattle.legalpath.specs.Legal.{Legal};
+ghost use Rattle.std.specs.Prelude.{◌≡◌, ◌≤◌, ◌^◌, IfErr, IfSome, OnOk, length};
+ghost use Rattle.std.specs.Io.KnownBytes.{Appends};
+ghost use Rattle.commands.specs.Checking.{Checks, IsVerdict, WritesLines, verdict_line};
+ghost use Rattle.commands.specs.Order.{logs_fault};
+ghost use Rattle.commands.specs.Printed.{PrintsUnlessDenied};
 ghost use Rattle.retire.specs.Number.{number_of};
 ghost use Rattle.rvclass.specs.Fetch.{words_of};
-ghost use Rattle.commands.specs.Order.{logs_fault};
 
 use crate::fault::Fault;
 use crate::files::Files;
 use crate::inputs::{base_of, counted, log_of, program_of};
 use crate::status::Status;
+use legalpath::PathFault;
 use retire::Event;
 use rvclass::Program;
 use std::alloc::Global;
@@ -26,6 +29,7 @@ pub fn check<'a, F: Files, O: Write>(
 ) -> Result<Status, Fault<'a>>
     ensures early { IfSome (logs_fault (number_of asked.now.base.now) (length asked.now.logs.items))
         (λ fault. result ≡ Err fault) }
+    ensures printed { PrintsUnlessDenied (Checks (F.content files.old) asked.now) result (O.contents out.old) (O.contents out.new) }
 {
     let base = base_of(asked.base)?;
     counted(asked.logs.as_slice())?;
@@ -35,39 +39,56 @@ pub fn check<'a, F: Files, O: Write>(
     ended
 }
 
-/// Judges the logs in turn.
+/// Judges the logs in turn, and writes the line of each.
 fn judge_all<'a, F: Files, O: Write>(
     alloc: Global,
     files: &mut F,
     program: &Program,
     logs: &[&'a str],
     out: &mut O,
-) -> Result<Status, Fault<'a>> {
+) -> Result<Status, Fault<'a>>
+    ensures printed { PrintsUnlessDenied (WritesLines (F.content files.old) program.now logs.now) result
+        (O.contents out.old) (O.contents out.new) }
+{
     let mut status = Status::Whole;
     for path in logs {
-        let events = log_of(alloc, files, path)?;
-        if !judge(program, path, events.as_slice(), out)? {
+        let events = match log_of(alloc, files, path) {
+            Ok(events) => events,
+            Err(why) => return Err(why),
+        };
+        let illegal = illegal_row(program, events.as_slice());
+        match write_line(path, events.len(), illegal, out) {
+            Ok(()) => {}
+            Err(why) => return Err(why),
+        }
+        if illegal.is_some() {
             status = Status::Refused;
         }
     }
     Ok(status)
 }
 
-/// Writes the line of one log, and answers whether it is legal.
-fn judge<'a, O: Write>(
-    program: &Program,
-    path: &str,
-    log: &[Event],
-    out: &mut O,
-) -> Result<bool, Fault<'a>>
+/// The first illegal row of a log, where it has one.
+fn illegal_row(program: &Program, log: &[Event]) -> Option<PathFault>
     requires { length log.now ≤ 2 ^ 24 }
-    ensures { IfOk result (λ is_legal. IsTrue is_legal ↔ Legal (words_of program.now) log.now) }
+    ensures { IsVerdict (words_of program.now) log.now result }
 {
-    let judged = legalpath::check(program, log);
-    match &judged {
-        Ok(()) => writeln!(out, "{path}: legal, {} events", log.len()),
-        Err(fault) => writeln!(out, "{path}: {fault}"),
-    }
-    .map_err(|_| Fault::Output)?;
-    Ok(judged.is_ok())
+    legalpath::check(program, log).err()
+}
+
+/// Writes the line of a log: how many events it has, or its first illegal row.
+fn write_line<'a, O: Write>(
+    path: &str,
+    count: usize,
+    illegal: Option<PathFault>,
+    out: &mut O,
+) -> Result<(), Fault<'a>>
+    ensures fault { IfErr result (λ fault. fault ≡ Fault.Output) }
+    ensures text { OnOk result (Appends (O.contents out.old) (O.contents out.new) (verdict_line path.now count illegal)) }
+{
+    let written = match illegal {
+        None => writeln!(out, "{path}: legal, {count} events"),
+        Some(fault) => writeln!(out, "{path}: {fault}"),
+    };
+    written.map_err(|_| Fault::Output)
 }

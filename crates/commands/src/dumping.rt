@@ -1,13 +1,15 @@
 //! The subcommand `dump`.
 
 ghost use Rattle.std.specs.Prelude.{◌≡◌, ◌≢◌};
+ghost use Rattle.commands.specs.Dumping.{Dumps, end_of_dump};
 ghost use Rattle.commands.specs.Faults.{end_of};
+ghost use Rattle.commands.specs.Printed.{PrintsUnlessDenied};
 
 use crate::fault::Fault;
 use crate::files::Files;
 use crate::inputs::content_of;
 use crate::status::Status;
-use captures::{CaptureFault, dump_capture};
+use captures::{CaptureFault, Dumped, dump_capture};
 use std::io::Write;
 use subcommands::Dump;
 
@@ -18,11 +20,20 @@ pub fn dump<'a, F: Files, O: Write>(
     asked: &Dump<'a>,
     out: &mut O,
 ) -> Result<Status, Fault<'a>>
-    ensures { end_of result ≢ Status.Refused }
+    ensures refused { end_of result ≢ Status.Refused }
+    ensures printed { PrintsUnlessDenied (Dumps (F.content files.old) asked.now) result (O.contents out.old) (O.contents out.new) }
 {
     let bytes = content_of(files, asked.capture)?;
     let dumped = dump_capture(bytes.as_slice(), out)?;
     out.flush().map_err(|_| Fault::Output)?;
+    ended(&dumped)
+}
+
+/// How a dump ended: at the place where no message stands, or else by whether a payload is bad.
+fn ended<'a>(dumped: &Dumped) -> Result<Status, Fault<'a>>
+    ensures value { result ≡ end_of_dump dumped.now.bad dumped.now.fault }
+    ensures never_refused { end_of result ≢ Status.Refused }
+{
     match dumped.fault {
         Some((number, why)) => Err(Fault::Message(number, CaptureFault::Message(why))),
         None if dumped.bad => Ok(Status::NotWhole),

@@ -1,38 +1,62 @@
 //! Why a log is illegal.
 
-use thiserror::Error;
+ghost use Rattle.std.specs.Prelude.{Some};
+ghost use Rattle.legalpath.specs.FaultText.{fault_text, why_text};
+
+use std::error::Error;
+use std::fmt;
 
 /// Why a row of a log is illegal. Where more than one applies, the first in this order is told.
-#[derive(Clone, Copy, Debug, PartialEq, Eq, Error)]
+#[derive(Clone, Copy, Debug, PartialEq, Eq)]
 pub enum Why {
     /// No whole word of the program stands at a retirement's address.
-    #[error("OffProgram")]
     OffProgram,
     /// The word at a retirement's address does not retire.
-    #[error("NotRetirable")]
     NotRetirable,
     /// A retirement's type is not that of its word; or a trap's cause is above 63, or an interrupt
     /// has a value.
-    #[error("WrongType")]
     WrongType,
     /// A retirement does not stand where the event before leads.
-    #[error("WrongNext")]
     WrongNext,
     /// The privilege is none of 0, 1 and 3, or the word does not retire at it, or the event before
     /// does not lead to it.
-    #[error("WrongPrivilege")]
     WrongPrivilege,
     /// A trap's exception program counter is odd, or not where the event before leads.
-    #[error("WrongEpc")]
     WrongEpc,
 }
 
+impl fmt::Display for Why {
+    ghost output = { λ why. Some (why_text why) };
+
+    fn fmt<W: fmt::Write>(&self, f: &mut fmt::Formatter<W>) -> fmt::Result {
+        f.write_str(match *self {
+            Why::OffProgram => "OffProgram",
+            Why::NotRetirable => "NotRetirable",
+            Why::WrongType => "WrongType",
+            Why::WrongNext => "WrongNext",
+            Why::WrongPrivilege => "WrongPrivilege",
+            Why::WrongEpc => "WrongEpc",
+        })
+    }
+}
+
+impl Error for Why {}
+
 /// The first illegal row of a log, and why it is illegal.
-#[derive(Clone, Copy, Debug, PartialEq, Eq, Error)]
-#[error("row {row}: {why}")]
+#[derive(Clone, Copy, Debug, PartialEq, Eq)]
 pub struct PathFault {
     /// The row, counted from 1.
     pub row: u32,
     /// The reason.
     pub why: Why,
 }
+
+impl fmt::Display for PathFault {
+    ghost output = { λ fault. Some (fault_text fault) };
+
+    fn fmt<W: fmt::Write>(&self, f: &mut fmt::Formatter<W>) -> fmt::Result {
+        write!(f, "row {}: {}", self.row, self.why)
+    }
+}
+
+impl Error for PathFault {}

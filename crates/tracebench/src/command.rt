@@ -1,6 +1,6 @@
 //! One run of the program.
 
-ghost use Rattle.std.specs.Prelude.{◌≡◌, ◌≢◌, ◌≤◌, map, string_bytes};
+ghost use Rattle.std.specs.Prelude.{◌≡◌, ◌⊎◌, ◌≤◌, map, string_bytes};
 ghost use Rattle.cli.specs.Asking.{AreRefused, AskNoCheck};
 ghost use Rattle.tracebench.specs.Words.{AreCarriedOut};
 
@@ -25,12 +25,13 @@ pub fn command<F: Files, O: Write, E: Write>(
     err: &mut E,
 ) -> u8
     ensures statuses { result ≤ 3 }
-    ensures words { AreRefused (map string_bytes words.now) → (result ≢ 0) × (out.new ≡ out.old) }
+    // Words that `clap` refuses end with status 2, or with 3 where memory is refused too.
+    ensures words { AreRefused (map string_bytes words.now) → (2 ≤ result) × (out.new ≡ out.old) }
     // Where the input is refused, nothing is written, but for the lines of `check`.
     ensures refused { AskNoCheck (map string_bytes words.now) → result ≡ 2 → out.new ≡ out.old }
-    // Where no input is refused and the machine does not fail, what the words ask for is carried out, of what files tell.
-    ensures printed { result ≤ 1 → AreCarriedOut (F.content files.old) (map string_bytes words.now) result
-        (O.contents out.old) (O.contents out.new) }
+    // Else what the words ask for is carried out, of what files tell, unless memory for the words themselves is refused.
+    ensures printed { AreRefused (map string_bytes words.now) ⊎ (((result ≡ 3) × (out.new ≡ out.old))
+        ⊎ AreCarriedOut (F.content files.old) (map string_bytes words.now) result (O.contents out.old) (O.contents out.new)) }
 {
     let status = match asked(alloc, words) {
         Ok(asked) => match carry_out(alloc, files, &asked, out) {

@@ -1,9 +1,9 @@
 -- The prover tries no record of its own: the log that was read, and the judgement on it, are handed to it.
-use Rattle.std.proofs.Common.{◌≡◌, ◌⊎◌, inr, subst, sym, Err, IfErr, arith}
+use Rattle.std.proofs.Common.{◌≡◌, ◌⊎◌, subst, sym, Err, IfErr, arith}
 use Rattle.std.proofs.lemmas.Grind.{common_steps}
 use Rattle.commands.specs.Found.{IsLegalLogAt}
 use Rattle.commands.specs.declared.fault.Fault.TheVariants as fault
-use Rattle.commands.proofs.FromFiles.{legal_read, legal_refused, legal_unread}
+use Rattle.commands.proofs.FromFiles.{legal_unread}
 use Rattle.commands.proofs.inputs.legal_log_of.Goals as goal
 
 pub returns-in_err-events-clause-fault : goal.returns-in_err-events-clause-fault

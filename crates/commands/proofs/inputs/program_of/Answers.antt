@@ -1,5 +1,5 @@
 -- The prover tries no record of its own: what was read, and the program that it makes, are handed to it.
-use Rattle.std.proofs.Common.{◌≡◌, ◌⊎◌, inr, subst, sym, ◌∙◌, Err, IfErr, arith}
+use Rattle.std.proofs.Common.{◌≡◌, ◌⊎◌, inr, subst, sym, Err, IfErr, arith}
 use Rattle.std.proofs.lemmas.Grind.{common_steps}
 use Rattle.commands.specs.Found.{IsProgram}
 use Rattle.commands.specs.declared.fault.Fault.TheVariants as fault

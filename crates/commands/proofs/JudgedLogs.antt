@@ -1,0 +1,86 @@
+-- The lines of the logs at paths, one path more at a time.
+use Rattle.std.proofs.Common.{◌≡◌, ◌⊎◌, inl, inr, refl, ℕ, ◌+◌, ◌<◌, ◌||◌, Bool, true, false, sym, ap, ◌∙◌, subst, List, [], ◌∷◌, ◌++◌, Option, Ok, Err, length, get_or, take, drop}
+use Rattle.std.specs.Prelude.{if◌then◌else◌, is_some}
+use Rattle.std.specs.Io.KnownBytes.{Appends}
+use Rattle.std.specs.List.{AllZip, list_any}
+use Rattle.std.proofs.KnownBytes.{Appends-trans}
+use Rattle.std.proofs.Math.Bool.{or-false}
+use Rattle.std.proofs.lemmas.List.{flat_map_more, take_more}
+use Rattle.std.proofs.lemmas.List.Folds.{list_any-append}
+use Rattle.std.proofs.lemmas.Slice.Zip.{all_zipped_more}
+use Rattle.legalpath.specs.declared.fault.PathFault.{PathFault}
+use Rattle.retire.specs.declared.event.Event.{Event}
+use Rattle.rvclass.specs.Fetch.{words_of}
+use Rattle.rvclass.specs.Image.{Image}
+use Rattle.commands.proofs.LegalLogs.{paths_at}
+use Rattle.commands.proofs.Runs.{appends-nothing}
+use Rattle.commands.specs.Checking.{IsJudgedAt, IsVerdict, Judged, WritesLines, is_illegal, line_of, status_with, verdict_line}
+use Rattle.commands.specs.Faults.{Path}
+use Rattle.commands.specs.Found.{IsLog}
+use Rattle.commands.specs.Known.{Content}
+use Rattle.commands.specs.Printed.{IsPrinted, PrintsUnlessDenied}
+use Rattle.commands.specs.declared.fault.Fault.{Fault}
+use Rattle.commands.specs.declared.fault.Fault.TheVariants as fault
+use Rattle.commands.specs.declared.status.Status.{Status}
+use Rattle.commands.specs.declared.status.Status.TheVariants.{Refused}
+
+-- The status with one log more.
+status_more : (before now : Bool) → status_with (before || now) ≡ (if now then Refused else status_with before)
+status_more true true = refl
+status_more true false = refl
+status_more false true = refl
+status_more false false = refl
+
+-- Of no path there is no line.
+pub no_lines : (content : Content) (program : Image) (old : Option (List ℕ))
+    → IsPrinted (WritesLines content program []) (Ok (status_with false)) old old
+no_lines content program old = record {
+  text = [];
+  prints = record { logs = []; judged = tt; lines = refl; ended = refl };
+  appended = appends-nothing old;
+}
+
+module _ (content : Content) (program : Image) (paths : List Path) (i : ℕ) (d : Path) (status : Status)
+    (old mid : Option (List ℕ)) (within : i < length paths)
+    (before : IsPrinted (WritesLines content program (take i paths)) (Ok status) old mid) where
+  -- The line of one log more.
+  pub lines_more : (events : List Event) (illegal : Option PathFault) (new : Option (List ℕ))
+      → IsLog content (get_or paths i d) (Ok events) → IsVerdict (words_of program) events illegal
+      → Appends mid new (verdict_line (get_or paths i d).now (length events) illegal)
+      → IsPrinted (WritesLines content program (take (i + 1) paths)) (Ok (if is_some illegal then Refused else status)) old new
+  lines_more events illegal new read verdict line =
+      let log : Judged = record { path = (get_or paths i d).now; events = events; illegal = illegal } in
+      let logs = before.prints.logs in
+      let is : IsJudgedAt content program (get_or paths i d) log = record { named = refl; read = read; verdict = verdict } in
+      record {
+        text = before.text ++ line_of log;
+        prints = record {
+          logs = logs ++ log ∷ [];
+          judged = subst (λ front. AllZip (IsJudgedAt content program) front (logs ++ log ∷ [])) (sym (take_more paths i d within))
+              (all_zipped_more (IsJudgedAt content program) (take i paths) logs (get_or paths i d) log before.prints.judged is);
+          lines = ap (λ text. text ++ line_of log) before.prints.lines ∙ flat_map_more line_of [] logs log;
+          ended = ap (λ status. if is_some illegal then Refused else status) before.prints.ended
+              ∙ sym (status_more (list_any is_illegal logs) (is_some illegal))
+              ∙ ap status_with (ap (λ b. list_any is_illegal logs || b) (sym (or-false (is_some illegal))) ∙ sym (list_any-append is_illegal logs (log ∷ [])));
+        };
+        appended = Appends-trans old mid new before.text (line_of log) before.appended line;
+      }
+
+  -- The log at this path is not read.
+  pub lines_end : (why : Fault) → (why ≡ fault.Memory) ⊎ IsLog content (get_or paths i d) (Err why)
+      → PrintsUnlessDenied (WritesLines content program paths) (Err why) old mid
+  lines_end why (inl denied) = inl (inl denied)
+  lines_end why (inr unread) = inr (record {
+    text = before.text;
+    prints = record {
+      front = take i paths;
+      path = get_or paths i d;
+      rest = drop (i + 1) paths;
+      logs = before.prints.logs;
+      whole = paths_at paths i d within;
+      judged = before.prints.judged;
+      lines = before.prints.lines;
+      unread = unread;
+    };
+    appended = before.appended;
+  })

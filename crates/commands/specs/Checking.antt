@@ -1,0 +1,90 @@
+-- What `check` prints, and how it ends.
+use Rattle.std.specs.Prelude.{◌≡◌, ℕ, ◌++◌, ◌∷◌, Bool, codes, List, Option, Some, None, Result, Ok, Err, if◌then◌else◌, is_some, length}
+use Rattle.std.specs.Fmt.{decimal}
+use Rattle.std.specs.List.{AllZip, flat_map, list_any}
+use Rattle.legalpath.specs.FaultText.{fault_text}
+use Rattle.legalpath.specs.FirstFault.{IsFirstFault}
+use Rattle.legalpath.specs.Legal.{Legal}
+use Rattle.legalpath.specs.declared.fault.PathFault.{PathFault}
+use Rattle.retire.specs.declared.event.Event.{Event}
+use Rattle.rvclass.specs.Fetch.{words_of}
+use Rattle.rvclass.specs.Image.{Image}
+use Rattle.rvclass.specs.Words.{Words}
+use Rattle.subcommands.specs.declared.words.Check.{Check}
+use Rattle.commands.specs.Faults.{Path}
+use Rattle.commands.specs.Found.{AreFew, IsBase, IsLog, IsProgram}
+use Rattle.commands.specs.Known.{Content}
+use Rattle.commands.specs.Printed.{First, Printed}
+use Rattle.commands.specs.declared.fault.Fault.{Fault}
+use Rattle.commands.specs.declared.status.Status.{Status}
+use Rattle.commands.specs.declared.status.Status.TheVariants.{Refused, Whole}
+
+-- A log is legal, or it has this first illegal row.
+abbrev pub IsVerdict : Words → List Event → Option PathFault → Type 0
+IsVerdict words events None = Legal words events
+IsVerdict words events (Some illegal) = IsFirstFault words events illegal
+
+-- A log that was read and judged: its path, its events, and its first illegal row, where it has one.
+pub record Judged : Type 0 where
+  pub path : List ℕ
+  pub events : List Event
+  pub illegal : Option PathFault
+
+-- The log at a path was read, and judged so.
+pub record IsJudgedAt (content : Content) (program : Image) (path : Path) (log : Judged) : Type 0 where
+  pub named : log.path ≡ path.now
+  pub read : IsLog content path (Ok log.events)
+  pub verdict : IsVerdict (words_of program) log.events log.illegal
+
+-- The line of a log at a path: that it is legal, and how many events it has, or its first illegal row.
+abbrev pub verdict_line : List ℕ → ℕ → Option PathFault → List ℕ
+verdict_line path count None = path ++ (codes ": legal, " ++ (decimal count ++ codes " events\n"))
+verdict_line path count (Some illegal) = path ++ (codes ": " ++ (fault_text illegal ++ codes "\n"))
+
+-- The line of a log that was judged.
+abbrev pub line_of : Judged → List ℕ
+line_of log = verdict_line log.path (length log.events) log.illegal
+
+-- A log that was judged is illegal.
+abbrev pub is_illegal : Judged → Bool
+is_illegal log = is_some log.illegal
+
+-- Input is refused where a log is illegal.
+abbrev pub status_with : Bool → Status
+status_with some_illegal = if some_illegal then Refused else Whole
+
+-- Every log was read: each has its line, and the status tells whether one is illegal.
+pub record ChecksAll (content : Content) (program : Image) (paths : List Path) (text : List ℕ) (status : Status) : Type 0 where
+  pub logs : List Judged
+  pub judged : AllZip (IsJudgedAt content program) paths logs
+  pub lines : text ≡ flat_map line_of logs
+  pub ended : status ≡ status_with (list_any is_illegal logs)
+
+-- The logs before this path were read, each of which has its line, and the log at this path was not, for this reason.
+pub record ChecksUpTo (content : Content) (program : Image) (paths : List Path) (text : List ℕ) (why : Fault) : Type 0 where
+  pub front : List Path
+  pub path : Path
+  pub rest : List Path
+  pub logs : List Judged
+  pub whole : paths ≡ front ++ path ∷ rest
+  pub judged : AllZip (IsJudgedAt content program) front logs
+  pub lines : text ≡ flat_map line_of logs
+  pub unread : IsLog content path (Err why)
+
+-- The lines of the logs at these paths, up to the first that is not read, and the end that goes with them.
+abbrev pub EndsLines : Content → Image → List Path → List ℕ → Result Status Fault → Type 0
+EndsLines content program paths text (Ok status) = ChecksAll content program paths text status
+EndsLines content program paths text (Err why) = ChecksUpTo content program paths text why
+
+-- The lines of the logs at these paths are written.
+abbrev pub WritesLines : Content → Image → List Path → Printed → Type 0
+WritesLines content program paths printed = EndsLines content program paths printed.text printed.ended
+
+-- The base is looked at first, then the count of logs and the image; where there is no fault, the lines of the logs are
+-- written.
+abbrev pub Checks : Content → Check → Printed → Type 0
+Checks content asked =
+    First (IsBase asked.base.now) (λ base.
+    First (AreFew asked.logs.items) (λ _.
+    First (IsProgram content base asked.image) (λ program.
+    WritesLines content program asked.logs.items)))
