@@ -1,5 +1,5 @@
 -- What a receiver accepted, with one message more.
-use Rattle.std.proofs.Common.{◌≡◌, ◌<◌, ℕ, Bool, List, [], ◌∷◌, ◌++◌, Option, Some, None, Result, Ok, Err, IfOk, OnOk, slice_get, refl, sym, ap, inl, inr, ⊎_elim, ◌∙◌, arith}
+use Rattle.std.proofs.Common.{◌≡◌, ◌≢◌, ◌<◌, ℕ, Bool, List, [], ◌∷◌, ◌++◌, Option, Some, None, Result, Ok, Err, IfOk, OnOk, length, slice_get, refl, sym, ap, subst, ◌∙◌, arith}
 use Rattle.std.specs.Prelude.{IsFalse, IsSomeAnd, ◌↔◌, ◌⊎◌, ◌^◌, nat_lt, not, true, false}
 use Rattle.std.proofs.lemmas.Bool.{or_parts}
 use Rattle.std.proofs.lemmas.Option.{slice_get_within, same_Some}
@@ -17,15 +17,16 @@ use Rattle.message.proofs.AcceptedLemmas.{AreAccepted-next, expected_after-next,
 use Rattle.message.proofs.Answering.{answer-unpacked}
 use Rattle.message.proofs.HartMessages.{expected_of}
 use Rattle.message.specs.Accepted.{AreAccepted, expected_after, newcomers}
-use Rattle.message.specs.Accepting.{accepting, harts_after}
+use Rattle.message.specs.Accepting.{accepting, harts_after, harts_by, state_after}
 use Rattle.message.specs.Harts.{Harts, is_over}
 use Rattle.message.specs.OfHart.{packets_of}
 use Rattle.message.specs.declared.fault.DemuxFault.{DemuxFault}
 use Rattle.message.specs.declared.hart.Hart.{Hart}
 use Rattle.message.specs.declared.message.Message.{Message}
 use Rattle.receiver.specs.Holds.{HasAccepted}
-use Rattle.receiver.specs.Received.{Received}
+use Rattle.receiver.specs.Received.{IsSameHart, Received}
 use Rattle.receiver.specs.Refused.{IsUndecoded}
+use Rattle.receiver.proofs.HoldLemmas.{set-other}
 
 -- The answer of a decoder that refuses.
 abbrev refusal : DecodeFault → Result Unit DecodeFault
@@ -41,6 +42,25 @@ accepts_more harts messages message old new decoders lists closed (Ok packet) ha
   accepted = AreAccepted-next (newcomers harts) messages message packet has.accepted (ap (λ e. accepting e message) (sym has.expected) ∙ sym is);
   expected = moves ∙ ap (λ e. harts_after e message) has.expected ∙ sym (expected_after-next (newcomers harts) messages message);
 }
+
+-- What is expected of the other harts stays.
+pub expected_others : (expected : Harts) (message : Message) (other : ℕ) → other ≢ message.hart
+    → slice_get (harts_after expected message) other ≡ slice_get expected other
+expected_others expected message other apart = by_hart (slice_get expected message.hart)
+  where
+    by_hart : (found : Option Hart) → slice_get (harts_by expected message found) other ≡ slice_get expected other
+    by_hart None = refl
+    by_hart (Some h) = set-other expected message.hart (state_after h message) other apart
+
+-- Of the others nothing changes.
+pub accepts_others : (old new : Received) (message : Message) (other : ℕ) → other ≢ message.hart
+    → new ≡ record old { expected = harts_after old.expected message } → IsSameHart other old new
+accepts_others old new message other apart state = subst (IsSameHart other old) (sym state) (record {
+  expected = expected_others old.expected message other apart;
+  decoder = refl;
+  list = refl;
+  closed = refl;
+})
 
 -- The packet that is answered is the one that the payload unpacks to.
 pub packet_read : (expected : Harts) (message : Message) (answer : Result Packet DemuxFault) → answer ≡ accepting expected message
@@ -84,7 +104,8 @@ pub undecoded : (words : Words) (harts : ℕ) (messages : List Message) (message
     → (refusal why ≡ Err NotOpened) ↔ ((packets_of message.hart messages ≡ []) × ¬ IsOpen packet)
     → (refusal why ≡ Err AfterClose) ↔ (has_ended (packets_of message.hart messages) ≡ true)
     → (why ≡ Memory) ⊎ ((log : List Event) → ¬ Describes words (packets_of message.hart messages ++ packet ∷ []) log)
-    → (refusal why ≡ Err Memory → (log : List Event) × Describes words (packets_of message.hart messages ++ packet ∷ []) log)
+    → (refusal why ≡ Err Memory → (list log : List Event) × Describes words (packets_of message.hart messages) list
+    × Describes words (packets_of message.hart messages ++ packet ∷ []) log × (length list < length log))
     → IsUndecoded words harts messages message why
 undecoded words harts messages message packet why all answer not_opened ended either described =
     let open_yet = going harts messages message packet all answer in

@@ -1,13 +1,14 @@
 -- What a receiver holds at first, and with one message more.
-use Rattle.std.proofs.Common.{◌≡◌, ◌≢◌, ◌⊎◌, inl, inr, ◌<◌, ◌≤◌, ℕ, Bool, false, List, [], ◌∷◌, ◌++◌, Some, None, Ok, length, set, replicate, get_or, slice_get, sym, ap, subst, ◌∙◌, arith, refl}
+use Rattle.std.proofs.Common.{◌≡◌, ◌≢◌, ◌⊎◌, inl, inr, ⊎_elim, ◌<◌, ◌≤◌, ℕ, zero, suc, Bool, false, List, [], ◌∷◌, ◌++◌, Some, None, Ok, length, set, replicate, get_or, slice_get, sym, ap, subst, ◌∙◌, arith, refl}
 use Rattle.std.specs.Option.{option_map}
+use Rattle.std.specs.Vec.{vec_capacity}
 use Rattle.std.specs.declared.vec.Vec.{Vec}
+use Rattle.std.proofs.lemmas.Bool.{cases_eq}
 use Rattle.std.proofs.lemmas.List.{length-set, map-set, length-map, length-replicate, get_or-replicate, set-get_or}
 use Rattle.std.proofs.lemmas.Option.{slice_get-map, slice_get_cases, slice_get_within, slice_get-get_or, slice_get_read, same_Some}
 use Rattle.retire.specs.declared.event.Event.{Event}
 use Rattle.rvclass.specs.Words.{Words}
 use Rattle.payload.specs.Closing.{is_closing_packet}
-use Rattle.payload.specs.Ended.{has_ended}
 use Rattle.payload.specs.Reading.{reading}
 use Rattle.payload.specs.declared.packet.Packet.{Packet}
 use Rattle.decoder.specs.Describes.{Describes}
@@ -19,8 +20,8 @@ use Rattle.message.specs.Accepted.{newcomers}
 use Rattle.message.specs.Harts.{Harts}
 use Rattle.message.specs.OfHart.{packets_of}
 use Rattle.message.specs.declared.message.Message.{Message}
-use Rattle.receiver.specs.Holds.{AreDecoded, HasReceived, Holds}
-use Rattle.receiver.specs.Received.{Received, events_in}
+use Rattle.receiver.specs.Holds.{AreDecoded, HasReceived, Holds, HoldsHart}
+use Rattle.receiver.specs.Received.{IsReceived, IsSameHart, Received, events_in}
 
 -- The list at a place.
 pub events_in-at : {A : Type 0} (lists : List (Vec Event A)) (i : ℕ) (list : Vec Event A) → slice_get lists i ≡ Some list
@@ -43,25 +44,127 @@ received_none programs harts decoder stands = record {
     decoders_count = length-replicate harts decoder;
     lists_count = length-replicate harts [];
     closed_count = length-replicate harts false;
-    stands = λ hart d l is_d is_l.
-        subst (λ d. Stands (programs hart) [] l d) (sym (replicate-at harts decoder hart d is_d))
-        (subst (λ l. Stands (programs hart) [] l decoder) (sym (replicate-at harts [] hart l is_l)) (stands (programs hart)));
-    ended = λ hart flag is. replicate-at harts false hart flag is;
+    each = λ hart. record {
+      stands = λ d l is_d is_l.
+          subst (λ d. Stands (programs hart) [] l d) (sym (replicate-at harts decoder hart d is_d))
+          (subst (λ l. Stands (programs hart) [] l decoder) (sym (replicate-at harts [] hart l is_l)) (stands (programs hart)));
+      ended = λ flag is. replicate-at harts false hart flag is;
+    };
   };
 }
 
--- The decoder and the list of a hart that is known.
-pub stands_at : {A : Type 0} (programs : ℕ → Words) (harts : ℕ) (messages : List Message) (expected : Harts) (decoders : List Decoder) (lists : List (Vec Event A)) (closed : List Bool) (words : Words) (hart at : ℕ) (decoder : Decoder) (list : Vec Event A)
-    → Holds programs harts messages (record { expected = expected; decoders = decoders; lists = events_in lists; closed = closed })
-    → programs hart ≡ words → at ≡ hart → hart < length (events_in lists) → decoder ≡ get_or decoders at decoder → list ≡ get_or lists at list
-    → Stands words (packets_of hart messages) list.items decoder
-stands_at {A} programs harts messages expected decoders lists closed words hart at decoder list holds program here known is_decoder is_list =
-    let of_decoders : at < length decoders = omega (arith, known, here, holds.decoders_count, holds.lists_count) in
-    let of_lists : at < length lists = omega (arith, known, here, length-map lists (λ (list : Vec Event A). list.items)) in
-    let stands = holds.stands at decoder list.items (slice_get_read decoders (length decoders) at decoder refl of_decoders is_decoder)
-    (events_in-at lists at list (slice_get_read lists (length lists) at list refl of_lists is_list)) in
-    subst (λ words. Stands words (packets_of hart messages) list.items decoder) program
-    (subst (λ hart. Stands (programs hart) (packets_of hart messages) list.items decoder) here stands)
+-- As many decoders, lists and flags.
+pub record HasSameCounts (old new : Received) : Type 0 where
+  pub decoders : length new.decoders ≡ length old.decoders
+  pub lists : length new.lists ≡ length old.lists
+  pub closed : length new.closed ≡ length old.closed
+
+-- What was written at a place, and what stands at the others.
+set-here : {X : Type 0} (xs : List X) (at : ℕ) (y : X) (i : ℕ) (x : X) → at ≡ i → slice_get (set xs at y) i ≡ Some x → x ≡ y
+set-here xs at y i x here is = ⊎_elim (λ it. it.1) (λ apart. absurd (apart.0 here)) (slice_get-set xs at y i x is)
+
+pub set-other : {X : Type 0} (xs : List X) (i : ℕ) (y : X) (j : ℕ) → j ≢ i → slice_get (set xs i y) j ≡ slice_get xs j
+set-other [] i y j apart = refl
+set-other (a ∷ xs) zero y zero apart = absurd (apart refl)
+set-other (a ∷ xs) zero y (suc j) apart = refl
+set-other (a ∷ xs) (suc i) y zero apart = refl
+set-other (a ∷ xs) (suc i) y (suc j) apart = set-other xs i y j (λ same. apart (ap suc same))
+
+-- What is held of a hart of which nothing changed.
+pub holds_same : (words : Words) (hart : ℕ) (packets : List Packet) (old new : Received) → IsSameHart hart old new
+    → HoldsHart words hart packets old → HoldsHart words hart packets new
+holds_same words hart packets old new same holds = record {
+  stands = λ decoder list is_decoder is_list.
+      holds.stands decoder list (sym same.decoder ∙ is_decoder) (sym same.list ∙ is_list);
+  ended = λ flag is. holds.ended flag (sym same.closed ∙ is);
+}
+
+-- Nothing changed of a hart where nothing changed at all.
+pub same_hart : (hart : ℕ) (old new : Received) → new ≡ old → IsSameHart hart old new
+same_hart hart old new same = record {
+  expected = ap (λ (r : Received). slice_get r.expected hart) same;
+  decoder = ap (λ (r : Received). slice_get r.decoders hart) same;
+  list = ap (λ (r : Received). slice_get r.lists hart) same;
+  closed = ap (λ (r : Received). slice_get r.closed hart) same;
+}
+
+module _ {A : Type 0} (expected : Harts) (decoders : List Decoder) (lists : List (Vec Event A)) (closed : List Bool) (hart at : ℕ) (here : at ≡ hart) where
+  -- What stands at the places of all harts, and what does where those of a hart were written.
+  abbrev before : Received
+  before = record { expected = expected; decoders = decoders; lists = events_in lists; closed = closed }
+
+  abbrev after : Decoder → Vec Event A → Bool → Received
+  after decoder list flag =
+      record { expected = expected; decoders = set decoders at decoder; lists = events_in (set lists at list); closed = set closed at flag }
+
+  -- The list at the hart's place.
+  list_here : (list : Vec Event A) (events : List Event) → hart < length (events_in lists) → list ≡ get_or lists at list
+      → slice_get (events_in lists) hart ≡ Some events → events ≡ list.items
+  list_here list events known is_list is =
+      let within : at < length lists = omega (arith, known, here, length-map lists (λ (list : Vec Event A). list.items)) in
+      let found = events_in-at lists at list (slice_get_read lists (length lists) at list refl within is_list) in
+      same_Some events list.items (sym is ∙ subst (λ hart. slice_get (events_in lists) hart ≡ Some list.items) here found)
+
+  -- Its room is no less than its length.
+  pub longer_here : (list : Vec Event A) (events log : List Event) (received : Received) → before ≡ received
+      → hart < length received.lists → list ≡ get_or lists at list → slice_get received.lists hart ≡ Some events
+      → vec_capacity list < length log → length events < length log
+  longer_here list events log received view known is_list is room =
+      let inside = subst (λ (r : Received). hart < length r.lists) (sym view) known in
+      let found = subst (λ (r : Received). slice_get r.lists hart ≡ Some events) (sym view) is in
+      let same = ap length (list_here list events inside is_list found) in
+      omega (arith, same, room, list.ok.0, list.ok.1)
+
+  -- The decoder and the list there stand for what is held of the hart.
+  pub stands_here : (words : Words) (packets : List Packet) (decoder : Decoder) (list : Vec Event A) (received : Received) → before ≡ received
+      → IsReceived before → HoldsHart words hart packets received → hart < length received.lists
+      → decoder ≡ get_or decoders at decoder → list ≡ get_or lists at list → Stands words packets list.items decoder
+  stands_here words packets decoder list received view all given inside is_decoder is_list =
+      let holds = subst (HoldsHart words hart packets) (sym view) given in
+      let known : hart < length (events_in lists) = subst (λ (r : Received). hart < length r.lists) (sym view) inside in
+      let of_decoders : at < length decoders = omega (arith, known, here, all.decoders, all.lists) in
+      let of_lists : at < length lists = omega (arith, known, here, length-map lists (λ (list : Vec Event A). list.items)) in
+      let one = slice_get_read decoders (length decoders) at decoder refl of_decoders is_decoder in
+      let two = events_in-at lists at list (slice_get_read lists (length lists) at list refl of_lists is_list) in
+      holds.stands decoder list.items (subst (λ hart. slice_get decoders hart ≡ Some decoder) here one)
+      (subst (λ hart. slice_get (events_in lists) hart ≡ Some list.items) here two)
+
+  -- The lists where the hart's was written.
+  lists_after : (list : Vec Event A) → events_in (set lists at list) ≡ set (events_in lists) at list.items
+  lists_after list = map-set (λ (list : Vec Event A). list.items) lists at list
+
+  -- What is held of the hart then.
+  pub holds_after : (words : Words) (packets : List Packet) (packet : Packet) (decoder : Decoder) (list : Vec Event A) (flag : Bool)
+      → flag ≡ is_closing_packet packet → Stands words (packets ++ packet ∷ []) list.items decoder
+      → HoldsHart words hart (packets ++ packet ∷ []) (after decoder list flag)
+  holds_after words packets packet decoder list flag ends fed = record {
+    stands = λ d l is_d is_l.
+        let same_d = set-here decoders at decoder hart d here is_d in
+        let same_l = set-here (events_in lists) at list.items hart l here (sym (ap (λ ls. slice_get ls hart) (lists_after list)) ∙ is_l) in
+        subst (λ d. Stands words (packets ++ packet ∷ []) l d) (sym same_d)
+        (subst (λ l. Stands words (packets ++ packet ∷ []) l decoder) (sym same_l) fed);
+    ended = λ f is. set-here closed at flag hart f here is ∙ ends ∙ sym (has_ended-next packets packet);
+  }
+
+  -- Of the others nothing changed.
+  pub others_after : (decoder : Decoder) (list : Vec Event A) (flag : Bool) (received : Received) → before ≡ received
+      → (other : ℕ) → other ≢ hart → IsSameHart other received (after decoder list flag)
+  others_after decoder list flag received view other apart =
+      let apart_at : other ≢ at = λ same. apart (same ∙ here) in
+      subst (λ old. IsSameHart other old (after decoder list flag)) view (record {
+        expected = refl;
+        decoder = set-other decoders at decoder other apart_at;
+        list = ap (λ ls. slice_get ls other) (lists_after list) ∙ set-other (events_in lists) at list.items other apart_at;
+        closed = set-other closed at flag other apart_at;
+      })
+
+  -- There are as many of them.
+  pub count_after : (decoder : Decoder) (list : Vec Event A) (flag : Bool) → HasSameCounts before (after decoder list flag)
+  count_after decoder list flag = record {
+    decoders = length-set decoders at decoder;
+    lists = ap length (lists_after list) ∙ length-set (events_in lists) at list.items;
+    closed = length-set closed at flag;
+  }
 
 -- A decoder and a list that were written as they were.
 pub written_same : {A : Type 0} (lists : List (Vec Event A)) (hart : ℕ) (before list : Vec Event A)
@@ -71,58 +174,46 @@ written_same {A} lists hart before list is_before same =
     let kept : events_in (set lists hart before) ≡ events_in lists = ap (λ v. events_in (set lists hart v)) is_before ∙ ap events_in (set-get_or lists hart before) in
     map-set items lists hart list ∙ ap (set (events_in lists) hart) same ∙ sym (map-set items lists hart before) ∙ kept
 
-module _ (programs : ℕ → Words) (harts : ℕ) (messages : List Message) (message : Message) (packet : Packet) where
-  abbrev all : List Message
-  all = messages ++ message ∷ []
+-- What is held with one message more, by what is held of its hart.
+pub holds_more : (programs : ℕ → Words) (harts : ℕ) (messages : List Message) (message : Message) (packet : Packet) (old new : Received)
+    → Holds programs harts messages old → reading message.payload ≡ Ok packet → HasSameCounts old new
+    → HoldsHart (programs message.hart) message.hart (packets_of message.hart messages ++ packet ∷ []) new
+    → ((other : ℕ) → other ≢ message.hart → IsSameHart other old new)
+    → Holds programs harts (messages ++ message ∷ []) new
+holds_more programs harts messages message packet old new holds read counts more others = record {
+  decoders_count = counts.decoders ∙ holds.decoders_count;
+  lists_count = counts.lists ∙ holds.lists_count;
+  closed_count = counts.closed ∙ holds.closed_count;
+  each = λ hart. each hart (cases_eq hart message.hart);
+}
+  where
+    all : List Message
+    all = messages ++ message ∷ []
 
-  -- What is held after a message whose packet was fed.
-  holds_more : (received : Received) (decoder : Decoder) (list : List Event) → Holds programs harts messages received → reading message.payload ≡ Ok packet
-      → Stands (programs message.hart) (packets_of message.hart messages ++ packet ∷ []) list decoder
-      → Holds programs harts all (record {
-        expected = received.expected;
-        decoders = set received.decoders message.hart decoder;
-        lists = set received.lists message.hart list;
-        closed = set received.closed message.hart (is_closing_packet packet);
-      })
-  holds_more received decoder list holds read fed = record {
-    decoders_count = length-set received.decoders message.hart decoder ∙ holds.decoders_count;
-    lists_count = length-set received.lists message.hart list ∙ holds.lists_count;
-    closed_count = length-set received.closed message.hart (is_closing_packet packet) ∙ holds.closed_count;
-    stands = λ hart d l is_d is_l. stands hart d l (slice_get-set received.decoders message.hart decoder hart d is_d) (slice_get-set received.lists message.hart list hart l is_l);
-    ended = λ hart flag is. ended hart flag (slice_get-set received.closed message.hart (is_closing_packet packet) hart flag is);
-  }
-    where
-      stands : (hart : ℕ) (d : Decoder) (l : List Event) → ((message.hart ≡ hart) × (d ≡ decoder)) ⊎ ((message.hart ≢ hart) × (slice_get received.decoders hart ≡ Some d))
-          → ((message.hart ≡ hart) × (l ≡ list)) ⊎ ((message.hart ≢ hart) × (slice_get received.lists hart ≡ Some l)) → Stands (programs hart) (packets_of hart all) l d
-      stands hart d l (inl a) (inl b) =
-          let one = subst (λ packets. Stands (programs message.hart) packets list decoder) (sym (packets_of-next messages message packet read)) fed in
-          let two = subst (λ hart. Stands (programs hart) (packets_of hart all) list decoder) a.0 one in
-          let three = subst (λ l. Stands (programs hart) (packets_of hart all) l decoder) (sym b.1) two in
-          subst (λ d. Stands (programs hart) (packets_of hart all) l d) (sym a.1) three
-      stands hart d l (inl a) (inr b) = absurd (b.0 a.0)
-      stands hart d l (inr a) (inl b) = absurd (a.0 b.0)
-      stands hart d l (inr a) (inr b) = subst (λ packets. Stands (programs hart) packets l d) (sym (packets_of-other hart messages message a.0)) (holds.stands hart d l a.1 b.1)
+    own : HoldsHart (programs message.hart) message.hart (packets_of message.hart all) new
+    own =
+        subst (λ packets. HoldsHart (programs message.hart) message.hart packets new)
+        (sym (packets_of-next messages message packet read)) more
 
-      ended : (hart : ℕ) (flag : Bool) → ((message.hart ≡ hart) × (flag ≡ is_closing_packet packet)) ⊎ ((message.hart ≢ hart) × (slice_get received.closed hart ≡ Some flag)) → flag ≡ has_ended (packets_of hart all)
-      ended hart flag (inl here) =
-          let ends = here.1 ∙ sym (has_ended-next (packets_of message.hart messages) packet) ∙ sym (ap has_ended (packets_of-next messages message packet read)) in
-          subst (λ hart. flag ≡ has_ended (packets_of hart all)) here.0 ends
-      ended hart flag (inr there) = holds.ended hart flag there.1 ∙ sym (ap has_ended (packets_of-other hart messages message there.0))
+    each : (hart : ℕ) → (hart ≡ message.hart) ⊎ (hart ≢ message.hart) → HoldsHart (programs hart) hart (packets_of hart all) new
+    each hart (inl here) = subst (λ hart. HoldsHart (programs hart) hart (packets_of hart all) new) (sym here) own
+    each hart (inr apart) =
+        subst (λ packets. HoldsHart (programs hart) hart packets new)
+        (sym (packets_of-other hart messages message (λ same. apart (sym same))))
+        (holds_same (programs hart) hart (packets_of hart messages) old new (others hart apart) (holds.each hart))
 
-  -- What a receiver holds then, by what was written.
-  pub held_more : {A : Type 0} (expected : Harts) (decoders : List Decoder) (lists : List (Vec Event A)) (closed : List Bool) (words : Words) (hart at : ℕ) (decoder : Decoder) (list : Vec Event A) (flag : Bool)
-      → Holds programs harts messages (record { expected = expected; decoders = decoders; lists = events_in lists; closed = closed })
-      → reading message.payload ≡ Ok packet → programs hart ≡ words → message.hart ≡ hart → at ≡ hart → flag ≡ is_closing_packet packet
-      → Stands words (packets_of hart messages ++ packet ∷ []) list.items decoder
-      → Holds programs harts all (record { expected = expected; decoders = set decoders at decoder; lists = events_in (set lists at list); closed = set closed at flag })
-  held_more {A} expected decoders lists closed words hart at decoder list flag holds read program same place ends fed =
-      let items : Vec Event A → List Event = λ list. list.items in
-      let own = subst (λ words. Stands words (packets_of hart messages ++ packet ∷ []) list.items decoder) (sym program) fed in
-      let here = subst (λ hart. Stands (programs hart) (packets_of hart messages ++ packet ∷ []) list.items decoder) (sym same) own in
-      let one = holds_more (record { expected = expected; decoders = decoders; lists = events_in lists; closed = closed }) decoder list.items holds read here in
-      let two = subst (λ flag. Holds programs harts all (record { expected = expected; decoders = set decoders message.hart decoder; lists = set (events_in lists) message.hart list.items; closed = set closed message.hart flag })) (sym ends) one in
-      let three = subst (λ lists. Holds programs harts all (record { expected = expected; decoders = set decoders message.hart decoder; lists = lists; closed = set closed message.hart flag })) (sym (map-set items lists message.hart list)) two in
-      subst (λ hart. Holds programs harts all (record { expected = expected; decoders = set decoders hart decoder; lists = events_in (set lists hart list); closed = set closed hart flag })) (same ∙ sym place) three
+-- The same where the program is called by another name, and the hart.
+pub decoded_more : (programs : ℕ → Words) (harts : ℕ) (messages : List Message) (message : Message) (packet : Packet) (words : Words) (hart : ℕ) (old new : Received)
+    → programs hart ≡ words → message.hart ≡ hart → reading message.payload ≡ Ok packet → Holds programs harts messages old → HasSameCounts old new
+    → (HoldsHart words hart (packets_of hart messages) old → HoldsHart words hart (packets_of hart messages ++ packet ∷ []) new)
+    → ((other : ℕ) → other ≢ hart → IsSameHart other old new)
+    → Holds programs harts (messages ++ message ∷ []) new
+decoded_more programs harts messages message packet words hart old new program own read holds counts more others =
+    holds_more programs harts messages message packet old new holds read counts
+    (subst (λ hart. HoldsHart (programs hart) hart (packets_of hart messages ++ packet ∷ []) new) (sym own)
+    (subst (λ words. HoldsHart words hart (packets_of hart messages ++ packet ∷ []) new) (sym program)
+    (more (subst (λ words. HoldsHart words hart (packets_of hart messages) old) program (holds.each hart)))))
+    (λ other apart. others other (λ same. apart (same ∙ sym own)))
 
 -- What is expected has no part in what is held.
 pub holds_kept : (programs : ℕ → Words) (harts : ℕ) (messages : List Message) (old new : Received) (expected : Harts) → Holds programs harts messages old
@@ -131,9 +222,21 @@ holds_kept programs harts messages old new expected holds same = subst (Holds pr
   decoders_count = holds.decoders_count;
   lists_count = holds.lists_count;
   closed_count = holds.closed_count;
-  stands = holds.stands;
-  ended = holds.ended;
+  each = λ hart. record { stands = (holds.each hart).stands; ended = (holds.each hart).ended };
 })
+
+-- The list of a hart that is known, which its packets describe.
+pub list_of : (programs : ℕ → Words) (harts : ℕ) (messages : List Message) (hart : ℕ) (received : Received) → Holds programs harts messages received
+    → hart < length received.lists
+    → (list : List Event) × (slice_get received.lists hart ≡ Some list) × Describes (programs hart) (packets_of hart messages) list
+list_of programs harts messages hart received holds known =
+    let list = element received.lists hart known in
+    let decoder = element received.decoders hart (omega (arith, known, holds.lists_count, holds.decoders_count)) in
+    (list.0, list.1, ((holds.each hart).stands decoder.0 list.0 decoder.1 list.1).described)
+  where
+    element : {X : Type 0} (xs : List X) (i : ℕ) → i < length xs → (x : X) × (slice_get xs i ≡ Some x)
+    element xs i within =
+        ⊎_elim (λ found. (found.0, found.2)) (λ past. absurd (let beyond = past.0 in omega (arith, within, beyond))) (slice_get_cases xs i).1
 
 -- What a receiver holds is what its messages decode to.
 pub holds_decoded : (programs : ℕ → Words) (harts : ℕ) (messages : List Message) (received : Received) → Holds programs harts messages received
@@ -142,13 +245,13 @@ holds_decoded programs harts messages received holds = record {
   lists_count = holds.lists_count;
   closed_count = holds.closed_count;
   described = λ hart list is. described hart list is (slice_get_cases received.decoders hart).1;
-  ended = holds.ended;
+  ended = λ hart. (holds.each hart).ended;
 }
   where
     described : (hart : ℕ) (list : List Event) → slice_get received.lists hart ≡ Some list
         → ((decoder : Decoder) × (hart < length received.decoders) × (slice_get received.decoders hart ≡ Some decoder) × (get_or received.decoders hart decoder ≡ decoder)) ⊎ ((length received.decoders ≤ hart) × (slice_get received.decoders hart ≡ None))
         → Describes (programs hart) (packets_of hart messages) list
-    described hart list is (inl at) = (holds.stands hart at.0 list at.2 is).described
+    described hart list is (inl at) = ((holds.each hart).stands at.0 list at.2 is).described
     described hart list is (inr past) =
         let within = slice_get_within received.lists hart list is in
         let never : ⊥ = omega (arith, within, past.0, holds.lists_count, holds.decoders_count) in

@@ -3,6 +3,7 @@ use Rattle.std.specs.Prelude.{ℕ, ◌≡◌, Bool, List, Some, length, slice_ge
 use Rattle.retire.specs.declared.event.Event.{Event}
 use Rattle.rvclass.specs.Words.{Words}
 use Rattle.payload.specs.Ended.{has_ended}
+use Rattle.payload.specs.declared.packet.Packet.{Packet}
 use Rattle.decoder.specs.Describes.{Describes}
 use Rattle.decoder.specs.Stands.{Stands}
 use Rattle.decoder.specs.declared.decoding.Decoder.{Decoder}
@@ -16,16 +17,19 @@ pub record HasAccepted (harts : ℕ) (messages : List Message) (received : Recei
   pub accepted : AreAccepted (newcomers harts) messages
   pub expected : received.expected ≡ expected_after (newcomers harts) messages
 
--- The lists of so many harts are what the packets of these messages describe, each by the program of its hart; the
--- decoders stand for both, and the flags tell which packets have ended.
+-- What is held of a hart is what these packets describe, by this program: its decoder stands for them and its list, and
+-- its flag tells whether they have ended.
+pub record HoldsHart (words : Words) (hart : ℕ) (packets : List Packet) (received : Received) : Type 0 where
+  pub stands : (decoder : Decoder) (list : List Event) → slice_get received.decoders hart ≡ Some decoder
+      → slice_get received.lists hart ≡ Some list → Stands words packets list decoder
+  pub ended : (is_closed : Bool) → slice_get received.closed hart ≡ Some is_closed → is_closed ≡ has_ended packets
+
+-- What is held of so many harts is of each what the packets of its messages among these describe, by its own program.
 pub record Holds (programs : ℕ → Words) (harts : ℕ) (messages : List Message) (received : Received) : Type 0 where
   pub decoders_count : length received.decoders ≡ harts
   pub lists_count : length received.lists ≡ harts
   pub closed_count : length received.closed ≡ harts
-  pub stands : (hart : ℕ) (decoder : Decoder) (list : List Event) → slice_get received.decoders hart ≡ Some decoder
-      → slice_get received.lists hart ≡ Some list → Stands (programs hart) (packets_of hart messages) list decoder
-  pub ended : (hart : ℕ) (is_closed : Bool) → slice_get received.closed hart ≡ Some is_closed
-      → is_closed ≡ has_ended (packets_of hart messages)
+  pub each : (hart : ℕ) → HoldsHart (programs hart) hart (packets_of hart messages) received
 
 -- A receiver of so many harts received just these messages: it accepted them, each in its turn, and holds what they tell.
 pub record HasReceived (programs : ℕ → Words) (harts : ℕ) (messages : List Message) (received : Received) : Type 0 where

@@ -1,5 +1,5 @@
 -- What a receiver has of each hart.
-use Rattle.std.specs.Prelude.{◌≡◌, Bool, List, length, map}
+use Rattle.std.specs.Prelude.{ℕ, ◌≡◌, Bool, List, length, map, slice_get}
 use Rattle.std.specs.declared.vec.Vec.{Vec}
 use Rattle.retire.specs.declared.event.Event.{Event}
 use Rattle.decoder.specs.declared.decoding.Decoder.{Decoder}
@@ -21,3 +21,10 @@ pub record IsReceived (received : Received) : Type 0 where
   pub decoders : length received.decoders ≡ length received.expected
   pub lists : length received.lists ≡ length received.expected
   pub closed : length received.closed ≡ length received.expected
+
+-- What is held of the hart is the same.
+pub record IsSameHart (hart : ℕ) (old new : Received) : Type 0 where
+  pub expected : slice_get new.expected hart ≡ slice_get old.expected hart
+  pub decoder : slice_get new.decoders hart ≡ slice_get old.decoders hart
+  pub list : slice_get new.lists hart ≡ slice_get old.lists hart
+  pub closed : slice_get new.closed hart ≡ slice_get old.closed hart

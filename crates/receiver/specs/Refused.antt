@@ -1,5 +1,5 @@
 -- Why a message is not received.
-use Rattle.std.specs.Prelude.{ℕ, ◌⊎◌, ◌≡◌, ◌↔◌, ◌++◌, List, [], ◌∷◌, Ok, Err}
+use Rattle.std.specs.Prelude.{ℕ, ◌⊎◌, ◌≡◌, ◌<◌, ◌↔◌, ◌++◌, List, [], ◌∷◌, Ok, Err, length}
 use Rattle.retire.specs.declared.event.Event.{Event}
 use Rattle.rvclass.specs.Words.{Words}
 use Rattle.payload.specs.declared.packet.Packet.{Packet}
@@ -15,11 +15,12 @@ use Rattle.receiver.specs.declared.fault.ReceiveFault.{ReceiveFault}
 use Rattle.receiver.specs.declared.fault.ReceiveFault.TheVariants as fault
 
 -- Why a packet is not decoded after packets that have not ended: it comes first and opens no trace, or no log is described
--- by them and it, or one is and memory was refused.
+-- by them and it, or one is that is longer than the list that they describe, and memory was refused.
 pub record IsNotDecoded (words : Words) (packets : List Packet) (packet : Packet) (why : DecodeFault) : Type 0 where
   pub not_opened : (why ≡ NotOpened) ↔ ((packets ≡ []) × ¬ IsOpen packet)
   pub not_ended : ¬ (why ≡ AfterClose)
-  pub memory : why ≡ Memory → (log : List Event) × Describes words (packets ++ packet ∷ []) log
+  pub memory : why ≡ Memory → (list log : List Event) × Describes words packets list
+      × Describes words (packets ++ packet ∷ []) log × (length list < length log)
   pub reason : (why ≡ Memory) ⊎ ((log : List Event) → ¬ Describes words (packets ++ packet ∷ []) log)
 
 -- The message is accepted after these messages, and its packet is not decoded.

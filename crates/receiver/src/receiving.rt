@@ -1,20 +1,20 @@
 //! The receiver.
 
-ghost use Rattle.std.specs.Prelude.{ℕ, ◌≡◌, ◌≢◌, ◌<◌, ◌⊎◌, ◌↔◌, ◌++◌, true, List, [], ◌∷◌, Ok, Err, IfErr, IfOk, OnErr, OnOk, length, replicate};
+ghost use Rattle.std.specs.Prelude.{ℕ, ◌≡◌, ◌≢◌, ◌<◌, ◌⊎◌, ◌↔◌, ◌++◌, true, List, [], ◌∷◌, Some, Ok, Err, IfErr, IfOk, OnErr, OnOk, length, replicate, slice_get};
 ghost use Rattle.retire.specs.declared.event.Event.{Event as AnyEvent};
 ghost use Rattle.rvclass.specs.Fetch.{words_of};
 ghost use Rattle.rvclass.specs.Words.{Words};
 ghost use Rattle.payload.specs.Ended.{has_ended};
 ghost use Rattle.payload.specs.Reading.{reading};
+ghost use Rattle.payload.specs.declared.packet.Packet.{Packet as AnyPacket};
 ghost use Rattle.decoder.specs.Describes.{Describes};
 ghost use Rattle.decoder.specs.Order.{IsOpen};
 ghost use Rattle.decoder.specs.declared.fault.DecodeFault.TheVariants.{NotOpened, AfterClose, Memory};
 ghost use Rattle.message.specs.Accepting.{accepting, harts_after};
-ghost use Rattle.message.specs.OfHart.{packets_of};
 ghost use Rattle.message.specs.declared.fault.DemuxFault.{DemuxFault as AnyDemuxFault};
 ghost use Rattle.message.specs.declared.message.Message.{Message as AnyMessage};
-ghost use Rattle.receiver.specs.Holds.{AreDecoded, HasAccepted, HasReceived, Holds};
-ghost use Rattle.receiver.specs.Received.{Received, IsReceived, events_in};
+ghost use Rattle.receiver.specs.Holds.{AreDecoded, HasAccepted, HasReceived, Holds, HoldsHart};
+ghost use Rattle.receiver.specs.Received.{Received, IsReceived, IsSameHart, events_in};
 ghost use Rattle.receiver.specs.Refused.{IsRefused};
 
 use crate::fault::ReceiveFault;
@@ -70,6 +70,7 @@ impl<A: Allocator + Copy> Receiver<A> {
         ensures refused { OnErr result (self.new ≡ self.old) }
         ensures packet { IfOk result (λ packet. reading message.now.payload ≡ Ok packet) }
         ensures known { IfOk result (λ packet. message.now.hart < length self.new.lists) }
+        ensures others { (other : ℕ) → other ≢ message.now.hart → IsSameHart other self.old self.new }
     {
         self.demux.accept(message)
     }
@@ -84,25 +85,28 @@ impl<A: Allocator + Copy> Receiver<A> {
     ) -> Result<(), DecodeFault>
         requires known { hart < length self.old.lists }
 
+        // Of the hart it holds what the packet tells too; of the others nothing changes.
+        ensures hart { (packets : List AnyPacket) → HoldsHart (words_of program.now) hart packets self.old
+            → OnOk result (HoldsHart (words_of program.now) hart (packets ++ packet.now ∷ []) self.new) }
+        ensures others { (other : ℕ) → other ≢ hart → IsSameHart other self.old self.new }
+
         // With the packet of one more message of the hart the receiver holds what that message tells too.
         ensures decoded { (programs : ℕ → Words) (harts : ℕ) (messages : List AnyMessage) (message : AnyMessage)
             → programs hart ≡ words_of program.now → message.hart ≡ hart → reading message.payload ≡ Ok packet.now
             → Holds programs harts messages self.old → OnOk result (Holds programs harts (messages ++ message ∷ []) self.new) }
-        ensures none { (programs : ℕ → Words) (harts : ℕ) (messages : List AnyMessage)
-            → programs hart ≡ words_of program.now → Holds programs harts messages self.old
+        ensures none { (packets : List AnyPacket) → HoldsHart (words_of program.now) hart packets self.old
             → IfErr result (λ fault. (fault ≡ Memory)
-            ⊎ ((log : List AnyEvent) → ¬ Describes (words_of program.now) (packets_of hart messages ++ packet.now ∷ []) log)) }
-        ensures memory { (programs : ℕ → Words) (harts : ℕ) (messages : List AnyMessage)
-            → programs hart ≡ words_of program.now → Holds programs harts messages self.old
-            → result ≡ Err Memory
-            → (log : List AnyEvent) × Describes (words_of program.now) (packets_of hart messages ++ packet.now ∷ []) log }
-        ensures not_opened { (programs : ℕ → Words) (harts : ℕ) (messages : List AnyMessage)
-            → programs hart ≡ words_of program.now → Holds programs harts messages self.old
-            → (result ≡ Err NotOpened) ↔ ((packets_of hart messages ≡ []) × ¬ IsOpen packet.now) }
-        ensures ended { (programs : ℕ → Words) (harts : ℕ) (messages : List AnyMessage)
-            → programs hart ≡ words_of program.now → Holds programs harts messages self.old
-            → (result ≡ Err AfterClose) ↔ (has_ended (packets_of hart messages) ≡ true) }
+            ⊎ ((log : List AnyEvent) → ¬ Describes (words_of program.now) (packets ++ packet.now ∷ []) log)) }
+        ensures memory { (packets : List AnyPacket) (list : List AnyEvent) → HoldsHart (words_of program.now) hart packets self.old
+            → slice_get self.old.lists hart ≡ Some list → result ≡ Err Memory
+            → (log : List AnyEvent) × Describes (words_of program.now) (packets ++ packet.now ∷ []) log
+            × (length list < length log) }
+        ensures not_opened { (packets : List AnyPacket) → HoldsHart (words_of program.now) hart packets self.old
+            → (result ≡ Err NotOpened) ↔ ((packets ≡ []) × ¬ IsOpen packet.now) }
+        ensures ended { (packets : List AnyPacket) → HoldsHart (words_of program.now) hart packets self.old
+            → (result ≡ Err AfterClose) ↔ (has_ended packets ≡ true) }
         ensures expected { self.new.expected ≡ self.old.expected }
+        ensures complete { IsReceived self.new }
         ensures refused { OnErr result (self.new ≡ self.old) }
     {
         let hart = usize::from(hart);
@@ -122,6 +126,11 @@ impl<A: Allocator + Copy> Receiver<A> {
             → OnOk result (HasReceived programs harts (messages ++ message.now ∷ []) self.new) }
         ensures held { (programs : ℕ → Words) (harts : ℕ) (messages : List AnyMessage)
             → HasReceived programs harts messages self.old → OnErr result (Holds programs harts messages self.new) }
+        ensures received_held { (programs : ℕ → Words) (harts : ℕ) (messages : List AnyMessage)
+            → programs message.now.hart ≡ words_of program.now → Holds programs harts messages self.old
+            → OnOk result (Holds programs harts (messages ++ message.now ∷ []) self.new) }
+        // It is refused by the demultiplexer exactly where that is what the demultiplexer answers.
+        ensures demux { (why : AnyDemuxFault) → (result ≡ Err (ReceiveFault.Demux why)) ↔ (accepting self.old.expected message.now ≡ Err why) }
         ensures not_accepted { (why : AnyDemuxFault) → result ≡ Err (ReceiveFault.Demux why) → self.new ≡ self.old }
         ensures refused { (programs : ℕ → Words) (harts : ℕ) (messages : List AnyMessage)
             → programs message.now.hart ≡ words_of program.now → HasReceived programs harts messages self.old

@@ -1,46 +1,41 @@
 -- What the hart's decoder answers, for the decoder and the list that stand at the hart's place: by lemmas on lists, which no
 -- tactic finds.
-use Rattle.std.proofs.Common.{◌≡◌, ◌<◌, length, set, sym, ap, subst, ◌∙◌}
+use Rattle.std.proofs.Common.{◌≡◌, set, refl, subst, sym, ap, ◌∙◌}
 use Rattle.std.proofs.lemmas.List.{set-get_or}
 use Rattle.rvclass.specs.Fetch.{words_of}
-use Rattle.message.specs.OfHart.{packets_of}
-use Rattle.receiver.proofs.HoldLemmas.{held_more, stands_at, written_same}
-use Rattle.receiver.specs.Holds.{Holds}
+use Rattle.receiver.proofs.HoldLemmas.{count_after, decoded_more, holds_after, longer_here, others_after, same_hart, stands_here, written_same}
+use Rattle.receiver.specs.Holds.{Holds, HoldsHart}
 use Rattle.receiver.specs.Received.{Received, events_in}
 use Rattle.receiver.proofs.receiving.Receiver.decode.Goals as goal
 
 pub returns-in-Err-clause-none : goal.returns-in-Err-clause-none
-returns-in-Err-clause-none g c = λ programs harts messages program given.
-    let holds = subst (Holds programs harts messages) (sym c.self.view_is) given in
-    let known = subst (λ r. c.args.hart < length r.lists) (sym c.self.view_is) c.requires.known in
-    let stands = stands_at programs harts messages c.self.inside.demux c.self.inside.decoders.items c.self.inside.lists.items c.self.inside.closed.items
-    (words_of c.args.program.now) c.args.hart c.from-hart.result c.index_mut.result.now c.index_mut-2.result.now holds program c.from-hart.ensures known c.index_mut.ensures.value c.index_mut-2.ensures.value in
-    c.in-Err.ensures.none (packets_of c.args.hart messages) stands
+returns-in-Err-clause-none g c = λ packets given.
+    c.in-Err.ensures.none packets (stands_here c.self.inside.demux c.self.inside.decoders.items c.self.inside.lists.items c.self.inside.closed.items
+    c.args.hart c.from-hart.result c.from-hart.ensures (words_of c.args.program.now) packets c.index_mut.result.now c.index_mut-2.result.now
+    c.args.self.now c.self.view_is c.self.invariant given c.requires.known c.index_mut.ensures.value c.index_mut-2.ensures.value)
 
 pub returns-in-Err-clause-memory : goal.returns-in-Err-clause-memory
-returns-in-Err-clause-memory g c = λ programs harts messages program given is.
-    let holds = subst (Holds programs harts messages) (sym c.self.view_is) given in
-    let known = subst (λ r. c.args.hart < length r.lists) (sym c.self.view_is) c.requires.known in
-    let stands = stands_at programs harts messages c.self.inside.demux c.self.inside.decoders.items c.self.inside.lists.items c.self.inside.closed.items
-    (words_of c.args.program.now) c.args.hart c.from-hart.result c.index_mut.result.now c.index_mut-2.result.now holds program c.from-hart.ensures known c.index_mut.ensures.value c.index_mut-2.ensures.value in
-    let found = c.in-Err.ensures.memory (packets_of c.args.hart messages) stands is in
-    (found.0, found.1)
+returns-in-Err-clause-memory g c = λ packets list given is_list is.
+    let found = c.in-Err.ensures.memory packets (stands_here c.self.inside.demux c.self.inside.decoders.items c.self.inside.lists.items c.self.inside.closed.items
+    c.args.hart c.from-hart.result c.from-hart.ensures (words_of c.args.program.now) packets c.index_mut.result.now c.index_mut-2.result.now
+    c.args.self.now c.self.view_is c.self.invariant given c.requires.known c.index_mut.ensures.value c.index_mut-2.ensures.value) is in (
+      found.0,
+      found.1,
+      longer_here c.self.inside.demux c.self.inside.decoders.items c.self.inside.lists.items c.self.inside.closed.items c.args.hart c.from-hart.result c.from-hart.ensures
+          c.index_mut-2.result.now list found.0 c.args.self.now c.self.view_is c.requires.known c.index_mut-2.ensures.value is_list found.2,
+    )
 
 pub returns-in-Err-clause-not_opened : goal.returns-in-Err-clause-not_opened
-returns-in-Err-clause-not_opened g c = λ programs harts messages program given.
-    let holds = subst (Holds programs harts messages) (sym c.self.view_is) given in
-    let known = subst (λ r. c.args.hart < length r.lists) (sym c.self.view_is) c.requires.known in
-    let stands = stands_at programs harts messages c.self.inside.demux c.self.inside.decoders.items c.self.inside.lists.items c.self.inside.closed.items
-    (words_of c.args.program.now) c.args.hart c.from-hart.result c.index_mut.result.now c.index_mut-2.result.now holds program c.from-hart.ensures known c.index_mut.ensures.value c.index_mut-2.ensures.value in
-    c.in-Err.ensures.not_opened (packets_of c.args.hart messages) stands
+returns-in-Err-clause-not_opened g c = λ packets given.
+    c.in-Err.ensures.not_opened packets (stands_here c.self.inside.demux c.self.inside.decoders.items c.self.inside.lists.items c.self.inside.closed.items
+    c.args.hart c.from-hart.result c.from-hart.ensures (words_of c.args.program.now) packets c.index_mut.result.now c.index_mut-2.result.now
+    c.args.self.now c.self.view_is c.self.invariant given c.requires.known c.index_mut.ensures.value c.index_mut-2.ensures.value)
 
 pub returns-in-Err-clause-ended : goal.returns-in-Err-clause-ended
-returns-in-Err-clause-ended g c = λ programs harts messages program given.
-    let holds = subst (Holds programs harts messages) (sym c.self.view_is) given in
-    let known = subst (λ r. c.args.hart < length r.lists) (sym c.self.view_is) c.requires.known in
-    let stands = stands_at programs harts messages c.self.inside.demux c.self.inside.decoders.items c.self.inside.lists.items c.self.inside.closed.items
-    (words_of c.args.program.now) c.args.hart c.from-hart.result c.index_mut.result.now c.index_mut-2.result.now holds program c.from-hart.ensures known c.index_mut.ensures.value c.index_mut-2.ensures.value in
-    c.in-Err.ensures.closed (packets_of c.args.hart messages) stands
+returns-in-Err-clause-ended g c = λ packets given.
+    c.in-Err.ensures.closed packets (stands_here c.self.inside.demux c.self.inside.decoders.items c.self.inside.lists.items c.self.inside.closed.items
+    c.args.hart c.from-hart.result c.from-hart.ensures (words_of c.args.program.now) packets c.index_mut.result.now c.index_mut-2.result.now
+    c.args.self.now c.self.view_is c.self.invariant given c.requires.known c.index_mut.ensures.value c.index_mut-2.ensures.value)
 
 pub returns-in-Err-clause-refused : goal.returns-in-Err-clause-refused
 returns-in-Err-clause-refused g c =
@@ -56,38 +51,49 @@ returns-in-Err-clause-refused g c =
     (record { expected = c.self.inside.demux; decoders = decoders; lists = events_in lists; closed = c.self.inside.closed.items }) = cc in
     same ∙ c.self.view_is
 
-pub returns-clause-decoded : goal.returns-clause-decoded
-returns-clause-decoded g c = λ programs harts messages message program own read given.
-    let holds = subst (Holds programs harts messages) (sym c.self.view_is) given in
-    let known = subst (λ r. c.args.hart < length r.lists) (sym c.self.view_is) c.requires.known in
-    let words = words_of c.args.program.now in
-    let stands = stands_at programs harts messages c.self.inside.demux c.self.inside.decoders.items c.self.inside.lists.items c.self.inside.closed.items
-    words c.args.hart c.from-hart.result c.index_mut.result.now c.index_mut-2.result.now holds program c.from-hart.ensures known c.index_mut.ensures.value c.index_mut-2.ensures.value in
-    held_more programs harts messages message c.args.packet.now c.self.inside.demux c.self.inside.decoders.items c.self.inside.lists.items c.self.inside.closed.items
-    words c.args.hart c.from-hart.result c.feed.new.self c.feed.new.log c.is_closing.result holds read program own c.from-hart.ensures c.is_closing.ensures
-    (c.in-Ok.ensures.stands (packets_of c.args.hart messages) stands)
+pub returns-in-Err-clause-others : goal.returns-in-Err-clause-others
+returns-in-Err-clause-others g c = λ other apart. same_hart other _ _ (returns-in-Err-clause-refused g c)
 
 pub returns-clause-memory : goal.returns-clause-memory
-returns-clause-memory g c = λ programs harts messages program given is.
-    let holds = subst (Holds programs harts messages) (sym c.self.view_is) given in
-    let known = subst (λ r. c.args.hart < length r.lists) (sym c.self.view_is) c.requires.known in
-    let stands = stands_at programs harts messages c.self.inside.demux c.self.inside.decoders.items c.self.inside.lists.items c.self.inside.closed.items
-    (words_of c.args.program.now) c.args.hart c.from-hart.result c.index_mut.result.now c.index_mut-2.result.now holds program c.from-hart.ensures known c.index_mut.ensures.value c.index_mut-2.ensures.value in
-    let found = c.in-Ok.ensures.memory (packets_of c.args.hart messages) stands is in
-    (found.0, found.1)
+returns-clause-memory g c = λ packets list given is_list is.
+    let found = c.in-Ok.ensures.memory packets (stands_here c.self.inside.demux c.self.inside.decoders.items c.self.inside.lists.items c.self.inside.closed.items
+    c.args.hart c.from-hart.result c.from-hart.ensures (words_of c.args.program.now) packets c.index_mut.result.now c.index_mut-2.result.now
+    c.args.self.now c.self.view_is c.self.invariant given c.requires.known c.index_mut.ensures.value c.index_mut-2.ensures.value) is in (
+      found.0,
+      found.1,
+      longer_here c.self.inside.demux c.self.inside.decoders.items c.self.inside.lists.items c.self.inside.closed.items c.args.hart c.from-hart.result c.from-hart.ensures
+          c.index_mut-2.result.now list found.0 c.args.self.now c.self.view_is c.requires.known c.index_mut-2.ensures.value is_list found.2,
+    )
 
 pub returns-clause-not_opened : goal.returns-clause-not_opened
-returns-clause-not_opened g c = λ programs harts messages program given.
-    let holds = subst (Holds programs harts messages) (sym c.self.view_is) given in
-    let known = subst (λ r. c.args.hart < length r.lists) (sym c.self.view_is) c.requires.known in
-    let stands = stands_at programs harts messages c.self.inside.demux c.self.inside.decoders.items c.self.inside.lists.items c.self.inside.closed.items
-    (words_of c.args.program.now) c.args.hart c.from-hart.result c.index_mut.result.now c.index_mut-2.result.now holds program c.from-hart.ensures known c.index_mut.ensures.value c.index_mut-2.ensures.value in
-    c.in-Ok.ensures.not_opened (packets_of c.args.hart messages) stands
+returns-clause-not_opened g c = λ packets given.
+    c.in-Ok.ensures.not_opened packets (stands_here c.self.inside.demux c.self.inside.decoders.items c.self.inside.lists.items c.self.inside.closed.items
+    c.args.hart c.from-hart.result c.from-hart.ensures (words_of c.args.program.now) packets c.index_mut.result.now c.index_mut-2.result.now
+    c.args.self.now c.self.view_is c.self.invariant given c.requires.known c.index_mut.ensures.value c.index_mut-2.ensures.value)
 
 pub returns-clause-ended : goal.returns-clause-ended
-returns-clause-ended g c = λ programs harts messages program given.
-    let holds = subst (Holds programs harts messages) (sym c.self.view_is) given in
-    let known = subst (λ r. c.args.hart < length r.lists) (sym c.self.view_is) c.requires.known in
-    let stands = stands_at programs harts messages c.self.inside.demux c.self.inside.decoders.items c.self.inside.lists.items c.self.inside.closed.items
-    (words_of c.args.program.now) c.args.hart c.from-hart.result c.index_mut.result.now c.index_mut-2.result.now holds program c.from-hart.ensures known c.index_mut.ensures.value c.index_mut-2.ensures.value in
-    c.in-Ok.ensures.closed (packets_of c.args.hart messages) stands
+returns-clause-ended g c = λ packets given.
+    c.in-Ok.ensures.closed packets (stands_here c.self.inside.demux c.self.inside.decoders.items c.self.inside.lists.items c.self.inside.closed.items
+    c.args.hart c.from-hart.result c.from-hart.ensures (words_of c.args.program.now) packets c.index_mut.result.now c.index_mut-2.result.now
+    c.args.self.now c.self.view_is c.self.invariant given c.requires.known c.index_mut.ensures.value c.index_mut-2.ensures.value)
+
+pub returns-clause-hart : goal.returns-clause-hart
+returns-clause-hart g c = λ packets given.
+    holds_after c.self.inside.demux c.self.inside.decoders.items c.self.inside.lists.items c.self.inside.closed.items c.args.hart c.from-hart.result c.from-hart.ensures
+    (words_of c.args.program.now) packets c.args.packet.now c.feed.new.self c.feed.new.log c.is_closing.result c.is_closing.ensures
+    (c.in-Ok.ensures.stands packets (stands_here c.self.inside.demux c.self.inside.decoders.items c.self.inside.lists.items c.self.inside.closed.items
+    c.args.hart c.from-hart.result c.from-hart.ensures (words_of c.args.program.now) packets c.index_mut.result.now c.index_mut-2.result.now
+    c.args.self.now c.self.view_is c.self.invariant given c.requires.known c.index_mut.ensures.value c.index_mut-2.ensures.value))
+
+pub returns-clause-others : goal.returns-clause-others
+returns-clause-others g c =
+    others_after c.self.inside.demux c.self.inside.decoders.items c.self.inside.lists.items c.self.inside.closed.items c.args.hart c.from-hart.result c.from-hart.ensures
+    c.feed.new.self c.feed.new.log c.is_closing.result c.args.self.now c.self.view_is
+
+pub returns-clause-decoded : goal.returns-clause-decoded
+returns-clause-decoded g c = λ programs harts messages message program own read given.
+    let all = subst (Holds programs harts messages) (sym c.self.view_is) given in
+    decoded_more programs harts messages message c.args.packet.now (words_of c.args.program.now) c.args.hart _ _ program own read all
+    (count_after c.self.inside.demux c.self.inside.decoders.items c.self.inside.lists.items c.self.inside.closed.items c.args.hart c.from-hart.result c.from-hart.ensures c.feed.new.self c.feed.new.log c.is_closing.result)
+    (λ holds. returns-clause-hart g c _ (subst (HoldsHart (words_of c.args.program.now) c.args.hart _) c.self.view_is holds))
+    (others_after c.self.inside.demux c.self.inside.decoders.items c.self.inside.lists.items c.self.inside.closed.items c.args.hart c.from-hart.result c.from-hart.ensures c.feed.new.self c.feed.new.log c.is_closing.result _ refl)

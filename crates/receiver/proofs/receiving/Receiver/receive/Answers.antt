@@ -1,9 +1,11 @@
 -- Both calls in turn: the decoder's clauses are of packets, so what was accepted has to be said of them.
 use Rattle.std.proofs.Common.{refl, sym, subst, ◌∙◌}
 use Rattle.rvclass.specs.Fetch.{words_of}
+use Rattle.decoder.specs.Describes.{Describes}
+use Rattle.message.specs.OfHart.{packets_of}
 use Rattle.receiver.proofs.AcceptLemmas.{accepted_answer, accepts_kept, undecoded}
-use Rattle.receiver.proofs.HoldLemmas.{holds_kept}
-use Rattle.receiver.specs.Holds.{Holds}
+use Rattle.receiver.proofs.HoldLemmas.{holds_kept, list_of}
+use Rattle.receiver.specs.Holds.{Holds, HoldsHart}
 use Rattle.receiver.proofs.receiving.Receiver.receive.Goals as goal
 
 pub returns-in-Ok-decode-clause-received : goal.returns-in-Ok-decode-clause-received
@@ -19,12 +21,23 @@ returns-in-Err-decode-clause-held g c = λ programs harts messages given.
     let holds = holds_kept programs harts messages c.args.self.now c.accept.new.self _ given.holds c.accept.ensures.state in
     subst (Holds programs harts messages) (sym c.in-Err-decode.ensures.refused) holds
 
+pub returns-in-Ok-decode-clause-received_held : goal.returns-in-Ok-decode-clause-received_held
+returns-in-Ok-decode-clause-received_held g c = λ programs harts messages program given.
+    c.in-Ok-decode.ensures.decoded programs harts messages c.args.message.now program refl c.in-Ok.ensures.packet
+    (holds_kept programs harts messages c.args.self.now c.accept.new.self _ given c.accept.ensures.state)
+
 pub returns-in-Err-decode-clause-refused : goal.returns-in-Err-decode-clause-refused
 returns-in-Err-decode-clause-refused g c = λ programs harts messages program given.
-    let holds = holds_kept programs harts messages c.args.self.now c.accept.new.self _ given.holds c.accept.ensures.state in
+    let all = holds_kept programs harts messages c.args.self.now c.accept.new.self _ given.holds c.accept.ensures.state in
+    let hart = c.args.message.now.hart in
+    let packets = packets_of hart messages in
+    let holds = subst (λ words. HoldsHart words hart packets c.accept.new.self) program (all.each hart) in
     let answer = accepted_answer harts messages c.args.self.now c.args.message.now c.in-Ok.packet given.accepts (sym c.accept.ensures.value ∙ c.in-Ok.is) in
+    let list = list_of programs harts messages hart c.accept.new.self all c.in-Ok.ensures.known in
     undecoded (words_of c.args.program.now) harts messages c.args.message.now c.in-Ok.packet c.in-Err-decode.fault given.accepts.accepted answer
-    (c.in-Err-decode.ensures.not_opened programs harts messages program holds)
-    (c.in-Err-decode.ensures.ended programs harts messages program holds)
-    (c.in-Err-decode.ensures.none programs harts messages program holds)
-    (c.in-Err-decode.ensures.memory programs harts messages program holds)
+    (c.in-Err-decode.ensures.not_opened packets holds)
+    (c.in-Err-decode.ensures.ended packets holds)
+    (c.in-Err-decode.ensures.none packets holds)
+    (λ is.
+    let found = c.in-Err-decode.ensures.memory packets list.0 holds list.1 is in
+    (list.0, found.0, subst (λ words. Describes words packets list.0) program list.2, found.1, found.2))
