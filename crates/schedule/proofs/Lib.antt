@@ -1,0 +1,2 @@
+mod TurnsLemmas
+mod WordLemmas

@@ -1,0 +1,75 @@
+-- What the bytes of a word tell, one by one, and what is left to tell of a text from the middle of a word on.
+use Rattle.std.specs.Prelude.{◌≡◌, ◌==◌, ◌+◌, ◌*◌, ◌++◌, ℕ, if◌then◌else◌, nat_lt, List, [], ◌∷◌, Option, Some, None, Result, Ok, Err}
+use Rattle.std.specs.Char.{digit_value, is_digit}
+use Rattle.std.specs.Option.{option_to_list}
+use Rattle.funnel.specs.declared.turn.Turn.{Turn}
+use Rattle.funnel.specs.declared.turn.Turn.TheVariants as turn
+use Rattle.schedule.specs.Schedule.{before, is_blank, most_turns}
+use Rattle.schedule.specs.declared.fault.ScheduleFault.{ScheduleFault}
+use Rattle.schedule.specs.declared.fault.ScheduleFault.TheVariants as fault
+use Rattle.schedule.specs.declared.word.Word.{Word}
+use Rattle.schedule.specs.declared.word.Word.TheVariants as word
+
+-- The hart with this number, where there are so many.
+abbrev pub at_number : ℕ → ℕ → Word
+at_number harts number = if nat_lt number harts then word.Hart number else word.Wrong
+
+-- A number with one digit more behind it.
+abbrev pub with_digit : ℕ → ℕ → ℕ → Word
+with_digit harts byte number =
+    if is_digit byte 10 then at_number harts (number * 10 + digit_value byte) else word.Wrong
+
+-- What a word tells with one byte more.
+abbrev pub with_byte : ℕ → ℕ → Word → Word
+with_byte harts byte word.Empty = if byte == 99 then word.Collect else with_digit harts byte 0
+with_byte harts byte (word.Hart number) = with_digit harts byte number
+with_byte harts byte word.Collect = word.Wrong
+with_byte harts byte word.Wrong = word.Wrong
+
+-- The turn of a word, where it is one.
+abbrev pub turn_by : Word → Option Turn
+turn_by word.Empty = None
+turn_by word.Collect = Some turn.Collect
+turn_by (word.Hart number) = Some (turn.Hart number)
+turn_by word.Wrong = None
+
+-- That turn, or the fault that it is none.
+abbrev pub right_at : ℕ → Option Turn → Result (Option Turn) ScheduleFault
+right_at number None = Err (fault.Word number)
+right_at number (Some turn) = Ok (Some turn)
+
+-- The turn of the word with this number, or its fault; none where the word is empty.
+abbrev pub turn_at : ℕ → Word → Result (Option Turn) ScheduleFault
+turn_at number word.Empty = Ok None
+turn_at number told = if nat_lt most_turns number then Err fault.TooLong else right_at number (turn_by told)
+
+-- What is found of a word, before what the words behind it tell.
+abbrev pub past : Result (Option Turn) ScheduleFault → Result (List Turn) ScheduleFault
+    → Result (List Turn) ScheduleFault
+past (Err why) rest = Err why
+past (Ok None) rest = rest
+past (Ok (Some turn)) rest = before turn rest
+
+-- The number of the word behind one with this number.
+abbrev pub number_past : Result (Option Turn) ScheduleFault → ℕ → ℕ
+number_past (Err why) number = number
+number_past (Ok None) number = number
+number_past (Ok (Some turn)) number = number + 1
+
+-- What a text tells of which a word with this number was begun.
+abbrev pub turns_behind : ℕ → ℕ → Word → List ℕ → Result (List Turn) ScheduleFault
+turns_behind harts number told [] = past (turn_at number told) (Ok [])
+turns_behind harts number told (byte ∷ text) =
+    if is_blank byte
+    then past (turn_at number told) (turns_behind harts (number_past (turn_at number told) number) word.Empty text)
+    else turns_behind harts number (with_byte harts byte told) text
+
+-- Turns, and then those that are told.
+abbrev pub after : List Turn → Result (List Turn) ScheduleFault → Result (List Turn) ScheduleFault
+after turns (Err why) = Err why
+after turns (Ok rest) = Ok (turns ++ rest)
+
+-- The turn of a word was found and stands behind these turns.
+abbrev pub IsAdded : Result (Option Turn) ScheduleFault → List Turn → List Turn → Type 0
+IsAdded (Err why) old new = ⊥
+IsAdded (Ok turn) old new = new ≡ old ++ option_to_list turn

@@ -1,0 +1,13 @@
+//! The schedule of a replay: in which order harts send their messages and messages are taken, as a text tells it.
+//!
+//! [`read_schedule`] reads such a text. The turns are those of the crate `funnel`.
+#![tactic(auto)]
+
+mod fault;
+mod reading;
+#[cfg(test)]
+mod tests;
+mod word;
+
+pub use fault::ScheduleFault;
+pub use reading::read_schedule;

@@ -1,0 +1,65 @@
+//! A schedule's text, read in one pass.
+
+ghost use Rattle.std.specs.Prelude.{◌≡◌, ◌⊎◌, ◌+◌, IfErr, IfOk, OnOk, Ok, Err, vec_len};
+ghost use Rattle.schedule.specs.Schedule.{is_blank, schedule_of};
+ghost use Rattle.schedule.specs.steps.Words.{IsAdded, turn_at};
+
+use crate::fault::ScheduleFault;
+use crate::word::Word;
+use funnel::Turn;
+use std::alloc::Allocator;
+
+/// The turns that a text tells, of the harts below `harts`.
+///
+/// Its words are parted by spaces, line feeds or carriage returns. A word is `c`, by which the front message is taken,
+/// or the decimal number of a hart, leading zeros allowed, by which that hart sends. The first word that is neither is
+/// told, or that there are more than 16,777,216 words where each of these is a turn. Memory is taken for the turns
+/// alone.
+pub fn read_schedule<A: Allocator>(
+    alloc: A,
+    harts: u16,
+    text: &[u8],
+) -> Result<Vec<Turn, A>, ScheduleFault>
+    ensures turns { IfOk result (λ turns. schedule_of harts text.now ≡ Ok turns.items) }
+    ensures faults { IfErr result (λ why. (why ≡ ScheduleFault.Memory) ⊎ (schedule_of harts text.now ≡ Err why)) }
+{
+    let mut turns = Vec::new(alloc);
+    let mut word = Word::Empty;
+    for byte in text {
+        if is_blank(*byte) {
+            if let Err(why) = add(&mut turns, word) {
+                return Err(why);
+            }
+            word = Word::Empty;
+        } else {
+            word = word.with_byte(harts, *byte);
+        }
+    }
+    match add(&mut turns, word) {
+        Ok(()) => Ok(turns),
+        Err(why) => Err(why),
+    }
+}
+
+/// Whether a byte parts words.
+fn is_blank(byte: u8) -> bool
+    ensures { result ≡ is_blank byte }
+{
+    byte == b' ' || byte == b'\n' || byte == b'\r'
+}
+
+/// Adds the turn of the word behind those of these turns, where it is not empty.
+fn add<A: Allocator>(turns: &mut Vec<Turn, A>, word: Word) -> Result<(), ScheduleFault>
+    ensures added { OnOk result (IsAdded (turn_at (vec_len turns.old + 1) word) turns.old.items turns.new.items) }
+    ensures faults { IfErr result (λ why.
+        (why ≡ ScheduleFault.Memory) ⊎ (turn_at (vec_len turns.old + 1) word ≡ Err why)) }
+{
+    match word.turn(turns.len() + 1) {
+        Ok(None) => Ok(()),
+        Ok(Some(turn)) => match turns.push(turn) {
+            Ok(()) => Ok(()),
+            Err(_) => Err(ScheduleFault::Memory),
+        },
+        Err(why) => Err(why),
+    }
+}

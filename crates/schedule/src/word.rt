@@ -1,0 +1,77 @@
+//! A word of a schedule, read byte by byte.
+
+ghost use Rattle.std.specs.Prelude.{◌≡◌};
+ghost use Rattle.schedule.specs.steps.Words.{turn_at, with_byte, with_digit};
+
+use crate::fault::ScheduleFault;
+use funnel::Turn;
+
+/// The most turns of a schedule.
+const MOST_TURNS: usize = 16_777_216;
+
+/// What the bytes of a word tell so far.
+#[derive(Clone, Copy)]
+pub(crate) enum Word {
+    /// There are none.
+    Empty,
+    /// The front message is taken.
+    Collect,
+    /// The hart with this number sends.
+    Hart(u16),
+    /// No turn begins so.
+    Wrong,
+}
+
+impl Word {
+    /// What they tell with one byte more, where the harts are those below `harts`.
+    pub(crate) fn with_byte(self, harts: u16, byte: u8) -> Word
+        ensures { result ≡ with_byte harts byte self }
+    {
+        match self {
+            Word::Empty => {
+                if byte == b'c' {
+                    Word::Collect
+                } else {
+                    with_digit(harts, byte, 0)
+                }
+            }
+            Word::Hart(number) => with_digit(harts, byte, number),
+            Word::Collect => Word::Wrong,
+            Word::Wrong => Word::Wrong,
+        }
+    }
+
+    /// The turn of the whole word, which has this number, counted from 1; none where it is empty.
+    pub(crate) fn turn(self, number: usize) -> Result<Option<Turn>, ScheduleFault>
+        ensures { result ≡ turn_at number self }
+    {
+        let turn = match self {
+            Word::Empty => return Ok(None),
+            Word::Collect => Some(Turn::Collect),
+            Word::Hart(hart) => Some(Turn::Hart(hart)),
+            Word::Wrong => None,
+        };
+        if number > MOST_TURNS {
+            return Err(ScheduleFault::TooLong);
+        }
+        match turn {
+            Some(turn) => Ok(Some(turn)),
+            None => Err(ScheduleFault::Word(number as u32)),
+        }
+    }
+}
+
+/// What a number tells with one digit more behind it.
+fn with_digit(harts: u16, byte: u8, number: u16) -> Word
+    ensures { result ≡ with_digit harts byte number }
+{
+    let Some(digit) = char::from(byte).to_digit(10) else {
+        return Word::Wrong;
+    };
+    let longer = u32::from(number) * 10 + digit;
+    if longer < u32::from(harts) {
+        Word::Hart(longer as u16)
+    } else {
+        Word::Wrong
+    }
+}
