@@ -129,6 +129,32 @@ fn no_harts(rt: HostRuntime) -> Result<(), Fail> {
     Ok(())
 }
 
+/// Many harts, of which none sends anything, or the last one sends messages, or one behind the last does.
+#[test]
+fn many_harts(rt: HostRuntime) -> Result<(), Fail> {
+    for harts in [65u16, 65_535] {
+        let empty = decoded(rt.alloc(), harts, &[])?;
+        assert_eq!(rt; empty.harts.len(), usize::from(harts));
+        assert_eq!(rt; empty.closed.len(), usize::from(harts));
+        assert_eq!(rt; empty.fault, None);
+        let last = harts.saturating_sub(1);
+        let one = decoded(rt.alloc(), harts, &[(last, 0, OPEN), (last, 1, FIRST)])?;
+        assert_eq!(rt; one.harts.len(), usize::from(harts));
+        assert_eq!(rt; one.fault, None);
+        assert_eq!(rt; one.harts.iter().filter(|list| !list.is_empty()).count(), 1);
+        match one.harts.last() {
+            Some(list) => assert_eq!(rt; list.as_slice(), &BOTH[..1], "{harts}"),
+            None => return Err(Fail::from("the last hart has no list")),
+        }
+        let stranger = decoded(rt.alloc(), harts, &[(harts, 0, OPEN)])?;
+        assert_eq!(rt;
+            stranger.fault,
+            Some((0, CaptureFault::Demux(DemuxFault::Stranger)))
+        );
+    }
+    Ok(())
+}
+
 /// A hart's packets up to one that is refused, its number, how many events come before it, and why it is refused.
 #[test]
 fn stops_at_the_first_fault(rt: HostRuntime) -> Result<(), Fail> {
