@@ -39,8 +39,8 @@ packets_close_last words period log zero one is closing =
 packets_close_last words period log (suc n) one is closing =
     ap suc (reports_close_last 0 (pieces_of words period log) (closing_packet words period log) n one is closing)
 
--- What holds of each packet holds of the one at a place.
-pub All_at : (P : Packet → Type 0) (ps : List Packet) (n : ℕ) (one : Packet) → slice_get ps n ≡ Some one → All P ps
+-- What holds of each element holds of the one at a place.
+pub All_at : {X : Type 0} (P : X → Type 0) (ps : List X) (n : ℕ) (one : X) → slice_get ps n ≡ Some one → All P ps
     → P one
 All_at P ps n one is all =
     subst P (get_or_from_slice_get ps n one one is) (All-get_or P ps n one (slice_get_within ps n one is) all)
@@ -50,7 +50,7 @@ closing_payload : (one : Packet) → InProfile one → is_closing (payload_of on
 closing_payload one profile = ap is_closing_reading (reading-payload_of one profile)
 
 -- The packet of a payload.
-packet_at : (ps : List Packet) (n : ℕ) (payload : List ℕ) → slice_get (map payload_of ps) n ≡ Some payload
+pub packet_at : (ps : List Packet) (n : ℕ) (payload : List ℕ) → slice_get (map payload_of ps) n ≡ Some payload
     → (one : Packet) × (slice_get ps n ≡ Some one) × (payload_of one ≡ payload)
 packet_at [] n payload is = cc
 packet_at (one ∷ ps) zero payload is = (one, refl, same_Some (payload_of one) payload is)

@@ -25,7 +25,7 @@ use Rattle.bench.proofs.ClosingLast.{payloads_close_last}
 use Rattle.bench.proofs.TakenPackets.{AreFirst, first_ended, first_packets}
 
 module _ (period : ℕ) (log : ProgramLog) (legal : IsLegalLog log) where
-  profile : All InProfile (packets (words_of log.program) period log.events)
+  pub profile : All InProfile (packets (words_of log.program) period log.events)
   profile =
       packets_in_profile (words_of log.program) (words_of-IsProgram log.program legal.image).even
       period log.events legal.numbers legal.legal

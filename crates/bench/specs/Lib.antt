@@ -2,3 +2,5 @@ pub mod Verdict
 pub mod Got
 pub mod Report
 pub mod Replayed
+pub mod Collected
+pub mod steps

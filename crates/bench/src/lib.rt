@@ -4,6 +4,7 @@
 //! text.
 #![tactic(auto)]
 
+mod collecting;
 mod config;
 mod hart_line;
 mod laws;
@@ -15,6 +16,7 @@ mod stop;
 mod tests;
 mod verdict;
 
+pub use collecting::{CollectFault, Collector};
 pub use config::Config;
 pub use laws::turns_let_beginnings_through;
 pub use outcome::{HartOutcome, Outcome};

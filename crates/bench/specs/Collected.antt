@@ -1,0 +1,56 @@
+-- What a collector has of harts.
+use Rattle.std.specs.Prelude.{ℕ, ◌≡◌, ◌≤◌, ◌==◌, Bool, false, IsSomeAnd, IsTrue, List, Some, length, slice_get, take}
+use Rattle.rvclass.specs.Fetch.{words_of}
+use Rattle.legalpath.specs.ProgramLog.{ProgramLog}
+use Rattle.payload.specs.declared.packet.Packet.{Packet}
+use Rattle.encoder.specs.Packets.{packets}
+use Rattle.encoder.specs.Payloads.{payloads}
+use Rattle.message.specs.declared.message.Message.{Message}
+use Rattle.receiver.specs.Holds.{HoldsHart}
+use Rattle.receiver.specs.Received.{IsSameHart, Received}
+use Rattle.bench.specs.Got.{Got, got_after, kept}
+
+-- What came of a hart, but for its events and whether it closed, which the receiving end has.
+pub record Taken : Type 0 where
+  pub packets : List Packet
+  pub taken : ℕ
+  pub bytes : ℕ
+  pub refused : Bool
+
+-- The logs of harts, whether packets are kept, what the receiving end has, and what came of each hart, at its place.
+pub record Collected : Type 0 where
+  pub logs : List ProgramLog
+  pub keep : Bool
+  pub received : Received
+  pub harts : List Taken
+
+-- This came of a hart, and memory for it was refused or not.
+pub record Came (hart : ℕ) (got : Got) (refused : Bool) (collected : Collected) : Type 0 where
+  pub taken : slice_get collected.harts hart ≡ Some (record { packets = got.packets; taken = got.taken; bytes = got.bytes; refused = refused })
+  pub decoded : slice_get collected.received.lists hart ≡ Some got.decoded
+  pub closed : slice_get collected.received.closed hart ≡ Some got.closed
+
+-- The first packets of this log were taken in of a hart, this many, and memory for it was not refused: what came of it is
+-- what comes of them, the message behind them is expected, and its decoder stands for them.
+pub record HasCollected (period : ℕ) (log : ProgramLog) (count hart : ℕ) (collected : Collected) : Type 0 where
+  pub known : slice_get collected.logs hart ≡ Some log
+  pub few : count ≤ length (packets (words_of log.program) period log.events)
+  pub came : Came hart (kept collected.keep (got_after period log count)) false collected
+  pub expected : slice_get collected.received.expected hart
+      ≡ Some (record { expected = count; closed = count == length (packets (words_of log.program) period log.events) })
+  pub holds : HoldsHart (words_of log.program) hart (take count (packets (words_of log.program) period log.events))
+      collected.received
+
+-- The message is the one of this number of a log at a period.
+pub record IsMessageOf (period : ℕ) (log : ProgramLog) (place : ℕ) (message : Message) : Type 0 where
+  pub number : message.number ≡ place
+  pub payload : slice_get (payloads period log) place ≡ Some message.payload
+
+-- Memory for the hart was refused.
+abbrev pub IsRefusedHart : ℕ → Collected → Type 0
+IsRefusedHart hart collected = IsSomeAnd (slice_get collected.harts hart) (λ (taken : Taken). IsTrue taken.refused)
+
+-- What a collector has of the hart is the same.
+pub record IsSameOf (hart : ℕ) (old new : Collected) : Type 0 where
+  pub taken : slice_get new.harts hart ≡ slice_get old.harts hart
+  pub received : IsSameHart hart old.received new.received

@@ -1,0 +1,256 @@
+//! What is collected of messages that were taken.
+
+ghost use Rattle.std.specs.Prelude.{ℕ, ◌+◌, ◌≡◌, ◌≢◌, ◌<◌, ◌≤◌, ◌⊎◌, ◌↔◌, ◌++◌, All, Bool, true, List, [], ◌∷◌, None, Some, Ok, Err, IfErr, IfOk, IsSomeAnd, OnOk, get_or, length, replicate, slice_get, vec_capacity, vec_len};
+ghost use Rattle.retire.specs.declared.event.Event.{Event as AnyEvent};
+ghost use Rattle.rvclass.specs.Fetch.{words_of};
+ghost use Rattle.legalpath.specs.ProgramLog.{IsLegalLog, ProgramLog};
+ghost use Rattle.payload.specs.declared.packet.Packet.{Packet as AnyPacket};
+ghost use Rattle.decoder.specs.Describes.{Describes};
+ghost use Rattle.decoder.specs.declared.fault.DecodeFault.{DecodeFault as AnyDecodeFault};
+ghost use Rattle.message.specs.Accepting.{accepting};
+ghost use Rattle.message.specs.declared.fault.DemuxFault.{DemuxFault as AnyDemuxFault};
+ghost use Rattle.receiver.specs.Holds.{HoldsHart};
+ghost use Rattle.receiver.specs.Received.{IsReceived, IsSameHart, events_in};
+ghost use Rattle.bench.specs.Collected.{Came, Collected, HasCollected, IsMessageOf, IsRefusedHart, IsSameOf};
+ghost use Rattle.bench.specs.Got.{Got, got_of};
+ghost use Rattle.bench.specs.steps.Collecting.{IsCollected, IsLeftBy, closed_in, decoded_in, nothing, taken_in, taken_of, with_packet};
+
+use crate::outcome::{HartOutcome, Outcome};
+use decoder::DecodeFault;
+use legalpath::LegalLog;
+use message::{DemuxFault, Message};
+use payload::Packet;
+use receiver::Receiver;
+use retire::Event;
+use rvclass::Program;
+use std::alloc::{AllocError, Allocator, Global};
+use std::marker::Model;
+use thiserror::Error;
+
+/// Why a message is not taken in.
+#[derive(Clone, Copy, Debug, PartialEq, Eq, Error)]
+pub enum CollectFault {
+    /// The demultiplexer refuses the message.
+    #[error("{0}")]
+    Demux(DemuxFault),
+    /// The packet of the message is not decoded.
+    #[error("{0}")]
+    Decode(DecodeFault),
+    /// Memory for the message's hart was refused.
+    #[error("out of memory")]
+    Memory,
+}
+
+/// What came of harts so far, by the messages that were taken in.
+#[derive(Drop)]
+pub struct Collector<'l, 'p, A: Allocator = Global, B: Allocator = Global> {
+    logs: &'l [LegalLog<'p, B>],
+    /// Whether packets are kept.
+    keep: bool,
+    receiver: Receiver<A>,
+    /// What came of each hart, but for its events and whether it closed, which the receiver has.
+    harts: Vec<HartOutcome<A>, A>,
+}
+
+impl<'l, 'p, A: Allocator, B: Allocator> Model for Collector<'l, 'p, A, B> {
+    ghost Value = { Collected };
+
+    ghost view = { λ c. record { logs = c.logs.now; keep = c.keep; received = c.receiver; harts = taken_in c.harts.items } };
+
+    ghost invariant = { λ c. IsCollected (record { logs = c.logs.now; keep = c.keep; received = c.receiver; harts = taken_in c.harts.items }) };
+}
+
+impl<'l, 'p, A: Allocator + Copy, B: Allocator> Collector<'l, 'p, A, B> {
+    /// A collector for the harts of these logs, each with its log's program, to which no message came.
+    pub fn new(
+        alloc: A,
+        logs: &'l [LegalLog<'p, B>],
+        keep: bool,
+    ) -> Result<Collector<'l, 'p, A, B>, AllocError>
+        requires few { length logs.now ≤ 65_535 }
+        ensures made { IfOk result (λ collector. (collector.logs ≡ logs.now) × (collector.keep ≡ keep)) }
+        ensures begun { (period hart : ℕ) (log : ProgramLog) → slice_get logs.now hart ≡ Some log
+            → IfOk result (λ collector. HasCollected period log 0 hart collector) }
+        ensures legal { IfOk result (λ collector. All IsLegalLog logs.now) }
+    {
+        let harts = outcomes_of(alloc, logs)?;
+        let receiver = Receiver::new(alloc, logs.len() as u16)?;
+        Ok(Collector {
+            logs,
+            keep,
+            receiver,
+            harts,
+        })
+    }
+
+    /// Takes the next message of a hart in: demultiplexes it and decodes its packet. A fault leaves what came of all
+    /// harts as it was, but that the hart is refused after [`CollectFault::Memory`]. Further messages of a hart that is
+    /// refused change nothing.
+    pub fn take_in(&mut self, message: Message) -> Result<(), CollectFault>
+        ensures logs { (self.new.logs ≡ self.old.logs) × (self.new.keep ≡ self.old.keep) }
+
+        // The next message of a log adds what it tells, unless memory is refused.
+        ensures next { (period count : ℕ) (log : ProgramLog) → HasCollected period log count message.hart self.old
+            → IsMessageOf period log count message → OnOk result (HasCollected period log (count + 1) message.hart self.new) }
+        ensures only_memory { (period count : ℕ) (log : ProgramLog) → HasCollected period log count message.hart self.old
+            → IsMessageOf period log count message → IfErr result (λ fault. fault ≡ CollectFault.Memory) }
+        ensures others { (hart : ℕ) → hart ≢ message.hart → IsSameOf hart self.old self.new }
+
+        // A fault leaves what came of the hart as it was.
+        ensures memory { (got : Got) (refused : Bool) → Came message.hart got refused self.old
+            → result ≡ Err CollectFault.Memory → Came message.hart got true self.new }
+        ensures undecoded { (got : Got) (refused : Bool) (why : AnyDecodeFault) → Came message.hart got refused self.old
+            → result ≡ Err (CollectFault.Decode why) → Came message.hart got refused self.new }
+        ensures not_accepted { (why : AnyDemuxFault) → result ≡ Err (CollectFault.Demux why) → self.new ≡ self.old }
+        ensures demux { ¬ IsRefusedHart message.hart self.old → (why : AnyDemuxFault)
+            → (result ≡ Err (CollectFault.Demux why)) ↔ (accepting self.old.received.expected message ≡ Err why) }
+        ensures passed_over { IsRefusedHart message.hart self.old → (result ≡ Ok tt) × (self.new ≡ self.old) }
+    {
+        let hart = usize::from(message.hart);
+        if hart < self.harts.len() && self.harts[hart].refused {
+            return Ok(());
+        }
+        let packet = match self.receiver.accept(&message) {
+            Ok(packet) => packet,
+            Err(fault) => return Err(CollectFault::Demux(fault)),
+        };
+        let log = log_at(self.logs, hart);
+        take_packet(
+            &mut self.receiver,
+            &mut self.harts[hart],
+            log.program(),
+            self.keep,
+            &message,
+            packet,
+        )
+    }
+
+    /// Notes that memory for the hart was refused, or the start of its worker.
+    pub fn refuse(&mut self, hart: u16)
+        requires known { hart < length self.old.logs }
+        ensures refused { (got : Got) (refused : Bool) → Came hart got refused self.old → Came hart got true self.new }
+        ensures others { (other : ℕ) → other ≢ hart → IsSameOf other self.old self.new }
+        ensures same { self.new ≡ record self.old { harts = self.new.harts } }
+    {
+        self.harts[usize::from(hart)].refused = true;
+    }
+
+    /// What came of the harts, with no stop. No memory is taken.
+    pub fn finish(self) -> Outcome<A>
+        ensures stop { result.stop ≡ None }
+        ensures count { length result.harts.items ≡ length self.entry.logs }
+        ensures came { (hart : ℕ) (got : Got) (refused : Bool) → Came hart got refused self.entry
+            → IsSomeAnd (slice_get result.harts.items hart) (λ came. (got_of came ≡ got) × (came.refused ≡ refused)) }
+    {
+        let mut harts = self.harts;
+        let (lists, closed) = self.receiver.into_parts();
+        fill(&mut harts, lists, &closed);
+        Outcome { harts, stop: None }
+    }
+}
+
+/// An outcome for the hart of each log, of which nothing came.
+fn outcomes_of<A: Allocator + Copy, B: Allocator>(
+    alloc: A,
+    logs: &[LegalLog<'_, B>],
+) -> Result<Vec<HartOutcome<A>, A>, AllocError>
+    ensures harts { IfOk result (λ harts. taken_in harts.items ≡ replicate (length logs.now) nothing) }
+    ensures legal { IfOk result (λ harts. All IsLegalLog logs.now) }
+{
+    let mut harts = Vec::with_capacity(alloc, logs.len())?;
+    for hart in 0..logs.len() {
+        know(&logs[hart]);
+        harts.push_reserved(HartOutcome {
+            packets: Vec::new(alloc),
+            taken: 0,
+            bytes: 0,
+            decoded: Vec::new(alloc),
+            closed: false,
+            refused: false,
+        });
+    }
+    Ok(harts)
+}
+
+/// The log at this place.
+fn log_at<'l, 'p, B: Allocator>(logs: &'l [LegalLog<'p, B>], hart: usize) -> &'l LegalLog<'p, B>
+    requires { hart < length logs.now }
+    ensures { result.now ≡ get_or logs.now hart result.now }
+{
+    &logs[hart]
+}
+
+/// The log is legal, as each is that was made.
+fn know<B: Allocator>(log: &LegalLog<'_, B>)
+    ensures { IsLegalLog log.now }
+{
+    let _ = log.events();
+}
+
+/// Decodes the next packet of a hart and counts it in the hart's outcome. Room for it is reserved first, where packets
+/// are kept, so that a fault leaves both as they were, but that the outcome tells of memory that was refused.
+fn take_packet<A: Allocator + Copy>(
+    receiver: &mut Receiver<A>,
+    outcome: &mut HartOutcome<A>,
+    program: &Program,
+    keep: bool,
+    message: &Message,
+    packet: Packet,
+) -> Result<(), CollectFault>
+    requires known { message.now.hart < length receiver.old.lists }
+    ensures taken { OnOk result (taken_of outcome.new
+        ≡ with_packet keep packet (length message.now.payload) (taken_of outcome.old)) }
+    ensures left { IfErr result (λ fault. IsLeftBy fault (taken_of outcome.old) (taken_of outcome.new)) }
+    ensures kept { IfErr result (λ fault. receiver.new ≡ receiver.old) }
+    ensures hart { (packets : List AnyPacket) → HoldsHart (words_of program.now) message.now.hart packets receiver.old
+        → OnOk result (HoldsHart (words_of program.now) message.now.hart (packets ++ packet ∷ []) receiver.new) }
+    ensures others { (other : ℕ) → other ≢ message.now.hart → IsSameHart other receiver.old receiver.new }
+    ensures none { (packets : List AnyPacket) → HoldsHart (words_of program.now) message.now.hart packets receiver.old
+        → IfErr result (λ fault. (fault ≡ CollectFault.Memory)
+        ⊎ ((log : List AnyEvent) → ¬ Describes (words_of program.now) (packets ++ packet ∷ []) log)) }
+    ensures expected { receiver.new.expected ≡ receiver.old.expected }
+    ensures complete { IsReceived receiver.old → IsReceived receiver.new }
+{
+    if keep && outcome.packets.reserve(1).is_err() {
+        outcome.refused = true;
+        return Err(CollectFault::Memory);
+    }
+    match receiver.decode(program, message.hart, &packet) {
+        Ok(()) => {}
+        Err(fault) => {
+            if matches!(fault, DecodeFault::Memory) {
+                outcome.refused = true;
+                return Err(CollectFault::Memory);
+            }
+            return Err(CollectFault::Decode(fault));
+        }
+    }
+    let bytes = message.payload.bytes().len() as u64;
+    outcome.taken = outcome.taken.saturating_add(1);
+    outcome.bytes = outcome.bytes.saturating_add(bytes);
+    if keep {
+        outcome.packets.push_reserved(packet);
+    }
+    Ok(())
+}
+
+/// Gives the outcome of each hart its events, and whether it closed.
+fn fill<A: Allocator>(
+    harts: &mut Vec<HartOutcome<A>, A>,
+    lists: Vec<Vec<Event, A>, A>,
+    closed: &[bool],
+)
+    requires lists { length lists.items ≡ length harts.old.items }
+    requires closed { length closed.now ≡ length harts.old.items }
+    ensures taken { taken_in harts.new.items ≡ taken_in harts.old.items }
+    ensures decoded { decoded_in harts.new.items ≡ events_in lists.items }
+    ensures closed { closed_in harts.new.items ≡ closed.now }
+{
+    let mut lists = lists;
+    while let Some(list) = lists.pop() {
+        let hart = lists.len();
+        let outcome = &mut harts[hart];
+        outcome.decoded = list;
+        outcome.closed = closed[hart];
+    }
+}
