@@ -1,3 +1,5 @@
+mod Beginnings
+mod DecodedRuns
 mod FromFiles
 mod HartTexts
 mod JudgedLogs

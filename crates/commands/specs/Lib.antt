@@ -10,3 +10,4 @@ pub mod Checking
 pub mod Dumping
 pub mod Decoded
 pub mod CarriedOut
+pub mod Begun

@@ -1,8 +1,9 @@
 //! The subcommand `decode`.
 
-ghost use Rattle.std.specs.Prelude.{◌≡◌, ◌≢◌, IfErr, IfSome, OnOk};
-ghost use Rattle.std.specs.Io.KnownBytes.{Appends};
+ghost use Rattle.std.specs.Prelude.{◌≡◌, ◌≢◌, ◌⊎◌, Err, IfErr, IfSome, OnOk};
+ghost use Rattle.std.specs.Io.KnownBytes.{Appends, Keeps};
 ghost use Rattle.receiver.specs.Received.{events_in};
+ghost use Rattle.commands.specs.Begun.{AppendsBeginning, BeginsPrinted};
 ghost use Rattle.commands.specs.Decoded.{Decodes, harts_text};
 ghost use Rattle.commands.specs.Printed.{IsDenied, PrintsUnlessDenied};
 ghost use Rattle.retire.specs.Number.{number_of};
@@ -31,6 +32,8 @@ pub fn decode<'a, F: Files, O: Write>(
     ensures early { IfSome (base_fault (number_of asked.now.base.now)) (λ fault. result ≡ Err fault) }
     ensures refused { end_of result ≡ Status.Refused → out.new ≡ out.old }
     ensures printed { PrintsUnlessDenied (Decodes (F.content files.old) asked.now) result (O.contents out.old) (O.contents out.new) }
+    ensures begun { result ≡ Err Fault.Memory → Keeps (O.contents out.old) (O.contents out.new)
+        ⊎ BeginsPrinted (Decodes (F.content files.old) asked.now) (O.contents out.old) (O.contents out.new) }
 {
     let base = base_of(asked.base)?;
     let program = program_of(files, base, asked.image)?;
@@ -52,6 +55,8 @@ fn write_logs<'a, O: Write>(
     ensures machine { IfErr result (λ fault. status_of fault ≡ Status.Machine) }
     ensures denied { IfErr result IsDenied }
     ensures text { OnOk result (Appends (O.contents out.old) (O.contents out.new) (harts_text 0 (events_in logs.now))) }
+    ensures begun { result ≡ Err Fault.Memory
+        → AppendsBeginning (harts_text 0 (events_in logs.now)) (O.contents out.old) (O.contents out.new) }
 {
     for (hart, log) in logs.iter().enumerate() {
         writeln!(out, "hart {hart}").map_err(|_| Fault::Output)?;

@@ -1,6 +1,7 @@
 //! Whichever subcommand is asked for.
 
-ghost use Rattle.std.specs.Prelude.{◌≡◌, IfSome};
+ghost use Rattle.std.specs.Prelude.{◌≡◌, Err, IfSome};
+ghost use Rattle.commands.specs.Begun.{IsBegun};
 ghost use Rattle.commands.specs.CarriedOut.{IsCarriedOut};
 ghost use Rattle.commands.specs.Faults.{end_of};
 ghost use Rattle.commands.specs.Order.{early_fault};
@@ -31,6 +32,8 @@ pub fn carry_out<'a, F: Files, O: Write>(
     requires { IsWithinLimits asked.now }
     ensures early { IfSome (early_fault asked.now) (λ fault. result ≡ Err fault) }
     ensures printed { IsCarriedOut (F.content files.old) asked.now result (O.contents out.old) (O.contents out.new) }
+    // Where memory is refused, a beginning of the text was written.
+    ensures begun { result ≡ Err Fault.Memory → IsBegun (F.content files.old) asked.now (O.contents out.old) (O.contents out.new) }
     // Where the input is refused, nothing is written, but for the lines of `check`.
     ensures refused { ¬ IsCheck asked.now → end_of result ≡ Status.Refused → out.new ≡ out.old }
 {

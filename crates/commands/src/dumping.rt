@@ -1,6 +1,6 @@
 //! The subcommand `dump`.
 
-ghost use Rattle.std.specs.Prelude.{◌≡◌, ◌≢◌};
+ghost use Rattle.std.specs.Prelude.{◌≡◌, ◌≢◌, Err};
 ghost use Rattle.commands.specs.Dumping.{Dumps, end_of_dump};
 ghost use Rattle.commands.specs.Faults.{end_of};
 ghost use Rattle.commands.specs.Printed.{PrintsUnlessDenied};
@@ -21,6 +21,7 @@ pub fn dump<'a, F: Files, O: Write>(
     out: &mut O,
 ) -> Result<Status, Fault<'a>>
     ensures refused { end_of result ≢ Status.Refused }
+    ensures untouched { result ≡ Err Fault.Memory → out.new ≡ out.old }
     ensures printed { PrintsUnlessDenied (Dumps (F.content files.old) asked.now) result (O.contents out.old) (O.contents out.new) }
 {
     let bytes = content_of(files, asked.capture)?;

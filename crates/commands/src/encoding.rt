@@ -1,6 +1,6 @@
 //! The subcommand `encode`.
 
-ghost use Rattle.std.specs.Prelude.{◌≡◌, ◌≤◌, ◌^◌, IfErr, IfSome, OnOk, length};
+ghost use Rattle.std.specs.Prelude.{◌≡◌, ◌≤◌, ◌^◌, Err, IfErr, IfSome, OnOk, length};
 ghost use Rattle.std.specs.Io.KnownBytes.{Appends};
 ghost use Rattle.captures.specs.Messages.{messages_of_harts};
 ghost use Rattle.commands.specs.Encoding.{Encodes, written};
@@ -30,6 +30,7 @@ pub fn encode<'a, F: Files, O: Write>(
     ensures early { IfSome (logs_fault (number_of asked.now.base.now) (length asked.now.logs.items))
         (λ fault. result ≡ Err fault) }
     ensures refused { end_of result ≡ Status.Refused → out.new ≡ out.old }
+    ensures untouched { result ≡ Err Fault.Memory → out.new ≡ out.old }
     ensures printed { PrintsUnlessDenied (Encodes (F.content files.old) asked.now) result (O.contents out.old) (O.contents out.new) }
 {
     let base = base_of(asked.base)?;

@@ -1,9 +1,11 @@
 -- The prover tries no chain of steps by itself: what each step found is handed to it, in order.
 use Rattle.std.proofs.Common.{◌≡◌, inr, refl, subst, sym, arith, Ok, Err}
 use Rattle.std.proofs.lemmas.Grind.{common_steps}
+use Rattle.commands.specs.Begun.{AppendsFirstLines}
 use Rattle.commands.specs.Checking.{Checks, WritesLines}
 use Rattle.commands.specs.Found.{AreFew, IsProgram}
 use Rattle.commands.specs.Printed.{PrintsUnlessDenied}
+use Rattle.commands.proofs.Beginnings.{lines_kept}
 use Rattle.commands.proofs.Runs.{ends_silently, goes_on}
 use Rattle.commands.proofs.checking.check.Goals as goal
 
@@ -54,3 +56,21 @@ returns-clause-printed g c =
       (counted, few, (Ok program, c.in_ok-program.ensures.program, lines)),
     ))
     lines c.flush.ensures.bytes
+
+pub returns-clause-begun : goal.returns-clause-begun
+returns-clause-begun g c = λ memory.
+    let contents = g.O.Write.contents in
+    let asked = c.args.asked.now in
+    let content = g.F.Files.content c.args.files.now in
+    let program = c.in_ok-program.program in
+    let old = contents c.args.out.now in
+    let mid = contents c.judge_all-ended.new.out in
+    let lines = subst (λ logs. AppendsFirstLines content program logs old mid) c.as_slice-2.ensures.value
+    (subst (λ told. AppendsFirstLines told program c.as_slice-2.result.now old mid)
+    c.in_ok-program.ensures.kept (c.judge_all-ended.ensures.begun memory)) in inr (record {
+      base = c.in_ok-base.base;
+      program = program;
+      based = c.in_ok-base.ensures.found;
+      found = c.in_ok-program.ensures.program;
+      lines = lines_kept content program asked.logs.items old mid (contents c.flush.new.self) lines c.flush.ensures.bytes;
+    })

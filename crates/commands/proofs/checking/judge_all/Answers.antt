@@ -1,5 +1,5 @@
 -- The prover does not cut the paths at the loop's place: the lemmas on one path more are handed to it.
-use Rattle.std.proofs.Common.{◌≡◌, ◌⊎◌, ◌+◌, get_or, take, [], sym, ap, ◌∙◌, subst, arith, Ok, Err, length}
+use Rattle.std.proofs.Common.{◌≡◌, ◌⊎◌, ◌+◌, get_or, take, drop, take-append-drop, [], sym, ap, ◌∙◌, subst, arith, Ok, Err, length}
 use Rattle.std.proofs.lemmas.Grind.{common_steps}
 use Rattle.std.specs.Io.KnownBytes.{Appends}
 use Rattle.std.specs.Prelude.{if◌then◌else◌, is_some}
@@ -14,18 +14,26 @@ use Rattle.commands.proofs.JudgedLogs.{lines_end, lines_more}
 use Rattle.commands.proofs.checking.judge_all.Goals as goal
 use Rattle.commands.proofs.checking.judge_all.Goals.{then-is_some, else-is_some}
 
-pub returns-in-Err : goal.returns-in-Err
-returns-in-Err g c =
+pub returns-in-Err-clause-printed : goal.returns-in-Err-clause-printed
+returns-in-Err-clause-printed g c =
     let contents = g.O.Write.contents in
     let content = g.F.Files.content c.args.files.now in
     let paths = c.args.logs.now in
     let i = c.loop-path.path-index in
     let d : Path = record { ref_ptr = (0, 0); now = [] } in
     let why = c.in-Err.why in
-    let unread = subst (λ told. (why ≡ fault.Memory) ⊎ IsLog told (get_or paths i d) (Err why)) c.loop-path.invariant.kept c.in-Err.ensures.fault in record {
-      printed = lines_end content c.args.program.now paths i d c.loop-path.status (contents c.args.out.now) (contents c.loop-path.out)
-          c.loop-path-test.true c.loop-path.invariant.printed why unread;
-    }
+    let unread = subst (λ told. (why ≡ fault.Memory) ⊎ IsLog told (get_or paths i d) (Err why)) c.loop-path.invariant.kept c.in-Err.ensures.fault in
+    lines_end content c.args.program.now paths i d c.loop-path.status (contents c.args.out.now) (contents c.loop-path.out)
+    c.loop-path-test.true c.loop-path.invariant.printed why unread
+
+pub returns-in-Err-clause-begun : goal.returns-in-Err-clause-begun
+returns-in-Err-clause-begun g c = λ memory. record {
+  front = take c.loop-path.path-index c.args.logs.now;
+  rest = drop c.loop-path.path-index c.args.logs.now;
+  status = c.loop-path.status;
+  whole = sym (take-append-drop c.loop-path.path-index c.args.logs.now);
+  lines = c.loop-path.invariant.printed;
+}
 
 pub loop-path-preserved : goal.loop-path-preserved
 loop-path-preserved g c =

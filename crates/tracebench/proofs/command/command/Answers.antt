@@ -1,5 +1,6 @@
 -- The prover does not join what is carried out with the status that is told: each way there is gone by hand.
 use Rattle.std.proofs.Common.{◌≡◌, inl, inr, ap, ◌∙◌, sym, subst}
+use Rattle.commands.specs.Begun.{IsBegun}
 use Rattle.commands.specs.CarriedOut.{IsCarriedOut}
 use Rattle.commands.specs.Faults.{end_of}
 use Rattle.commands.specs.Status.{code_of}
@@ -22,6 +23,8 @@ returns-clause-printed g c =
             status = c.code.ensures ∙ ap code_of ended;
             carried = subst (λ out. IsCarriedOut content w.in-Ok.asked w.carry_out.result (contents c.args.out.now) (contents out))
                 (sym w.out-is) w.carry_out.ensures.printed;
+            begun = λ memory. subst (λ out. IsBegun content w.in-Ok.asked (contents c.args.out.now) (contents out))
+                (sym w.out-is) (w.carry_out.ensures.begun memory);
           }))
       | in-Ok+in-Encode-1 w ↦
           let ended : c.match-asked.status ≡ end_of w.carry_out.result = w.status-is ∙ elim w.match-carry_out.branch [
@@ -34,6 +37,8 @@ returns-clause-printed g c =
             status = c.code.ensures ∙ ap code_of ended;
             carried = subst (λ out. IsCarriedOut content w.in-Ok.asked w.carry_out.result (contents c.args.out.now) (contents out))
                 (sym w.out-is) w.carry_out.ensures.printed;
+            begun = λ memory. subst (λ out. IsBegun content w.in-Ok.asked (contents c.args.out.now) (contents out))
+                (sym w.out-is) (w.carry_out.ensures.begun memory);
           }))
       | in-Ok+in-Dump-1 w ↦
           let ended : c.match-asked.status ≡ end_of w.carry_out.result = w.status-is ∙ elim w.match-carry_out.branch [
@@ -46,6 +51,8 @@ returns-clause-printed g c =
             status = c.code.ensures ∙ ap code_of ended;
             carried = subst (λ out. IsCarriedOut content w.in-Ok.asked w.carry_out.result (contents c.args.out.now) (contents out))
                 (sym w.out-is) w.carry_out.ensures.printed;
+            begun = λ memory. subst (λ out. IsBegun content w.in-Ok.asked (contents c.args.out.now) (contents out))
+                (sym w.out-is) (w.carry_out.ensures.begun memory);
           }))
       | in-Err+in-Some-1 w ↦ elim w.in-Err.ensures.fault [
         | inl memory ↦ inr (inl (c.code.ensures ∙ ap code_of (w.status-is ∙ w.tell_words-status.ensures.memory memory), w.out-is))

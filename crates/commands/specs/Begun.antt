@@ -1,0 +1,51 @@
+-- What is written where memory is refused: a beginning of the text.
+use Rattle.std.specs.Prelude.{◌≡◌, ◌⊎◌, ℕ, ◌++◌, List, Option, Ok}
+use Rattle.std.specs.Io.KnownBytes.{Appends, Keeps}
+use Rattle.rvclass.specs.Image.{Image}
+use Rattle.subcommands.specs.declared.words.Asked.{Asked}
+use Rattle.subcommands.specs.declared.words.Asked.TheVariants.{Check, Decode, Dump, Encode}
+use Rattle.subcommands.specs.declared.words.Check.{Check as CheckWords}
+use Rattle.commands.specs.Checking.{WritesLines}
+use Rattle.commands.specs.Decoded.{Decodes}
+use Rattle.commands.specs.Faults.{Path}
+use Rattle.commands.specs.Found.{IsBase, IsProgram}
+use Rattle.commands.specs.Known.{Content}
+use Rattle.commands.specs.Printed.{IsPrinted, Printed}
+use Rattle.commands.specs.declared.status.Status.{Status}
+
+-- The lines of some first ones of the logs at these paths were appended.
+pub record AppendsFirstLines (content : Content) (program : Image) (paths : List Path) (old new : Option (List ℕ)) : Type 0 where
+  pub front : List Path
+  pub rest : List Path
+  pub status : Status
+  pub whole : paths ≡ front ++ rest
+  pub lines : IsPrinted (WritesLines content program front) (Ok status) old new
+
+-- The program was found, and the lines of some first logs were appended.
+pub record BeginsLines (content : Content) (asked : CheckWords) (old new : Option (List ℕ)) : Type 0 where
+  pub base : ℕ
+  pub program : Image
+  pub based : IsBase asked.base.now (Ok base)
+  pub found : IsProgram content base asked.image (Ok program)
+  pub lines : AppendsFirstLines content program asked.logs.items old new
+
+-- A beginning of a text was appended.
+pub record AppendsBeginning (whole : List ℕ) (old new : Option (List ℕ)) : Type 0 where
+  pub text : List ℕ
+  pub rest : List ℕ
+  pub parted : whole ≡ text ++ rest
+  pub appended : Appends old new text
+
+-- A beginning of the text was appended that is printed where memory is not refused.
+pub record BeginsPrinted (Prints : Printed → Type 0) (old new : Option (List ℕ)) : Type 0 where
+  pub printed : Printed
+  pub prints : Prints printed
+  pub begun : AppendsBeginning printed.text old new
+
+-- Nothing was written of what is asked, or a beginning: `check` has the lines of some first logs, `decode` some first
+-- texts of harts, and the others nothing.
+abbrev pub IsBegun : Content → Asked → Option (List ℕ) → Option (List ℕ) → Type 0
+IsBegun content (Check asked) old new = Keeps old new ⊎ BeginsLines content asked old new
+IsBegun content (Encode asked) old new = Keeps old new
+IsBegun content (Dump asked) old new = Keeps old new
+IsBegun content (Decode asked) old new = Keeps old new ⊎ BeginsPrinted (Decodes content asked) old new
