@@ -23,6 +23,7 @@ use Rattle.bench.specs.Got.{Got, HasGot, got_after, kept}
 use Rattle.bench.specs.Replayed.{got_from}
 use Rattle.bench.proofs.ClosingLast.{payloads_close_last}
 use Rattle.bench.proofs.TakenPackets.{AreFirst, first_ended, first_packets}
+use Rattle.bench.proofs.WholeLog.{has_got}
 
 module _ (period : ℕ) (log : ProgramLog) (legal : IsLegalLog log) where
   pub profile : All InProfile (packets (words_of log.program) period log.events)
@@ -35,7 +36,8 @@ module _ (period : ℕ) (log : ProgramLog) (legal : IsLegalLog log) where
       → payloads_in messages ≡ take (length messages) (payloads period log)
       → Describes (words_of log.program) (packets_in messages) decoded
       → HasGot period true log (length messages) (got_from messages decoded)
-  got_first messages decoded carried described = record { few = first.few; same = same }
+  got_first messages decoded carried described =
+      has_got period (length messages) true log (got_from messages decoded) legal first.few same
     where
       words : Words
       words = words_of log.program

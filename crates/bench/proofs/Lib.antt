@@ -6,3 +6,15 @@ pub mod GotLemmas
 pub mod CollectedLemmas
 pub mod TakesIn
 pub mod CollectorLemmas
+pub mod CollectedSame
+pub mod FrontMessage
+pub mod OwnPayloads
+pub mod TakingIn
+pub mod WholeLog
+pub mod ListElements
+pub mod SendingOn
+pub mod SenderNext
+pub mod NewSenders
+pub mod SendingTurn
+pub mod ReplayEnds
+pub mod ReplayTurns

@@ -1,5 +1,5 @@
 -- What came of a hart.
-use Rattle.std.specs.Prelude.{◌≡◌, ◌≤◌, ◌==◌, ℕ, Bool, if◌then◌else◌, List, [], length, map, take, sum}
+use Rattle.std.specs.Prelude.{◌≡◌, ◌≤◌, ◌==◌, ℕ, Bool, true, if◌then◌else◌, List, [], length, map, take, sum}
 use Rattle.retire.specs.declared.event.Event.{Event}
 use Rattle.rvclass.specs.Fetch.{words_of}
 use Rattle.legalpath.specs.ProgramLog.{ProgramLog}
@@ -42,7 +42,9 @@ got_after period log count = record {
 abbrev pub kept : Bool → Got → Got
 kept keep got = record got { packets = if keep then got.packets else [] }
 
--- What came of a hart is what comes of it after so many of its packets, of which it has that many.
+-- What came of a hart is what comes of it after so many of its packets, of which it has that many: its whole log, where
+-- the closing packet came.
 pub record HasGot (period : ℕ) (keep : Bool) (log : ProgramLog) (count : ℕ) (got : Got) : Type 0 where
   pub few : count ≤ length (packets (words_of log.program) period log.events)
   pub same : got ≡ kept keep (got_after period log count)
+  pub whole : got.closed ≡ true → got.decoded ≡ log.events

@@ -1,1 +1,4 @@
 pub mod Collecting
+pub mod Sending
+pub mod Taking
+pub mod Replaying

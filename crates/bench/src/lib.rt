@@ -9,7 +9,9 @@ mod config;
 mod hart_line;
 mod laws;
 mod outcome;
+mod replaying;
 mod reporting;
+mod sender;
 mod setup;
 mod stop;
 #[cfg(test)]
@@ -18,8 +20,10 @@ mod verdict;
 
 pub use collecting::{CollectFault, Collector};
 pub use config::Config;
+pub use funnel::Turn;
 pub use laws::turns_let_beginnings_through;
 pub use outcome::{HartOutcome, Outcome};
+pub use replaying::replay;
 pub use reporting::{is_whole, report};
 pub use setup::Setup;
 pub use stop::Stop;

@@ -58,3 +58,21 @@ pub(super) fn logs<'p>(alloc: Global, program: &'p Program) -> Result<[LegalLog<
         legal_log(program, returns(alloc)?)?,
     ])
 }
+
+/// The logs of so many harts, of both kinds in turn.
+pub(super) fn kinds<'p>(
+    alloc: Global,
+    program: &'p Program,
+    harts: u16,
+) -> Result<Vec<LegalLog<'p>>, Fail> {
+    let mut logs = Vec::new(alloc);
+    for hart in 0..harts {
+        let events = if hart % 2 == 0 {
+            branches(alloc)?
+        } else {
+            returns(alloc)?
+        };
+        logs.push(legal_log(program, events)?)?;
+    }
+    Ok(logs)
+}

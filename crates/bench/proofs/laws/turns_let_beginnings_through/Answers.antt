@@ -10,14 +10,8 @@ use Rattle.funnel.proofs.Kept.{keeps-first, keeps-lawful}
 use Rattle.funnel.specs.Payloads.{payloads_of}
 use Rattle.bench.specs.Replayed.{replayed}
 use Rattle.bench.proofs.GotLemmas.{close_last, got_first}
+use Rattle.bench.proofs.OwnPayloads.{own_payloads}
 use Rattle.bench.proofs.laws.turns_let_beginnings_through.Goals as goal
-
--- The payloads at a log's place are its own.
-own_payloads : (period hart : ℕ) (logs : List ProgramLog) (log : ProgramLog) → slice_get logs hart ≡ Some log
-    → payloads_of hart (map (payloads period) logs) ≡ payloads period log
-own_payloads period hart logs log at =
-    get_or_from_slice_get (map (payloads period) logs) hart (payloads period log) []
-    (slice_get-map (payloads period) logs hart ∙ ap (option_map (payloads period)) at)
 
 pub returns-clause-lawful : goal.returns-clause-lawful
 returns-clause-lawful c = λ period capacity logs turns legal.

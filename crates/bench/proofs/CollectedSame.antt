@@ -1,0 +1,30 @@
+-- What a collector has of a hart stays where it has the same of it.
+use Rattle.std.proofs.Common.{◌≡◌, ℕ, Bool, false, slice_get, subst, sym, ap, ◌∙◌}
+use Rattle.legalpath.specs.ProgramLog.{ProgramLog}
+use Rattle.bench.specs.Collected.{Came, Collected, HasCollected, IsSameOf}
+use Rattle.bench.specs.Got.{Got, got_after, kept}
+
+pub came_same : (hart : ℕ) (got : Got) (refused : Bool) (old new : Collected) → IsSameOf hart old new
+    → Came hart got refused old → Came hart got refused new
+came_same hart got refused old new same came = record {
+  taken = same.taken ∙ came.taken;
+  decoded = same.received.list ∙ came.decoded;
+  closed = same.received.closed ∙ came.closed;
+}
+
+pub collected_same : (period count hart : ℕ) (log : ProgramLog) (old new : Collected) → IsSameOf hart old new
+    → new.logs ≡ old.logs → new.keep ≡ old.keep
+    → HasCollected period log count hart old → HasCollected period log count hart new
+collected_same period count hart log old new same logs keep has = record {
+  known = ap (λ some. slice_get some hart) logs ∙ has.known;
+  few = has.few;
+  came =
+      subst (λ flag. Came hart (kept flag (got_after period log count)) false new) (sym keep)
+      (came_same hart (kept old.keep (got_after period log count)) false old new same has.came);
+  expected = same.received.expected ∙ has.expected;
+  holds = record {
+    stands = λ decoder list one two.
+        has.holds.stands decoder list (sym same.received.decoder ∙ one) (sym same.received.list ∙ two);
+    ended = λ is_closed one. has.holds.ended is_closed (sym same.received.closed ∙ one);
+  };
+}

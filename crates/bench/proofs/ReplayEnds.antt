@@ -1,0 +1,132 @@
+-- What came of harts, by what a collector has of them at the end.
+use Rattle.std.proofs.Common.{◌≡◌, ◌≤◌, ◌<◌, ◌⊎◌, inl, inr, ℕ, Bool, true, false, All, List, Option, Some, None, length, slice_get, refl, sym, ap, subst, ◌∙◌, arith}
+use Rattle.std.specs.Prelude.{IsFalse, IsSomeAnd, IsTrue}
+use Rattle.std.proofs.lemmas.Option.{slice_get_within}
+use Rattle.rvclass.specs.Fetch.{words_of}
+use Rattle.legalpath.specs.ProgramLog.{IsLegalLog, ProgramLog}
+use Rattle.encoder.specs.Packets.{packets}
+use Rattle.message.specs.OfHart.{of_hart}
+use Rattle.message.specs.declared.message.Message.{Message}
+use Rattle.bench.specs.Beginnings.{AreBeginnings, AreThoseTaken, CameOf, NamesRefused}
+use Rattle.bench.specs.Collected.{Came, Collected, HasCollected, IsRefusedHart}
+use Rattle.bench.specs.Got.{Got, HasGot, got_after, got_of, kept}
+use Rattle.bench.specs.declared.config.Config.{Config}
+use Rattle.bench.specs.declared.outcome.HartOutcome.{HartOutcome}
+use Rattle.bench.specs.declared.stop.Stop.{Stop}
+use Rattle.bench.specs.declared.stop.Stop.TheVariants as stop
+use Rattle.bench.specs.steps.Taking.{AreTaken, IsCutOff, IsTakenOf, NamesRefusedHart}
+use Rattle.bench.proofs.ListElements.{All-at, All-from_places, element}
+use Rattle.bench.proofs.TakingIn.{came_not_refused, came_refused}
+use Rattle.bench.proofs.WholeLog.{has_got}
+
+-- The outcome of a hart says this.
+abbrev Says : {A : Type 0} → Got → Bool → HartOutcome A → Type 0
+Says got refused came = (got_of came ≡ got) × (came.refused ≡ refused)
+
+-- What a collector promises of its end.
+pub record Finishes {A : Type 0} (collected : Collected) (harts : List (HartOutcome A)) : Type 0 where
+  pub count : length harts ≡ length collected.logs
+  pub came : (hart : ℕ) (got : Got) (refused : Bool) → Came hart got refused collected
+      → IsSomeAnd (slice_get harts hart) (λ came. (got_of came ≡ got) × (came.refused ≡ refused))
+
+-- How many packets of the log came of a hart of which so many were taken.
+record CameOut {A : Type 0} (period : ℕ) (keep : Bool) (log : ProgramLog) (taken : ℕ) (came : HartOutcome A) : Type 0 where
+  count : ℕ
+  got : HasGot period keep log count (got_of came)
+  all : CameOf came.refused taken count
+
+module _ {A : Type 0} (config : Config) (logs : List ProgramLog) (taken : List Message) (collected : Collected)
+    (harts : List (HartOutcome A)) (legal : All IsLegalLog logs) (keep : collected.keep ≡ config.keep)
+    (are : AreTaken config.period logs taken collected) (ends : Finishes collected harts) where
+  says : (hart : ℕ) (came : HartOutcome A) (got : Got) (refused : Bool) → slice_get harts hart ≡ Some came
+      → Came hart got refused collected → Says got refused came
+  says hart came got refused at of =
+      subst (λ some. IsSomeAnd some (λ one. (got_of one ≡ got) × (one.refused ≡ refused))) at
+      (ends.came hart got refused of)
+
+  came_out : (hart : ℕ) (log : ProgramLog) (came : HartOutcome A) → slice_get logs hart ≡ Some log
+      → slice_get harts hart ≡ Some came
+      → CameOut config.period config.keep log (length (of_hart hart taken)) came
+  came_out hart log came known at = by_case (are.each hart log known)
+    where
+      count : ℕ
+      count = length (of_hart hart taken)
+
+      keeps : (n : ℕ) → kept collected.keep (got_after config.period log n) ≡ kept config.keep (got_after config.period log n)
+      keeps n = ap (λ flag. kept flag (got_after config.period log n)) keep
+
+      lawful : IsLegalLog log
+      lawful = All-at IsLegalLog logs hart log legal known
+
+      by_case : IsTakenOf config.period log (length (of_hart hart taken)) hart collected
+          → CameOut config.period config.keep log (length (of_hart hart taken)) came
+      by_case (inl has) =
+          let n = length (of_hart hart taken) in
+          let told = says hart came (kept collected.keep (got_after config.period log n)) false at has.came in
+          record {
+            count = n;
+            got = has_got config.period n config.keep log (got_of came) lawful has.few (told.0 ∙ keeps n);
+            all = subst (λ refused. CameOf refused n n) (sym told.1) refl;
+          }
+      by_case (inr cut) =
+          let n = length (of_hart hart taken) in
+          let told = says hart came (kept collected.keep (got_after config.period log cut.count)) true at cut.came in
+          record {
+            count = cut.count;
+            got =
+                has_got config.period cut.count config.keep log (got_of came) lawful cut.few
+                (told.0 ∙ keeps cut.count);
+            all = subst (λ refused. CameOf refused n cut.count) (sym told.1) cut.within;
+          }
+
+  as_many : length harts ≡ length logs
+  as_many = ends.count ∙ ap length are.own
+
+  pub are_beginnings : AreBeginnings config logs harts
+  are_beginnings = record {
+    count = as_many;
+    each = λ hart log came known at. let out = came_out hart log came known at in (out.count, out.got);
+  }
+
+  pub are_those_taken : AreThoseTaken config logs taken harts
+  are_those_taken = λ hart log came known at.
+      let out = came_out hart log came known at in (out.count, out.got, out.all)
+
+  -- Of a hart that is not refused all came.
+  not_refused : (hart : ℕ) (log : ProgramLog) (came : HartOutcome A) → slice_get harts hart ≡ Some came
+      → (IsRefusedHart hart collected → ⊥)
+      → IsTakenOf config.period log (length (of_hart hart taken)) hart collected → came.refused ≡ false
+  not_refused hart log came at none (inl has) =
+      (says hart came (kept collected.keep (got_after config.period log (length (of_hart hart taken)))) false at
+      has.came).1
+  not_refused hart log came at none (inr cut) =
+      absurd (none (came_refused hart (kept collected.keep (got_after config.period log cut.count)) collected cut.came))
+
+  told_refused : (got : Got) (at : Option (HartOutcome A)) → IsSomeAnd at (λ one. (got_of one ≡ got) × (one.refused ≡ true))
+      → IsSomeAnd at (λ one. IsTrue one.refused)
+  told_refused got None never = never
+  told_refused got (Some one) told = told.1
+
+  -- And one that is refused is told so.
+  is_refused : (hart : ℕ) (log : ProgramLog) → IsRefusedHart hart collected
+      → IsTakenOf config.period log (length (of_hart hart taken)) hart collected
+      → IsSomeAnd (slice_get harts hart) (λ came. IsTrue came.refused)
+  is_refused hart log refused (inl has) =
+      absurd (came_not_refused hart (kept collected.keep (got_after config.period log (length (of_hart hart taken))))
+      collected has.came refused)
+  is_refused hart log refused (inr cut) =
+      let got = kept collected.keep (got_after config.period log cut.count) in
+      told_refused got (slice_get harts hart) (ends.came hart got true cut.came)
+
+  pub names_refused : (why : Option Stop) → NamesRefusedHart why collected → NamesRefused why harts
+  names_refused None none =
+      All-from_places (λ came. IsFalse came.refused) harts (λ hart came at.
+      let within = slice_get_within harts hart came at in
+      let its = element logs hart (omega (arith, within, as_many)) in
+      not_refused hart its.one came at (none hart (omega (arith, within, ends.count)))
+      (are.each hart its.one its.at))
+  names_refused (Some (stop.Memory hart)) named =
+      let its = element logs hart (subst (λ n. hart < n) (ap length are.own) named.0) in
+      is_refused hart its.one named.1 (are.each hart its.one its.at)
+  names_refused (Some (stop.HandedBack hart)) named = named
+  names_refused (Some (stop.Ended hart)) named = named

@@ -1,0 +1,37 @@
+-- What came of harts through a funnel.
+use Rattle.std.specs.Prelude.{ℕ, ◌≡◌, ◌≤◌, All, Bool, true, false, IsFalse, IsSomeAnd, IsTrue, List, Option, Some, None, length, slice_get}
+use Rattle.legalpath.specs.ProgramLog.{ProgramLog}
+use Rattle.message.specs.OfHart.{of_hart}
+use Rattle.message.specs.declared.message.Message.{Message}
+use Rattle.bench.specs.Got.{HasGot, got_of}
+use Rattle.bench.specs.declared.config.Config.{Config}
+use Rattle.bench.specs.declared.outcome.HartOutcome.{HartOutcome}
+use Rattle.bench.specs.declared.stop.Stop.{Stop}
+use Rattle.bench.specs.declared.stop.Stop.TheVariants as stop
+
+-- What came of each hart is what comes of a beginning of its log's packets: each once, in order, none behind the closing
+-- one; they decode to a beginning of its log, and to the whole log where the closing packet came.
+pub record AreBeginnings {A : Type 0} (config : Config) (logs : List ProgramLog) (harts : List (HartOutcome A)) : Type 0 where
+  pub count : length harts ≡ length logs
+  pub each : (hart : ℕ) (log : ProgramLog) (came : HartOutcome A) → slice_get logs hart ≡ Some log
+      → slice_get harts hart ≡ Some came → (count : ℕ) × HasGot config.period config.keep log count (got_of came)
+
+-- How many of the messages that were taken of a hart came of it: at most all where memory for it was refused, and else all.
+abbrev pub CameOf : Bool → ℕ → ℕ → Type 0
+CameOf true taken count = count ≤ taken
+CameOf false taken count = count ≡ taken
+
+-- Of these messages, which were taken of a funnel, those of each hart came of it, but where memory for it was refused.
+abbrev pub AreThoseTaken : {A : Type 0} → Config → List ProgramLog → List Message → List (HartOutcome A) → Type 0
+AreThoseTaken {A} config logs taken harts =
+    (hart : ℕ) (log : ProgramLog) (came : HartOutcome A) → slice_get logs hart ≡ Some log
+    → slice_get harts hart ≡ Some came
+    → (count : ℕ) × HasGot config.period config.keep log count (got_of came)
+    × CameOf came.refused (length (of_hart hart taken)) count
+
+-- There is no stop exactly where memory for no hart was refused, and else one of those harts is named.
+abbrev pub NamesRefused : {A : Type 0} → Option Stop → List (HartOutcome A) → Type 0
+NamesRefused None harts = All (λ hart. IsFalse hart.refused) harts
+NamesRefused (Some (stop.Memory hart)) harts = IsSomeAnd (slice_get harts hart) (λ came. IsTrue came.refused)
+NamesRefused (Some (stop.HandedBack hart)) harts = ⊥
+NamesRefused (Some (stop.Ended hart)) harts = ⊥

@@ -1,0 +1,21 @@
+-- Where a replay stands.
+use Rattle.std.specs.Prelude.{ℕ, ◌≡◌, List, Option}
+use Rattle.legalpath.specs.ProgramLog.{ProgramLog}
+use Rattle.funnel.specs.Held.{Held}
+use Rattle.funnel.specs.declared.turn.Turn.{Turn}
+use Rattle.bench.specs.Collected.{Collected}
+use Rattle.bench.specs.Replayed.{replayed}
+use Rattle.bench.specs.declared.config.Config.{Config}
+use Rattle.bench.specs.declared.sender.Sender.{Sender}
+use Rattle.bench.specs.declared.stop.Stop.{Stop}
+use Rattle.bench.specs.steps.Sending.{AreSending}
+use Rattle.bench.specs.steps.Taking.{AreTaken, NamesRefusedHart}
+
+-- The funnel and the harts stand where the funnel machine does after these turns; what it took came, or memory was refused.
+pub record IsReplayed {B : Type 0} (config : Config) (logs : List ProgramLog) (turns : List Turn) (core : Held)
+    (senders : List (Sender B)) (collected : Collected) (why : Option Stop) : Type 0 where
+  pub sending : AreSending config.period config.capacity logs (replayed config.period config.capacity logs turns) core
+      senders
+  pub keep : collected.keep ≡ config.keep
+  pub taken : AreTaken config.period logs (replayed config.period config.capacity logs turns).taken collected
+  pub named : NamesRefusedHart why collected

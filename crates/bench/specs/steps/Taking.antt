@@ -1,0 +1,56 @@
+-- What a collector has of the messages that were taken of a funnel.
+use Rattle.std.specs.Prelude.{ℕ, ◌≡◌, ◌≤◌, ◌<◌, ◌⊎◌, ◌∷◌, true, List, [], Option, Some, None, length, slice_get}
+use Rattle.rvclass.specs.Fetch.{words_of}
+use Rattle.legalpath.specs.ProgramLog.{ProgramLog}
+use Rattle.encoder.specs.Packets.{packets}
+use Rattle.message.specs.OfHart.{of_hart}
+use Rattle.message.specs.declared.message.Message.{Message}
+use Rattle.funnel.specs.Machine.{Funnel}
+use Rattle.bench.specs.Collected.{Came, Collected, HasCollected, IsMessageOf, IsRefusedHart}
+use Rattle.bench.specs.Got.{got_after, kept}
+use Rattle.bench.specs.declared.stop.Stop.{Stop}
+use Rattle.bench.specs.declared.stop.Stop.TheVariants as stop
+
+-- Memory for the hart was refused, when no more of its messages had come than were taken.
+pub record IsCutOff (period : ℕ) (log : ProgramLog) (taken hart : ℕ) (collected : Collected) : Type 0 where
+  pub count : ℕ
+  pub within : count ≤ taken
+  pub few : count ≤ length (packets (words_of log.program) period log.events)
+  pub came : Came hart (kept collected.keep (got_after period log count)) true collected
+
+-- All of the messages that were taken of the hart came, so many, or memory for it was refused.
+abbrev pub IsTakenOf : ℕ → ProgramLog → ℕ → ℕ → Collected → Type 0
+IsTakenOf period log taken hart collected =
+    HasCollected period log taken hart collected ⊎ IsCutOff period log taken hart collected
+
+-- Of each hart the messages among these came, or memory for it was refused.
+pub record AreTaken (period : ℕ) (logs : List ProgramLog) (taken : List Message) (collected : Collected) : Type 0 where
+  pub own : collected.logs ≡ logs
+  pub each : (hart : ℕ) (log : ProgramLog) → slice_get logs hart ≡ Some log
+      → IsTakenOf period log (length (of_hart hart taken)) hart collected
+
+-- The message is of a hart with a log, and the next of it behind those that were taken.
+pub record IsNext (period : ℕ) (logs : List ProgramLog) (taken : List Message) (message : Message) : Type 0 where
+  pub log : ProgramLog
+  pub known : slice_get logs message.hart ≡ Some log
+  pub own : IsMessageOf period log (length (of_hart message.hart taken)) message
+
+-- Where messages wait, the front one is the next of its hart.
+abbrev pub IsFrontNext : ℕ → List ProgramLog → List Message → List Message → Type 0
+IsFrontNext period logs taken [] = Unit {0}
+IsFrontNext period logs taken (message ∷ waiting) = IsNext period logs taken message
+
+-- Messages came of those that were taken of a funnel, and the front one of those that wait is the next of its hart.
+pub record IsReady (waiting : List Message) (collected : Collected) : Type 0 where
+  pub period : ℕ
+  pub logs : List ProgramLog
+  pub taken : List Message
+  pub came : AreTaken period logs taken collected
+  pub next : IsFrontNext period logs taken waiting
+
+-- There is no stop where memory for no hart was refused, and else it names such a hart.
+abbrev pub NamesRefusedHart : Option Stop → Collected → Type 0
+NamesRefusedHart None collected = (hart : ℕ) → hart < length collected.logs → ¬ IsRefusedHart hart collected
+NamesRefusedHart (Some (stop.Memory hart)) collected = (hart < length collected.logs) × IsRefusedHart hart collected
+NamesRefusedHart (Some (stop.HandedBack hart)) collected = ⊥
+NamesRefusedHart (Some (stop.Ended hart)) collected = ⊥

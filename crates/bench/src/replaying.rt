@@ -1,0 +1,148 @@
+//! Logs through a funnel in one thread, by a schedule of turns.
+
+ghost use Rattle.std.specs.Prelude.{ℕ, ◌≡◌, ◌≤◌, All, List, Some, None, Err, IfErr, IfOk, length, map};
+ghost use Rattle.legalpath.specs.ProgramLog.{IsLegalLog, ProgramLog};
+ghost use Rattle.encoder.specs.Payloads.{payloads};
+ghost use Rattle.message.specs.declared.message.Message.{Message as AnyMessage};
+ghost use Rattle.funnel.specs.Limits.{limit_fault, most_harts};
+ghost use Rattle.funnel.specs.Machine.{Funnel, after_turn, take_front};
+ghost use Rattle.funnel.specs.declared.turn.Turn.TheVariants as turn;
+ghost use Rattle.bench.specs.Beginnings.{AreBeginnings, AreThoseTaken, NamesRefused};
+ghost use Rattle.bench.specs.Replayed.{replayed};
+ghost use Rattle.bench.specs.Setting.{setup_fault};
+ghost use Rattle.bench.specs.declared.setup.Setup.{Setup as AnySetup};
+ghost use Rattle.bench.specs.steps.Sending.{AreSending};
+ghost use Rattle.bench.specs.steps.Taking.{AreTaken, IsFrontNext, IsReady, NamesRefusedHart};
+
+use crate::collecting::{CollectFault, Collector};
+use crate::config::Config;
+use crate::outcome::Outcome;
+use crate::sender::{Sender, senders_of};
+use crate::setup::Setup;
+use crate::stop::Stop;
+use funnel::{Core, MOST_CAPACITY, MOST_HARTS, Turn};
+use legalpath::LegalLog;
+use std::alloc::Allocator;
+
+/// Sends the messages of logs through a funnel and decodes what is taken of it, in the order of the turns.
+///
+/// A turn that cannot act changes nothing: a hart's where the funnel is full or the hart has no message left, and one of
+/// a strange hart; a collecting one where the funnel is empty. The turns may end before all messages are taken. The one
+/// stop is want of memory for a hart, of which nothing more is decoded then, while the others go on.
+pub fn replay<A: Allocator + Copy, B: Allocator>(
+    alloc: A,
+    logs: &[LegalLog<'_, B>],
+    config: Config,
+    turns: &[Turn],
+) -> Result<Outcome<A>, Setup>
+    ensures beginnings { IfOk result (λ outcome. AreBeginnings config logs.now outcome.harts.items) }
+    // As many messages came of each hart as were taken of it, but where memory for it was refused.
+    ensures taken { IfOk result (λ outcome. AreThoseTaken config logs.now
+        (replayed config.period config.capacity logs.now turns.now).taken outcome.harts.items) }
+    ensures stop { IfOk result (λ outcome. NamesRefused outcome.stop outcome.harts.items) }
+    ensures refused { (fault : AnySetup) → setup_fault (length logs.now) config ≡ Some fault → result ≡ Err fault }
+    ensures memory { setup_fault (length logs.now) config ≡ None → IfErr result (λ fault. fault ≡ Setup.Memory) }
+{
+    if let Some(fault) = fault_of(logs.len(), config) {
+        return Err(fault);
+    }
+    let mut core = match Core::new(alloc, logs.len() as u16, config.capacity) {
+        Ok(core) => core,
+        Err(_) => return Err(Setup::Memory),
+    };
+    let mut senders = match senders_of(alloc, logs, config.period) {
+        Ok(senders) => senders,
+        Err(_) => return Err(Setup::Memory),
+    };
+    let mut collector = match Collector::new(alloc, logs, config.keep) {
+        Ok(collector) => collector,
+        Err(_) => return Err(Setup::Memory),
+    };
+    let mut stop = None;
+    for turn in turns {
+        match *turn {
+            Turn::Hart(hart) => send(&mut core, &mut senders, hart),
+            Turn::Collect => collect(&mut core, &mut collector, &mut stop),
+        }
+    }
+    let mut outcome = collector.finish();
+    outcome.stop = stop;
+    Ok(outcome)
+}
+
+/// The first fault of this count of logs and this configuration, where there is one.
+fn fault_of(logs: usize, config: Config) -> Option<Setup>
+    ensures fault { result ≡ setup_fault logs config }
+    ensures harts { result ≡ None → logs ≤ most_harts }
+    ensures limits { result ≡ None → limit_fault logs config.capacity ≡ None }
+    ensures period { result ≡ None → 1 ≤ config.period }
+{
+    if logs == 0 {
+        return Some(Setup::NoHarts);
+    }
+    if logs > usize::from(MOST_HARTS) {
+        return Some(Setup::TooManyHarts);
+    }
+    if config.capacity == 0 || config.capacity > MOST_CAPACITY {
+        return Some(Setup::Capacity);
+    }
+    if config.period == 0 {
+        return Some(Setup::Period);
+    }
+    None
+}
+
+/// The turn of a hart: it sends its next message, where it has one and the funnel has room.
+fn send<A: Allocator, C: Allocator, B: Allocator>(
+    core: &mut Core<A>,
+    senders: &mut Vec<Sender<'_, '_, B>, C>,
+    hart: u16,
+)
+    requires known { length senders.old.items ≡ core.old.harts }
+    ensures sent { (period : ℕ) (logs : List ProgramLog) (state : Funnel) → All IsLegalLog logs
+        → AreSending period core.old.capacity logs state core.old senders.old.items
+        → AreSending period core.old.capacity logs
+        (after_turn core.old.capacity (map (payloads period) logs) (turn.Hart hart) state) core.new senders.new.items }
+{
+    let place = usize::from(hart);
+    if place >= senders.len() {
+        return;
+    }
+    if core.is_full() {
+        return;
+    }
+    let Some(message) = senders[place].next(hart) else {
+        return;
+    };
+    match core.offer(message) {
+        Ok(()) => {}
+        Err(_) => unreachable!(),
+    }
+}
+
+/// The turn of the collector: it takes the front message in, where there is one. Where memory for it is refused, its hart
+/// is what stops.
+fn collect<A: Allocator + Copy, B: Allocator>(
+    core: &mut Core<A>,
+    collector: &mut Collector<'_, '_, A, B>,
+    stop: &mut Option<Stop>,
+)
+    requires ready { IsReady core.old.queue collector.old }
+    ensures core { (state : Funnel) → state.queue ≡ core.old.queue
+        → core.new ≡ record core.old { queue = (take_front state).queue } }
+    ensures keep { collector.new.keep ≡ collector.old.keep }
+    ensures taken { (period : ℕ) (logs : List ProgramLog) (state : Funnel) → state.queue ≡ core.old.queue
+        → IsFrontNext period logs state.taken state.queue → AreTaken period logs state.taken collector.old
+        → AreTaken period logs (take_front state).taken collector.new }
+    ensures names { NamesRefusedHart stop.old collector.old → NamesRefusedHart stop.new collector.new }
+{
+    let Some(message) = core.take() else {
+        return;
+    };
+    let hart = message.hart;
+    match collector.take_in(message) {
+        Ok(()) => {}
+        Err(CollectFault::Memory) => *stop = Some(Stop::Memory(hart)),
+        Err(_) => unreachable!(),
+    }
+}
