@@ -11,6 +11,7 @@ mod input;
 mod least;
 mod logs;
 mod packets;
+mod replaying;
 mod run;
 mod sending;
 mod whole_captures;

@@ -6,6 +6,7 @@ use crate::input::Input;
 use crate::least::measure;
 use crate::logs::{self, Judging, Reading, Writing};
 use crate::packets::{PERIOD, Packing, Unpacking, packets_of, payloads_of};
+use crate::replaying::{Replaying, rounds};
 use crate::sending::{Bare, IN_ONE_THREAD, OneThread, Senders, measure_senders};
 use crate::whole_captures::{CaptureDecoding, CaptureWriting};
 use captures::encode_capture;
@@ -18,7 +19,7 @@ use std::sync::Wait;
 use std::thread::Threads;
 use std::time::Clock;
 
-/// Measures each phase over each log that the words name, and then a funnel.
+/// Measures each phase over each log that the words name, then a replay of all of them, and then a funnel.
 pub(crate) fn run<R: Env + Files + Clock + AllocGlobal + Threads + Wait + Sync, E: Write>(
     rt: &R,
     err: &mut E,
@@ -33,7 +34,32 @@ pub(crate) fn run<R: Env + Files + Clock + AllocGlobal + Threads + Wait + Sync, 
         measure_packets(rt, err, &logs[0])?;
         measure_captures(rt, err, &logs)?;
     }
+    measure_replay(rt, err, &input)?;
     measure_funnel(rt, err)
+}
+
+/// Measures a replay of all logs, a hart each, by turns that go round the harts.
+fn measure_replay<R: Clock + AllocGlobal, E: Write>(
+    rt: &R,
+    err: &mut E,
+    input: &Input,
+) -> Result<(), Fault> {
+    let alloc = rt.alloc();
+    let mut logs = Vec::new(alloc);
+    let mut count = 0usize;
+    for text in &input.texts {
+        let events = read_log_from_slice(alloc, alloc, text.as_slice()).map_err(|_| Fault::Log)?;
+        count = count.wrapping_add(events.len());
+        let log = logs::legal(&input.program, events)?;
+        logs.push(log).map_err(|_| Fault::Memory)?;
+    }
+    let turns = rounds(alloc, logs.as_slice())?;
+    let replaying = Replaying {
+        alloc,
+        logs: logs.as_slice(),
+        turns: turns.as_slice(),
+    };
+    measure(rt, err, "replay", count, replaying)
 }
 
 /// How many messages go through a funnel with a capacity of 1, and with a greater one.
