@@ -1,4 +1,5 @@
-//! Reports of outcomes that were made by hand.
+//! Reports of outcomes that were made by hand, and what comes of messages.
 
+mod collect;
 mod made;
 mod report;
