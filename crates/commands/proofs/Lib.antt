@@ -1,5 +1,7 @@
 mod FromFiles
+mod Gots
 mod HartTexts
 mod LegalLogs
 mod Runs
+mod Schedules
 mod Tables

@@ -7,4 +7,5 @@ pub mod Found
 pub mod Printed
 pub mod Encoding
 pub mod Decoded
+pub mod Replaying
 pub mod CarriedOut
