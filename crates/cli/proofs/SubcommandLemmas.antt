@@ -19,7 +19,15 @@ use Rattle.clap.specs.Words.{HasMatchesOf, app_of, is_simple, is_simple_and_free
 use Rattle.clap.specs.declared.builder.command.Command.{Command}
 use Rattle.clap.specs.declared.parser.matches.ArgMatches.{ArgMatches}
 use Rattle.std.proofs.Math.Bool.{or-false}
+use Rattle.clap.specs.Kinds.{HasKind}
+use Rattle.clap.specs.Matches.{found_of, subcommand_name_of}
+use Rattle.clap.specs.Walk.{rows_of}
+use Rattle.clap.specs.declared.error.Error.{Error}
+use Rattle.clap.specs.declared.parser.matches.ArgMatches.TheViews.{out-ArgMatches}
+use Rattle.std.proofs.lemmas.Option.{same_Some}
+use Rattle.cli.specs.Asking.{Asks, AsksFound, WordsAsk}
 use Rattle.cli.specs.Grammar.{HasGrammar, IsSubcommand, program_app}
+use Rattle.subcommands.specs.declared.words.Asked.{Asked}
 use Rattle.clap.specs.Walk.{done, waits, plain, refused, next, trailing, subcommand, value, idle, option, positional, answers_to}
 use Rattle.clap.specs.Walk.{after_flag, after_step, arg_by_index, arg_by_long, bundle, long_met, long_or_other, plain_word, short_or_plain}
 use Rattle.clap.specs.Walk.{subcommand_met, subcommand_or_other, to_positional, walked, walked_from, word_met}
@@ -217,7 +225,10 @@ finds_own words none =
       inl (inl refl),
       (
         inl (inr (inl refl)),
-        (inl (inr (inr (inl refl))), (inl (inr (inr (inr refl))), (inr (refl, refl), tt))),
+        (
+          inl (inr (inr (inl refl))),
+          (inl (inr (inr (inr (inl refl)))), (inl (inr (inr (inr (inr refl)))), (inr (refl, refl), tt))),
+        ),
       ),
     ) met.1 met.0
 
@@ -247,3 +258,25 @@ module _ {Z : Type 0} where
       → Some name ≡ option_map (λ b. (out-SubCommand (box_value b)).name.now) met → IsSubcommand name
   named None name own is = absurd own
   named (Some b) name own is = subst IsSubcommand (sym (ap (λ (o : Option Text). unwrap_or o name) is)) own
+
+-- A fault that `clap` finds by the command is one by the program's grammar.
+pub fails_own : (c : Command) (words : List Text) (e : Error) → HasGrammar program_app c
+    → HasKind (fault_of (app_of c) words) e → HasKind (fault_of program_app words) e
+fails_own c words e has fails = subst (λ a. HasKind (fault_of a words) e) has.0 fails
+
+module _ {Z : Type 0} where
+  asks_met : (met : Option (Box SubCommand Z)) (name : Text) (rows : List Row) (asked : Asked)
+      → Some name ≡ option_map (λ b. (out-SubCommand (box_value b)).name.now) met
+      → Some rows ≡ option_map (λ p. p.1) (subcommand_rows met) → Asks name rows asked → AsksFound (subcommand_rows met) asked
+  asks_met None name rows asked is has asks = cc
+  asks_met (Some b) name rows asked is has asks =
+      subst (λ n. Asks n (rows_of (found_of (out-SubCommand (box_value b)).matches)) asked) (same_Some _ _ is)
+      (subst (λ r. Asks name r asked) (same_Some _ _ has) asks)
+
+-- What the subcommand asks that was found is what the words ask.
+pub words_ask : (c : Command) (words : List Text) (m : ArgMatches) (name : Text) (rows : List Row) (asked : Asked)
+    → HasGrammar program_app c → HasMatchesOf (app_of c) words m → Some name ≡ subcommand_name_of m
+    → Some rows ≡ option_map (λ p. p.1) (subcommand_rows_of m) → Asks name rows asked → WordsAsk words asked
+words_ask c words m name rows asked has matches is found asks =
+    let same = (matches (ap is_simple has.0)).1 ∙ ap (λ a. subcommand_of a words) has.0 in
+    subst (λ f. AsksFound f asked) same (asks_met (out-ArgMatches m).subcommand name rows asked is found asks)

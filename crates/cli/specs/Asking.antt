@@ -5,9 +5,9 @@ use Rattle.std.specs.Prelude.{Some, None, unwrap_or}
 use Rattle.clap.specs.Words.{Row, Text, all_of, fault_of, first_of, one_of, subcommand_of}
 use Rattle.cli.specs.Grammar.{program_app}
 use Rattle.subcommands.specs.Kind.{IsCheck}
-use Rattle.subcommands.specs.Limits.{longest_period, most_harts}
+use Rattle.subcommands.specs.Limits.{largest_capacity, longest_period, most_harts}
 use Rattle.subcommands.specs.declared.words.Asked.{Asked}
-use Rattle.subcommands.specs.declared.words.Asked.TheVariants.{Check, Decode, Dump, Encode}
+use Rattle.subcommands.specs.declared.words.Asked.TheVariants.{Check, Decode, Dump, Encode, Replay}
 
 -- The first value of an argument, or no text where it has none.
 abbrev pub text_of : Text → List Row → Text
@@ -39,6 +39,10 @@ IsUpTo most value number = (1 ≤ number) × (number ≤ most)
 abbrev pub IsPeriod : Option Text → ℕ → Type 0
 IsPeriod = IsUpTo longest_period
 
+-- A capacity is 1 to 65536 messages.
+abbrev pub IsCapacity : Option Text → ℕ → Type 0
+IsCapacity = IsUpTo largest_capacity
+
 -- A capture is of 1 to 64 harts.
 abbrev pub IsHarts : Option Text → ℕ → Type 0
 IsHarts = IsUpTo most_harts
@@ -56,6 +60,11 @@ Asks name rows (Dump asked) = (name ≡ codes "dump") × (asked.capture.now ≡ 
 Asks name rows (Decode asked) = (name ≡ codes "decode")
     × (asked.base.now ≡ text_of (codes "base") rows) × IsHarts (one_of (codes "harts") rows) asked.harts
     × (asked.image.now ≡ text_of (codes "IMAGE") rows) × (asked.capture.now ≡ text_of (codes "CAPTURE") rows)
+Asks name rows (Replay asked) = (name ≡ codes "replay")
+    × (asked.base.now ≡ text_of (codes "base") rows) × IsPeriod (one_of (codes "period") rows) asked.period
+    × IsCapacity (one_of (codes "capacity") rows) asked.capacity
+    × (asked.image.now ≡ text_of (codes "IMAGE") rows) × (asked.schedule.now ≡ text_of (codes "SCHEDULE") rows)
+    × (map (λ log. log.now) asked.logs.items ≡ texts_of (codes "LOG") rows)
 
 -- What was found of a subcommand is what is asked.
 abbrev pub AsksFound : Option (Text × List Row) → Asked → Type 0

@@ -11,7 +11,7 @@ use Rattle.clap.specs.declared.builder.action.ArgAction.TheVariants.{Append, Set
 use Rattle.clap.specs.declared.builder.range.ValueRange.{ValueRange}
 use Rattle.clap.specs.declared.builder.value_parser.ValueParser.{ValueParser}
 use Rattle.clap.specs.declared.builder.value_parser.ValueParser.TheVariants.{Signed}
-use Rattle.subcommands.specs.Limits.{longest_period, most_harts}
+use Rattle.subcommands.specs.Limits.{largest_capacity, longest_period, most_harts}
 
 -- `--base B`, which has to be there.
 abbrev pub base_rule : Rule
@@ -44,6 +44,24 @@ period_rule = record (new_rule (codes "period")) {
   defaults = codes "1024" ∷ [];
   parser = Some period_parser;
 }
+
+-- A number from 1 to 65536.
+abbrev pub capacity_parser : ValueParser
+capacity_parser = Signed (pos 1) (pos largest_capacity)
+
+-- `--capacity N`, which is 16 where it is not there.
+abbrev pub capacity_rule : Rule
+capacity_rule = record (new_rule (codes "capacity")) {
+  long = Some (codes "capacity");
+  action = Some Set;
+  value_names = 1;
+  defaults = codes "16" ∷ [];
+  parser = Some capacity_parser;
+}
+
+-- SCHEDULE, a word of its own that has to be there.
+abbrev pub schedule_rule : Rule
+schedule_rule = record (new_rule (codes "SCHEDULE")) { action = Some Set; required = true }
 
 -- As many values as there are words, and one at least.
 abbrev pub one_or_more : ValueRange
@@ -93,6 +111,11 @@ abbrev pub decode_app : App
 decode_app = with_rule (with_rule (with_rule (with_rule (new_app (codes "decode")) base_rule) harts_rule)
     image_rule) capture_rule
 
+-- `replay --base B [--period N] [--capacity N] IMAGE SCHEDULE LOG...`.
+abbrev pub replay_app : App
+replay_app = with_rule (with_rule (with_rule (with_rule (with_rule (with_rule (new_app (codes "replay")) base_rule)
+    period_rule) capacity_rule) image_rule) schedule_rule) logs_rule
+
 -- The program by itself, which wants a subcommand.
 abbrev pub bare_program : App
 bare_program =
@@ -100,13 +123,13 @@ bare_program =
 
 -- The program with its subcommands.
 abbrev pub program_app : App
-program_app = with_subcommand (with_subcommand (with_subcommand (with_subcommand bare_program check_app.top)
-    encode_app.top) dump_app.top) decode_app.top
+program_app = with_subcommand (with_subcommand (with_subcommand (with_subcommand (with_subcommand bare_program
+    check_app.top) encode_app.top) dump_app.top) decode_app.top) replay_app.top
 
 -- The names of the program's subcommands.
 abbrev pub IsSubcommand : Text → Type 0
 IsSubcommand name = (name ≡ codes "check")
-    ⊎ ((name ≡ codes "encode") ⊎ ((name ≡ codes "dump") ⊎ (name ≡ codes "decode")))
+    ⊎ ((name ≡ codes "encode") ⊎ ((name ≡ codes "dump") ⊎ ((name ≡ codes "decode") ⊎ (name ≡ codes "replay"))))
 
 -- The argument is read by this rule, and at its own subcommand alone.
 abbrev pub IsReadBy : Rule → Arg → Type 0

@@ -1,11 +1,13 @@
 //! The arguments that subcommands take, one function each.
 
-ghost use Rattle.cli.specs.Grammar.{IsReadBy, base_rule, capture_rule, harts_rule, hex_rule, image_rule};
-ghost use Rattle.cli.specs.Grammar.{logs_rule, period_rule};
+ghost use Rattle.cli.specs.Grammar.{IsReadBy, base_rule, capacity_rule, capture_rule, harts_rule, hex_rule};
+ghost use Rattle.cli.specs.Grammar.{image_rule, logs_rule, period_rule, schedule_rule};
 
 use clap::{Arg, ArgAction, value_parser};
 use std::alloc::Global;
-use subcommands::{LONGEST_PERIOD, MOST_HARTS, SHORTEST_PERIOD};
+use subcommands::{
+    LARGEST_CAPACITY, LONGEST_PERIOD, MOST_HARTS, SHORTEST_PERIOD, SMALLEST_CAPACITY,
+};
 
 pub(crate) fn base<'a>(alloc: Global) -> Arg<'a>
     ensures { IsReadBy base_rule result }
@@ -16,6 +18,20 @@ pub(crate) fn base<'a>(alloc: Global) -> Arg<'a>
         .required(true)
         .action(ArgAction::Set)
         .help("Address of the image's first byte, in hexadecimal")
+}
+
+pub(crate) fn capacity<'a>(alloc: Global) -> Arg<'a>
+    ensures { IsReadBy capacity_rule result }
+{
+    Arg::new(alloc, "capacity")
+        .long("capacity")
+        .value_name("N")
+        .value_parser(value_parser!(u32).range(
+            i64::from(SMALLEST_CAPACITY)..=i64::from(LARGEST_CAPACITY),
+        ))
+        .default_value("16")
+        .action(ArgAction::Set)
+        .help("How many messages the funnel holds, 1 to 65536")
 }
 
 pub(crate) fn capture<'a>(alloc: Global) -> Arg<'a>
@@ -79,4 +95,13 @@ pub(crate) fn period<'a>(alloc: Global) -> Arg<'a>
         .default_value("1024")
         .action(ArgAction::Set)
         .help("Retirements from one periodic synchronisation to the next, 1 to 65535")
+}
+
+pub(crate) fn schedule<'a>(alloc: Global) -> Arg<'a>
+    ensures { IsReadBy schedule_rule result }
+{
+    Arg::new(alloc, "SCHEDULE")
+        .required(true)
+        .action(ArgAction::Set)
+        .help("File of the turns: hart numbers, and `c` for taking a message")
 }

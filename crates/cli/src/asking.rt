@@ -3,17 +3,23 @@
 ghost use Rattle.std.specs.Prelude.{◌≡◌, ◌⊎◌, IfErr, IfOk, [], codes, map, string_bytes, unwrap_or};
 ghost use Rattle.clap.specs.Words.{FailsBy, fault_of, first_value, found_of, kind_of, one_of, rows_of};
 ghost use Rattle.clap.specs.declared.error.kind.ErrorKind.TheVariants as kind;
-ghost use Rattle.cli.specs.Asking.{AreRefused, Asks, IsHarts, IsPeriod, WordsAsk, texts_of};
+ghost use Rattle.cli.specs.Asking.{AreRefused, Asks, IsCapacity, IsHarts, IsPeriod, WordsAsk, texts_of};
 ghost use Rattle.cli.specs.Grammar.{IsSubcommand, program_app};
 ghost use Rattle.subcommands.specs.Limits.{IsWithinLimits};
 
 use crate::grammar::program;
 use clap::{ArgMatches, Error};
 use std::alloc::{AllocError, Global};
-use subcommands::{Asked, Check, Decode, Dump, Encode, MOST_HARTS, SHORTEST_PERIOD};
+use subcommands::{
+    Asked, Check, Decode, Dump, Encode, LARGEST_CAPACITY, MOST_HARTS, Replay, SHORTEST_PERIOD,
+    SMALLEST_CAPACITY,
+};
 
 /// The period where the words give none.
 const DEFAULT_PERIOD: u16 = 1024;
+
+/// The capacity where the words give none.
+const DEFAULT_CAPACITY: u32 = 16;
 
 /// The count of harts where the words give none.
 const DEFAULT_HARTS: u16 = 1;
@@ -97,6 +103,29 @@ fn decode_asked<'a>(given: &ArgMatches<'a>) -> Asked<'a>
     })
 }
 
+// The capacity, 1 to 65536 by the range that `clap` keeps.
+fn capacity<'a>(given: &ArgMatches<'a>) -> u32
+    ensures { IsCapacity (one_of (codes "capacity") (rows_of (found_of given.now))) result }
+{
+    given
+        .get_one::<u32>("capacity")
+        .unwrap_or(DEFAULT_CAPACITY)
+        .clamp(SMALLEST_CAPACITY, LARGEST_CAPACITY)
+}
+
+fn replay_asked<'a>(alloc: Global, given: &ArgMatches<'a>) -> Result<Asked<'a>, AllocError>
+    ensures { IfOk result (Asks (codes "replay") (rows_of (found_of given.now))) }
+{
+    Ok(Asked::Replay(Replay {
+        base: text(given, "base"),
+        period: period(given),
+        capacity: capacity(given),
+        image: text(given, "IMAGE"),
+        schedule: text(given, "SCHEDULE"),
+        logs: texts(alloc, given, "LOG")?,
+    }))
+}
+
 fn asked_of<'a>(alloc: Global, name: &str, given: &ArgMatches<'a>) -> Result<Asked<'a>, AllocError>
     requires { IsSubcommand name.now }
     ensures { IfOk result (Asks name.now (rows_of (found_of given.now))) }
@@ -106,6 +135,7 @@ fn asked_of<'a>(alloc: Global, name: &str, given: &ArgMatches<'a>) -> Result<Ask
         "encode" => encode_asked(alloc, given),
         "dump" => Ok(dump_asked(given)),
         "decode" => Ok(decode_asked(given)),
+        "replay" => replay_asked(alloc, given),
         _ => unreachable!("clap knows no other subcommand"),
     }
 }
@@ -114,10 +144,10 @@ fn asked_of<'a>(alloc: Global, name: &str, given: &ArgMatches<'a>) -> Result<Ask
 ///
 /// `Ok` comes where `clap` finds no fault in the words by the program's grammar, and holds the texts of
 /// the subcommand's arguments as the words give them: a base is not yet a number, and no file was
-/// looked at. A period is a number from 1 to 65535, and a count of harts one from 1 to 64; the number
-/// is the one in the words, or 1024 and 1 where they give none. An error is `clap`'s own, calls for
-/// help among them: its `Display` is the text for the user, and its kind is `ErrorKind::OutOfMemory`
-/// where memory ran out.
+/// looked at. A period is a number from 1 to 65535, a count of harts one from 1 to 64, and a capacity one
+/// from 1 to 65536; the number is the one in the words, or 1024, 1 and 16 where they give none. An error
+/// is `clap`'s own, calls for help among them: its `Display` is the text for the user, and its kind is
+/// `ErrorKind::OutOfMemory` where memory ran out.
 pub fn asked<'a>(alloc: Global, words: &'a [String]) -> Result<Asked<'a>, Error>
     ensures found { IfOk result (WordsAsk (map string_bytes words.now)) }
     ensures limits { IfOk result IsWithinLimits }

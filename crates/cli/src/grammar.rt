@@ -1,9 +1,9 @@
 //! The program's subcommands, one function each.
 
 ghost use Rattle.std.specs.Prelude.{IfOk};
-ghost use Rattle.cli.specs.Grammar.{HasGrammar, check_app, decode_app, dump_app, encode_app, program_app};
+ghost use Rattle.cli.specs.Grammar.{HasGrammar, check_app, decode_app, dump_app, encode_app, program_app, replay_app};
 
-use crate::arguments::{base, capture, harts, hex, image, logs, period};
+use crate::arguments::{base, capacity, capture, harts, hex, image, logs, period, schedule};
 use clap::Command;
 use std::alloc::{AllocError, Global};
 
@@ -52,6 +52,20 @@ fn decode<'a>(alloc: Global) -> Result<Command<'a>, AllocError>
     Ok(command)
 }
 
+fn replay<'a>(alloc: Global) -> Result<Command<'a>, AllocError>
+    ensures { IfOk result (HasGrammar replay_app) }
+{
+    let command = Command::new(alloc, "replay")
+        .about("Send logs through the funnel as a schedule says, and report what comes of them")
+        .arg(base(alloc))?
+        .arg(period(alloc))?
+        .arg(capacity(alloc))?
+        .arg(image(alloc))?
+        .arg(schedule(alloc))?
+        .arg(logs(alloc))?;
+    Ok(command)
+}
+
 /// The program with all its subcommands.
 pub(crate) fn program<'a>(alloc: Global) -> Result<Command<'a>, AllocError>
     ensures { IfOk result (HasGrammar program_app) }
@@ -62,6 +76,7 @@ pub(crate) fn program<'a>(alloc: Global) -> Result<Command<'a>, AllocError>
         .subcommand(check(alloc)?)?
         .subcommand(encode(alloc)?)?
         .subcommand(dump(alloc)?)?
-        .subcommand(decode(alloc)?)?;
+        .subcommand(decode(alloc)?)?
+        .subcommand(replay(alloc)?)?;
     Ok(command)
 }

@@ -1,8 +1,10 @@
 mod Beginnings
 mod DecodedRuns
 mod FromFiles
+mod Gots
 mod HartTexts
 mod JudgedLogs
 mod LegalLogs
 mod Runs
+mod Schedules
 mod Tables

@@ -1,13 +1,14 @@
 -- What is printed of what is asked.
 use Rattle.std.specs.Prelude.{ℕ, List, Option, Result}
 use Rattle.subcommands.specs.declared.words.Asked.{Asked}
-use Rattle.subcommands.specs.declared.words.Asked.TheVariants.{Check, Decode, Dump, Encode}
+use Rattle.subcommands.specs.declared.words.Asked.TheVariants.{Check, Decode, Dump, Encode, Replay}
 use Rattle.commands.specs.Checking.{Checks}
 use Rattle.commands.specs.Decoded.{Decodes}
 use Rattle.commands.specs.Dumping.{Dumps}
 use Rattle.commands.specs.Encoding.{Encodes}
 use Rattle.commands.specs.Known.{Content}
 use Rattle.commands.specs.Printed.{PrintsUnlessDenied}
+use Rattle.commands.specs.Replaying.{Replays}
 use Rattle.commands.specs.declared.fault.Fault.{Fault}
 use Rattle.commands.specs.declared.status.Status.{Status}
 
@@ -17,3 +18,4 @@ IsCarriedOut content (Check asked) ended old new = PrintsUnlessDenied (Checks co
 IsCarriedOut content (Encode asked) ended old new = PrintsUnlessDenied (Encodes content asked) ended old new
 IsCarriedOut content (Dump asked) ended old new = PrintsUnlessDenied (Dumps content asked) ended old new
 IsCarriedOut content (Decode asked) ended old new = PrintsUnlessDenied (Decodes content asked) ended old new
+IsCarriedOut content (Replay asked) ended old new = PrintsUnlessDenied (Replays content asked) ended old new

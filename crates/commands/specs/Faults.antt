@@ -1,6 +1,8 @@
 -- What is told at each fault, and how a command ends there.
 use Rattle.std.specs.Prelude.{ℕ, List, Result, Ok, Err}
 use Rattle.std.specs.Borrow.{Bor}
+use Rattle.bench.specs.declared.setup.Setup.{Setup}
+use Rattle.bench.specs.declared.setup.Setup.TheVariants as setup
 use Rattle.captures.specs.declared.outcome.CaptureFault.{CaptureFault}
 use Rattle.captures.specs.declared.outcome.CaptureFault.TheVariants as capture
 use Rattle.decoder.specs.declared.fault.DecodeFault.TheVariants as decode
@@ -8,6 +10,8 @@ use Rattle.retire.specs.declared.fault.LogFault.{LogFault}
 use Rattle.retire.specs.declared.fault.LogFault.TheVariants as log
 use Rattle.retire.specs.declared.fault.WriteFault.{WriteFault}
 use Rattle.retire.specs.declared.fault.WriteFault.TheVariants as write
+use Rattle.schedule.specs.declared.fault.ScheduleFault.{ScheduleFault}
+use Rattle.schedule.specs.declared.fault.ScheduleFault.TheVariants as schedule
 use Rattle.commands.specs.declared.fault.Fault.{Fault}
 use Rattle.commands.specs.declared.fault.Fault.TheVariants as fault
 use Rattle.commands.specs.declared.files.FileFault.{FileFault}
@@ -29,6 +33,16 @@ abbrev pub log_fault : Path → LogFault → Fault
 log_fault path log.Read = fault.Unreadable path
 log_fault path log.Memory = fault.Memory
 log_fault path why = fault.Log path why
+
+-- What is told of a text that is no schedule.
+abbrev pub schedule_fault : ScheduleFault → Fault
+schedule_fault schedule.Memory = fault.Memory
+schedule_fault why = fault.Schedule why
+
+-- What is told where nothing is sent at all.
+abbrev pub unsent_fault : Setup → Fault
+unsent_fault setup.Memory = fault.Memory
+unsent_fault why = fault.Unsent why
 
 -- What is told of output that was not written.
 abbrev pub write_fault : WriteFault → Fault

@@ -9,5 +9,6 @@ pub mod Encoding
 pub mod Checking
 pub mod Dumping
 pub mod Decoded
+pub mod Replaying
 pub mod CarriedOut
 pub mod Begun

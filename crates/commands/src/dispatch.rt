@@ -14,13 +14,14 @@ use crate::dumping::dump;
 use crate::encoding::encode;
 use crate::fault::Fault;
 use crate::files::Files;
+use crate::replaying::replay;
 use crate::status::Status;
 use std::alloc::Global;
 use std::io::Write;
 use subcommands::Asked;
 
 /// Does what is asked, and answers how that ended: by a status, or at the first fault in the order base, count of logs,
-/// image, each log in turn, capture.
+/// image, each log in turn, schedule, capture.
 ///
 /// Illegal logs are no fault of `check`, which has a line for each log on `out`.
 pub fn carry_out<'a, F: Files, O: Write>(
@@ -42,5 +43,6 @@ pub fn carry_out<'a, F: Files, O: Write>(
         Asked::Encode(asked) => encode(alloc, files, asked, out),
         Asked::Dump(asked) => dump(files, asked, out),
         Asked::Decode(asked) => decode(alloc, files, asked, out),
+        Asked::Replay(asked) => replay(alloc, files, asked, out),
     }
 }

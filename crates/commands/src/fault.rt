@@ -2,15 +2,18 @@
 
 ghost use Rattle.std.specs.Prelude.{◌≡◌, ◌≢◌};
 ghost use Rattle.commands.specs.declared.fault.Fault.TheVariants as fault;
-ghost use Rattle.commands.specs.Faults.{capture_fault, file_fault, log_fault, status_of, write_fault};
+ghost use Rattle.commands.specs.Faults.{capture_fault, file_fault, log_fault, schedule_fault, status_of};
+ghost use Rattle.commands.specs.Faults.{unsent_fault, write_fault};
 
 use crate::files::FileFault;
 use crate::status::Status;
+use bench::Setup;
 use captures::CaptureFault;
 use decoder::DecodeFault;
 use legalpath::PathFault;
 use retire::{LogFault, WriteFault};
 use rvclass::ProgramFault;
+use schedule::ScheduleFault;
 use thiserror::Error;
 
 /// Why a command stops. Its text is the line that is told, without the program's name.
@@ -37,6 +40,12 @@ pub enum Fault<'a> {
     /// The log at this path is not legal for the program.
     #[error("{0}: {1}")]
     Illegal(&'a str, PathFault),
+    /// The schedule is none.
+    #[error("schedule: {0}")]
+    Schedule(ScheduleFault),
+    /// Nothing is sent through the funnel. Words within their limits, with one log at least, come to no such fault.
+    #[error("{0}")]
+    Unsent(Setup),
     /// The message of the capture with this number, counted from 0 over all harts, is refused.
     #[error("message {0}: {1}")]
     Message(u64, CaptureFault),
@@ -84,6 +93,26 @@ impl<'a> Fault<'a> {
         }
     }
 
+    /// Why a text is no schedule.
+    pub(crate) fn of_schedule(why: ScheduleFault) -> Fault<'a>
+        ensures { result ≡ schedule_fault why }
+    {
+        match why {
+            ScheduleFault::Memory => Fault::Memory,
+            _ => Fault::Schedule(why),
+        }
+    }
+
+    /// Why nothing is sent.
+    pub(crate) fn of_setup(why: Setup) -> Fault<'a>
+        ensures { result ≡ unsent_fault why }
+    {
+        match why {
+            Setup::Memory => Fault::Memory,
+            _ => Fault::Unsent(why),
+        }
+    }
+
     /// The status that a command ends with at this fault.
     pub fn status(&self) -> Status
         ensures { result ≡ status_of self.now }
@@ -94,7 +123,9 @@ impl<'a> Fault<'a> {
             | Fault::ManyLogs
             | Fault::Image(_)
             | Fault::Log(..)
-            | Fault::Illegal(..) => Status::Refused,
+            | Fault::Illegal(..)
+            | Fault::Schedule(_)
+            | Fault::Unsent(_) => Status::Refused,
             Fault::Message(..) | Fault::Unclosed(_) => Status::NotWhole,
             Fault::Unreadable(_) | Fault::Output | Fault::Memory => Status::Machine,
         }

@@ -12,6 +12,7 @@ mod encoding;
 mod fault;
 mod files;
 mod inputs;
+mod replaying;
 mod status;
 mod telling;
 #[cfg(test)]
@@ -24,5 +25,6 @@ pub use dumping::dump;
 pub use encoding::encode;
 pub use fault::Fault;
 pub use files::{FileFault, Files};
+pub use replaying::replay;
 pub use status::Status;
 pub use telling::tell;

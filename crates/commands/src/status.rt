@@ -8,11 +8,11 @@ ghost use Rattle.commands.specs.Status.{code_of};
 pub enum Status {
     /// All that was asked for is done.
     Whole,
-    /// A capture was read to its first fault, or not all of it is good.
+    /// A capture was read to its first fault, not all of it is good, or not every log came back whole.
     NotWhole,
-    /// The words, the image or a log is refused.
+    /// The words, the image, a log or the schedule is refused.
     Refused,
-    /// A file was not read or the output not written, or memory was refused.
+    /// A file was not read or the output not written, or memory was refused, that for a hart of a replay too.
     Machine,
 }
 

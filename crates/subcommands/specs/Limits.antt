@@ -1,7 +1,7 @@
 -- Which numbers words may ask for.
 use Rattle.std.specs.Prelude.{ℕ, ◌≤◌}
 use Rattle.subcommands.specs.declared.words.Asked.{Asked}
-use Rattle.subcommands.specs.declared.words.Asked.TheVariants.{Decode, Encode}
+use Rattle.subcommands.specs.declared.words.Asked.TheVariants.{Decode, Encode, Replay}
 
 -- The most retirements from one periodic synchronisation to the next.
 abbrev pub longest_period : ℕ
@@ -11,8 +11,14 @@ longest_period = 65535
 abbrev pub most_harts : ℕ
 most_harts = 64
 
--- A period is 1 to 65535 retirements, and a count of harts 1 to 64.
+-- The most messages that the funnel may hold.
+abbrev pub largest_capacity : ℕ
+largest_capacity = 65536
+
+-- A period is 1 to 65535 retirements, a count of harts 1 to 64, and a capacity 1 to 65536 messages.
 abbrev pub IsWithinLimits : Asked → Type 0
 IsWithinLimits (Encode asked) = (1 ≤ asked.period) × (asked.period ≤ longest_period)
 IsWithinLimits (Decode asked) = (1 ≤ asked.harts) × (asked.harts ≤ most_harts)
+IsWithinLimits (Replay asked) =
+    (1 ≤ asked.period) × (asked.period ≤ longest_period) × (1 ≤ asked.capacity) × (asked.capacity ≤ largest_capacity)
 IsWithinLimits _ = Unit {0}

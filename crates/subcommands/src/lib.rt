@@ -5,5 +5,7 @@
 mod limits;
 mod words;
 
-pub use limits::{LONGEST_PERIOD, MOST_HARTS, SHORTEST_PERIOD};
-pub use words::{Asked, Check, Decode, Dump, Encode};
+pub use limits::{
+    LARGEST_CAPACITY, LONGEST_PERIOD, MOST_HARTS, SHORTEST_PERIOD, SMALLEST_CAPACITY,
+};
+pub use words::{Asked, Check, Decode, Dump, Encode, Replay};

@@ -6,5 +6,11 @@ pub const SHORTEST_PERIOD: u16 = 1;
 /// The most retirements from one periodic synchronisation to the next.
 pub const LONGEST_PERIOD: u16 = 65535;
 
+/// The fewest messages that the funnel may hold.
+pub const SMALLEST_CAPACITY: u32 = 1;
+
+/// The most messages that the funnel may hold.
+pub const LARGEST_CAPACITY: u32 = 65_536;
+
 /// The most harts of one command; each log is one hart's.
 pub const MOST_HARTS: u16 = 64;

@@ -11,11 +11,12 @@ use std::alloc::Global;
 use std::io::Write;
 
 /// Does what the words ask for, the program's name first among them, and answers the exit status: 0
-/// where all is done, 1 where a capture is not good, 2 where the words, the image or a log is refused or
-/// a log is illegal, 3 where a file is not read, the output is not written or memory is refused.
+/// where all is done, 1 where a capture is not good or a log does not come back whole, 2 where the words,
+/// the image, a log or the schedule is refused or a log is illegal, 3 where a file is not read, the output
+/// is not written or memory is refused.
 ///
 /// The first fault is told on `err`, in the order words, base, count of logs, image, each log in turn,
-/// capture: one line, or `clap`'s own text where the words are at fault. That `err` itself fails changes no
+/// schedule, capture: one line, or `clap`'s own text where the words are at fault. That `err` itself fails changes no
 /// status. Illegal logs are no fault of `check`, which has a line for each log on `out`.
 pub fn command<F: Files, O: Write, E: Write>(
     alloc: Global,

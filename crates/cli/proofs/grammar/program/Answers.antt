@@ -11,6 +11,7 @@ returns c =
           ∙ ap (on_top (λ (s : Shape). record s { subcommand_required = true })) (ap app_of_fields c.about.ensures ∙ c.new.ensures.app),
       ap (λ f. f.has_globals) c.subcommand_required.ensures ∙ ap (λ f. f.has_globals) c.about.ensures ∙ c.new.ensures.local,
     ) in
-    adds_subcommand _ _ _ _ _ (adds_subcommand _ _ _ _ _ (adds_subcommand _ _ _ _ _ (adds_subcommand _ _ _ _ _ bare
-    c.in_ok-check.ensures c.in_ok-subcommand.ensures) c.in_ok-encode.ensures c.in_ok-subcommand-2.ensures)
-    c.in_ok-dump.ensures c.in_ok-subcommand-3.ensures) c.in_ok-decode.ensures c.in_ok-command.ensures
+    adds_subcommand _ _ _ _ _ (adds_subcommand _ _ _ _ _ (adds_subcommand _ _ _ _ _ (adds_subcommand _ _ _ _ _
+    (adds_subcommand _ _ _ _ _ bare c.in_ok-check.ensures c.in_ok-subcommand.ensures)
+    c.in_ok-encode.ensures c.in_ok-subcommand-2.ensures) c.in_ok-dump.ensures c.in_ok-subcommand-3.ensures)
+    c.in_ok-decode.ensures c.in_ok-subcommand-4.ensures) c.in_ok-replay.ensures c.in_ok-command.ensures

@@ -1,0 +1,36 @@
+-- What is found of a schedule, from what is read of its file.
+use Rattle.std.proofs.Common.{◌≡◌, ◌⊎◌, inl, inr, refl, ℕ, sym, ap, List, Ok, Err}
+use Rattle.std.specs.Result.{result_map_both}
+use Rattle.funnel.specs.declared.turn.Turn.{Turn}
+use Rattle.schedule.specs.Schedule.{schedule_of}
+use Rattle.schedule.specs.declared.fault.ScheduleFault.{ScheduleFault}
+use Rattle.schedule.specs.declared.fault.ScheduleFault.TheVariants as schedule
+use Rattle.commands.specs.Faults.{Path, schedule_fault}
+use Rattle.commands.specs.Found.{IsRead}
+use Rattle.commands.specs.Known.{Content}
+use Rattle.commands.specs.Replaying.{IsSchedule}
+use Rattle.commands.specs.declared.fault.Fault.{Fault}
+use Rattle.commands.specs.declared.fault.Fault.TheVariants as fault
+
+-- A schedule that is not read has no turns.
+pub schedule_unread : (content : Content) (harts : ℕ) (path : Path) (why : Fault)
+    → (why ≡ fault.Memory) ⊎ IsRead content path (Err why) → (why ≡ fault.Memory) ⊎ IsSchedule content harts path (Err why)
+schedule_unread content harts path why (inl denied) = inl denied
+schedule_unread content harts path why (inr read) = inr (record { bytes = Err why; read = read; made = refl })
+
+-- A text with a fault has no turns.
+pub schedule_refused : (content : Content) (harts : ℕ) (path : Path) (bytes : List ℕ) (why : ScheduleFault)
+    → IsRead content path (Ok bytes) → (why ≡ schedule.Memory) ⊎ (schedule_of harts bytes ≡ Err why)
+    → (schedule_fault why ≡ fault.Memory) ⊎ IsSchedule content harts path (Err (schedule_fault why))
+schedule_refused content harts path bytes why read (inl denied) = inl (ap schedule_fault denied)
+schedule_refused content harts path bytes why read (inr is) = inr (record {
+  bytes = Ok bytes;
+  read = read;
+  made = sym (ap (result_map_both (λ turns. turns) schedule_fault) is);
+})
+
+-- A text that tells turns has them.
+pub schedule_read : (content : Content) (harts : ℕ) (path : Path) (bytes : List ℕ) (turns : List Turn)
+    → IsRead content path (Ok bytes) → schedule_of harts bytes ≡ Ok turns → IsSchedule content harts path (Ok turns)
+schedule_read content harts path bytes turns read is =
+    record { bytes = Ok bytes; read = read; made = sym (ap (result_map_both (λ turns. turns) schedule_fault) is) }

@@ -1,0 +1,99 @@
+-- What `replay` prints, and how it ends.
+use Rattle.std.specs.Prelude.{◌≡◌, ℕ, ◌+◌, ◌<◌, ◌≤◌, ⊤, Bool, true, false, List, [], ◌∷◌, Option, Some, None, Result, Ok, Err, length}
+use Rattle.std.specs.Result.{result_map_both}
+use Rattle.legalpath.specs.ProgramLog.{ProgramLog}
+use Rattle.message.specs.OfHart.{of_hart}
+use Rattle.message.specs.declared.message.Message.{Message}
+use Rattle.funnel.specs.declared.turn.Turn.{Turn}
+use Rattle.schedule.specs.Schedule.{schedule_of}
+use Rattle.bench.specs.Got.{Got, HasGot, got_after, kept}
+use Rattle.bench.specs.Replayed.{replayed}
+use Rattle.bench.specs.Report.{is_whole, report_text}
+use Rattle.bench.specs.Setting.{setup_fault}
+use Rattle.bench.specs.declared.config.Config.{Config}
+use Rattle.bench.specs.declared.setup.Setup.{Setup}
+use Rattle.bench.specs.declared.stop.Stop.{Stop}
+use Rattle.bench.specs.declared.stop.Stop.TheVariants as stop
+use Rattle.subcommands.specs.declared.words.Replay.{Replay}
+use Rattle.commands.specs.Faults.{Path, schedule_fault, unsent_fault}
+use Rattle.commands.specs.Found.{AreFew, AreLegalLogs, IsBase, IsProgram, IsRead}
+use Rattle.commands.specs.Known.{Content}
+use Rattle.commands.specs.Printed.{First, Printed}
+use Rattle.commands.specs.declared.fault.Fault.{Fault}
+use Rattle.commands.specs.declared.status.Status.{Status}
+use Rattle.commands.specs.declared.status.Status.TheVariants.{Whole, NotWhole, Machine}
+
+-- The turns that a schedule's bytes tell, where there are so many harts, or why they tell none.
+abbrev pub schedule_at : ℕ → Result (List ℕ) Fault → Result (List Turn) Fault
+schedule_at harts (Err why) = Err why
+schedule_at harts (Ok bytes) = result_map_both (λ turns. turns) schedule_fault (schedule_of harts bytes)
+
+-- The turns of the schedule at a path are found, where there are so many harts.
+pub record IsSchedule (content : Content) (harts : ℕ) (path : Path) (found : Result (List Turn) Fault) : Type 0 where
+  pub bytes : Result (List ℕ) Fault
+  pub read : IsRead content path bytes
+  pub made : found ≡ schedule_at harts bytes
+
+-- How logs are sent: at the period and the capacity that are asked, and no packets are kept.
+abbrev pub config_of : Replay → Config
+config_of asked = record { period = asked.period; capacity = asked.capacity; keep = false }
+
+-- Nothing stands against sending, or what does is told.
+abbrev pub setting_at : Option Setup → Result (Unit {0}) Fault
+setting_at None = Ok tt
+setting_at (Some why) = Err (unsent_fault why)
+
+-- It is found whether anything stands against sending the logs of so many harts.
+abbrev pub IsSetting : ℕ → Replay → Result (Unit {0}) Fault → Type 0
+IsSetting harts asked found = found ≡ setting_at (setup_fault harts (config_of asked))
+
+-- What comes of each hart, the first of them this one, where these messages were taken: as many packets of its log as
+-- the messages are that were taken of it.
+abbrev pub gots_after : ℕ → ℕ → List ProgramLog → List Message → List Got
+gots_after hart period [] taken = []
+gots_after hart period (log ∷ logs) taken =
+    kept false (got_after period log (length (of_hart hart taken))) ∷ gots_after (hart + 1) period logs taken
+
+-- This came of a hart of whose messages so many were taken, and it came of the first of them.
+abbrev pub IsGotOfSome : ℕ → ProgramLog → ℕ → Got → Type 0
+IsGotOfSome period log taken got = (count : ℕ) × (count ≤ taken) × HasGot period false log count got
+
+-- It is so of each hart, the first of them this one.
+abbrev pub AreGotOfSome : ℕ → ℕ → List ProgramLog → List Message → List Got → Type 0
+AreGotOfSome hart period [] taken [] = ⊤
+AreGotOfSome hart period [] taken (got ∷ gots) = ⊥
+AreGotOfSome hart period (log ∷ logs) taken [] = ⊥
+AreGotOfSome hart period (log ∷ logs) taken (got ∷ gots) =
+    IsGotOfSome period log (length (of_hart hart taken)) got × AreGotOfSome (hart + 1) period logs taken gots
+
+-- Where there is no stop, this came of all that was taken; the one stop is that memory for a hart was refused, and then
+-- it came of some of what was taken.
+abbrev pub AreGot : ℕ → List ProgramLog → List Message → Option Stop → List Got → Type 0
+AreGot period logs taken None gots = gots ≡ gots_after 0 period logs taken
+AreGot period logs taken (Some (stop.Memory hart)) gots = (hart < length logs) × AreGotOfSome 0 period logs taken gots
+AreGot period logs taken (Some why) gots = ⊥
+
+-- All logs came back whole, or not, or there was a stop.
+abbrev pub end_of_report : Option Stop → Bool → Status
+end_of_report None true = Whole
+end_of_report None false = NotWhole
+end_of_report (Some why) whole = Machine
+
+-- The logs went through the funnel, whose machine made these turns, and the report of what came of them is written.
+pub record WritesReport (asked : Replay) (logs : List ProgramLog) (turns : List Turn) (printed : Printed) : Type 0 where
+  pub stop : Option Stop
+  pub gots : List Got
+  pub came : AreGot asked.period logs (replayed asked.period asked.capacity logs turns).taken stop gots
+  pub text : printed.text ≡ report_text stop gots logs
+  pub ended : printed.ended ≡ Ok (end_of_report stop (is_whole stop gots logs))
+
+-- The base is looked at first, then the count of logs, the image, each log and the schedule; where there is no fault,
+-- and nothing stands against sending, the report is written of what the turns let through.
+abbrev pub Replays : Content → Replay → Printed → Type 0
+Replays content asked =
+    First (IsBase asked.base.now) (λ base.
+    First (AreFew asked.logs.items) (λ _.
+    First (IsProgram content base asked.image) (λ program.
+    First (AreLegalLogs content program asked.logs.items) (λ logs.
+    First (IsSchedule content (length asked.logs.items) asked.schedule) (λ turns.
+    First (IsSetting (length asked.logs.items) asked) (λ _. WritesReport asked logs turns))))))

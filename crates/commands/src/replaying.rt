@@ -1,0 +1,120 @@
+//! The subcommand `replay`.
+
+ghost use Rattle.std.specs.Prelude.{◌≡◌, ◌⊎◌, IfErr, IfOk, IfSome, OnOk, Ok, Err, length, map};
+ghost use Rattle.std.specs.Io.KnownBytes.{Appends};
+ghost use Rattle.retire.specs.Number.{number_of};
+ghost use Rattle.bench.specs.Got.{got_of};
+ghost use Rattle.bench.specs.Replayed.{replayed};
+ghost use Rattle.bench.specs.Report.{is_whole, report_text};
+ghost use Rattle.commands.specs.Faults.{end_of};
+ghost use Rattle.commands.specs.Order.{logs_fault};
+ghost use Rattle.commands.specs.Printed.{PrintsUnlessDenied};
+ghost use Rattle.commands.specs.Replaying.{AreGot, IsSchedule, IsSetting, Replays, config_of, end_of_report};
+
+use crate::fault::Fault;
+use crate::files::Files;
+use crate::inputs::{base_of, content_of, counted, legal_logs_of, program_of};
+use crate::status::Status;
+use bench::{Config, Outcome, is_whole, report};
+use funnel::Turn;
+use legalpath::LegalLog;
+use schedule::read_schedule;
+use std::alloc::Global;
+use std::io::Write;
+use subcommands::Replay;
+
+/// Sends each hart's log through the funnel as the schedule says, once all logs are found legal, and writes the report
+/// of what comes of them. All is done where each log comes back whole. A stop, which is told in the report, ends it as
+/// a fault of the machine.
+pub fn replay<'a, F: Files, O: Write>(
+    alloc: Global,
+    files: &mut F,
+    asked: &Replay<'a>,
+    out: &mut O,
+) -> Result<Status, Fault<'a>>
+    ensures early { IfSome (logs_fault (number_of asked.now.base.now) (length asked.now.logs.items))
+        (λ fault. result ≡ Err fault) }
+    ensures refused { end_of result ≡ Status.Refused → out.new ≡ out.old }
+    ensures untouched { result ≡ Err Fault.Memory → out.new ≡ out.old }
+    ensures printed { PrintsUnlessDenied (Replays (F.content files.old) asked.now) result (O.contents out.old) (O.contents out.new) }
+{
+    let base = base_of(asked.base)?;
+    counted(asked.logs.as_slice())?;
+    let program = program_of(files, base, asked.image)?;
+    let legal = legal_logs_of(alloc, files, &program, asked.logs.as_slice())?;
+    let turns = turns_of(alloc, files, asked.logs.len() as u16, asked.schedule)?;
+    let outcome = outcome_of(alloc, legal.as_slice(), asked, turns.as_slice())?;
+    write_report(&outcome, legal.as_slice(), out)?;
+    out.flush().map_err(|_| Fault::Output)?;
+    Ok(status_of(&outcome, legal.as_slice()))
+}
+
+/// The turns of the schedule at a path, of this many harts.
+fn turns_of<'a, F: Files>(
+    alloc: Global,
+    files: &mut F,
+    harts: u16,
+    path: &'a str,
+) -> Result<Vec<Turn>, Fault<'a>>
+    ensures turns { IfOk result (λ turns. IsSchedule (F.content files.old) harts path.entry (Ok turns.items)) }
+    ensures fault { IfErr result (λ why. (why ≡ Fault.Memory) ⊎ IsSchedule (F.content files.old) harts path.entry (Err why)) }
+{
+    let bytes = content_of(files, path)?;
+    match read_schedule(alloc, harts, bytes.as_slice()) {
+        Ok(turns) => Ok(turns),
+        Err(why) => Err(Fault::of_schedule(why)),
+    }
+}
+
+/// What comes of the logs, which keep no packets.
+fn outcome_of<'a>(
+    alloc: Global,
+    logs: &[LegalLog<'_>],
+    asked: &Replay<'a>,
+    turns: &[Turn],
+) -> Result<Outcome, Fault<'a>>
+    ensures setting { IfOk result (λ _. IsSetting (length logs.now) asked.now (Ok tt)) }
+    ensures count { IfOk result (λ outcome. length logs.now ≡ length outcome.harts.items) }
+    ensures came { IfOk result (λ outcome. AreGot asked.now.period logs.now
+        (replayed asked.now.period asked.now.capacity logs.now turns.now).taken outcome.stop (map got_of outcome.harts.items)) }
+    ensures fault { IfErr result (λ why. (why ≡ Fault.Memory) ⊎ IsSetting (length logs.now) asked.now (Err why)) }
+{
+    let config = Config {
+        period: asked.period,
+        capacity: asked.capacity,
+        keep: false,
+    };
+    match bench::replay(alloc, logs, config, turns) {
+        Ok(outcome) => Ok(outcome),
+        Err(why) => Err(Fault::of_setup(why)),
+    }
+}
+
+/// Writes the report of what came of the logs.
+fn write_report<'a, O: Write>(
+    outcome: &Outcome,
+    logs: &[LegalLog<'_>],
+    out: &mut O,
+) -> Result<(), Fault<'a>>
+    requires { length logs.now ≡ length outcome.now.harts.items }
+    ensures fault { IfErr result (λ fault. fault ≡ Fault.Output) }
+    ensures text { OnOk result (Appends (O.contents out.old) (O.contents out.new)
+        (report_text outcome.now.stop (map got_of outcome.now.harts.items) logs.now)) }
+{
+    report(outcome, logs, out).map_err(|_| Fault::Output)
+}
+
+/// How it ends.
+fn status_of(outcome: &Outcome, logs: &[LegalLog<'_>]) -> Status
+    requires { length logs.now ≡ length outcome.now.harts.items }
+    ensures { result ≡ end_of_report outcome.now.stop
+        (is_whole outcome.now.stop (map got_of outcome.now.harts.items) logs.now) }
+{
+    if outcome.stop.is_some() {
+        Status::Machine
+    } else if is_whole(outcome, logs) {
+        Status::Whole
+    } else {
+        Status::NotWhole
+    }
+}
