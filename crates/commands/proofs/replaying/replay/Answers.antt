@@ -184,5 +184,5 @@ returns-clause-printed g c =
         ),
       );
       appended = appends-keeps (contents c.args.out.now) (contents c.write_report.new.out) (contents c.flush.new.self)
-      (report_text outcome.stop gots logs) text c.flush.ensures.bytes;
+          (report_text outcome.stop gots logs) text c.flush.ensures.bytes;
     }
