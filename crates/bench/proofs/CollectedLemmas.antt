@@ -1,12 +1,11 @@
 -- What a collector has of a hart of which first packets were taken in, and what one message more of it changes.
-use Rattle.std.proofs.Common.{◌≡◌, ◌≢◌, ◌+◌, ◌*◌, ◌<◌, ◌≤◌, ◌^◌, ◌==◌, ◌⊎◌, ◌↔◌, inl, inr, ⊎_elim, ℕ, zero, suc, Bool, true, false, All, List, [], ◌∷◌, ◌++◌, Option, Some, None, Result, Ok, Err, IfErr, IfOk, OnOk, length, map, take, sum, set, slice_get, refl, sym, ap, subst, ◌∙◌, add-one, arith}
+use Rattle.std.proofs.Common.{◌≡◌, ◌+◌, ◌*◌, ◌<◌, ◌≤◌, ◌^◌, ◌==◌, ⊎_elim, ℕ, zero, suc, Bool, true, false, All, List, [], ◌∷◌, ◌++◌, Some, Ok, length, map, take, sum, set, slice_get, refl, sym, ap, subst, ◌∙◌, add-one, arith}
 use Rattle.std.proofs.lemmas.Bool.{ne_eqb}
 use Rattle.std.proofs.lemmas.List.{length-map}
 use Rattle.std.proofs.lemmas.List.Elements.{All-cons, All-head, All-nil, All-tail}
 use Rattle.std.proofs.lemmas.List.Sums.{sum-map, sum_by-le, sum_by-take-le, sum_by_push}
 use Rattle.std.proofs.lemmas.Option.{slice_get_cases, slice_get_within, same_Some}
-use Rattle.std.specs.Prelude.{if◌then◌else◌, IsOk, min}
-use Rattle.retire.specs.declared.event.Event.{Event}
+use Rattle.std.specs.Prelude.{if◌then◌else◌}
 use Rattle.rvclass.proofs.WordsLemmas.{words_of-IsProgram}
 use Rattle.rvclass.specs.Fetch.{words_of}
 use Rattle.rvclass.specs.Words.{Words, IsProgram}
@@ -33,7 +32,7 @@ use Rattle.message.specs.declared.hart.Hart.{Hart}
 use Rattle.message.specs.declared.message.Message.{Message}
 use Rattle.receiver.specs.Holds.{HoldsHart}
 use Rattle.receiver.specs.Received.{IsReceived, Received}
-use Rattle.bench.specs.Collected.{Came, Collected, HasCollected, IsMessageOf, Taken}
+use Rattle.bench.specs.Collected.{Collected, HasCollected, IsMessageOf, Taken}
 use Rattle.bench.specs.Got.{Got, got_after, kept}
 use Rattle.bench.specs.steps.Collecting.{counted, packets_with, with_packet}
 use Rattle.bench.proofs.ClosingLast.{All_at, packet_at}

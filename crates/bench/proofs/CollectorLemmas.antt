@@ -1,5 +1,5 @@
 -- What a collector has at first, where a hart is refused, and at its end.
-use Rattle.std.proofs.Common.{◌≡◌, ◌≢◌, ◌+◌, ◌<◌, ◌≤◌, ◌==◌, ◌⊎◌, inl, inr, ⊎_elim, ℕ, zero, suc, Bool, true, false, All, List, [], ◌∷◌, ◌++◌, Option, Some, None, if◌then◌else◌, length, map, take, drop, set, get_or, replicate, slice_get, refl, sym, ap, subst, ◌∙◌, add-one, arith}
+use Rattle.std.proofs.Common.{◌≡◌, ◌≢◌, ◌+◌, ◌<◌, ◌≤◌, ⊎_elim, ℕ, Bool, true, false, All, List, [], ◌∷◌, ◌++◌, Some, None, if◌then◌else◌, length, take, drop, set, get_or, replicate, slice_get, refl, sym, ap, subst, ◌∙◌, add-one, arith}
 use Rattle.std.specs.Prelude.{IsSomeAnd}
 use Rattle.std.specs.Option.{option_map}
 use Rattle.std.specs.declared.vec.Vec.{Vec}
@@ -15,10 +15,9 @@ use Rattle.legalpath.specs.ProgramLog.{IsLegalLog, ProgramLog}
 use Rattle.payload.specs.declared.packet.Packet.{Packet}
 use Rattle.encoder.specs.Packets.{packets}
 use Rattle.message.specs.Harts.{newcomer}
-use Rattle.message.specs.declared.hart.Hart.{Hart}
 use Rattle.receiver.proofs.HoldLemmas.{same_hart, set-other}
-use Rattle.receiver.specs.Holds.{HasReceived, HoldsHart}
-use Rattle.receiver.specs.Received.{IsReceived, Received, events_in}
+use Rattle.receiver.specs.Holds.{HasReceived}
+use Rattle.receiver.specs.Received.{Received, events_in}
 use Rattle.bench.specs.Collected.{Came, Collected, HasCollected, IsSameOf, Taken}
 use Rattle.bench.specs.Got.{Got, got_of}
 use Rattle.bench.specs.declared.outcome.HartOutcome.{HartOutcome}

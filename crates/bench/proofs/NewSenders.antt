@@ -1,11 +1,12 @@
 -- Senders that sent nothing, with one more.
-use Rattle.std.proofs.Common.{◌≡◌, ◌<◌, ◌+◌, ◌⊎◌, inl, inr, ℕ, List, [], ◌∷◌, ◌++◌, Some, length, slice_get, take, refl, sym, ap, subst, ◌∙◌, arith}
-use Rattle.std.proofs.lemmas.List.{length_push, take_all}
+use Rattle.std.proofs.Common.{◌≡◌, ◌+◌, ◌⊎◌, inl, inr, ℕ, List, [], ◌∷◌, ◌++◌, Some, length, slice_get, take, refl, sym, ap, subst, ◌∙◌}
+use Rattle.std.proofs.lemmas.List.{length_push}
 use Rattle.legalpath.specs.ProgramLog.{ProgramLog}
 use Rattle.funnel.proofs.Places.{slice_get-front, slice_get-next}
 use Rattle.bench.specs.declared.sender.Sender.{Sender}
 use Rattle.bench.specs.steps.Sending.{AreNewSenders, sender_at}
-use Rattle.bench.proofs.ListElements.{slice_get-behind, take-next}
+use Rattle.bench.proofs.CollectedLemmas.{take-next}
+use Rattle.bench.proofs.ListElements.{slice_get-behind}
 
 module _ {B : Type 0} (period : ℕ) where
   -- Before the first log there is none.

@@ -1,21 +1,20 @@
 -- What came of harts, by what a collector has of them at the end.
-use Rattle.std.proofs.Common.{◌≡◌, ◌≤◌, ◌<◌, ◌⊎◌, inl, inr, ℕ, Bool, true, false, All, List, Option, Some, None, length, slice_get, refl, sym, ap, subst, ◌∙◌, arith}
+use Rattle.std.proofs.Common.{◌≡◌, ◌<◌, inl, inr, ℕ, Bool, true, false, All, List, Option, Some, None, length, slice_get, refl, sym, ap, subst, ◌∙◌, arith}
 use Rattle.std.specs.Prelude.{IsFalse, IsSomeAnd, IsTrue}
 use Rattle.std.proofs.lemmas.Option.{slice_get_within}
-use Rattle.rvclass.specs.Fetch.{words_of}
 use Rattle.legalpath.specs.ProgramLog.{IsLegalLog, ProgramLog}
-use Rattle.encoder.specs.Packets.{packets}
 use Rattle.message.specs.OfHart.{of_hart}
 use Rattle.message.specs.declared.message.Message.{Message}
 use Rattle.bench.specs.Beginnings.{AreBeginnings, AreThoseTaken, CameOf, NamesRefused}
-use Rattle.bench.specs.Collected.{Came, Collected, HasCollected, IsRefusedHart}
+use Rattle.bench.specs.Collected.{Came, Collected, IsRefusedHart}
 use Rattle.bench.specs.Got.{Got, HasGot, got_after, got_of, kept}
 use Rattle.bench.specs.declared.config.Config.{Config}
 use Rattle.bench.specs.declared.outcome.HartOutcome.{HartOutcome}
 use Rattle.bench.specs.declared.stop.Stop.{Stop}
 use Rattle.bench.specs.declared.stop.Stop.TheVariants as stop
-use Rattle.bench.specs.steps.Taking.{AreTaken, IsCutOff, IsTakenOf, NamesRefusedHart}
-use Rattle.bench.proofs.ListElements.{All-at, All-from_places, element}
+use Rattle.bench.specs.steps.Taking.{AreTaken, IsTakenOf, NamesRefusedHart}
+use Rattle.bench.proofs.CollectedLemmas.{element}
+use Rattle.bench.proofs.ListElements.{All-at, All-from_places}
 use Rattle.bench.proofs.TakingIn.{came_not_refused, came_refused}
 use Rattle.bench.proofs.WholeLog.{has_got}
 
@@ -30,7 +29,8 @@ pub record Finishes {A : Type 0} (collected : Collected) (harts : List (HartOutc
       → IsSomeAnd (slice_get harts hart) (λ came. (got_of came ≡ got) × (came.refused ≡ refused))
 
 -- How many packets of the log came of a hart of which so many were taken.
-record CameOut {A : Type 0} (period : ℕ) (keep : Bool) (log : ProgramLog) (taken : ℕ) (came : HartOutcome A) : Type 0 where
+record CameOut {A : Type 0} (period : ℕ) (keep : Bool) (log : ProgramLog) (taken : ℕ)
+    (came : HartOutcome A) : Type 0 where
   count : ℕ
   got : HasGot period keep log count (got_of came)
   all : CameOf came.refused taken count
@@ -52,7 +52,8 @@ module _ {A : Type 0} (config : Config) (logs : List ProgramLog) (taken : List M
       count : ℕ
       count = length (of_hart hart taken)
 
-      keeps : (n : ℕ) → kept collected.keep (got_after config.period log n) ≡ kept config.keep (got_after config.period log n)
+      keeps : (n : ℕ) → kept collected.keep (got_after config.period log n)
+          ≡ kept config.keep (got_after config.period log n)
       keeps n = ap (λ flag. kept flag (got_after config.period log n)) keep
 
       lawful : IsLegalLog log
@@ -102,7 +103,8 @@ module _ {A : Type 0} (config : Config) (logs : List ProgramLog) (taken : List M
   not_refused hart log came at none (inr cut) =
       absurd (none (came_refused hart (kept collected.keep (got_after config.period log cut.count)) collected cut.came))
 
-  told_refused : (got : Got) (at : Option (HartOutcome A)) → IsSomeAnd at (λ one. (got_of one ≡ got) × (one.refused ≡ true))
+  told_refused : (got : Got) (at : Option (HartOutcome A))
+      → IsSomeAnd at (λ one. (got_of one ≡ got) × (one.refused ≡ true))
       → IsSomeAnd at (λ one. IsTrue one.refused)
   told_refused got None never = never
   told_refused got (Some one) told = told.1
@@ -123,10 +125,10 @@ module _ {A : Type 0} (config : Config) (logs : List ProgramLog) (taken : List M
       All-from_places (λ came. IsFalse came.refused) harts (λ hart came at.
       let within = slice_get_within harts hart came at in
       let its = element logs hart (omega (arith, within, as_many)) in
-      not_refused hart its.one came at (none hart (omega (arith, within, ends.count)))
-      (are.each hart its.one its.at))
+      not_refused hart its.0 came at (none hart (omega (arith, within, ends.count)))
+      (are.each hart its.0 its.1))
   names_refused (Some (stop.Memory hart)) named =
       let its = element logs hart (subst (λ n. hart < n) (ap length are.own) named.0) in
-      is_refused hart its.one named.1 (are.each hart its.one its.at)
+      is_refused hart its.0 named.1 (are.each hart its.0 its.1)
   names_refused (Some (stop.HandedBack hart)) named = named
   names_refused (Some (stop.Ended hart)) named = named

@@ -1,5 +1,5 @@
 -- Where a replay stands at first, and after one turn more.
-use Rattle.std.proofs.Common.{◌≡◌, ◌<◌, ◌+◌, ℕ, Bool, true, false, cond, All, List, [], ◌∷◌, ◌++◌, Option, Some, None, length, map, inl, nat_lt, slice_get, slice_index_or, take, refl, sym, ap, subst, ◌∙◌, arith}
+use Rattle.std.proofs.Common.{◌≡◌, ◌<◌, ◌+◌, ℕ, Bool, true, false, cond, All, List, [], ◌∷◌, ◌++◌, Option, Some, None, length, map, inl, nat_lt, slice_get, slice_index_or, take, refl, sym, ap, subst, ◌∙◌}
 use Rattle.std.proofs.lemmas.List.{length-map, length-replicate}
 use Rattle.legalpath.specs.ProgramLog.{IsLegalLog, ProgramLog}
 use Rattle.encoder.specs.Payloads.{payloads}
@@ -20,7 +20,7 @@ use Rattle.bench.specs.steps.Replaying.{IsReplayed}
 use Rattle.bench.specs.steps.Sending.{AreNewSenders, AreSending, sender_at}
 use Rattle.bench.specs.steps.Taking.{AreTaken, IsFrontNext, IsReady, NamesRefusedHart}
 use Rattle.bench.proofs.FrontMessage.{front_next}
-use Rattle.bench.proofs.ListElements.{element, take-next}
+use Rattle.bench.proofs.CollectedLemmas.{element, take-next}
 use Rattle.bench.proofs.TakingIn.{came_not_refused}
 
 -- One turn more is a turn of the state before.
@@ -65,7 +65,8 @@ module _ (config : Config) (logs : List ProgramLog) where
   pub starts : {B : Type 0} (core : Held) (senders : List (Sender B)) (collected : Collected)
       → core ≡ record { harts = length logs; capacity = config.capacity; queue = [] }
       → AreNewSenders config.period logs senders → collected.logs ≡ logs → collected.keep ≡ config.keep
-      → ((hart : ℕ) (log : ProgramLog) → slice_get logs hart ≡ Some log → HasCollected config.period log 0 hart collected)
+      → ((hart : ℕ) (log : ProgramLog) → slice_get logs hart ≡ Some log
+      → HasCollected config.period log 0 hart collected)
       → IsReplayed config logs [] core senders collected None
   starts {B} core senders collected made new own keep begun = record {
     sending = record {
@@ -82,14 +83,15 @@ module _ (config : Config) (logs : List ProgramLog) where
     taken = record { own = own; each = λ hart log at. inl (begun hart log at) };
     named = λ hart known refused.
         let its = element logs hart (subst (λ n. hart < n) (ap length own) known) in
-        came_not_refused hart _ collected (begun hart its.one its.at).came refused;
+        came_not_refused hart _ collected (begun hart its.0 its.1).came refused;
   }
     where
       none : (hart : ℕ) → sent_by hart (opening (map (payloads config.period) logs)) ≡ []
       none hart = get_or-repeated (length (map (payloads config.period) logs)) hart []
 
   module _ {B : Type 0} (all : List Turn) (place : ℕ) (core : Held) (senders : List (Sender B))
-      (collected : Collected) (why : Option Stop) (is : IsReplayed config logs (take place all) core senders collected why) where
+      (collected : Collected) (why : Option Stop)
+      (is : IsReplayed config logs (take place all) core senders collected why) where
     abbrev before : Funnel
     before = state_after (take place all)
 

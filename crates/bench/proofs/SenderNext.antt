@@ -1,5 +1,5 @@
 -- Where a sender stands behind its next message.
-use Rattle.std.proofs.Common.{◌≡◌, ◌<◌, ◌≤◌, ◌+◌, ◌^◌, ℕ, List, Option, Some, None, length, slice_get, refl, sym, ap, ◌∙◌, arith}
+use Rattle.std.proofs.Common.{◌≡◌, ◌≤◌, ◌+◌, ◌^◌, ℕ, List, Option, Some, slice_get, ap, ◌∙◌, arith}
 use Rattle.std.proofs.lemmas.List.{length-map}
 use Rattle.std.proofs.lemmas.Option.{slice_get_within}
 use Rattle.rvclass.specs.Fetch.{words_of}
@@ -13,7 +13,8 @@ use Rattle.bench.specs.declared.sender.Sender.{Sender}
 use Rattle.bench.specs.steps.Sending.{sender_at}
 
 -- The number of a message has 64 bits.
-pub few_numbers : (period count : ℕ) (log : ProgramLog) → IsLegalLog log → (payload : List ℕ) → slice_get (payloads period log) count ≡ Some payload
+pub few_numbers : (period count : ℕ) (log : ProgramLog) → IsLegalLog log → (payload : List ℕ)
+    → slice_get (payloads period log) count ≡ Some payload
     → count ≤ 2 ^ 24 + 1
 few_numbers period count log legal payload given =
     let words = words_of log.program in

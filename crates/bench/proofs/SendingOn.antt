@@ -1,17 +1,17 @@
 -- The funnel and the harts that send stand, after a turn of a hart, where the funnel machine does.
-use Rattle.std.proofs.Common.{◌≡◌, ◌≢◌, ◌<◌, ◌≤◌, ◌+◌, ◌⊎◌, inl, inr, ℕ, Bool, true, cond, List, [], ◌∷◌, ◌++◌, Option, Some, None, length, map, nat_lt, set, slice_get, refl, sym, ap, subst, ◌∙◌, arith}
+use Rattle.std.proofs.Common.{◌≡◌, ◌≢◌, ◌<◌, ◌+◌, ◌⊎◌, inl, inr, ℕ, true, cond, List, [], ◌∷◌, ◌++◌, Some, None, length, map, nat_lt, set, slice_get, sym, ap, subst, ◌∙◌, arith}
 use Rattle.std.proofs.lemmas.Bool.{cases_eq}
 use Rattle.std.proofs.lemmas.List.{get_or-set_other, get_or-set_same, length-set, length_push}
 use Rattle.std.proofs.lemmas.Option.{same_Some, slice_get_within}
 use Rattle.legalpath.specs.ProgramLog.{ProgramLog}
 use Rattle.encoder.specs.Payloads.{payloads}
-use Rattle.message.specs.declared.message.Message.{Message}
 use Rattle.funnel.specs.Held.{Held}
 use Rattle.funnel.specs.Machine.{Funnel, add, message_of, send_next, sent_by}
 use Rattle.funnel.specs.Payloads.{payloads_of}
 use Rattle.bench.specs.declared.sender.Sender.{Sender}
 use Rattle.bench.specs.steps.Sending.{AreSending, sender_at}
-use Rattle.bench.proofs.ListElements.{slice_get-unwritten, slice_get-written}
+use Rattle.bench.proofs.CollectedLemmas.{set-at}
+use Rattle.bench.proofs.ListElements.{slice_get-unwritten}
 use Rattle.bench.proofs.OwnPayloads.{own_payloads}
 
 module _ {B : Type 0} (period capacity : ℕ) (logs : List ProgramLog) (state : Funnel) (core : Held)
@@ -46,7 +46,7 @@ module _ {B : Type 0} (period capacity : ℕ) (logs : List ProgramLog) (state : 
           → slice_get (set senders hart next) other ≡ Some (sender_at period its (length (sent_by other state)))
       by_hart other its there (inl same) =
           ap (slice_get (set senders hart next)) same
-          ∙ slice_get-written senders hart next within
+          ∙ set-at senders hart next within
           ∙ ap Some is
           ∙ sym (sending.each hart log at)
           ∙ ap (slice_get senders) (sym same)
@@ -75,7 +75,7 @@ module _ {B : Type 0} (period capacity : ℕ) (logs : List ProgramLog) (state : 
           let one_more = ap length sent_own ∙ length_push (sent_by hart state) (message_of hart state payload) in
           let its_own : Some log ≡ Some its = sym at ∙ ap (slice_get logs) (sym same) ∙ there in
           ap (slice_get (set senders hart next)) same
-          ∙ slice_get-written senders hart next within
+          ∙ set-at senders hart next within
           ∙ ap Some is
           ∙ ap (λ n. Some (sender_at period log n)) (sym one_more)
           ∙ ap (λ h. Some (sender_at period log (length (sent_by h after)))) (sym same)

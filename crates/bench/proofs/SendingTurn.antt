@@ -1,5 +1,5 @@
 -- The turn of a hart, by what its sender gives.
-use Rattle.std.proofs.Common.{◌≡◌, ◌<◌, ◌+◌, ℕ, Bool, true, false, cond, All, List, [], ◌∷◌, ◌++◌, Option, Some, None, get_or, length, map, nat_lt, set, slice_get, refl, sym, ap, subst, ◌∙◌, arith}
+use Rattle.std.proofs.Common.{◌≡◌, ◌<◌, ℕ, Bool, true, false, cond, All, List, [], ◌∷◌, ◌++◌, Option, Some, None, get_or, length, map, nat_lt, set, slice_get, refl, sym, ap, ◌∙◌, arith}
 use Rattle.std.specs.Prelude.{not}
 use Rattle.std.proofs.lemmas.Option.{same_Some, slice_get_read}
 use Rattle.legalpath.specs.ProgramLog.{IsLegalLog, ProgramLog}
@@ -11,7 +11,8 @@ use Rattle.funnel.specs.Machine.{Funnel, add, message_of, send, send_next, sent_
 use Rattle.funnel.specs.Payloads.{payloads_of}
 use Rattle.bench.specs.declared.sender.Sender.{Sender}
 use Rattle.bench.specs.steps.Sending.{AreSending, message_with, sender_at}
-use Rattle.bench.proofs.ListElements.{All-at, Element, element}
+use Rattle.bench.proofs.CollectedLemmas.{element}
+use Rattle.bench.proofs.ListElements.{All-at}
 use Rattle.bench.proofs.SendingOn.{none_sent, one_sent}
 
 -- What a hart's sender promises of its next message.
@@ -53,22 +54,22 @@ module _ {B : Type 0} (period capacity : ℕ) (logs : List ProgramLog) (state : 
   abbrev count : ℕ
   count = length (sent_by hart state)
 
-  its : Element logs hart
+  its : (log : ProgramLog) × (slice_get logs hart ≡ Some log)
   its = element logs hart (omega (arith, known, sending.count))
 
-  its_legal : IsLegalLog its.one
-  its_legal = All-at IsLegalLog logs hart its.one legal its.at
+  its_legal : IsLegalLog its.0
+  its_legal = All-at IsLegalLog logs hart its.0 legal its.1
 
-  stood : old ≡ sender_at period its.one count
+  stood : old ≡ sender_at period its.0 count
   stood =
-      same_Some old (sender_at period its.one count)
-      (sym (slice_get_read senders (length senders) hart old refl known read) ∙ sending.each hart its.one its.at)
+      same_Some old (sender_at period its.0 count)
+      (sym (slice_get_read senders (length senders) hart old refl known read) ∙ sending.each hart its.0 its.1)
 
-  given : result ≡ message_with hart count (slice_get (payloads period its.one) count)
-  given = gives.given period count its.one its_legal stood
+  given : result ≡ message_with hart count (slice_get (payloads period its.0) count)
+  given = gives.given period count its.0 its_legal stood
 
-  moved : new ≡ sender_at period its.one (number_behind count (slice_get (payloads period its.one) count))
-  moved = gives.goes_on period count its.one its_legal stood
+  moved : new ≡ sender_at period its.0 (number_behind count (slice_get (payloads period its.0) count))
+  moved = gives.goes_on period count its.0 its_legal stood
 
   -- A hart with no message left changes nothing.
   pub turn-none : result ≡ None
@@ -76,24 +77,25 @@ module _ {B : Type 0} (period capacity : ℕ) (logs : List ProgramLog) (state : 
       (send_next capacity hart (slice_get (payloads_of hart (map (payloads period) logs)) count) state) core
       (set senders hart new)
   turn-none none =
-      let ended = without_payload hart count (slice_get (payloads period its.one) count) (sym given ∙ none) in
-      none_sent period capacity logs state core senders sending hart its.one its.at new ended
-      (moved ∙ ap (λ payload. sender_at period its.one (number_behind count payload)) ended)
+      let ended = without_payload hart count (slice_get (payloads period its.0) count) (sym given ∙ none) in
+      none_sent period capacity logs state core senders sending hart its.0 its.1 new ended
+      (moved ∙ ap (λ payload. sender_at period its.0 (number_behind count payload)) ended)
 
   -- A hart with a message left sends it, where there is room.
   pub turn-one : (message : Message) (after : Held) → result ≡ Some message
       → nat_lt (length core.queue) capacity ≡ true
-      → ((before : Funnel) → before.queue ≡ core.queue → after ≡ record core { queue = (send capacity message before).queue })
+      → ((before : Funnel) → before.queue ≡ core.queue
+      → after ≡ record core { queue = (send capacity message before).queue })
       → AreSending period capacity logs
       (send_next capacity hart (slice_get (payloads_of hart (map (payloads period) logs)) count) state) after
       (set senders hart new)
   turn-one message after some room step =
-      one_sent period capacity logs state core senders sending hart its.one its.at found.bytes new
-      (moved ∙ ap (λ payload. sender_at period its.one (number_behind count payload)) found.given)
+      one_sent period capacity logs state core senders sending hart its.0 its.1 found.bytes new
+      (moved ∙ ap (λ payload. sender_at period its.0 (number_behind count payload)) found.given)
       after found.given here stands
     where
-      found : IsWith hart count (slice_get (payloads period its.one) count) message
-      found = with_payload hart count (slice_get (payloads period its.one) count) message (sym given ∙ some)
+      found : IsWith hart count (slice_get (payloads period its.0) count) message
+      found = with_payload hart count (slice_get (payloads period its.0) count) message (sym given ∙ some)
 
       queue : core.queue ≡ state.queue
       queue = ap (λ (held : Held). held.queue) sending.funnel

@@ -1,5 +1,5 @@
 -- A collector that takes the next message of a hart in has the messages that were taken and this one.
-use Rattle.std.proofs.Common.{◌≡◌, ◌≢◌, ◌≤◌, ◌<◌, ◌+◌, ◌⊎◌, inl, inr, ℕ, Bool, true, false, List, [], ◌∷◌, ◌++◌, Some, length, slice_get, refl, sym, ap, subst, ◌∙◌, arith}
+use Rattle.std.proofs.Common.{◌≡◌, ◌≢◌, ◌<◌, ◌+◌, ◌⊎◌, inl, inr, ℕ, Bool, true, false, List, [], ◌∷◌, ◌++◌, Some, length, slice_get, refl, sym, ap, subst, ◌∙◌, arith}
 use Rattle.std.specs.Prelude.{IfErr, IsSomeAnd, IsTrue, OnOk, Option, None, Result, Ok, Err}
 use Rattle.std.proofs.lemmas.Bool.{cases_eq}
 use Rattle.std.proofs.lemmas.List.{length_push}
@@ -18,7 +18,8 @@ use Rattle.bench.specs.steps.Taking.{AreTaken, IsCutOff, IsFrontNext, IsNext, Is
 use Rattle.bench.proofs.CollectedSame.{came_same, collected_same}
 
 -- What a collector promises of a message that it is given.
-pub record TakesIn (message : Message) (result : Result (Unit {0}) CollectFault) (old new : Collected) : Type 0 where
+pub record TakesMessage (message : Message) (result : Result (Unit {0}) CollectFault) (old new : Collected)
+    : Type 0 where
   pub logs : (new.logs ≡ old.logs) × (new.keep ≡ old.keep)
   pub next : (period count : ℕ) (log : ProgramLog) → HasCollected period log count message.hart old
       → IsMessageOf period log count message → OnOk result (HasCollected period log (count + 1) message.hart new)
@@ -53,7 +54,7 @@ came_not_refused hart got collected came refused =
     apart (subst IsRefused came.taken refused)
 
 module _ (period : ℕ) (logs : List ProgramLog) (taken : List Message) (message : Message)
-    (result : Result (Unit {0}) CollectFault) (old new : Collected) (takes : TakesIn message result old new)
+    (result : Result (Unit {0}) CollectFault) (old new : Collected) (takes : TakesMessage message result old new)
     (came : AreTaken period logs taken old) (next : IsNext period logs taken message) where
   abbrev before : ℕ
   before = length (of_hart message.hart taken)

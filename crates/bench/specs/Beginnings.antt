@@ -9,14 +9,16 @@ use Rattle.bench.specs.declared.outcome.HartOutcome.{HartOutcome}
 use Rattle.bench.specs.declared.stop.Stop.{Stop}
 use Rattle.bench.specs.declared.stop.Stop.TheVariants as stop
 
--- What came of each hart is what comes of a beginning of its log's packets: each once, in order, none behind the closing
--- one; they decode to a beginning of its log, and to the whole log where the closing packet came.
-pub record AreBeginnings {A : Type 0} (config : Config) (logs : List ProgramLog) (harts : List (HartOutcome A)) : Type 0 where
+-- What came of each hart is what comes of a beginning of its log's packets: each once, in order, none behind the
+-- closing one; they decode to a beginning of its log, and to the whole log where the closing packet came.
+pub record AreBeginnings {A : Type 0} (config : Config) (logs : List ProgramLog) (harts : List (HartOutcome A))
+    : Type 0 where
   pub count : length harts ≡ length logs
   pub each : (hart : ℕ) (log : ProgramLog) (came : HartOutcome A) → slice_get logs hart ≡ Some log
       → slice_get harts hart ≡ Some came → (count : ℕ) × HasGot config.period config.keep log count (got_of came)
 
--- How many of the messages that were taken of a hart came of it: at most all where memory for it was refused, and else all.
+-- How many of the messages that were taken of a hart came of it: at most all where memory for it was refused, and
+-- else all.
 abbrev pub CameOf : Bool → ℕ → ℕ → Type 0
 CameOf true taken count = count ≤ taken
 CameOf false taken count = count ≡ taken

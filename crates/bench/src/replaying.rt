@@ -3,7 +3,6 @@
 ghost use Rattle.std.specs.Prelude.{ℕ, ◌≡◌, ◌≤◌, All, List, Some, None, Err, IfErr, IfOk, length, map};
 ghost use Rattle.legalpath.specs.ProgramLog.{IsLegalLog, ProgramLog};
 ghost use Rattle.encoder.specs.Payloads.{payloads};
-ghost use Rattle.message.specs.declared.message.Message.{Message as AnyMessage};
 ghost use Rattle.funnel.specs.Limits.{limit_fault, most_harts};
 ghost use Rattle.funnel.specs.Machine.{Funnel, after_turn, take_front};
 ghost use Rattle.funnel.specs.declared.turn.Turn.TheVariants as turn;
@@ -26,8 +25,8 @@ use std::alloc::Allocator;
 
 /// Sends the messages of logs through a funnel and decodes what is taken of it, in the order of the turns.
 ///
-/// A turn that cannot act changes nothing: a hart's where the funnel is full or the hart has no message left, and one of
-/// a strange hart; a collecting one where the funnel is empty. The turns may end before all messages are taken. The one
+/// A turn that cannot act changes nothing: a hart's where the funnel is full or the hart has no message left, and one
+/// of a strange hart; a collecting one where the funnel is empty. The turns may end before all messages are taken. The one
 /// stop is want of memory for a hart, of which nothing more is decoded then, while the others go on.
 pub fn replay<A: Allocator + Copy, B: Allocator>(
     alloc: A,
@@ -120,8 +119,8 @@ fn send<A: Allocator, C: Allocator, B: Allocator>(
     }
 }
 
-/// The turn of the collector: it takes the front message in, where there is one. Where memory for it is refused, its hart
-/// is what stops.
+/// The turn of the collector: it takes the front message in, where there is one. Where memory for it is refused, its
+/// hart is what stops.
 fn collect<A: Allocator + Copy, B: Allocator>(
     core: &mut Core<A>,
     collector: &mut Collector<'_, '_, A, B>,

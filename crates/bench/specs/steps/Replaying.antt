@@ -1,5 +1,5 @@
 -- Where a replay stands.
-use Rattle.std.specs.Prelude.{ℕ, ◌≡◌, List, Option}
+use Rattle.std.specs.Prelude.{◌≡◌, List, Option}
 use Rattle.legalpath.specs.ProgramLog.{ProgramLog}
 use Rattle.funnel.specs.Held.{Held}
 use Rattle.funnel.specs.declared.turn.Turn.{Turn}
@@ -11,7 +11,8 @@ use Rattle.bench.specs.declared.stop.Stop.{Stop}
 use Rattle.bench.specs.steps.Sending.{AreSending}
 use Rattle.bench.specs.steps.Taking.{AreTaken, NamesRefusedHart}
 
--- The funnel and the harts stand where the funnel machine does after these turns; what it took came, or memory was refused.
+-- The funnel and the harts stand where the funnel machine does after these turns; what it took came, or memory was
+-- refused.
 pub record IsReplayed {B : Type 0} (config : Config) (logs : List ProgramLog) (turns : List Turn) (core : Held)
     (senders : List (Sender B)) (collected : Collected) (why : Option Stop) : Type 0 where
   pub sending : AreSending config.period config.capacity logs (replayed config.period config.capacity logs turns) core

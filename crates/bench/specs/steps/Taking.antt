@@ -5,7 +5,6 @@ use Rattle.legalpath.specs.ProgramLog.{ProgramLog}
 use Rattle.encoder.specs.Packets.{packets}
 use Rattle.message.specs.OfHart.{of_hart}
 use Rattle.message.specs.declared.message.Message.{Message}
-use Rattle.funnel.specs.Machine.{Funnel}
 use Rattle.bench.specs.Collected.{Came, Collected, HasCollected, IsMessageOf, IsRefusedHart}
 use Rattle.bench.specs.Got.{got_after, kept}
 use Rattle.bench.specs.declared.stop.Stop.{Stop}

@@ -1,13 +1,9 @@
 -- Both are laws of the funnel machine, whose premises the packets of legal logs meet.
-use Rattle.std.proofs.Common.{◌≡◌, ℕ, List, [], Some, length, map, take, slice_get, ap, ◌∙◌}
-use Rattle.std.proofs.lemmas.Option.{get_or_from_slice_get, slice_get-map}
-use Rattle.std.specs.Option.{option_map}
-use Rattle.legalpath.specs.ProgramLog.{ProgramLog}
+use Rattle.std.proofs.Common.{length, map, take, ap, ◌∙◌}
 use Rattle.encoder.specs.Payloads.{payloads}
 use Rattle.message.specs.OfHart.{of_hart}
 use Rattle.funnel.proofs.EveryState.{every-keeps}
 use Rattle.funnel.proofs.Kept.{keeps-first, keeps-lawful}
-use Rattle.funnel.specs.Payloads.{payloads_of}
 use Rattle.bench.specs.Replayed.{replayed}
 use Rattle.bench.proofs.GotLemmas.{close_last, got_first}
 use Rattle.bench.proofs.OwnPayloads.{own_payloads}

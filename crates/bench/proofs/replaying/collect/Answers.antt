@@ -1,8 +1,8 @@
 -- What the collector answers to the front message, by what is known of its hart.
-use Rattle.std.proofs.Common.{◌++◌, Err, slice_get, refl, sym, ap, subst, ◌∙◌}
+use Rattle.std.proofs.Common.{◌++◌, Err, slice_get, sym, ap, subst, ◌∙◌}
 use Rattle.std.specs.Option.{option_to_list}
 use Rattle.bench.specs.steps.Taking.{AreTaken}
-use Rattle.bench.proofs.TakingIn.{TakesIn, names_own, names_same, next_in_front, only_memory, takes_more}
+use Rattle.bench.proofs.TakingIn.{names_own, names_same, next_in_front, takes_more}
 use Rattle.bench.proofs.replaying.collect.Goals as goal
 
 pub returns-in-Ok-clause-taken : goal.returns-in-Ok-clause-taken

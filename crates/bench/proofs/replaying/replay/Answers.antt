@@ -1,5 +1,5 @@
 -- The funnel machine is followed turn by turn, by lemmas on its states.
-use Rattle.std.proofs.Common.{◌≡◌, ◌+◌, length, Some, take, slice_get, refl, sym, ap, subst, ◌∙◌, arith}
+use Rattle.std.proofs.Common.{Some, ap, subst, ◌∙◌}
 use Rattle.std.proofs.lemmas.List.{take_all}
 use Rattle.std.proofs.lemmas.Option.{slice_get-get_or}
 use Rattle.funnel.specs.declared.turn.Turn.TheVariants as turn
@@ -13,7 +13,8 @@ use Rattle.bench.proofs.replaying.replay.Goals.{in-Hart, in-Collect}
 pub loop-turn-init : goal.loop-turn-init
 loop-turn-init g c =
     let new = c.in-Ok-new.ensures in
-    starts c.args.config c.args.logs.now c.in-Ok.core c.in-Ok-senders_of.senders.items c.in-Ok-new.collector c.in-Ok.ensures.made
+    starts c.args.config c.args.logs.now c.in-Ok.core c.in-Ok-senders_of.senders.items c.in-Ok-new.collector
+    c.in-Ok.ensures.made
     c.in-Ok-senders_of.ensures new.made.0 new.made.1
     (λ hart log at. new.begun c.args.config.period hart log at)
 

@@ -1,5 +1,5 @@
 -- What the hart's sender answers, for the sender that stands at the hart's place: by lemmas on lists.
-use Rattle.std.proofs.Common.{◌≡◌, ◌<◌, Some, length, get_or, map, nat_lt, set, slice_get, subst, sym, arith}
+use Rattle.std.proofs.Common.{◌≡◌, ◌<◌, length, get_or, map, nat_lt, set, subst, sym, arith}
 use Rattle.std.specs.Prelude.{IfSome}
 use Rattle.encoder.specs.Payloads.{payloads}
 use Rattle.message.specs.declared.message.Message.{Message}
@@ -18,7 +18,8 @@ returns-in_default g c =
     let new = c.next.new.self in
     let at = c.from-place.ensures in
     let known : hart < length senders = omega (arith, c.if-place-len.false, c.len.ensures, at) in
-    let read : old ≡ get_or senders hart old = subst (λ place. old ≡ get_or senders place old) at c.index_mut.ensures.value in
+    let read : old ≡ get_or senders hart old =
+    subst (λ place. old ≡ get_or senders place old) at c.index_mut.ensures.value in
     record {
       sent = λ period logs state legal sending.
           subst (λ place. AreSending period core.capacity logs
@@ -43,7 +44,8 @@ returns g c =
     let new = c.next.new.self in
     let at = c.from-place.ensures in
     let known : hart < length senders = omega (arith, c.if-place-len.false, c.len.ensures, at) in
-    let read : old ≡ get_or senders hart old = subst (λ place. old ≡ get_or senders place old) at c.index_mut.ensures.value in
+    let read : old ≡ get_or senders hart old =
+    subst (λ place. old ≡ get_or senders place old) at c.index_mut.ensures.value in
     let room = has_room (nat_lt (length core.queue) core.capacity) c.if-is_full.ensures in
     record {
       sent = λ period logs state legal sending.

@@ -1,5 +1,5 @@
 -- The senders so far and one more are first senders, by a lemma on lists.
-use Rattle.std.proofs.Common.{◌≡◌, ◌≤◌, ◌+◌, length, vec_capacity, refl, subst, sym, ap, take, ◌∙◌, arith}
+use Rattle.std.proofs.Common.{◌≤◌, ◌+◌, length, refl, subst, sym, ap, take, ◌∙◌}
 use Rattle.std.proofs.lemmas.List.{length_push, take_all}
 use Rattle.std.proofs.lemmas.Option.{slice_get_read}
 use Rattle.bench.specs.steps.Sending.{AreNewSenders}

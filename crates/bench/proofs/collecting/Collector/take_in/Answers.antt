@@ -1,6 +1,6 @@
 -- A collector sees outcomes as what came of harts, so what was written of one has to be said of all: by laws on lists, which
 -- no tactic finds.
-use Rattle.std.proofs.Common.{◌≡◌, ◌<◌, ◌≤◌, Bool, Ok, Err, set, sym, ap, subst, ◌∙◌, arith}
+use Rattle.std.proofs.Common.{set, sym, ap, subst, ◌∙◌, arith}
 use Rattle.bench.proofs.TakesIn.{TakesIn, goes_on, not_refused, passes_over, takes_in, takes_kept, takes_memory, takes_next, takes_only_memory, takes_others, takes_undecoded}
 use Rattle.bench.specs.Collected.{Collected, IsRefusedHart}
 use Rattle.bench.specs.steps.Collecting.{IsCollected, taken_in}
