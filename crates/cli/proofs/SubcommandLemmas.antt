@@ -1,5 +1,5 @@
 -- Words with no fault name one of the program's own subcommands.
-use Rattle.std.proofs.Common.{◌≡◌, ◌∙◌, ◌&&◌, ◌||◌, ap, subst, refl, codes, cond, Bool, true, false, not, true≢false, if◌then◌else◌, is_some, List, [], ◌∷◌, Option, Some, None, ◌⊎◌, inl, inr, ⊎_elim, option_map, unwrap_or, sym}
+use Rattle.std.proofs.Common.{◌≡◌, ◌≢◌, ◌∙◌, ◌&&◌, ◌||◌, ap, subst, refl, codes, cond, Bool, true, false, not, true≢false, if◌then◌else◌, is_some, List, [], ◌∷◌, Option, Some, None, ◌⊎◌, inl, inr, ⊎_elim, option_map, unwrap_or, sym}
 use Rattle.std.specs.List.{fold, list_any}
 use Rattle.clap.specs.Facts.{explicit_source}
 use Rattle.clap.specs.Takes.{is_given}
@@ -19,13 +19,15 @@ use Rattle.clap.specs.Words.{HasMatchesOf, app_of, is_simple, is_simple_and_free
 use Rattle.clap.specs.declared.builder.command.Command.{Command}
 use Rattle.clap.specs.declared.parser.matches.ArgMatches.{ArgMatches}
 use Rattle.std.proofs.Math.Bool.{or-false}
-use Rattle.clap.specs.Kinds.{HasKind}
+use Rattle.clap.specs.Kinds.{HasKind, IsAmong}
+use Rattle.clap.specs.Words.{kind_of}
+use Rattle.clap.specs.declared.error.kind.ErrorKind.TheVariants.{OutOfMemory}
 use Rattle.clap.specs.Matches.{found_of, subcommand_name_of}
 use Rattle.clap.specs.Walk.{rows_of}
 use Rattle.clap.specs.declared.error.Error.{Error}
 use Rattle.clap.specs.declared.parser.matches.ArgMatches.TheViews.{out-ArgMatches}
 use Rattle.std.proofs.lemmas.Option.{same_Some}
-use Rattle.cli.specs.Asking.{Asks, AsksFound, WordsAsk}
+use Rattle.cli.specs.Asking.{AreRefused, Asks, AsksFound, WordsAsk}
 use Rattle.cli.specs.Grammar.{HasGrammar, IsSubcommand, program_app}
 use Rattle.subcommands.specs.declared.words.Asked.{Asked}
 use Rattle.clap.specs.Walk.{done, waits, plain, refused, next, trailing, subcommand, value, idle, option, positional, answers_to}
@@ -263,6 +265,16 @@ module _ {Z : Type 0} where
 pub fails_own : (c : Command) (words : List Text) (e : Error) → HasGrammar program_app c
     → HasKind (fault_of (app_of c) words) e → HasKind (fault_of program_app words) e
 fails_own c words e has fails = subst (λ a. HasKind (fault_of a words) e) has.0 fails
+
+among_some : (kind : ErrorKind) (kinds : Kinds) → IsAmong kind kinds → kinds ≢ []
+among_some kind [] among = absurd among
+among_some kind (other ∷ kinds) among = λ same. cc
+
+-- An error is want of memory, or the words are refused.
+pub refused_by : (words : List Text) (e : Error) → HasKind (fault_of program_app words) e
+    → (kind_of e ≡ OutOfMemory) ⊎ AreRefused words
+refused_by words e (inl memory) = inl memory
+refused_by words e (inr among) = inr (among_some (kind_of e) (fault_of program_app words) among)
 
 module _ {Z : Type 0} where
   asks_met : (met : Option (Box SubCommand Z)) (name : Text) (rows : List Row) (asked : Asked)

@@ -59,7 +59,7 @@ fn reads_words(rt: HostRuntime) -> Result<(), Fail> {
         (
             "tracebench",
             "error: 'tracebench' requires a subcommand but one was not provided\n  \
-             [subcommands: check, encode, dump, decode, help]\n\n\
+             [subcommands: check, encode, dump, decode, replay, help]\n\n\
              Usage: tracebench <COMMAND>\n\n\
              For more information, try '--help'.\n",
         ),
@@ -131,6 +131,32 @@ fn reads_words(rt: HostRuntime) -> Result<(), Fail> {
             "tracebench decode --base 80000000 image.bin",
             "error: the following required arguments were not provided:\n  <CAPTURE>\n\n\
              Usage: tracebench decode --base <B> <IMAGE> <CAPTURE>\n\n\
+             For more information, try '--help'.\n",
+        ),
+        (
+            "tracebench replay --base 80000000 image.bin turns.txt a.csv b.csv",
+            "Replay(Replay { base: \"80000000\", period: 1024, capacity: 16, image: \"image.bin\", \
+             schedule: \"turns.txt\", logs: [\"a.csv\", \"b.csv\"] })",
+        ),
+        (
+            "tracebench replay --capacity 65536 --base 0 --period 7 image.bin turns.txt log.csv",
+            "Replay(Replay { base: \"0\", period: 7, capacity: 65536, image: \"image.bin\", \
+             schedule: \"turns.txt\", logs: [\"log.csv\"] })",
+        ),
+        (
+            "tracebench replay --base 0 --capacity 0 image.bin turns.txt log.csv",
+            "error: invalid value '0' for '--capacity <N>': 0 is not in 1..=65536\n\n\
+             For more information, try '--help'.\n",
+        ),
+        (
+            "tracebench replay --base 0 --capacity=65537 image.bin turns.txt log.csv",
+            "error: invalid value '65537' for '--capacity <N>': 65537 is not in 1..=65536\n\n\
+             For more information, try '--help'.\n",
+        ),
+        (
+            "tracebench replay --base 0 image.bin turns.txt",
+            "error: the following required arguments were not provided:\n  <LOG>...\n\n\
+             Usage: tracebench replay --base <B> <IMAGE> <SCHEDULE> <LOG>...\n\n\
              For more information, try '--help'.\n",
         ),
         (

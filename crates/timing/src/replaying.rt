@@ -35,11 +35,13 @@ pub(crate) fn rounds(alloc: Global, logs: &[LegalLog<'_>]) -> Result<Vec<Turn>, 
     }
     let mut turns = Vec::new(alloc);
     for number in 0..longest {
-        for (hart, count) in counts.iter().enumerate() {
+        let mut hart = 0u16;
+        for count in &counts {
             if number < *count {
-                turns.push(Turn::Hart(hart as u16))?;
+                turns.push(Turn::Hart(hart))?;
                 turns.push(Turn::Collect)?;
             }
+            hart = hart.wrapping_add(1);
         }
     }
     Ok(turns)
