@@ -1,5 +1,6 @@
-//! Reports of outcomes that were made by hand, and replays.
+//! Reports of outcomes that were made by hand, what comes of messages, and replays.
 
+mod collect;
 mod made;
 mod memory;
 mod plain;
