@@ -36,14 +36,14 @@ pub record AppendsBeginning (whole : List ℕ) (old new : Option (List ℕ)) : T
   pub parted : whole ≡ text ++ rest
   pub appended : Appends old new text
 
--- A beginning of the text was appended that is printed where memory is not refused.
+-- A beginning of a text was appended that may be printed.
 pub record BeginsPrinted (Prints : Printed → Type 0) (old new : Option (List ℕ)) : Type 0 where
   pub printed : Printed
   pub prints : Prints printed
   pub begun : AppendsBeginning printed.text old new
 
--- Nothing was written of what is asked, or a beginning: `check` has the lines of some first logs, `decode` some first
--- texts of harts, and the others nothing.
+-- Nothing was written of what is asked, or a beginning: `check` has the lines of some first logs, `decode` a beginning of a
+-- text that it may print, and the others nothing.
 abbrev pub IsBegun : Content → Asked → Option (List ℕ) → Option (List ℕ) → Type 0
 IsBegun content (Check asked) old new = Keeps old new ⊎ BeginsLines content asked old new
 IsBegun content (Encode asked) old new = Keeps old new
