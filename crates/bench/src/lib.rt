@@ -1,7 +1,7 @@
 //! The bench: logs of harts through the funnel, what was decoded of them again, and the report that compares both.
 //!
-//! [`Config`] says how harts send and what is kept; [`Outcome`] is what came of each hart. [`report`] writes it as
-//! text.
+//! [`Config`] says how harts send and what is kept; [`Outcome`] is what came of each hart. [`replay`] sends logs through
+//! the funnel by turns, a [`Collector`] takes messages in behind it, and [`report`] writes the outcome as text.
 #![tactic(auto)]
 
 mod collecting;
