@@ -15,5 +15,5 @@ why_text WrongPrivilege = codes "WrongPrivilege"
 why_text WrongEpc = codes "WrongEpc"
 
 -- A row's number, and the name of the reason.
-abbrev pub fault_text : PathFault → List ℕ
-fault_text fault = codes "row " ++ (decimal fault.row ++ (codes ": " ++ why_text fault.why))
+abbrev pub path_fault_text : PathFault → List ℕ
+path_fault_text fault = codes "row " ++ (decimal fault.row ++ (codes ": " ++ why_text fault.why))
