@@ -1,7 +1,6 @@
 -- What came of harts, each at its place, as a list.
-use Rattle.std.proofs.Common.{◌≡◌, ◌⊎◌, ◌≤◌, ◌∙◌, ◌+◌, ℕ, zero, suc, Bool, true, false, List, [], ◌∷◌, Option, Some, None, Result, Ok, Err, length, map, slice_get, inl, inr, refl, ap, ap₂, subst, arith}
+use Rattle.std.proofs.Common.{◌≡◌, ◌≤◌, ◌∙◌, ◌+◌, ℕ, zero, suc, Bool, true, false, List, [], ◌∷◌, Option, Some, None, length, map, slice_get, refl, ap, ap₂, subst, arith}
 use Rattle.std.specs.Prelude.{All, IsFalse, IsSomeAnd, IsTrue}
-use Rattle.std.specs.Result.{result_map_both}
 use Rattle.legalpath.specs.ProgramLog.{ProgramLog}
 use Rattle.message.specs.OfHart.{of_hart}
 use Rattle.message.specs.declared.message.Message.{Message}
@@ -9,14 +8,9 @@ use Rattle.bench.specs.Beginnings.{AreThoseTaken, CameOf, NamesRefused}
 use Rattle.bench.specs.Got.{HasGot, got_after, got_of, kept}
 use Rattle.bench.specs.declared.config.Config.{Config}
 use Rattle.bench.specs.declared.outcome.HartOutcome.{HartOutcome}
-use Rattle.bench.specs.declared.setup.Setup.{Setup}
-use Rattle.bench.specs.declared.setup.Setup.TheVariants as setup
 use Rattle.bench.specs.declared.stop.Stop.{Stop}
 use Rattle.bench.specs.declared.stop.Stop.TheVariants as stop
-use Rattle.commands.specs.Faults.{unsent_fault}
-use Rattle.commands.specs.Replaying.{AreGot, AreGotOfSome, gots_after, setting_at}
-use Rattle.commands.specs.declared.fault.Fault.{Fault}
-use Rattle.commands.specs.declared.fault.Fault.TheVariants as fault
+use Rattle.commands.specs.Replaying.{AreGot, AreGotOfSome, gots_after}
 
 -- Of each hart, the first of them this one, came the first packets of its log, as many as that many messages tell.
 abbrev pub AreEach : {A : Type 0} → ℕ → ℕ → List ProgramLog → List Message → List (HartOutcome A) → Type 0
