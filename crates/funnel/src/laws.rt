@@ -3,7 +3,7 @@
 ghost use Rattle.std.specs.Prelude.{ℕ, ◌≡◌, ◌≤◌, ◌<◌, ◌++◌, ◌∷◌, [], All, List, Option, length, slice_set};
 ghost use mathlib.Core.Option.{some};
 ghost use lib.ListN.{get_elem?};
-ghost use Rattle.message.specs.declared.message.Message.{Message as Sent};
+ghost use Rattle.message.specs.declared.message.Message.{Message};
 ghost use Rattle.funnel.specs.Lawful.{Lawful, HasFirstTaken};
 ghost use Rattle.funnel.specs.Live.{AreLive, Sends, with_new_hart};
 ghost use Rattle.funnel.specs.Machine.{Funnel, after_turns, opening, send, take_front};
@@ -33,21 +33,21 @@ pub fn every_state_is_lawful()
 /// the funnel machine, and that its steps are those of the machine.
 pub fn live_channel_is_the_machine()
     // The state is lawful.
-    ensures lawful { (queue : List Sent) (views : List View) (state : Funnel) →
+    ensures lawful { (queue : List Message) (views : List View) (state : Funnel) →
         Kept queue views → AreLive queue views state → Lawful state }
 
     // A new channel is the opening of no harts.
     ensures new { AreLive [] (newborn ∷ []) (opening []) }
 
     // Where the outlet hands out a port, there is one hart more, which sent nothing.
-    ensures hands_out { (queue : List Sent) (views : List View) (state : Funnel) (pass made : ℕ) (taken : List Sent)
-        (told : Option ℕ) (list : List Sent) (before : View) →
+    ensures hands_out { (queue : List Message) (views : List View) (state : Funnel) (pass made : ℕ) (taken : List Message)
+        (told : Option ℕ) (list : List Message) (before : View) →
         Kept queue views → AreLive queue views state → before ≡ V.Outlet made taken told list →
         get_elem? views pass ≡ some before →
         AreLive queue (slice_set views pass (handed_out before) ++ next_port before ∷ []) (with_new_hart state) }
 
     // Where a port sends a message, and there is room, the machine sends it.
-    ensures sends { (queue : List Sent) (views : List View) (state : Funnel) (capacity pass : ℕ) (message : Sent)
+    ensures sends { (queue : List Message) (views : List View) (state : Funnel) (capacity pass : ℕ) (message : Message)
         (before after : View) →
         Kept queue views → AreLive queue views state → length queue < capacity →
         get_elem? views pass ≡ some before → Sends before message after →
@@ -55,7 +55,7 @@ pub fn live_channel_is_the_machine()
         AreLive (queue ++ message ∷ []) (slice_set views pass after) (send capacity message state) }
 
     // Where the outlet takes the front message, the machine takes it.
-    ensures takes { (queue : List Sent) (views : List View) (state : Funnel) (pass : ℕ) (message : Sent)
+    ensures takes { (queue : List Message) (views : List View) (state : Funnel) (pass : ℕ) (message : Message)
         (before after : View) →
         Kept (message ∷ queue) views → AreLive (message ∷ queue) views state →
         get_elem? views pass ≡ some before → TakesOne before message after →
