@@ -5,4 +5,5 @@ pub mod Replayed
 pub mod Collected
 pub mod Beginnings
 pub mod Setting
+pub mod SetupText
 pub mod steps

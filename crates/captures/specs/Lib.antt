@@ -3,6 +3,7 @@ pub mod Messages
 pub mod NoMessage
 pub mod Decoded
 pub mod Returned
+pub mod FaultText
 pub mod PacketText
 pub mod Dump
 pub mod steps

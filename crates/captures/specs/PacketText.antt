@@ -2,8 +2,8 @@
 use Rattle.std.specs.Prelude.{ℕ, ◌==◌, Bool, true, false, if◌then◌else◌, List, ◌++◌, Result, Ok, Err, codes, length}
 use Rattle.std.specs.List.{flat_map}
 use Rattle.retire.specs.LogText.{hex}
+use Rattle.payload.specs.FaultText.{pack_fault_text}
 use Rattle.payload.specs.declared.fault.PackFault.{PackFault}
-use Rattle.payload.specs.declared.fault.PackFault.TheVariants as fault
 use Rattle.payload.specs.declared.packet.Packet.{Packet}
 use Rattle.payload.specs.declared.packet.Packet.TheVariants as packet
 use Rattle.payload.specs.declared.packet.Support.{Support}
@@ -58,16 +58,7 @@ packet_text (packet.Address outcomes delta why) =
     codes "address diff=" ++ (hex delta ++ (codes " map=" ++ (map_text outcomes ++ (codes " " ++ report_text why))))
 packet_text (packet.Map outcomes) = codes "map " ++ map_text outcomes
 
--- The name of the reason why bytes are no payload.
-abbrev pub fault_text : PackFault → List ℕ
-fault_text fault.Empty = codes "Empty"
-fault_text fault.TooLong = codes "TooLong"
-fault_text fault.BadPad = codes "BadPad"
-fault_text fault.Unsupported = codes "Unsupported"
-fault_text fault.BadPrivilege = codes "BadPrivilege"
-fault_text fault.BadReport = codes "BadReport"
-
 -- The text of what a payload is: that of its packet, or why it is none.
 abbrev pub reading_text : Result Packet PackFault → List ℕ
 reading_text (Ok packet) = packet_text packet
-reading_text (Err why) = codes "bad " ++ fault_text why
+reading_text (Err why) = codes "bad " ++ pack_fault_text why

@@ -1,24 +1,39 @@
 //! What a capture decodes to.
 
+ghost use Rattle.std.specs.Prelude.{Some};
+ghost use Rattle.captures.specs.FaultText.{capture_fault_text};
+
 use decoder::DecodeFault;
 use message::{DemuxFault, MessageFault};
 use retire::Event;
 use std::alloc::{Allocator, Global};
-use thiserror::Error;
+use std::error::Error;
+use std::fmt;
 
 /// Why decoding a capture stops before its end.
-#[derive(Clone, Copy, Debug, PartialEq, Eq, Error)]
+#[derive(Clone, Copy, Debug, PartialEq, Eq)]
 pub enum CaptureFault {
     /// No whole message stands there.
-    #[error("{0}")]
     Message(MessageFault),
     /// The demultiplexer refuses the message.
-    #[error("{0}")]
     Demux(DemuxFault),
     /// The packet of the message is not decoded.
-    #[error("{0}")]
     Decode(DecodeFault),
 }
+
+impl fmt::Display for CaptureFault {
+    ghost output = { λ fault. Some (capture_fault_text fault) };
+
+    fn fmt<W: fmt::Write>(&self, f: &mut fmt::Formatter<W>) -> fmt::Result {
+        match *self {
+            CaptureFault::Message(fault) => write!(f, "{fault}"),
+            CaptureFault::Demux(fault) => write!(f, "{fault}"),
+            CaptureFault::Decode(fault) => write!(f, "{fault}"),
+        }
+    }
+}
+
+impl Error for CaptureFault {}
 
 /// What the messages of a capture decode to.
 #[derive(Debug, Drop)]

@@ -1,7 +1,7 @@
 //! Packets as text.
 
 ghost use Rattle.std.specs.Prelude.{◌≡◌, Some, codes};
-ghost use Rattle.captures.specs.PacketText.{branch_text, cause_text, fault_text, map_text, packet_text, place_text, reading_text, report_text, support_text};
+ghost use Rattle.captures.specs.PacketText.{branch_text, cause_text, map_text, packet_text, place_text, reading_text, report_text, support_text};
 
 use payload::{Outcomes, PackFault, Packet, Report, Support};
 use std::fmt;
@@ -16,7 +16,7 @@ impl fmt::Display for ReadingText<'_> {
     fn fmt<W: fmt::Write>(&self, f: &mut fmt::Formatter<W>) -> fmt::Result {
         match self.0 {
             Ok(packet) => write!(f, "{}", PacketText(packet)),
-            Err(why) => write!(f, "bad {}", fault_text(*why)),
+            Err(why) => write!(f, "bad {why}"),
         }
     }
 }
@@ -150,19 +150,5 @@ fn report_text(report: Report) -> &'static str
         Report::Plain => "plain",
         Report::Updiscon => "updiscon",
         Report::Notify => "notify",
-    }
-}
-
-/// The name of the reason why bytes are no payload.
-fn fault_text(why: PackFault) -> &'static str
-    ensures { result.now ≡ fault_text why }
-{
-    match why {
-        PackFault::Empty => "Empty",
-        PackFault::TooLong => "TooLong",
-        PackFault::BadPad => "BadPad",
-        PackFault::Unsupported => "Unsupported",
-        PackFault::BadPrivilege => "BadPrivilege",
-        PackFault::BadReport => "BadReport",
     }
 }

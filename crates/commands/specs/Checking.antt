@@ -2,7 +2,7 @@
 use Rattle.std.specs.Prelude.{◌≡◌, ℕ, ◌++◌, ◌∷◌, Bool, codes, List, Option, Some, None, Result, Ok, Err, if◌then◌else◌, is_some, length}
 use Rattle.std.specs.Fmt.{decimal}
 use Rattle.std.specs.List.{AllZip, flat_map, list_any}
-use Rattle.legalpath.specs.FaultText.{fault_text}
+use Rattle.legalpath.specs.FaultText.{path_fault_text}
 use Rattle.legalpath.specs.FirstFault.{IsFirstFault}
 use Rattle.legalpath.specs.Legal.{Legal}
 use Rattle.legalpath.specs.declared.fault.PathFault.{PathFault}
@@ -39,7 +39,7 @@ pub record IsJudgedAt (content : Content) (program : Image) (path : Path) (log :
 -- The line of a log at a path: that it is legal, and how many events it has, or its first illegal row.
 abbrev pub verdict_line : List ℕ → ℕ → Option PathFault → List ℕ
 verdict_line path count None = path ++ (codes ": legal, " ++ (decimal count ++ codes " events\n"))
-verdict_line path count (Some illegal) = path ++ (codes ": " ++ (fault_text illegal ++ codes "\n"))
+verdict_line path count (Some illegal) = path ++ (codes ": " ++ (path_fault_text illegal ++ codes "\n"))
 
 -- The line of a log that was judged.
 abbrev pub line_of : Judged → List ℕ

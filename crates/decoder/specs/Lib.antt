@@ -6,4 +6,5 @@ pub mod Pieces
 pub mod Describes
 pub mod SettledPieces
 pub mod Stands
+pub mod FaultText
 pub mod steps

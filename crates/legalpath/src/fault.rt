@@ -1,7 +1,7 @@
 //! Why a log is illegal.
 
 ghost use Rattle.std.specs.Prelude.{Some};
-ghost use Rattle.legalpath.specs.FaultText.{fault_text, why_text};
+ghost use Rattle.legalpath.specs.FaultText.{path_fault_text, why_text};
 
 use std::error::Error;
 use std::fmt;
@@ -52,7 +52,7 @@ pub struct PathFault {
 }
 
 impl fmt::Display for PathFault {
-    ghost output = { λ fault. Some (fault_text fault) };
+    ghost output = { λ fault. Some (path_fault_text fault) };
 
     fn fmt<W: fmt::Write>(&self, f: &mut fmt::Formatter<W>) -> fmt::Result {
         write!(f, "row {}: {}", self.row, self.why)

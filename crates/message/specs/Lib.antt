@@ -5,4 +5,5 @@ pub mod Cut
 pub mod Harts
 pub mod Accepting
 pub mod Accepted
+pub mod FaultText
 pub mod steps

@@ -1,44 +1,70 @@
 //! Why a message is not read, written or accepted.
 
+ghost use Rattle.std.specs.Prelude.{Some};
+ghost use Rattle.message.specs.FaultText.{demux_fault_text, message_fault_text};
+
 use payload::PackFault;
-use thiserror::Error;
+use std::error::Error;
+use std::fmt;
 
 /// Why a message is not read or not written. The place in the stream is then unknown.
-#[derive(Clone, Copy, Debug, PartialEq, Eq, Error)]
+#[derive(Clone, Copy, Debug, PartialEq, Eq)]
 pub enum MessageFault {
     /// The input ends inside a message.
-    #[error("the capture ends inside a message")]
     Short,
     /// The byte for the payload's length is 0 or above 18.
-    #[error("payload length is not 1 to 18")]
     BadLength,
     /// The reader failed.
-    #[error("cannot be read")]
     Read,
     /// The writer failed.
-    #[error("cannot be written")]
     Write,
 }
 
+impl fmt::Display for MessageFault {
+    ghost output = { λ fault. Some (message_fault_text fault) };
+
+    fn fmt<W: fmt::Write>(&self, f: &mut fmt::Formatter<W>) -> fmt::Result {
+        f.write_str(match *self {
+            MessageFault::Short => "the capture ends inside a message",
+            MessageFault::BadLength => "payload length is not 1 to 18",
+            MessageFault::Read => "cannot be read",
+            MessageFault::Write => "cannot be written",
+        })
+    }
+}
+
+impl Error for MessageFault {}
+
 /// Why a demultiplexer does not accept a message. Of several that apply, the first in this order is told.
-#[derive(Clone, Copy, Debug, PartialEq, Eq, Error)]
+#[derive(Clone, Copy, Debug, PartialEq, Eq)]
 pub enum DemuxFault {
     /// The demultiplexer does not know the hart.
-    #[error("stranger")]
     Stranger,
     /// The hart's closing packet was accepted, or 2^63 of its messages were.
-    #[error("after close")]
     AfterClose,
     /// The number is below the one that is expected.
-    #[error("repeat")]
     Repeat,
     /// The number is above the one that is expected.
-    #[error("gap, expected number {expected}")]
     Gap {
         /// The number that is expected.
         expected: u64,
     },
     /// The payload is no packet.
-    #[error("bad packet: {0}")]
     Packet(PackFault),
 }
+
+impl fmt::Display for DemuxFault {
+    ghost output = { λ fault. Some (demux_fault_text fault) };
+
+    fn fmt<W: fmt::Write>(&self, f: &mut fmt::Formatter<W>) -> fmt::Result {
+        match *self {
+            DemuxFault::Stranger => f.write_str("stranger"),
+            DemuxFault::AfterClose => f.write_str("after close"),
+            DemuxFault::Repeat => f.write_str("repeat"),
+            DemuxFault::Gap { expected } => write!(f, "gap, expected number {expected}"),
+            DemuxFault::Packet(why) => write!(f, "bad packet: {why}"),
+        }
+    }
+}
+
+impl Error for DemuxFault {}

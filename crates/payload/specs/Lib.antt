@@ -8,6 +8,7 @@ pub mod PacketFields
 pub mod Profile
 pub mod Spelling
 pub mod Faults
+pub mod FaultText
 pub mod Reading
 pub mod steps
 pub mod Closing

@@ -14,8 +14,8 @@ use Rattle.message.specs.declared.message.Message.{Message}
 use Rattle.receiver.specs.declared.fault.ReceiveFault.{ReceiveFault}
 use Rattle.receiver.specs.declared.fault.ReceiveFault.TheVariants as fault
 
--- Why a packet is not decoded after packets that have not ended: it comes first and opens no trace, or no log is described
--- by them and it, or one is that is longer than the list that they describe, and memory was refused.
+-- Why a packet is not decoded after packets that have not ended: it comes first and opens no trace, or no log is
+-- described by them and it, or one is that is longer than the list that they describe, and memory was refused.
 pub record IsNotDecoded (words : Words) (packets : List Packet) (packet : Packet) (why : DecodeFault) : Type 0 where
   pub not_opened : (why ≡ NotOpened) ↔ ((packets ≡ []) × ¬ IsOpen packet)
   pub not_ended : ¬ (why ≡ AfterClose)
@@ -24,12 +24,14 @@ pub record IsNotDecoded (words : Words) (packets : List Packet) (packet : Packet
   pub reason : (why ≡ Memory) ⊎ ((log : List Event) → ¬ Describes words (packets ++ packet ∷ []) log)
 
 -- The message is accepted after these messages, and its packet is not decoded.
-pub record IsUndecoded (words : Words) (harts : ℕ) (messages : List Message) (message : Message) (why : DecodeFault) : Type 0 where
+pub record IsUndecoded (words : Words) (harts : ℕ) (messages : List Message) (message : Message)
+    (why : DecodeFault) : Type 0 where
   pub packet : Packet
   pub accepted : accepting (expected_after (newcomers harts) messages) message ≡ Ok packet
   pub not_decoded : IsNotDecoded words (packets_of message.hart messages) packet why
 
 -- Why a message is not received after these messages, by the program of its hart.
 abbrev pub IsRefused : Words → ℕ → List Message → Message → ReceiveFault → Type 0
-IsRefused words harts messages message (fault.Demux why) = accepting (expected_after (newcomers harts) messages) message ≡ Err why
+IsRefused words harts messages message (fault.Demux why) =
+    accepting (expected_after (newcomers harts) messages) message ≡ Err why
 IsRefused words harts messages message (fault.Decode why) = IsUndecoded words harts messages message why

@@ -1,5 +1,5 @@
 -- The records of a text with no quote are its lines, each parted at its commas.
-use Rattle.std.proofs.Common.{◌≡◌, ◌==◌, ◌&&◌, ◌++◌, ◌∙◌, ◌⊎◌, ℕ, List, [], ◌∷◌, Bool, true, false, not, Option, Some}
+use Rattle.std.proofs.Common.{◌≡◌, ◌==◌, ◌++◌, ◌∙◌, ◌⊎◌, ℕ, List, [], ◌∷◌, Bool, true, false, not, Option, Some}
 use Rattle.std.proofs.Common.{None, map, refl, sym, ap, inl, inr, append_assoc, append-nil}
 use Rattle.std.specs.List.{filter, onto_first, slice_split}
 use Rattle.std.proofs.lemmas.Bool.{cases_Bool, eqb-true}

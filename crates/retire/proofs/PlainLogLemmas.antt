@@ -1,5 +1,5 @@
 -- The rows of a plain log, one at a time, and that a log is written plain.
-use Rattle.std.proofs.Common.{◌≡◌, ◌≤◌, ◌<◌, ◌&&◌, ◌||◌, ◌==◌, ◌++◌, ◌∙◌, ◌+◌, Bool, ℕ, List, [], ◌∷◌, Option, Some}
+use Rattle.std.proofs.Common.{◌≡◌, ◌≤◌, ◌<◌, ◌||◌, ◌==◌, ◌++◌, ◌∙◌, ◌+◌, Bool, ℕ, List, [], ◌∷◌, Option, Some}
 use Rattle.std.proofs.Common.{None, Result, Ok, Err, map, nat_eq, nat_lt, IfOk, take, drop, length, true, false, arith}
 use Rattle.std.proofs.Common.{refl, subst, sym, ap, inl, inr, rules, append_assoc}
 use Rattle.std.specs.Cmp.Lexicographic.{pointwise}

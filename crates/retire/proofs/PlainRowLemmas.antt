@@ -1,5 +1,5 @@
 -- A row at the front of a text.
-use Rattle.std.proofs.Common.{◌≡◌, ◌≢◌, ◌≤◌, ◌<◌, ◌==◌, ◌&&◌, ◌||◌, ◌++◌, ◌∙◌, ◌+◌, ◌-◌, get_or, Bool, ℕ, List, [], ◌∷◌}
+use Rattle.std.proofs.Common.{◌≡◌, ◌≢◌, ◌≤◌, ◌<◌, ◌==◌, ◌||◌, ◌++◌, ◌∙◌, ◌+◌, ◌-◌, get_or, Bool, ℕ, List, [], ◌∷◌}
 use Rattle.std.proofs.Common.{Option, Some, None, Result, Ok, Err, nat_eq, take, drop, length, true, false, codes}
 use Rattle.std.proofs.Common.{arith, refl, subst, sym, ap, inl, inr, rules}
 use Rattle.std.specs.List.{join_with_byte, list_all, list_any}

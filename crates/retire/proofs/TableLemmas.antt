@@ -1,5 +1,5 @@
 -- A table holds a function's values: they are compared at each place, by computing.
-use Rattle.std.proofs.Common.{◌≡◌, ◌<◌, ◌==◌, ◌&&◌, ℕ, zero, suc, List, Bool, true, false, get_or, refl, arith, inl}
+use Rattle.std.proofs.Common.{◌≡◌, ◌<◌, ◌==◌, ◌&&◌, ℕ, zero, suc, List, Bool, true, get_or, arith, inl}
 use Rattle.std.proofs.Common.{inr}
 use Rattle.std.proofs.lemmas.Bool.{cases_eq, eqb-true}
 use Rattle.retire.proofs.BothTrue.{both_true}

@@ -6,6 +6,7 @@ pub mod Number
 pub mod Row
 pub mod Log
 pub mod LogText
+pub mod FaultText
 pub mod InRange
 pub mod ReadBack
 pub mod PlainText

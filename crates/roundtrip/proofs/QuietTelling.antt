@@ -81,8 +81,7 @@ module _ (words : Words) (period : ℕ) where
       walk_to_target quiet known here fits leaves =
           quiet_walks words since front before (Retire addr itype priv) (AtTarget _) quiet here (
             none_early-last (is_discontinuity words) since front before quiet.early quiet.ends leaves,
-            sym
-                (aim-difference reported addr known fits),
+            sym (aim-difference reported addr fits),
           )
 
       -- Elsewhere it ends a walk to its address.
@@ -94,8 +93,7 @@ module _ (words : Words) (period : ℕ) where
       walk_to_address quiet known here fits stays =
           quiet_walks words since front before (Retire addr itype priv) (AtAddress _) quiet here (
             none_early-none (is_discontinuity words) since front before quiet.early quiet.ends stays,
-            sym
-                (aim-difference reported addr known fits),
+            sym (aim-difference reported addr fits),
           )
 
       -- A retirement that no packet reports fills the branch map, or the stretch goes on.

@@ -6,3 +6,4 @@ pub mod Words
 pub mod Image
 pub mod Fetch
 pub mod Program
+pub mod FaultText

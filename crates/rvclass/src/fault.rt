@@ -1,17 +1,32 @@
 //! Why bytes are no program.
 
-use thiserror::Error;
+ghost use Rattle.std.specs.Prelude.{Some};
+ghost use Rattle.rvclass.specs.FaultText.{program_fault_text};
+
+use std::error::Error;
+use std::fmt;
 
 /// Why bytes make no program. Where more than one applies, the first in this order is told.
-#[derive(Clone, Copy, Debug, PartialEq, Eq, Error)]
+#[derive(Clone, Copy, Debug, PartialEq, Eq)]
 pub enum ProgramFault {
     /// The base is no address of a word, since those are even.
-    #[error("base is odd")]
     OddBase,
     /// There are more than 2^24 bytes.
-    #[error("image is larger than 16777216 bytes")]
     TooLarge,
     /// The address behind the last byte is 2^64 or more.
-    #[error("image runs past the last address")]
     PastEnd,
 }
+
+impl fmt::Display for ProgramFault {
+    ghost output = { λ fault. Some (program_fault_text fault) };
+
+    fn fmt<W: fmt::Write>(&self, f: &mut fmt::Formatter<W>) -> fmt::Result {
+        f.write_str(match *self {
+            ProgramFault::OddBase => "base is odd",
+            ProgramFault::TooLarge => "image is larger than 16777216 bytes",
+            ProgramFault::PastEnd => "image runs past the last address",
+        })
+    }
+}
+
+impl Error for ProgramFault {}

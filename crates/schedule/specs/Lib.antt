@@ -1,2 +1,3 @@
 pub mod Schedule
+pub mod FaultText
 pub mod steps

@@ -10,15 +10,19 @@ use Rattle.receiver.proofs.receiving.Receiver.receive.Goals as goal
 
 pub returns-in-Ok-decode-clause-received : goal.returns-in-Ok-decode-clause-received
 returns-in-Ok-decode-clause-received g c = λ programs harts messages program given.
-    let holds = holds_kept programs harts messages c.args.self.now c.accept.new.self _ given.holds c.accept.ensures.state in
+    let holds = holds_kept programs harts messages c.args.self.now c.accept.new.self _ given.holds
+    c.accept.ensures.state in
     record {
-      accepts = accepts_kept harts _ c.accept.new.self c.decode.new.self (c.in-Ok.ensures.accepted harts messages given.accepts) c.decode.ensures.expected;
-      holds = c.in-Ok-decode.ensures.decoded programs harts messages c.args.message.now program refl c.in-Ok.ensures.packet holds;
+      accepts = accepts_kept harts _ c.accept.new.self c.decode.new.self
+          (c.in-Ok.ensures.accepted harts messages given.accepts) c.decode.ensures.expected;
+      holds = c.in-Ok-decode.ensures.decoded programs harts messages c.args.message.now program refl
+          c.in-Ok.ensures.packet holds;
     }
 
 pub returns-in-Err-decode-clause-held : goal.returns-in-Err-decode-clause-held
 returns-in-Err-decode-clause-held g c = λ programs harts messages given.
-    let holds = holds_kept programs harts messages c.args.self.now c.accept.new.self _ given.holds c.accept.ensures.state in
+    let holds = holds_kept programs harts messages c.args.self.now c.accept.new.self _ given.holds
+    c.accept.ensures.state in
     subst (Holds programs harts messages) (sym c.in-Err-decode.ensures.refused) holds
 
 pub returns-in-Ok-decode-clause-received_held : goal.returns-in-Ok-decode-clause-received_held
@@ -28,13 +32,16 @@ returns-in-Ok-decode-clause-received_held g c = λ programs harts messages progr
 
 pub returns-in-Err-decode-clause-refused : goal.returns-in-Err-decode-clause-refused
 returns-in-Err-decode-clause-refused g c = λ programs harts messages program given.
-    let all = holds_kept programs harts messages c.args.self.now c.accept.new.self _ given.holds c.accept.ensures.state in
+    let all = holds_kept programs harts messages c.args.self.now c.accept.new.self _ given.holds
+    c.accept.ensures.state in
     let hart = c.args.message.now.hart in
     let packets = packets_of hart messages in
     let holds = subst (λ words. HoldsHart words hart packets c.accept.new.self) program (all.each hart) in
-    let answer = accepted_answer harts messages c.args.self.now c.args.message.now c.in-Ok.packet given.accepts (sym c.accept.ensures.value ∙ c.in-Ok.is) in
+    let answer = accepted_answer harts messages c.args.self.now c.args.message.now c.in-Ok.packet given.accepts
+    (sym c.accept.ensures.value ∙ c.in-Ok.is) in
     let list = list_of programs harts messages hart c.accept.new.self all c.in-Ok.ensures.known in
-    undecoded (words_of c.args.program.now) harts messages c.args.message.now c.in-Ok.packet c.in-Err-decode.fault given.accepts.accepted answer
+    undecoded (words_of c.args.program.now) harts messages c.args.message.now c.in-Ok.packet c.in-Err-decode.fault
+    given.accepts.accepted answer
     (c.in-Err-decode.ensures.not_opened packets holds)
     (c.in-Err-decode.ensures.ended packets holds)
     (c.in-Err-decode.ensures.none packets holds)
