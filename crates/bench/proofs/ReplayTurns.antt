@@ -8,7 +8,8 @@ use Rattle.message.specs.declared.message.Message.{Message}
 use Rattle.funnel.proofs.EveryState.{every-keeps}
 use Rattle.funnel.proofs.Places.{get_or-repeated}
 use Rattle.funnel.specs.Held.{Held}
-use Rattle.funnel.specs.Machine.{Funnel, after_turn, after_turns, add, message_of, opening, send_next, sent_by, take_front, take_of}
+use Rattle.funnel.specs.Machine.{Funnel, after_turn, after_turns, add, opening, send_next, sent_by, take_front, take_of}
+use Rattle.funnel.specs.Order.{next_message}
 use Rattle.funnel.specs.Payloads.{payloads_of}
 use Rattle.funnel.specs.declared.turn.Turn.{Turn}
 use Rattle.funnel.specs.declared.turn.Turn.TheVariants as turn
@@ -38,7 +39,8 @@ send_next-taken : (capacity hart : ℕ) (payload : Option (List ℕ)) (state : F
 send_next-taken capacity hart None state = refl
 send_next-taken capacity hart (Some payload) state = by_room (nat_lt (length state.queue) capacity)
   where
-    by_room : (room : Bool) → (cond room (add (message_of hart state payload) state) state).taken ≡ state.taken
+    by_room : (room : Bool)
+        → (cond room (add (next_message hart (sent_by hart state) payload) state) state).taken ≡ state.taken
     by_room true = refl
     by_room false = refl
 
