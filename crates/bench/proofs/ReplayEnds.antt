@@ -15,6 +15,7 @@ use Rattle.bench.specs.declared.config.Config.{Config}
 use Rattle.bench.specs.declared.outcome.HartOutcome.{HartOutcome}
 use Rattle.bench.specs.declared.stop.Stop.{Stop}
 use Rattle.bench.specs.declared.stop.Stop.TheVariants as stop
+use Rattle.bench.specs.Stopping.{NoRefusedIsClosed}
 use Rattle.bench.specs.steps.Taking.{AreTaken, IsTakenOf, LacksSome, NamesRefusedHart}
 use Rattle.bench.proofs.CollectedLemmas.{element, taken_by}
 use Rattle.bench.proofs.ListElements.{All-at, All-from_places}
@@ -148,6 +149,28 @@ module _ {A : Type 0} (config : Config) (logs : List ProgramLog) (taken : List M
       let all = length (packets (words_of log.program) config.period log.events) in
       told_refused got (slice_get harts hart) (ne_eqb cut.count all (λ same. omega (arith, same, few)))
       (ends.came hart got true cut.came)
+
+  -- A hart that is refused is not closed.
+  pub none_is_closed : NoRefusedIsClosed harts
+  none_is_closed =
+      All-from_places (λ came. came.refused ≡ true → came.closed ≡ false) harts (λ hart came at refused.
+      let within = slice_get_within harts hart came at in
+      let its = element logs hart (omega (arith, within, as_many)) in
+      by_case hart its.0 came at refused (are.each hart its.0 its.1))
+    where
+      by_case : (hart : ℕ) (log : ProgramLog) (came : HartOutcome A) → slice_get harts hart ≡ Some came
+          → came.refused ≡ true → IsTakenOf config.period log (length (of_hart hart taken)) hart collected
+          → came.closed ≡ false
+      by_case hart log came at refused (inl has) =
+          let got = kept collected.keep (got_after config.period log (length (of_hart hart taken))) in
+          let told : came.refused ≡ false = (says hart came got false at has.came).1 in
+          cc
+      by_case hart log came at refused (inr cut) =
+          let few = cut.few in
+          let all = length (packets (words_of log.program) config.period log.events) in
+          ap (λ (got : Got). got.closed)
+          (says hart came (kept collected.keep (got_after config.period log cut.count)) true at cut.came).0
+          ∙ ne_eqb cut.count all (λ same. omega (arith, same, few))
 
   pub names_refused : (why : Option Stop) → NamesRefusedHart why collected → NamesRefused why harts
   names_refused None none =

@@ -72,7 +72,7 @@ pub fn replay<A: Allocator + Copy, B: Allocator>(
 }
 
 /// The first fault of this count of logs and this configuration, where there is one.
-fn fault_of(logs: usize, config: Config) -> Option<Setup>
+pub(crate) fn fault_of(logs: usize, config: Config) -> Option<Setup>
     ensures fault { result ≡ setup_fault logs config }
     ensures harts { result ≡ None → logs ≤ most_harts }
     ensures limits { result ≡ None → limit_fault logs config.capacity ≡ None }
