@@ -1,8 +1,11 @@
 -- What came of harts, by what a collector has of them at the end.
 use Rattle.std.proofs.Common.{◌≡◌, ◌<◌, inl, inr, ℕ, Bool, true, false, All, List, Option, Some, None, length, slice_get, refl, sym, ap, subst, ◌∙◌, arith}
 use Rattle.std.specs.Prelude.{IsFalse, IsSomeAnd, IsTrue}
+use Rattle.std.proofs.lemmas.Bool.{ne_eqb}
 use Rattle.std.proofs.lemmas.Option.{slice_get_within}
+use Rattle.rvclass.specs.Fetch.{words_of}
 use Rattle.legalpath.specs.ProgramLog.{IsLegalLog, ProgramLog}
+use Rattle.encoder.specs.Packets.{packets}
 use Rattle.message.specs.OfHart.{of_hart}
 use Rattle.message.specs.declared.message.Message.{Message}
 use Rattle.bench.specs.Beginnings.{AreBeginnings, AreThoseTaken, CameOf, NamesRefused}
@@ -75,7 +78,7 @@ module _ {A : Type 0} (config : Config) (logs : List ProgramLog) (taken : List M
           record {
             count = cut.count;
             got =
-                has_got config.period cut.count config.keep log (got_of came) lawful cut.few
+                has_got config.period cut.count config.keep log (got_of came) lawful (omega (arith, cut.few))
                 (told.0 ∙ keeps cut.count);
             all = subst (λ refused. CameOf refused n cut.count) (sym told.1) cut.within;
           }
@@ -103,22 +106,25 @@ module _ {A : Type 0} (config : Config) (logs : List ProgramLog) (taken : List M
   not_refused hart log came at none (inr cut) =
       absurd (none (came_refused hart (kept collected.keep (got_after config.period log cut.count)) collected cut.came))
 
-  told_refused : (got : Got) (at : Option (HartOutcome A))
+  told_refused : (got : Got) (at : Option (HartOutcome A)) → got.closed ≡ false
       → IsSomeAnd at (λ one. (got_of one ≡ got) × (one.refused ≡ true))
-      → IsSomeAnd at (λ one. IsTrue one.refused)
-  told_refused got None never = never
-  told_refused got (Some one) told = told.1
+      → IsSomeAnd at (λ one. IsTrue one.refused × IsFalse one.closed)
+  told_refused got None open_yet never = never
+  told_refused got (Some one) open_yet told = (told.1, ap (λ (some : Got). some.closed) told.0 ∙ open_yet)
 
-  -- And one that is refused is told so.
+  -- And one that is refused is told so, and that it is not closed.
   is_refused : (hart : ℕ) (log : ProgramLog) → IsRefusedHart hart collected
       → IsTakenOf config.period log (length (of_hart hart taken)) hart collected
-      → IsSomeAnd (slice_get harts hart) (λ came. IsTrue came.refused)
+      → IsSomeAnd (slice_get harts hart) (λ came. IsTrue came.refused × IsFalse came.closed)
   is_refused hart log refused (inl has) =
       absurd (came_not_refused hart (kept collected.keep (got_after config.period log (length (of_hart hart taken))))
       collected has.came refused)
   is_refused hart log refused (inr cut) =
       let got = kept collected.keep (got_after config.period log cut.count) in
-      told_refused got (slice_get harts hart) (ends.came hart got true cut.came)
+      let few = cut.few in
+      let all = length (packets (words_of log.program) config.period log.events) in
+      told_refused got (slice_get harts hart) (ne_eqb cut.count all (λ same. omega (arith, same, few)))
+      (ends.came hart got true cut.came)
 
   pub names_refused : (why : Option Stop) → NamesRefusedHart why collected → NamesRefused why harts
   names_refused None none =

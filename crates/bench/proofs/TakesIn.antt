@@ -1,6 +1,6 @@
 -- What a message that the demultiplexer accepts changes of what a collector has.
 use Rattle.std.proofs.Common.{◌≡◌, ◌≢◌, ◌+◌, ◌<◌, ◌≤◌, ◌⊎◌, ⊎_elim, ℕ, Bool, true, false, All, List, [], ◌∷◌, ◌++◌, Option, Some, None, Result, Ok, Err, IfErr, OnOk, length, take, set, get_or, slice_get, refl, sym, ap, subst, ◌∙◌, arith}
-use Rattle.std.specs.Prelude.{IsSomeAnd, IsTrue}
+use Rattle.std.specs.Prelude.{IsSomeAnd, IsTrue, OnErr}
 use Rattle.std.specs.Option.{option_map}
 use Rattle.std.proofs.lemmas.List.{length-map, length-set, map-set}
 use Rattle.std.proofs.lemmas.Option.{slice_get-map, slice_get_read, slice_get_within, same_Some}
@@ -23,12 +23,12 @@ use Rattle.receiver.proofs.AcceptLemmas.{accepts_others}
 use Rattle.receiver.proofs.HoldLemmas.{set-other}
 use Rattle.receiver.specs.Holds.{HoldsHart}
 use Rattle.receiver.specs.Received.{IsReceived, IsSameHart, Received}
-use Rattle.bench.specs.Collected.{Came, Collected, HasCollected, IsMessageOf, IsSameOf, Taken}
+use Rattle.bench.specs.Collected.{Accepts, Came, Collected, HasCollected, HasDecoded, IsMessageOf, IsSameOf, Taken, with_packet}
 use Rattle.bench.specs.Got.{Got, got_after, kept}
 use Rattle.bench.specs.declared.collecting.CollectFault.{CollectFault}
 use Rattle.bench.specs.declared.collecting.CollectFault.TheVariants as fault
 use Rattle.bench.specs.declared.outcome.HartOutcome.{HartOutcome}
-use Rattle.bench.specs.steps.Collecting.{IsCollected, IsLeftBy, taken_in, taken_of, with_packet}
+use Rattle.bench.specs.steps.Collecting.{IsCollected, IsLeftBy, taken_in, taken_of}
 use Rattle.bench.proofs.ClosingLast.{All_at}
 use Rattle.bench.proofs.CollectedLemmas.{held_first, next_accepted, next_described, next_expected, next_first, next_packet, next_taken, set-at, taken_by}
 
@@ -135,6 +135,68 @@ module _ (message : Message) (packet : Packet) (old new : Collected) where
   takes_undecoded (Err (fault.Decode other)) t got refused why came is =
       let before = same_Some t.before (taken_by got refused) (sym t.taken_at ∙ came.taken) in
       came_left t.accepted t.after got refused refused came.taken t.moved t.harts t.stays (t.leaves ∙ before) came
+
+  -- What the packet tells is held then too.
+  pub takes_decoded : (answer : Result (Unit {0}) CollectFault) → TakesIn message packet answer old new
+      → (one : Packet) (log : ProgramLog) (some : List Packet) → Accepts message one old
+      → HasDecoded log message.hart some old → OnOk answer (HasDecoded log message.hart (some ++ one ∷ []) new)
+  takes_decoded (Err why) t one log some accepts has = tt
+  takes_decoded (Ok u) t one log some accepts has =
+      let same : t.own ≡ log = same_Some t.own log (sym t.log_at ∙ has.known) in
+      let packet_is : packet ≡ one = same_Ok packet one (sym t.packet_answered ∙ accepts.answer) in
+      let words = words_of log.program in
+      let before = holds_moved words message.hart some old.received t.accepted message t.moved has.holds in
+      let holds = subst (λ (own : ProgramLog). HoldsHart (words_of own.program) message.hart some t.accepted
+      → HoldsHart (words_of own.program) message.hart (some ++ packet ∷ []) new.received) same (t.holds some) in
+      record {
+        known = ap (λ logs. slice_get logs message.hart) t.logs ∙ has.known;
+        holds =
+            subst (λ one. HoldsHart words message.hart (some ++ one ∷ []) new.received) packet_is
+            (holds before);
+      }
+
+  -- Else no log is described with it, or memory was refused.
+  pub takes_none : (answer : Result (Unit {0}) CollectFault) → TakesIn message packet answer old new
+      → (one : Packet) (log : ProgramLog) (some : List Packet) → Accepts message one old
+      → HasDecoded log message.hart some old → IfErr answer (λ why. (why ≡ fault.Memory)
+      ⊎ ((events : List Event) → ¬ Describes (words_of log.program) (some ++ one ∷ []) events))
+  takes_none (Ok u) t one log some accepts has = tt
+  takes_none (Err why) t one log some accepts has =
+      let same : t.own ≡ log = same_Some t.own log (sym t.log_at ∙ has.known) in
+      let packet_is : packet ≡ one = same_Ok packet one (sym t.packet_answered ∙ accepts.answer) in
+      let words = words_of log.program in
+      let before = holds_moved words message.hart some old.received t.accepted message t.moved has.holds in
+      let either = subst (λ (own : ProgramLog). HoldsHart (words_of own.program) message.hart some t.accepted
+      → (why ≡ fault.Memory)
+      ⊎ ((events : List Event) → ¬ Describes (words_of own.program) (some ++ packet ∷ []) events)) same (t.none some) in
+      subst (λ one. (why ≡ fault.Memory) ⊎ ((events : List Event) → ¬ Describes words (some ++ one ∷ []) events))
+      packet_is (either before)
+
+  -- It is counted.
+  pub takes_counts : (answer : Result (Unit {0}) CollectFault) → TakesIn message packet answer old new
+      → (one : Packet) (taken : Taken) → Accepts message one old → slice_get old.harts message.hart ≡ Some taken
+      → OnOk answer (slice_get new.harts message.hart
+      ≡ Some (with_packet old.keep one (length message.payload) taken))
+  takes_counts (Err why) t one taken accepts at = tt
+  takes_counts (Ok u) t one taken accepts at =
+      let before : t.before ≡ taken = same_Some t.before taken (sym t.taken_at ∙ at) in
+      let packet_is : packet ≡ one = same_Ok packet one (sym t.packet_answered ∙ accepts.answer) in
+      ap (λ harts. slice_get harts message.hart) t.harts
+      ∙ set-at old.harts message.hart t.after (slice_get_within old.harts message.hart taken at)
+      ∙ ap Some (t.counts ∙ ap (with_packet old.keep packet (length message.payload)) before
+      ∙ ap (λ one. with_packet old.keep one (length message.payload) taken) packet_is)
+
+  -- Of its hart another message is expected then.
+  pub takes_expected : (answer : Result (Unit {0}) CollectFault) → TakesIn message packet answer old new
+      → new.received.expected ≡ harts_after old.received.expected message
+  takes_expected answer t = t.expected ∙ ap (λ (r : Received). r.expected) t.moved
+
+  -- A fault changes nothing else of what is received.
+  pub takes_kept_received : (answer : Result (Unit {0}) CollectFault) → TakesIn message packet answer old new
+      → OnErr answer (new.received
+      ≡ record old.received { expected = harts_after old.received.expected message })
+  takes_kept_received (Ok u) t = tt
+  takes_kept_received (Err why) t = t.stays ∙ t.moved
 
   -- The next message of a log is refused for want of memory alone.
   pub takes_only_memory : (answer : Result (Unit {0}) CollectFault) → TakesIn message packet answer old new → (period count : ℕ) (log : ProgramLog)

@@ -2,9 +2,13 @@
 use Rattle.std.proofs.Common.{◌≡◌, ◌≢◌, ◌<◌, ◌+◌, ◌⊎◌, inl, inr, ℕ, Bool, true, false, List, [], ◌∷◌, ◌++◌, Some, length, slice_get, refl, sym, ap, subst, ◌∙◌, arith}
 use Rattle.std.specs.Prelude.{IfErr, IsSomeAnd, IsTrue, OnOk, Option, None, Result, Ok, Err}
 use Rattle.std.proofs.lemmas.Bool.{cases_eq}
-use Rattle.std.proofs.lemmas.List.{length_push}
+use Rattle.std.proofs.lemmas.List.{length-map, length_push}
 use Rattle.std.proofs.lemmas.Option.{same_Some, slice_get_within}
+use Rattle.rvclass.specs.Fetch.{words_of}
 use Rattle.legalpath.specs.ProgramLog.{ProgramLog}
+use Rattle.payload.specs.Spelling.{payload_of}
+use Rattle.encoder.specs.Packets.{packets}
+use Rattle.encoder.specs.Payloads.{payloads}
 use Rattle.message.proofs.OfHartLemmas.{of_hart-next, of_hart-other}
 use Rattle.message.specs.OfHart.{of_hart}
 use Rattle.message.specs.declared.message.Message.{Message}
@@ -78,6 +82,13 @@ module _ (period : ℕ) (logs : List ProgramLog) (taken : List Message) (message
       by_case (inr cut) =
           subst (λ r. IfErr r (λ why. why ≡ fault.Memory)) (sym (takes.passed_over (cut_off_refused cut)).0) tt
 
+  -- It is one of the messages of its log.
+  below_all : before < length (packets (words_of next.log.program) period next.log.events)
+  below_all =
+      let below = slice_get_within (payloads period next.log) before message.payload next.own.payload in
+      let as_many = length-map (packets (words_of next.log.program) period next.log.events) payload_of in
+      omega (arith, below, as_many)
+
   -- It came of its hart, or memory for that was refused.
   own_after : IsTakenOf period next.log (before + 1) message.hart new
   own_after = by_case own_before
@@ -91,7 +102,7 @@ module _ (period : ℕ) (logs : List ProgramLog) (taken : List Message) (message
       by_result (Err why) is has more memory = inr (record {
         count = before;
         within = omega arith;
-        few = has.few;
+        few = below_all;
         came =
             subst (λ flag. Came message.hart (kept flag (got_after period next.log before)) true new)
             (sym takes.logs.1)

@@ -31,9 +31,11 @@ AreThoseTaken {A} config logs taken harts =
     → (count : ℕ) × HasGot config.period config.keep log count (got_of came)
     × CameOf came.refused (length (of_hart hart taken)) count
 
--- There is no stop exactly where memory for no hart was refused, and else one of those harts is named.
+-- There is no stop exactly where memory for no hart was refused, and else one of those harts is named, whose closing
+-- packet did not come.
 abbrev pub NamesRefused : {A : Type 0} → Option Stop → List (HartOutcome A) → Type 0
 NamesRefused None harts = All (λ hart. IsFalse hart.refused) harts
-NamesRefused (Some (stop.Memory hart)) harts = IsSomeAnd (slice_get harts hart) (λ came. IsTrue came.refused)
+NamesRefused (Some (stop.Memory hart)) harts =
+    IsSomeAnd (slice_get harts hart) (λ came. IsTrue came.refused × IsFalse came.closed)
 NamesRefused (Some (stop.HandedBack hart)) harts = ⊥
 NamesRefused (Some (stop.Ended hart)) harts = ⊥

@@ -1,5 +1,6 @@
 -- The lines of the logs at paths, one path more at a time.
 use Rattle.std.proofs.Common.{◌≡◌, ◌⊎◌, inl, inr, refl, ℕ, ◌+◌, ◌<◌, ◌||◌, Bool, true, false, sym, ap, ◌∙◌, subst, List, [], ◌∷◌, ◌++◌, Option, Ok, Err, length, get_or, take, drop}
+use Rattle.std.specs.Prelude.{⊤}
 use Rattle.std.specs.Prelude.{if◌then◌else◌, is_some}
 use Rattle.std.specs.Io.KnownBytes.{Appends}
 use Rattle.std.specs.List.{AllZip, list_any}
@@ -68,7 +69,7 @@ module _ (content : Content) (program : Image) (paths : List Path) (i : ℕ) (d 
 
   -- The log at this path is not read.
   pub lines_end : (why : Fault) → (why ≡ fault.Memory) ⊎ IsLog content (get_or paths i d) (Err why)
-      → PrintsUnlessDenied (WritesLines content program paths) (Err why) old mid
+      → PrintsUnlessDenied (WritesLines content program paths) ⊤ (Err why) old mid
   lines_end why (inl denied) = inl (inl denied)
   lines_end why (inr unread) = inr (record {
     text = before.text;

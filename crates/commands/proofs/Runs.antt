@@ -19,29 +19,31 @@ appends-keeps (Some xs) (Some ys) None bytes first then = elim then [ ]
 appends-keeps (Some xs) (Some ys) (Some zs) bytes first then = then ∙ first
 
 -- A fault that is found before anything is written, unless memory was refused.
-pub ends_silently : (Prints : Printed → Type 0) (Finds : Type 0) (why : Fault) (old : Option (List ℕ))
-    → (why ≡ fault.Memory) ⊎ Finds → (Finds → Prints (silent why)) → PrintsUnlessDenied Prints (Err why) old old
-ends_silently Prints Finds why old (inl denied) prints = inl (inl denied)
-ends_silently Prints Finds why old (inr finds) prints =
+pub ends_silently : (Prints : Printed → Type 0) (CanWrite Finds : Type 0) (why : Fault) (old : Option (List ℕ))
+    → (why ≡ fault.Memory) ⊎ Finds → (Finds → Prints (silent why)) → PrintsUnlessDenied Prints CanWrite (Err why) old old
+ends_silently Prints CanWrite Finds why old (inl denied) prints = inl (inl denied)
+ends_silently Prints CanWrite Finds why old (inr finds) prints =
     inr (record { text = []; prints = prints finds; appended = appends-nothing old })
 
 -- What is printed holds, whether memory was refused or not.
-pub prints : (Prints : Printed → Type 0) (ended : Result Status Fault) (old new : Option (List ℕ))
-    → IsPrinted Prints ended old new → PrintsUnlessDenied Prints ended old new
-prints Prints (Ok status) old new printed = printed
-prints Prints (Err why) old new printed = inr printed
+pub prints : (Prints : Printed → Type 0) (CanWrite : Type 0) (ended : Result Status Fault) (old new : Option (List ℕ))
+    → IsPrinted Prints ended old new → PrintsUnlessDenied Prints CanWrite ended old new
+prints Prints CanWrite (Ok status) old new printed = printed
+prints Prints CanWrite (Err why) old new printed = inr printed
 
 -- What is printed at first, and then nothing more, is what is printed in the end.
-pub goes_on : (First Prints : Printed → Type 0) (ended : Result Status Fault) (old mid new : Option (List ℕ))
+pub goes_on : (First Prints : Printed → Type 0) (Early CanWrite : Type 0) (ended : Result Status Fault) (old mid new : Option (List ℕ))
     → ((printed : Printed) → First printed → Prints printed)
-    → PrintsUnlessDenied First ended old mid → Keeps mid new → PrintsUnlessDenied Prints ended old new
-goes_on First Prints (Ok status) old mid new leads is kept = record {
+    → CanWrite → PrintsUnlessDenied First Early ended old mid → Keeps mid new
+    → PrintsUnlessDenied Prints CanWrite ended old new
+goes_on First Prints Early CanWrite (Ok status) old mid new leads can is kept = record {
   text = is.text;
   prints = leads (record { text = is.text; ended = Ok status }) is.prints;
   appended = appends-keeps old mid new is.text is.appended kept;
 }
-goes_on First Prints (Err why) old mid new leads (inl denied) kept = inl denied
-goes_on First Prints (Err why) old mid new leads (inr is) kept = inr (record {
+goes_on First Prints Early CanWrite (Err why) old mid new leads can (inl (inl memory)) kept = inl (inl memory)
+goes_on First Prints Early CanWrite (Err why) old mid new leads can (inl (inr output)) kept = inl (inr (output.0, can))
+goes_on First Prints Early CanWrite (Err why) old mid new leads can (inr is) kept = inr (record {
   text = is.text;
   prints = leads (record { text = is.text; ended = Err why }) is.prints;
   appended = appends-keeps old mid new is.text is.appended kept;

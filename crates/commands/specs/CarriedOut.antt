@@ -6,16 +6,18 @@ use Rattle.commands.specs.Checking.{Checks}
 use Rattle.commands.specs.Decoded.{Decodes}
 use Rattle.commands.specs.Dumping.{Dumps}
 use Rattle.commands.specs.Encoding.{Encodes}
+use Rattle.commands.specs.Inputs.{CanCheck, CanDecode, CanDump, CanEncode, CanReplay}
 use Rattle.commands.specs.Known.{Content}
 use Rattle.commands.specs.Printed.{PrintsUnlessDenied}
 use Rattle.commands.specs.Replaying.{Replays}
 use Rattle.commands.specs.declared.fault.Fault.{Fault}
 use Rattle.commands.specs.declared.status.Status.{Status}
 
--- What is asked for was printed, and was the end, unless memory was refused or the output failed.
+-- What is asked for was printed, and was the end, unless memory was refused, or, once all inputs were found, the output
+-- failed.
 abbrev pub IsCarriedOut : Content → Asked → Result Status Fault → Option (List ℕ) → Option (List ℕ) → Type 0
-IsCarriedOut content (Check asked) ended old new = PrintsUnlessDenied (Checks content asked) ended old new
-IsCarriedOut content (Encode asked) ended old new = PrintsUnlessDenied (Encodes content asked) ended old new
-IsCarriedOut content (Dump asked) ended old new = PrintsUnlessDenied (Dumps content asked) ended old new
-IsCarriedOut content (Decode asked) ended old new = PrintsUnlessDenied (Decodes content asked) ended old new
-IsCarriedOut content (Replay asked) ended old new = PrintsUnlessDenied (Replays content asked) ended old new
+IsCarriedOut content (Check asked) ended old new = PrintsUnlessDenied (Checks content asked) (CanCheck content asked) ended old new
+IsCarriedOut content (Encode asked) ended old new = PrintsUnlessDenied (Encodes content asked) (CanEncode content asked) ended old new
+IsCarriedOut content (Dump asked) ended old new = PrintsUnlessDenied (Dumps content asked) (CanDump content asked) ended old new
+IsCarriedOut content (Decode asked) ended old new = PrintsUnlessDenied (Decodes content asked) (CanDecode content asked) ended old new
+IsCarriedOut content (Replay asked) ended old new = PrintsUnlessDenied (Replays content asked) (CanReplay content asked) ended old new

@@ -10,5 +10,6 @@ pub mod Checking
 pub mod Dumping
 pub mod Decoded
 pub mod Replaying
+pub mod Inputs
 pub mod CarriedOut
 pub mod Begun

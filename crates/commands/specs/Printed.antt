@@ -29,11 +29,11 @@ pub record IsPrinted (Prints : Printed → Type 0) (ended : Result Status Fault)
   pub prints : Prints (record { text = text; ended = ended })
   pub appended : Appends old new text
 
--- Memory was refused, or the output failed.
-abbrev pub IsDenied : Fault → Type 0
-IsDenied why = (why ≡ fault.Memory) ⊎ (why ≡ fault.Output)
+-- Memory was refused, or the output failed, which it can once this is so.
+abbrev pub IsDenied : Type 0 → Fault → Type 0
+IsDenied CanWrite why = (why ≡ fault.Memory) ⊎ ((why ≡ fault.Output) × CanWrite)
 
--- That is what was printed, unless memory was refused or the output failed.
-abbrev pub PrintsUnlessDenied : (Printed → Type 0) → Result Status Fault → Option (List ℕ) → Option (List ℕ) → Type 0
-PrintsUnlessDenied Prints (Ok status) old new = IsPrinted Prints (Ok status) old new
-PrintsUnlessDenied Prints (Err why) old new = IsDenied why ⊎ IsPrinted Prints (Err why) old new
+-- That is what was printed, unless memory was refused, or the output failed, which it can once this is so.
+abbrev pub PrintsUnlessDenied : (Printed → Type 0) → Type 0 → Result Status Fault → Option (List ℕ) → Option (List ℕ) → Type 0
+PrintsUnlessDenied Prints CanWrite (Ok status) old new = IsPrinted Prints (Ok status) old new
+PrintsUnlessDenied Prints CanWrite (Err why) old new = IsDenied CanWrite why ⊎ IsPrinted Prints (Err why) old new

@@ -1,10 +1,11 @@
 //! The subcommand `check`.
 
-ghost use Rattle.std.specs.Prelude.{◌≡◌, ◌⊎◌, ◌≤◌, ◌^◌, Err, IfErr, IfSome, OnOk, length};
+ghost use Rattle.std.specs.Prelude.{⊤, ◌≡◌, ◌⊎◌, ◌≤◌, ◌^◌, Err, IfErr, IfSome, OnOk, length};
 ghost use Rattle.std.specs.Io.KnownBytes.{Appends, Keeps};
 ghost use Rattle.commands.specs.Begun.{AppendsFirstLines, BeginsLines};
 ghost use Rattle.commands.specs.Checking.{Checks, IsVerdict, WritesLines, verdict_line};
 ghost use Rattle.commands.specs.Order.{logs_fault};
+ghost use Rattle.commands.specs.Inputs.{CanCheck};
 ghost use Rattle.commands.specs.Printed.{PrintsUnlessDenied};
 ghost use Rattle.retire.specs.Number.{number_of};
 ghost use Rattle.rvclass.specs.Fetch.{words_of};
@@ -30,7 +31,8 @@ pub fn check<'a, F: Files, O: Write>(
 ) -> Result<Status, Fault<'a>>
     ensures early { IfSome (logs_fault (number_of asked.now.base.now) (length asked.now.logs.items))
         (λ fault. result ≡ Err fault) }
-    ensures printed { PrintsUnlessDenied (Checks (F.content files.old) asked.now) result (O.contents out.old) (O.contents out.new) }
+    ensures printed { PrintsUnlessDenied (Checks (F.content files.old) asked.now) (CanCheck (F.content files.old) asked.now) result
+        (O.contents out.old) (O.contents out.new) }
     ensures begun { result ≡ Err Fault.Memory → Keeps (O.contents out.old) (O.contents out.new)
         ⊎ BeginsLines (F.content files.old) asked.now (O.contents out.old) (O.contents out.new) }
 {
@@ -50,7 +52,7 @@ fn judge_all<'a, F: Files, O: Write>(
     logs: &[&'a str],
     out: &mut O,
 ) -> Result<Status, Fault<'a>>
-    ensures printed { PrintsUnlessDenied (WritesLines (F.content files.old) program.now logs.now) result
+    ensures printed { PrintsUnlessDenied (WritesLines (F.content files.old) program.now logs.now) ⊤ result
         (O.contents out.old) (O.contents out.new) }
     ensures begun { result ≡ Err Fault.Memory → AppendsFirstLines (F.content files.old) program.now logs.now
         (O.contents out.old) (O.contents out.new) }

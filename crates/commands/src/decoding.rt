@@ -1,10 +1,11 @@
 //! The subcommand `decode`.
 
-ghost use Rattle.std.specs.Prelude.{◌≡◌, ◌≢◌, ◌⊎◌, Err, IfErr, IfSome, OnOk};
+ghost use Rattle.std.specs.Prelude.{⊤, ◌≡◌, ◌≢◌, ◌⊎◌, Err, IfErr, IfSome, OnOk};
 ghost use Rattle.std.specs.Io.KnownBytes.{Appends, Keeps};
 ghost use Rattle.receiver.specs.Received.{events_in};
 ghost use Rattle.commands.specs.Begun.{AppendsBeginning, BeginsPrinted};
 ghost use Rattle.commands.specs.Decoded.{Decodes, harts_text};
+ghost use Rattle.commands.specs.Inputs.{CanDecode};
 ghost use Rattle.commands.specs.Printed.{IsDenied, PrintsUnlessDenied};
 ghost use Rattle.retire.specs.Number.{number_of};
 ghost use Rattle.commands.specs.Decoding.{end_of_capture};
@@ -31,7 +32,8 @@ pub fn decode<'a, F: Files, O: Write>(
 ) -> Result<Status, Fault<'a>>
     ensures early { IfSome (base_fault (number_of asked.now.base.now)) (λ fault. result ≡ Err fault) }
     ensures refused { end_of result ≡ Status.Refused → out.new ≡ out.old }
-    ensures printed { PrintsUnlessDenied (Decodes (F.content files.old) asked.now) result (O.contents out.old) (O.contents out.new) }
+    ensures printed { PrintsUnlessDenied (Decodes (F.content files.old) asked.now) (CanDecode (F.content files.old) asked.now) result
+        (O.contents out.old) (O.contents out.new) }
     ensures begun { result ≡ Err Fault.Memory → Keeps (O.contents out.old) (O.contents out.new)
         ⊎ BeginsPrinted (Decodes (F.content files.old) asked.now) (O.contents out.old) (O.contents out.new) }
 {
@@ -53,7 +55,7 @@ fn write_logs<'a, O: Write>(
     out: &mut O,
 ) -> Result<(), Fault<'a>>
     ensures machine { IfErr result (λ fault. status_of fault ≡ Status.Machine) }
-    ensures denied { IfErr result IsDenied }
+    ensures denied { IfErr result (IsDenied ⊤) }
     ensures text { OnOk result (Appends (O.contents out.old) (O.contents out.new) (harts_text 0 (events_in logs.now))) }
     ensures begun { result ≡ Err Fault.Memory
         → AppendsBeginning (harts_text 0 (events_in logs.now)) (O.contents out.old) (O.contents out.new) }

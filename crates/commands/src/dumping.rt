@@ -3,6 +3,7 @@
 ghost use Rattle.std.specs.Prelude.{◌≡◌, ◌≢◌, Err};
 ghost use Rattle.commands.specs.Dumping.{Dumps, end_of_dump};
 ghost use Rattle.commands.specs.Faults.{end_of};
+ghost use Rattle.commands.specs.Inputs.{CanDump};
 ghost use Rattle.commands.specs.Printed.{PrintsUnlessDenied};
 
 use crate::fault::Fault;
@@ -22,7 +23,8 @@ pub fn dump<'a, F: Files, O: Write>(
 ) -> Result<Status, Fault<'a>>
     ensures refused { end_of result ≢ Status.Refused }
     ensures untouched { result ≡ Err Fault.Memory → out.new ≡ out.old }
-    ensures printed { PrintsUnlessDenied (Dumps (F.content files.old) asked.now) result (O.contents out.old) (O.contents out.new) }
+    ensures printed { PrintsUnlessDenied (Dumps (F.content files.old) asked.now) (CanDump (F.content files.old) asked.now) result
+        (O.contents out.old) (O.contents out.new) }
 {
     let bytes = content_of(files, asked.capture)?;
     let dumped = dump_capture(bytes.as_slice(), out)?;

@@ -6,6 +6,7 @@ ghost use Rattle.captures.specs.Messages.{messages_of_harts};
 ghost use Rattle.commands.specs.Encoding.{Encodes, written};
 ghost use Rattle.commands.specs.Faults.{end_of};
 ghost use Rattle.commands.specs.Order.{logs_fault};
+ghost use Rattle.commands.specs.Inputs.{CanEncode};
 ghost use Rattle.commands.specs.Printed.{PrintsUnlessDenied};
 ghost use Rattle.retire.specs.Number.{number_of};
 
@@ -31,7 +32,8 @@ pub fn encode<'a, F: Files, O: Write>(
         (λ fault. result ≡ Err fault) }
     ensures refused { end_of result ≡ Status.Refused → out.new ≡ out.old }
     ensures untouched { result ≡ Err Fault.Memory → out.new ≡ out.old }
-    ensures printed { PrintsUnlessDenied (Encodes (F.content files.old) asked.now) result (O.contents out.old) (O.contents out.new) }
+    ensures printed { PrintsUnlessDenied (Encodes (F.content files.old) asked.now) (CanEncode (F.content files.old) asked.now) result
+        (O.contents out.old) (O.contents out.new) }
 {
     let base = base_of(asked.base)?;
     counted(asked.logs.as_slice())?;

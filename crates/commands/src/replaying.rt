@@ -8,6 +8,7 @@ ghost use Rattle.bench.specs.Replayed.{replayed};
 ghost use Rattle.bench.specs.Report.{is_whole, report_text};
 ghost use Rattle.commands.specs.Faults.{end_of};
 ghost use Rattle.commands.specs.Order.{logs_fault};
+ghost use Rattle.commands.specs.Inputs.{CanReplay};
 ghost use Rattle.commands.specs.Printed.{PrintsUnlessDenied};
 ghost use Rattle.commands.specs.Replaying.{AreGot, IsSchedule, IsSetting, Replays, config_of, end_of_report};
 
@@ -36,7 +37,8 @@ pub fn replay<'a, F: Files, O: Write>(
         (λ fault. result ≡ Err fault) }
     ensures refused { end_of result ≡ Status.Refused → out.new ≡ out.old }
     ensures untouched { result ≡ Err Fault.Memory → out.new ≡ out.old }
-    ensures printed { PrintsUnlessDenied (Replays (F.content files.old) asked.now) result (O.contents out.old) (O.contents out.new) }
+    ensures printed { PrintsUnlessDenied (Replays (F.content files.old) asked.now) (CanReplay (F.content files.old) asked.now) result
+        (O.contents out.old) (O.contents out.new) }
 {
     let base = base_of(asked.base)?;
     counted(asked.logs.as_slice())?;

@@ -1,9 +1,11 @@
 -- The prover tries no chain of steps by itself: what each step found is handed to it, in order.
 use Rattle.std.proofs.Common.{◌≡◌, inr, refl, subst, sym, arith, Ok, Err}
 use Rattle.std.proofs.lemmas.Grind.{common_steps}
+use Rattle.std.specs.Prelude.{⊤}
 use Rattle.commands.specs.Begun.{AppendsFirstLines}
 use Rattle.commands.specs.Checking.{Checks, WritesLines}
 use Rattle.commands.specs.Found.{AreFew, IsProgram}
+use Rattle.commands.specs.Inputs.{CanCheck}
 use Rattle.commands.specs.Printed.{PrintsUnlessDenied}
 use Rattle.commands.proofs.Beginnings.{lines_kept}
 use Rattle.commands.proofs.Runs.{ends_silently, goes_on}
@@ -14,11 +16,12 @@ returns-in_err-counted-clause-printed g c =
     let out = g.O.Write.contents c.args.out.now in
     let asked = c.args.asked.now in
     let run = Checks (g.F.Files.content c.args.files.now) asked in
+    let can = CanCheck (g.F.Files.content c.args.files.now) asked in
     let why = c.in_err-counted.field-0.0 in
     let is : c.from_residual-in_err-counted.result ≡ Err why = grind (arith, common_steps) in
     let many = subst (λ logs. AreFew logs (Err why)) c.as_slice.ensures.value c.in_err-counted.ensures.found in
-    subst (λ r. PrintsUnlessDenied run r out out) (sym is)
-    (ends_silently run (AreFew asked.logs.items (Err why)) why out (inr many)
+    subst (λ r. PrintsUnlessDenied run can r out out) (sym is)
+    (ends_silently run can (AreFew asked.logs.items (Err why)) why out (inr many)
     (λ many. (Ok c.in_ok-base.base, c.in_ok-base.ensures.found, (Err why, many, refl))))
 
 pub returns-in_err-program-clause-printed : goal.returns-in_err-program-clause-printed
@@ -27,13 +30,14 @@ returns-in_err-program-clause-printed g c =
     let asked = c.args.asked.now in
     let content = g.F.Files.content c.args.files.now in
     let run = Checks content asked in
+    let can = CanCheck content asked in
     let base = c.in_ok-base.base in
     let why = c.in_err-program.field-0.0 in
     let is : c.from_residual-in_err-program.result ≡ Err why = grind (arith, common_steps) in
     let counted = Ok c.in_ok-counted.field-0 in
     let few = subst (λ logs. AreFew logs counted) c.as_slice.ensures.value c.in_ok-counted.ensures.found in
-    subst (λ r. PrintsUnlessDenied run r out out) (sym is)
-    (ends_silently run (IsProgram content base asked.image (Err why)) why out c.in_err-program.ensures.fault
+    subst (λ r. PrintsUnlessDenied run can r out out) (sym is)
+    (ends_silently run can (IsProgram content base asked.image (Err why)) why out c.in_err-program.ensures.fault
     (λ none. (Ok base, c.in_ok-base.ensures.found, (counted, few, (Err why, none, refl)))))
 
 pub returns-clause-printed : goal.returns-clause-printed
@@ -46,15 +50,23 @@ returns-clause-printed g c =
     let few = subst (λ logs. AreFew logs counted) c.as_slice.ensures.value c.in_ok-counted.ensures.found in
     let ended = c.judge_all-ended.result in
     let mid = contents c.judge_all-ended.new.out in
-    let lines = subst (λ logs. PrintsUnlessDenied (WritesLines content program logs) ended (contents c.args.out.now) mid) c.as_slice-2.ensures.value
-    (subst (λ told. PrintsUnlessDenied (WritesLines told program c.as_slice-2.result.now) ended (contents c.args.out.now) mid)
+    let lines = subst (λ logs. PrintsUnlessDenied (WritesLines content program logs) ⊤ ended (contents c.args.out.now) mid) c.as_slice-2.ensures.value
+    (subst (λ told. PrintsUnlessDenied (WritesLines told program c.as_slice-2.result.now) ⊤ ended (contents c.args.out.now) mid)
     c.in_ok-program.ensures.kept c.judge_all-ended.ensures.printed) in
-    goes_on (WritesLines content program asked.logs.items) (Checks content asked) ended (contents c.args.out.now) mid (contents c.flush.new.self)
+    goes_on (WritesLines content program asked.logs.items) (Checks content asked) ⊤ (CanCheck content asked) ended (contents c.args.out.now) mid (contents c.flush.new.self)
     (λ printed lines. (
       Ok c.in_ok-base.base,
       c.in_ok-base.ensures.found,
       (counted, few, (Ok program, c.in_ok-program.ensures.program, lines)),
-    ))
+    )) (
+      few,
+      record {
+        base = c.in_ok-base.base;
+        program = program;
+        based = c.in_ok-base.ensures.found;
+        found = c.in_ok-program.ensures.program;
+      },
+    )
     lines c.flush.ensures.bytes
 
 pub returns-clause-begun : goal.returns-clause-begun

@@ -8,6 +8,7 @@ use Rattle.rvclass.specs.Fetch.{words_of}
 use Rattle.commands.specs.Begun.{AppendsBeginning}
 use Rattle.commands.specs.Decoded.{Decodes, harts_text}
 use Rattle.commands.specs.Found.{IsProgram, IsRead}
+use Rattle.commands.specs.Inputs.{CanDecode}
 use Rattle.commands.specs.Printed.{PrintsUnlessDenied}
 use Rattle.commands.specs.declared.fault.Fault.TheVariants as fault
 use Rattle.commands.proofs.DecodedRuns.{decode_begun, decodes, whole_begun}
@@ -20,11 +21,12 @@ returns-in_err-program-clause-printed g c =
     let asked = c.args.asked.now in
     let content = g.F.Files.content c.args.files.now in
     let run = Decodes content asked in
+    let can = CanDecode content asked in
     let base = c.in_ok-base.base in
     let why = c.in_err-program.field-0.0 in
     let is : c.from_residual-in_err-program.result ≡ Err why = grind (arith, common_steps) in
-    subst (λ r. PrintsUnlessDenied run r out out) (sym is)
-    (ends_silently run (IsProgram content base asked.image (Err why)) why out c.in_err-program.ensures.fault
+    subst (λ r. PrintsUnlessDenied run can r out out) (sym is)
+    (ends_silently run can (IsProgram content base asked.image (Err why)) why out c.in_err-program.ensures.fault
     (λ none. (Ok base, c.in_ok-base.ensures.found, (Err why, none, refl))))
 
 pub returns-in_err-bytes-clause-printed : goal.returns-in_err-bytes-clause-printed
@@ -33,13 +35,14 @@ returns-in_err-bytes-clause-printed g c =
     let asked = c.args.asked.now in
     let content = g.F.Files.content c.args.files.now in
     let run = Decodes content asked in
+    let can = CanDecode content asked in
     let base = c.in_ok-base.base in
     let program = c.in_ok-program.program in
     let why = c.in_err-bytes.field-0.0 in
     let is : c.from_residual-in_err-bytes.result ≡ Err why = grind (arith, common_steps) in
     let told = subst (λ told. (why ≡ fault.Memory) ⊎ IsRead told asked.capture (Err why)) c.in_ok-program.ensures.kept c.in_err-bytes.ensures.lacked in
-    subst (λ r. PrintsUnlessDenied run r out out) (sym is)
-    (ends_silently run (IsRead content asked.capture (Err why)) why out told
+    subst (λ r. PrintsUnlessDenied run can r out out) (sym is)
+    (ends_silently run can (IsRead content asked.capture (Err why)) why out told
     (λ none. (Ok base, c.in_ok-base.ensures.found, (Ok program, c.in_ok-program.ensures.program, (Err why, none, refl)))))
 
 pub returns-clause-printed : goal.returns-clause-printed
@@ -57,7 +60,7 @@ returns-clause-printed g c =
     (subst (λ r. IfOk r (λ outcome. IsDecoded (words_of program) asked.harts c.as_slice.result.now (events_in outcome.harts.items) outcome.closed.items outcome.fault)) was c.decode_capture.ensures.decoded) in
     let read = subst (λ told. IsRead told asked.capture (Ok bytes)) c.in_ok-program.ensures.kept c.in_ok-bytes.ensures.held in
     let text = subst (λ logs. Appends (contents c.args.out.now) (contents c.write_logs.new.out) (harts_text 0 (events_in logs))) c.as_slice-2.ensures.value c.in_ok-write_logs.ensures.text in
-    prints (Decodes content asked) c.ended.result (contents c.args.out.now) (contents c.flush.new.self) (record {
+    prints (Decodes content asked) (CanDecode content asked) c.ended.result (contents c.args.out.now) (contents c.flush.new.self) (record {
       text = harts_text 0 lists;
       prints = subst (λ ended. Decodes content asked (record { text = harts_text 0 lists; ended = ended })) (sym c.ended.ensures.value)
           (decodes content asked c.in_ok-base.base program bytes lists outcome.closed.items outcome.fault

@@ -5,6 +5,7 @@ use Rattle.std.specs.Io.KnownBytes.{Appends}
 use Rattle.captures.specs.Messages.{messages_of_harts}
 use Rattle.commands.specs.Encoding.{Encodes, written}
 use Rattle.commands.specs.Found.{AreFew, AreLegalLogs, IsProgram}
+use Rattle.commands.specs.Inputs.{CanEncode}
 use Rattle.commands.specs.Printed.{PrintsUnlessDenied}
 use Rattle.commands.specs.declared.fault.Fault.TheVariants as fault
 use Rattle.commands.proofs.Runs.{appends-keeps, ends_silently}
@@ -15,11 +16,12 @@ returns-in_err-counted-clause-printed g c =
     let out = g.O.Write.contents c.args.out.now in
     let asked = c.args.asked.now in
     let run = Encodes (g.F.Files.content c.args.files.now) asked in
+    let can = CanEncode (g.F.Files.content c.args.files.now) asked in
     let why = c.in_err-counted.field-0.0 in
     let is : c.from_residual-in_err-counted.result ≡ Err why = grind (arith, common_steps) in
     let many = subst (λ logs. AreFew logs (Err why)) c.as_slice.ensures.value c.in_err-counted.ensures.found in
-    subst (λ r. PrintsUnlessDenied run r out out) (sym is)
-    (ends_silently run (AreFew asked.logs.items (Err why)) why out (inr many)
+    subst (λ r. PrintsUnlessDenied run can r out out) (sym is)
+    (ends_silently run can (AreFew asked.logs.items (Err why)) why out (inr many)
     (λ many. (Ok c.in_ok-base.base, c.in_ok-base.ensures.found, (Err why, many, refl))))
 
 pub returns-in_err-program-clause-printed : goal.returns-in_err-program-clause-printed
@@ -28,13 +30,14 @@ returns-in_err-program-clause-printed g c =
     let asked = c.args.asked.now in
     let content = g.F.Files.content c.args.files.now in
     let run = Encodes content asked in
+    let can = CanEncode content asked in
     let base = c.in_ok-base.base in
     let why = c.in_err-program.field-0.0 in
     let is : c.from_residual-in_err-program.result ≡ Err why = grind (arith, common_steps) in
     let counted = Ok c.in_ok-counted.field-0 in
     let few = subst (λ logs. AreFew logs counted) c.as_slice.ensures.value c.in_ok-counted.ensures.found in
-    subst (λ r. PrintsUnlessDenied run r out out) (sym is)
-    (ends_silently run (IsProgram content base asked.image (Err why)) why out c.in_err-program.ensures.fault
+    subst (λ r. PrintsUnlessDenied run can r out out) (sym is)
+    (ends_silently run can (IsProgram content base asked.image (Err why)) why out c.in_err-program.ensures.fault
     (λ none. (Ok base, c.in_ok-base.ensures.found, (counted, few, (Err why, none, refl)))))
 
 pub returns-in_err-legal-clause-printed : goal.returns-in_err-legal-clause-printed
@@ -43,6 +46,7 @@ returns-in_err-legal-clause-printed g c =
     let asked = c.args.asked.now in
     let content = g.F.Files.content c.args.files.now in
     let run = Encodes content asked in
+    let can = CanEncode content asked in
     let base = c.in_ok-base.base in
     let program = c.in_ok-program.program in
     let why = c.in_err-legal.field-0.0 in
@@ -51,8 +55,8 @@ returns-in_err-legal-clause-printed g c =
     let few = subst (λ logs. AreFew logs counted) c.as_slice.ensures.value c.in_ok-counted.ensures.found in
     let told = subst (λ logs. (why ≡ fault.Memory) ⊎ AreLegalLogs content program logs (Err why)) c.as_slice-2.ensures.value
     (subst (λ told. (why ≡ fault.Memory) ⊎ AreLegalLogs told program c.as_slice-2.result.now (Err why)) c.in_ok-program.ensures.kept c.in_err-legal.ensures.fault) in
-    subst (λ r. PrintsUnlessDenied run r out out) (sym is)
-    (ends_silently run (AreLegalLogs content program asked.logs.items (Err why)) why out told
+    subst (λ r. PrintsUnlessDenied run can r out out) (sym is)
+    (ends_silently run can (AreLegalLogs content program asked.logs.items (Err why)) why out told
     (λ none. (Ok base, c.in_ok-base.ensures.found, (counted, few, (Ok program, c.in_ok-program.ensures.program, (Err why, none, refl))))))
 
 pub returns-clause-printed : goal.returns-clause-printed

@@ -6,6 +6,7 @@ use Rattle.bench.specs.Got.{got_of}
 use Rattle.bench.specs.Replayed.{replayed}
 use Rattle.bench.specs.Report.{is_whole, report_text}
 use Rattle.commands.specs.Found.{AreFew, AreLegalLogs, IsProgram}
+use Rattle.commands.specs.Inputs.{CanReplay}
 use Rattle.commands.specs.Printed.{PrintsUnlessDenied}
 use Rattle.commands.specs.Replaying.{AreGot, IsSchedule, IsSetting, Replays, end_of_report}
 use Rattle.commands.specs.declared.fault.Fault.TheVariants as fault
@@ -17,11 +18,12 @@ returns-in_err-counted-clause-printed g c =
     let out = g.O.Write.contents c.args.out.now in
     let asked = c.args.asked.now in
     let run = Replays (g.F.Files.content c.args.files.now) asked in
+    let can = CanReplay (g.F.Files.content c.args.files.now) asked in
     let why = c.in_err-counted.field-0.0 in
     let is : c.from_residual-in_err-counted.result ≡ Err why = grind (arith, common_steps) in
     let many = subst (λ logs. AreFew logs (Err why)) c.as_slice.ensures.value c.in_err-counted.ensures.found in
-    subst (λ r. PrintsUnlessDenied run r out out) (sym is)
-    (ends_silently run (AreFew asked.logs.items (Err why)) why out (inr many)
+    subst (λ r. PrintsUnlessDenied run can r out out) (sym is)
+    (ends_silently run can (AreFew asked.logs.items (Err why)) why out (inr many)
     (λ many. (Ok c.in_ok-base.base, c.in_ok-base.ensures.found, (Err why, many, refl))))
 
 pub returns-in_err-program-clause-printed : goal.returns-in_err-program-clause-printed
@@ -30,13 +32,14 @@ returns-in_err-program-clause-printed g c =
     let asked = c.args.asked.now in
     let content = g.F.Files.content c.args.files.now in
     let run = Replays content asked in
+    let can = CanReplay content asked in
     let base = c.in_ok-base.base in
     let why = c.in_err-program.field-0.0 in
     let is : c.from_residual-in_err-program.result ≡ Err why = grind (arith, common_steps) in
     let counted = Ok c.in_ok-counted.field-0 in
     let few = subst (λ logs. AreFew logs counted) c.as_slice.ensures.value c.in_ok-counted.ensures.found in
-    subst (λ r. PrintsUnlessDenied run r out out) (sym is)
-    (ends_silently run (IsProgram content base asked.image (Err why)) why out c.in_err-program.ensures.fault
+    subst (λ r. PrintsUnlessDenied run can r out out) (sym is)
+    (ends_silently run can (IsProgram content base asked.image (Err why)) why out c.in_err-program.ensures.fault
     (λ none. (Ok base, c.in_ok-base.ensures.found, (counted, few, (Err why, none, refl)))))
 
 pub returns-in_err-legal-clause-printed : goal.returns-in_err-legal-clause-printed
@@ -45,6 +48,7 @@ returns-in_err-legal-clause-printed g c =
     let asked = c.args.asked.now in
     let content = g.F.Files.content c.args.files.now in
     let run = Replays content asked in
+    let can = CanReplay content asked in
     let base = c.in_ok-base.base in
     let program = c.in_ok-program.program in
     let why = c.in_err-legal.field-0.0 in
@@ -55,8 +59,8 @@ returns-in_err-legal-clause-printed g c =
     (subst (λ told. (why ≡ fault.Memory) ⊎ AreLegalLogs told program c.as_slice-2.result.now (Err why))
     c.in_ok-program.ensures.kept c.in_err-legal.ensures.fault) in
     let ready = c.in_ok-program.ensures.program in
-    subst (λ r. PrintsUnlessDenied run r out out) (sym is)
-    (ends_silently run (AreLegalLogs content program asked.logs.items (Err why)) why out told
+    subst (λ r. PrintsUnlessDenied run can r out out) (sym is)
+    (ends_silently run can (AreLegalLogs content program asked.logs.items (Err why)) why out told
     (λ none. (Ok base, c.in_ok-base.ensures.found, (counted, few, (Ok program, ready, (Err why, none, refl))))))
 
 pub returns-in_err-turns-clause-printed : goal.returns-in_err-turns-clause-printed
@@ -65,6 +69,7 @@ returns-in_err-turns-clause-printed g c =
     let asked = c.args.asked.now in
     let content = g.F.Files.content c.args.files.now in
     let run = Replays content asked in
+    let can = CanReplay content asked in
     let base = c.in_ok-base.base in
     let program = c.in_ok-program.program in
     let logs = c.in_ok-legal.legal.items in
@@ -80,8 +85,8 @@ returns-in_err-turns-clause-printed g c =
     (subst (λ told. (why ≡ fault.Memory) ⊎ IsSchedule told c.len.result asked.schedule (Err why))
     (c.in_ok-legal.ensures.kept ∙ c.in_ok-program.ensures.kept) c.in_err-turns.ensures.fault) in
     let ready = c.in_ok-program.ensures.program in
-    subst (λ r. PrintsUnlessDenied run r out out) (sym is)
-    (ends_silently run (IsSchedule content (length asked.logs.items) asked.schedule (Err why)) why out told
+    subst (λ r. PrintsUnlessDenied run can r out out) (sym is)
+    (ends_silently run can (IsSchedule content (length asked.logs.items) asked.schedule (Err why)) why out told
     (λ none. (
       Ok base,
       c.in_ok-base.ensures.found,
@@ -94,6 +99,7 @@ returns-in_err-outcome-clause-printed g c =
     let asked = c.args.asked.now in
     let content = g.F.Files.content c.args.files.now in
     let run = Replays content asked in
+    let can = CanReplay content asked in
     let base = c.in_ok-base.base in
     let program = c.in_ok-program.program in
     let logs = c.in_ok-legal.legal.items in
@@ -116,8 +122,8 @@ returns-in_err-outcome-clause-printed g c =
     (subst (λ logs. (why ≡ fault.Memory) ⊎ IsSetting (length logs) asked (Err why)) c.as_slice-3.ensures.value
     c.in_err-outcome.ensures.fault) in
     let ready = c.in_ok-program.ensures.program in
-    subst (λ r. PrintsUnlessDenied run r out out) (sym is)
-    (ends_silently run (IsSetting (length asked.logs.items) asked (Err why)) why out stands
+    subst (λ r. PrintsUnlessDenied run can r out out) (sym is)
+    (ends_silently run can (IsSetting (length asked.logs.items) asked (Err why)) why out stands
     (λ none. (
       Ok base,
       c.in_ok-base.ensures.found,
