@@ -32,9 +32,8 @@ use Rattle.message.specs.declared.hart.Hart.{Hart}
 use Rattle.message.specs.declared.message.Message.{Message}
 use Rattle.receiver.specs.Holds.{HoldsHart}
 use Rattle.receiver.specs.Received.{IsReceived, Received}
-use Rattle.bench.specs.Collected.{Collected, HasCollected, IsMessageOf, Taken}
+use Rattle.bench.specs.Collected.{Collected, HasCollected, IsMessageOf, Taken, counted, packets_with, with_packet}
 use Rattle.bench.specs.Got.{Got, got_after, kept}
-use Rattle.bench.specs.steps.Collecting.{counted, packets_with, with_packet}
 use Rattle.bench.proofs.ClosingLast.{All_at, packet_at}
 use Rattle.bench.proofs.GotLemmas.{profile}
 use Rattle.bench.proofs.TakenPackets.{first_ended}

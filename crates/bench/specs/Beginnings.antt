@@ -1,5 +1,5 @@
 -- What came of harts through a funnel.
-use Rattle.std.specs.Prelude.{ℕ, ◌≡◌, ◌≤◌, All, Bool, true, false, IsFalse, IsSomeAnd, IsTrue, List, Option, Some, None, length, slice_get}
+use Rattle.std.specs.Prelude.{ℕ, ◌≡◌, ◌≤◌, ◌<◌, All, Bool, true, false, IsFalse, IsSomeAnd, IsTrue, List, Option, Some, None, length, slice_get}
 use Rattle.legalpath.specs.ProgramLog.{ProgramLog}
 use Rattle.message.specs.OfHart.{of_hart}
 use Rattle.message.specs.declared.message.Message.{Message}
@@ -31,9 +31,17 @@ AreThoseTaken {A} config logs taken harts =
     → (count : ℕ) × HasGot config.period config.keep log count (got_of came)
     × CameOf came.refused (length (of_hart hart taken)) count
 
--- There is no stop exactly where memory for no hart was refused, and else one of those harts is named.
+-- Of each hart for which memory was refused fewer packets came than messages of it are among these.
+abbrev pub LackSome : {A : Type 0} → List Message → List (HartOutcome A) → Type 0
+LackSome {A} taken harts =
+    (hart : ℕ) (came : HartOutcome A) → slice_get harts hart ≡ Some came → IsTrue came.refused
+    → came.taken < length (of_hart hart taken)
+
+-- There is no stop exactly where memory for no hart was refused, and else one of those harts is named, whose closing
+-- packet did not come.
 abbrev pub NamesRefused : {A : Type 0} → Option Stop → List (HartOutcome A) → Type 0
 NamesRefused None harts = All (λ hart. IsFalse hart.refused) harts
-NamesRefused (Some (stop.Memory hart)) harts = IsSomeAnd (slice_get harts hart) (λ came. IsTrue came.refused)
+NamesRefused (Some (stop.Memory hart)) harts =
+    IsSomeAnd (slice_get harts hart) (λ came. IsTrue came.refused × IsFalse came.closed)
 NamesRefused (Some (stop.HandedBack hart)) harts = ⊥
 NamesRefused (Some (stop.Ended hart)) harts = ⊥

@@ -1,10 +1,11 @@
 -- What a collector has of harts.
-use Rattle.std.specs.Prelude.{ℕ, ◌≡◌, ◌≤◌, ◌==◌, Bool, false, IsSomeAnd, IsTrue, List, Some, length, slice_get, take}
+use Rattle.std.specs.Prelude.{ℕ, ◌+◌, ◌-◌, ◌^◌, ◌≡◌, ◌≤◌, ◌==◌, ◌++◌, Bool, false, if◌then◌else◌, IsSomeAnd, IsTrue, List, [], ◌∷◌, Some, Ok, length, min, slice_get, take}
 use Rattle.rvclass.specs.Fetch.{words_of}
 use Rattle.legalpath.specs.ProgramLog.{ProgramLog}
 use Rattle.payload.specs.declared.packet.Packet.{Packet}
 use Rattle.encoder.specs.Packets.{packets}
 use Rattle.encoder.specs.Payloads.{payloads}
+use Rattle.message.specs.Accepting.{accepting}
 use Rattle.message.specs.declared.message.Message.{Message}
 use Rattle.receiver.specs.Holds.{HoldsHart}
 use Rattle.receiver.specs.Received.{IsSameHart, Received}
@@ -49,6 +50,33 @@ pub record IsMessageOf (period : ℕ) (log : ProgramLog) (place : ℕ) (message 
 -- Memory for the hart was refused.
 abbrev pub IsRefusedHart : ℕ → Collected → Type 0
 IsRefusedHart hart collected = IsSomeAnd (slice_get collected.harts hart) (λ (taken : Taken). IsTrue taken.refused)
+
+-- These packets with one more behind them, where packets are kept.
+abbrev pub packets_with : Bool → Packet → List Packet → List Packet
+packets_with keep packet packets = if keep then packets ++ packet ∷ [] else packets
+
+-- The sum, or the largest number of 64 bits where that is less.
+abbrev pub counted : ℕ → ℕ → ℕ
+counted number more = min (number + more) (2 ^ 64 - 1)
+
+-- What came of a hart with one packet more, whose payload has so many bytes.
+abbrev pub with_packet : Bool → Packet → ℕ → Taken → Taken
+with_packet keep packet bytes taken = record {
+  packets = packets_with keep packet taken.packets;
+  taken = counted taken.taken 1;
+  bytes = counted taken.bytes bytes;
+  refused = taken.refused;
+}
+
+-- Memory for the message's hart was not refused, and the demultiplexer accepts it, with this packet.
+pub record Accepts (message : Message) (packet : Packet) (collected : Collected) : Type 0 where
+  pub going : ¬ IsRefusedHart message.hart collected
+  pub answer : accepting collected.received.expected message ≡ Ok packet
+
+-- The hart has this log, and what is held of it is what these packets describe, by the log's program.
+pub record HasDecoded (log : ProgramLog) (hart : ℕ) (packets : List Packet) (collected : Collected) : Type 0 where
+  pub known : slice_get collected.logs hart ≡ Some log
+  pub holds : HoldsHart (words_of log.program) hart packets collected.received
 
 -- What a collector has of the hart is the same.
 pub record IsSameOf (hart : ℕ) (old new : Collected) : Type 0 where

@@ -1,19 +1,20 @@
 //! What is collected of messages that were taken.
 
-ghost use Rattle.std.specs.Prelude.{ℕ, ◌+◌, ◌≡◌, ◌≢◌, ◌<◌, ◌≤◌, ◌⊎◌, ◌↔◌, ◌++◌, All, Bool, true, List, [], ◌∷◌, None, Some, Ok, Err, IfErr, IfOk, IsSomeAnd, OnOk, get_or, length, replicate, slice_get, vec_capacity, vec_len};
+ghost use Rattle.std.specs.Prelude.{ℕ, ◌+◌, ◌≡◌, ◌≢◌, ◌<◌, ◌≤◌, ◌⊎◌, ◌↔◌, ◌++◌, All, Bool, true, List, [], ◌∷◌, None, Some, Ok, Err, IfErr, IfOk, IsSomeAnd, OnErr, OnOk, get_or, length, replicate, slice_get, vec_capacity, vec_len};
 ghost use Rattle.retire.specs.declared.event.Event.{Event as AnyEvent};
 ghost use Rattle.rvclass.specs.Fetch.{words_of};
 ghost use Rattle.legalpath.specs.ProgramLog.{IsLegalLog, ProgramLog};
 ghost use Rattle.payload.specs.declared.packet.Packet.{Packet as AnyPacket};
 ghost use Rattle.decoder.specs.Describes.{Describes};
 ghost use Rattle.decoder.specs.declared.fault.DecodeFault.{DecodeFault as AnyDecodeFault};
-ghost use Rattle.message.specs.Accepting.{accepting};
+ghost use Rattle.message.specs.Accepting.{accepting, harts_after};
 ghost use Rattle.message.specs.declared.fault.DemuxFault.{DemuxFault as AnyDemuxFault};
 ghost use Rattle.receiver.specs.Holds.{HoldsHart};
 ghost use Rattle.receiver.specs.Received.{IsReceived, IsSameHart, events_in};
-ghost use Rattle.bench.specs.Collected.{Came, Collected, HasCollected, IsMessageOf, IsRefusedHart, IsSameOf};
+ghost use Rattle.receiver.specs.Refused.{IsNotDecoded};
+ghost use Rattle.bench.specs.Collected.{Accepts, Came, Collected, HasCollected, HasDecoded, IsMessageOf, IsRefusedHart, IsSameOf, Taken, with_packet};
 ghost use Rattle.bench.specs.Got.{Got, got_of};
-ghost use Rattle.bench.specs.steps.Collecting.{IsCollected, IsLeftBy, closed_in, decoded_in, nothing, taken_in, taken_of, with_packet};
+ghost use Rattle.bench.specs.steps.Collecting.{IsCollected, IsLeftBy, closed_in, decoded_in, nothing, taken_in, taken_of};
 
 use crate::outcome::{HartOutcome, Outcome};
 use decoder::DecodeFault;
@@ -105,6 +106,26 @@ impl<'l, 'p, A: Allocator + Copy, B: Allocator> Collector<'l, 'p, A, B> {
         ensures demux { ¬ IsRefusedHart message.hart self.old → (why : AnyDemuxFault)
             → (result ≡ Err (CollectFault.Demux why)) ↔ (accepting self.old.received.expected message ≡ Err why) }
         ensures passed_over { IsRefusedHart message.hart self.old → (result ≡ Ok tt) × (self.new ≡ self.old) }
+
+        // Of a hart that is not refused, whatever its messages were: the packet of a message that is accepted is decoded
+        // behind those that were, and counted, unless no log is described with it or memory is refused.
+        ensures decoded { (packet : AnyPacket) (log : ProgramLog) (packets : List AnyPacket) → Accepts message packet self.old
+            → HasDecoded log message.hart packets self.old
+            → OnOk result (HasDecoded log message.hart (packets ++ packet ∷ []) self.new) }
+        ensures none { (packet : AnyPacket) (log : ProgramLog) (packets : List AnyPacket) → Accepts message packet self.old
+            → HasDecoded log message.hart packets self.old → IfErr result (λ fault. (fault ≡ CollectFault.Memory)
+            ⊎ ((events : List AnyEvent) → ¬ Describes (words_of log.program) (packets ++ packet ∷ []) events)) }
+        ensures reason { (packet : AnyPacket) (log : ProgramLog) (packets : List AnyPacket) (why : AnyDecodeFault) → Accepts message packet self.old
+            → HasDecoded log message.hart packets self.old → result ≡ Err (CollectFault.Decode why)
+            → IsNotDecoded (words_of log.program) packets packet why }
+        ensures counts { (packet : AnyPacket) (taken : Taken) → Accepts message packet self.old
+            → slice_get self.old.harts message.hart ≡ Some taken → OnOk result (slice_get self.new.harts message.hart
+            ≡ Some (with_packet self.old.keep packet (length message.payload) taken)) }
+        ensures expected { ¬ IsRefusedHart message.hart self.old
+            → self.new.received.expected ≡ harts_after self.old.received.expected message }
+        ensures kept { OnErr result (self.new.received
+            ≡ record self.old.received { expected = harts_after self.old.received.expected message }) }
+        ensures one_memory { result ≢ Err (CollectFault.Decode DecodeFault.Memory) }
     {
         let hart = usize::from(message.hart);
         if hart < self.harts.len() && self.harts[hart].refused {
@@ -202,12 +223,15 @@ fn take_packet<A: Allocator + Copy>(
         ≡ with_packet keep packet (length message.now.payload) (taken_of outcome.old)) }
     ensures left { IfErr result (λ fault. IsLeftBy fault (taken_of outcome.old) (taken_of outcome.new)) }
     ensures kept { IfErr result (λ fault. receiver.new ≡ receiver.old) }
+    ensures one_memory { result ≢ Err (CollectFault.Decode DecodeFault.Memory) }
     ensures hart { (packets : List AnyPacket) → HoldsHart (words_of program.now) message.now.hart packets receiver.old
         → OnOk result (HoldsHart (words_of program.now) message.now.hart (packets ++ packet ∷ []) receiver.new) }
     ensures others { (other : ℕ) → other ≢ message.now.hart → IsSameHart other receiver.old receiver.new }
     ensures none { (packets : List AnyPacket) → HoldsHart (words_of program.now) message.now.hart packets receiver.old
         → IfErr result (λ fault. (fault ≡ CollectFault.Memory)
         ⊎ ((log : List AnyEvent) → ¬ Describes (words_of program.now) (packets ++ packet ∷ []) log)) }
+    ensures reason { (packets : List AnyPacket) (why : AnyDecodeFault) → HoldsHart (words_of program.now) message.now.hart packets receiver.old
+        → result ≡ Err (CollectFault.Decode why) → IsNotDecoded (words_of program.now) packets packet why }
     ensures expected { receiver.new.expected ≡ receiver.old.expected }
     ensures complete { IsReceived receiver.old → IsReceived receiver.new }
 {

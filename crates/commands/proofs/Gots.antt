@@ -1,5 +1,5 @@
 -- What came of harts, each at its place, as a list.
-use Rattle.std.proofs.Common.{◌≡◌, ◌≤◌, ◌<◌, ◌∙◌, ◌+◌, ℕ, zero, suc, Bool, true, false, List, [], ◌∷◌, Option, Some, None, length, map, slice_get, refl, ap, ap₂, subst, arith}
+use Rattle.std.proofs.Common.{◌≡◌, ◌≤◌, ◌∙◌, ◌+◌, ℕ, zero, suc, Bool, true, false, List, [], ◌∷◌, Option, Some, None, length, map, slice_get, refl, ap, ap₂, subst, arith}
 use Rattle.std.specs.Prelude.{All, IsFalse, IsSomeAnd, IsTrue}
 use Rattle.legalpath.specs.ProgramLog.{ProgramLog}
 use Rattle.message.specs.OfHart.{of_hart}
@@ -87,11 +87,13 @@ each_taken config logs taken harts none those place log came at there =
       subst (λ h. CameOf came.refused (length (of_hart h taken)) count) here from,
     )
 
-within : {A : Type 0} (harts : List (HartOutcome A)) (hart : ℕ) (P : HartOutcome A → Type 0)
-    → IsSomeAnd (slice_get harts hart) P → hart < length harts
-within [] hart P some = elim some [ ]
-within (came ∷ harts) zero P some = omega arith
-within (came ∷ harts) (suc hart) P some = let less = within harts hart P some in omega (arith, less)
+-- What came of a hart that is named as a stop is not closed.
+not_closed : {A : Type 0} (harts : List (HartOutcome A)) (hart : ℕ)
+    → IsSomeAnd (slice_get harts hart) (λ came. IsTrue came.refused × IsFalse came.closed)
+    → IsSomeAnd (slice_get (map got_of harts) hart) (λ got. IsFalse got.closed)
+not_closed [] hart some = some
+not_closed (came ∷ harts) zero some = some.1
+not_closed (came ∷ harts) (suc hart) some = not_closed harts hart some
 
 -- What came of the harts, by the stop.
 pub are_got : {A : Type 0} (config : Config) (logs : List ProgramLog) (taken : List Message)
@@ -99,10 +101,9 @@ pub are_got : {A : Type 0} (config : Config) (logs : List ProgramLog) (taken : L
     → NamesRefused why harts → AreGot config.period logs taken why (map got_of harts)
 are_got config logs taken harts None keep count those names =
     gots_after-all 0 config.period logs taken harts count names (each_taken config logs taken harts keep those)
-are_got config logs taken harts (Some (stop.Memory hart)) keep count those names =
-    let less = within harts hart (λ came. IsTrue came.refused) names in (
-      omega (arith, less, count),
-      gots_of_some 0 config.period logs taken harts count (each_taken config logs taken harts keep those),
-    )
+are_got config logs taken harts (Some (stop.Memory hart)) keep count those names = (
+  not_closed harts hart names,
+  gots_of_some 0 config.period logs taken harts count (each_taken config logs taken harts keep those),
+)
 are_got config logs taken harts (Some (stop.HandedBack hart)) keep count those names = elim names [ ]
 are_got config logs taken harts (Some (stop.Ended hart)) keep count those names = elim names [ ]

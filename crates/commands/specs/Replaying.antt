@@ -1,5 +1,5 @@
 -- What `replay` prints, and how it ends.
-use Rattle.std.specs.Prelude.{◌≡◌, ℕ, ◌+◌, ◌<◌, ◌≤◌, ⊤, Bool, true, false, List, [], ◌∷◌, Option, Some, None, Result, Ok, Err, length}
+use Rattle.std.specs.Prelude.{◌≡◌, ℕ, ◌+◌, ◌≤◌, ⊤, Bool, true, false, IsFalse, IsSomeAnd, List, [], ◌∷◌, Option, Some, None, Result, Ok, Err, length, slice_get}
 use Rattle.std.specs.Result.{result_map_both}
 use Rattle.legalpath.specs.ProgramLog.{ProgramLog}
 use Rattle.message.specs.OfHart.{of_hart}
@@ -66,11 +66,12 @@ AreGotOfSome hart period (log ∷ logs) taken [] = ⊥
 AreGotOfSome hart period (log ∷ logs) taken (got ∷ gots) =
     IsGotOfSome period log (length (of_hart hart taken)) got × AreGotOfSome (hart + 1) period logs taken gots
 
--- Where there is no stop, this came of all that was taken; the one stop is that memory for a hart was refused, and then
--- it came of some of what was taken.
+-- Where there is no stop, this came of all that was taken; the one stop is that memory for a hart was refused, whose
+-- closing packet did not come, and then it came of some of what was taken.
 abbrev pub AreGot : ℕ → List ProgramLog → List Message → Option Stop → List Got → Type 0
 AreGot period logs taken None gots = gots ≡ gots_after 0 period logs taken
-AreGot period logs taken (Some (stop.Memory hart)) gots = (hart < length logs) × AreGotOfSome 0 period logs taken gots
+AreGot period logs taken (Some (stop.Memory hart)) gots =
+    IsSomeAnd (slice_get gots hart) (λ got. IsFalse got.closed) × AreGotOfSome 0 period logs taken gots
 AreGot period logs taken (Some why) gots = ⊥
 
 -- All logs came back whole, or not, or there was a stop.

@@ -1,8 +1,7 @@
 -- What one message changes of what came of its hart.
-use Rattle.std.specs.Prelude.{ℕ, ◌+◌, ◌-◌, ◌^◌, ◌≡◌, ◌++◌, All, Bool, true, false, if◌then◌else◌, List, [], ◌∷◌, length, map, min}
+use Rattle.std.specs.Prelude.{◌≡◌, All, Bool, true, false, List, [], length, map}
 use Rattle.retire.specs.declared.event.Event.{Event}
 use Rattle.legalpath.specs.ProgramLog.{IsLegalLog}
-use Rattle.payload.specs.declared.packet.Packet.{Packet}
 use Rattle.receiver.specs.Received.{IsReceived}
 use Rattle.bench.specs.Collected.{Collected, Taken}
 use Rattle.bench.specs.declared.collecting.CollectFault.{CollectFault}
@@ -28,23 +27,6 @@ closed_in harts = map (λ hart. hart.closed) harts
 -- A hart of which nothing came.
 abbrev pub nothing : Taken
 nothing = record { packets = []; taken = 0; bytes = 0; refused = false }
-
--- These packets with one more behind them, where packets are kept.
-abbrev pub packets_with : Bool → Packet → List Packet → List Packet
-packets_with keep packet packets = if keep then packets ++ packet ∷ [] else packets
-
--- The sum, or the largest number of 64 bits where that is less.
-abbrev pub counted : ℕ → ℕ → ℕ
-counted number more = min (number + more) (2 ^ 64 - 1)
-
--- What came of a hart with one packet more, whose payload has so many bytes.
-abbrev pub with_packet : Bool → Packet → ℕ → Taken → Taken
-with_packet keep packet bytes taken = record {
-  packets = packets_with keep packet taken.packets;
-  taken = counted taken.taken 1;
-  bytes = counted taken.bytes bytes;
-  refused = taken.refused;
-}
 
 -- What came of a hart where a packet of it was not decoded: the same, but that memory was refused where that is why.
 abbrev pub IsLeftBy : CollectFault → Taken → Taken → Type 0
