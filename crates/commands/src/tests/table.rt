@@ -8,7 +8,7 @@ use crate::{FileFault, Files, carry_out, tell};
 use std::alloc::{AllocError, Global};
 use std::io::Write;
 use std::process::Abort;
-use subcommands::{Asked, Check, Decode, Dump, Encode};
+use subcommands::{Asked, Check, Decode, Dump, Encode, Replay};
 
 /// A table of paths and contents.
 #[derive(Drop)]
@@ -64,6 +64,8 @@ pub(super) enum Request<'a> {
     Dump(&'a str),
     /// `decode`.
     Decode(&'a str, u16, &'a str, &'a str),
+    /// `replay` at a period of 1024 and a capacity of 16, with the schedule before the logs.
+    Replay(&'a str, &'a str, &'a str, &'a str),
 }
 
 /// The texts that spaces part.
@@ -116,6 +118,14 @@ fn asked_of<'a>(alloc: Global, request: Request<'a>) -> Result<Asked<'a>, AllocE
             harts: harts.clamp(1, 64),
             image,
             capture,
+        })),
+        Request::Replay(base, image, schedule, logs) => Ok(Asked::Replay(Replay {
+            base,
+            period: 1024,
+            capacity: 16,
+            image,
+            schedule,
+            logs: parted(alloc, logs)?,
         })),
     }
 }
