@@ -18,7 +18,8 @@ use Rattle.bench.specs.declared.collecting.CollectFault.{CollectFault}
 use Rattle.bench.specs.declared.collecting.CollectFault.TheVariants as fault
 use Rattle.bench.specs.declared.stop.Stop.{Stop}
 use Rattle.bench.specs.declared.stop.Stop.TheVariants as stop
-use Rattle.bench.specs.steps.Taking.{AreTaken, IsCutOff, IsFrontNext, IsNext, IsTakenOf, NamesRefusedHart}
+use Rattle.bench.specs.steps.Taking.{AreTaken, IsCutOff, IsFrontNext, IsNext, IsTakenOf, LacksSome, NamesRefusedHart}
+use Rattle.bench.proofs.CollectedLemmas.{taken_by}
 use Rattle.bench.proofs.CollectedSame.{collected_same, cut_off_same}
 
 -- What a collector promises of a message that it is given.
@@ -161,6 +162,50 @@ module _ (period : ℕ) (logs : List ProgramLog) (taken : List Message) (message
           (sym (ap length (of_hart-other hart taken message (λ same. other (sym same)))))
           (other_taken message result old new takes period hart (length (of_hart hart taken)) log other
           (came.each hart log at))
+
+  -- Of a hart that is refused fewer messages came than were taken, this one among them.
+  pub lacks_more : LacksSome taken old → LacksSome (taken ++ message ∷ []) new
+  lacks_more lacks hart log at new_log is refused = by_hart (cases_eq hart message.hart)
+    where
+      known : slice_get old.logs hart ≡ Some log
+      known = sym (ap (λ some. slice_get some hart) takes.logs.0) ∙ new_log
+
+      by_result : (r : Result (Unit {0}) CollectFault) → result ≡ r
+          → HasCollected period next.log before message.hart old
+          → OnOk r (HasCollected period next.log (before + 1) message.hart new)
+          → IfErr r (λ why. why ≡ fault.Memory) → slice_get new.harts message.hart ≡ Some at → at.taken < before + 1
+      by_result (Ok unit) answer has more memory here =
+          let got = kept new.keep (got_after period next.log (before + 1)) in
+          let same = same_Some at (taken_by got false) (sym here ∙ more.came.taken) in
+          absurd (apart (sym (ap (λ (some : Taken). some.refused) same) ∙ refused))
+      by_result (Err why) answer has more memory here =
+          let got = kept old.keep (got_after period next.log before) in
+          let cut = takes.memory got false has.came (answer ∙ ap Err memory) in
+          let same : at.taken ≡ before =
+          ap (λ (some : Taken). some.taken) (same_Some at (taken_by got true) (sym here ∙ cut.taken)) in
+          omega (arith, same)
+
+      own : slice_get old.logs message.hart ≡ Some log → slice_get new.harts message.hart ≡ Some at
+          → IsTakenOf period next.log before message.hart old → at.taken < before + 1
+      own there here (inl has) =
+          by_result result refl has (takes.next period before next.log has next.own)
+          (takes.only_memory period before next.log has next.own) here
+      own there here (inr cut) =
+          let stays = ap (λ (c : Collected). slice_get c.harts message.hart)
+          (takes.passed_over (cut_off_refused cut)).1 in
+          let less = lacks message.hart log at there (sym stays ∙ here) refused in
+          omega (arith, less)
+
+      by_hart : (hart ≡ message.hart) ⊎ (hart ≡ message.hart → ⊥)
+          → at.taken < length (of_hart hart (taken ++ message ∷ []))
+      by_hart (inl same) =
+          subst (λ h. at.taken < length (of_hart h (taken ++ message ∷ []))) (sym same)
+          (subst (λ n. at.taken < n) (sym one_more)
+          (own (ap (slice_get old.logs) (sym same) ∙ known) (ap (slice_get new.harts) (sym same) ∙ is) own_before))
+      by_hart (inr other) =
+          subst (λ n. at.taken < n)
+          (sym (ap length (of_hart-other hart taken message (λ same. other (sym same)))))
+          (lacks hart log at known (sym (takes.others hart other).taken ∙ is) refused)
 
   -- The hart is one of those with logs.
   has_place : message.hart < length new.logs
