@@ -1,7 +1,7 @@
 //! Logs through the funnel over threads.
 
-use super::made::{kinds, logs, program};
-use crate::{Config, Gate, HartOutcome, Open, Setup, Stop, Turn, is_whole, replay, report, run};
+use super::made::{kinds, logs, program, text_of, turns};
+use crate::{Config, Gate, HartOutcome, Open, Setup, Stop, is_whole, replay, run};
 use linked_list_allocator::LocalHeap;
 use std::sync::Wait;
 use std::sync::atomic::{AtomicBool, AtomicU64, Ordering};
@@ -31,14 +31,7 @@ fn what_comes_is_what_comes_by_turns(rt: HostRuntime) -> Result<(), Fail> {
     let alloc = rt.alloc();
     let program = program(alloc)?;
     let logs = logs(alloc, &program)?;
-    let mut turns = Vec::new(alloc);
-    for (hart, count) in [(0, 5), (1, 4)] {
-        for _ in 0..count {
-            turns.push(Turn::Hart(hart))?;
-            turns.push(Turn::Collect)?;
-        }
-    }
-    let by_turns = replay(alloc, &logs, CONFIG, &turns)?;
+    let by_turns = replay(alloc, &logs, CONFIG, &turns(alloc)?)?;
     let outcome = run(alloc, alloc, &logs, CONFIG, &Open, &rt)?;
     assert!(rt; outcome.stop.is_none());
     assert_eq!(rt; outcome.harts.len(), 2);
@@ -48,11 +41,7 @@ fn what_comes_is_what_comes_by_turns(rt: HostRuntime) -> Result<(), Fail> {
         };
         assert!(rt; is_same(one, other), "hart {hart}");
     }
-    if outcome.harts.len() != logs.len() {
-        return Err(Fail::new("another number of harts"));
-    }
-    let mut text = Vec::new(alloc);
-    report(&outcome, &logs, &mut text)?;
+    let text = text_of(alloc, &outcome, &logs)?;
     let want = "hart 0: 33 events, 5 packets, 9 payload bytes, decoded 33, whole\n\
         hart 1: 4 events, 4 packets, 9 payload bytes, decoded 4, whole\n\
         result: whole\n";
