@@ -1,5 +1,6 @@
 -- How far a capture was received.
-use Rattle.std.proofs.Common.{◌≡◌, ◌⊎◌, inl, inr, ℕ, ◌+◌, All, Bool, List, [], ◌∷◌, ◌++◌, Option, Some, None, length, refl, sym, ap, subst, ◌∙◌, append_assoc}
+use Rattle.std.proofs.Common.{◌≡◌, ◌⊎◌, inl, inr, ℕ, ◌+◌, All, Bool, List, [], ◌∷◌, ◌++◌, Option, Some, None, length}
+use Rattle.std.proofs.Common.{refl, sym, ap, subst, ◌∙◌, append_assoc}
 use Rattle.std.proofs.lemmas.List.{length_push}
 use Rattle.std.proofs.lemmas.List.Elements.{All-nil, All-push}
 use Rattle.retire.specs.declared.event.Event.{Event}
@@ -38,13 +39,22 @@ capture_next (first ∷ front) message rest =
 
 module _ (words : Words) (harts : ℕ) (bytes : List ℕ) where
   -- At first none was.
-  pub reaches_none : (received : Received) → HasReceived (λ hart. words) harts [] received → Reaches words harts bytes bytes 0 received
-  reaches_none received has = record { messages = []; counted = refl; ranges = All-nil IsMessage; whole = refl; takes = has }
+  pub reaches_none : (received : Received) → HasReceived (λ hart. words) harts [] received
+      → Reaches words harts bytes bytes 0 received
+  reaches_none received has = record {
+    messages = [];
+    counted = refl;
+    ranges = All-nil IsMessage;
+    whole = refl;
+    takes = has;
+  }
 
   -- And then one more.
-  pub reaches_more : (left next : List ℕ) (number : ℕ) (old new : Received) (message : Message) → Reaches words harts bytes left number old
+  pub reaches_more : (left next : List ℕ) (number : ℕ) (old new : Received) (message : Message)
+      → Reaches words harts bytes left number old
       → IsMessage message → left ≡ message_bytes message ++ next
-      → ((messages : List Message) → HasReceived (λ hart. words) harts messages old → HasReceived (λ hart. words) harts (messages ++ message ∷ []) new)
+      → ((messages : List Message) → HasReceived (λ hart. words) harts messages old
+      → HasReceived (λ hart. words) harts (messages ++ message ∷ []) new)
       → Reaches words harts bytes next (number + 1) new
   reaches_more left next number old new message r is here receives = record {
     messages = r.messages ++ message ∷ [];
@@ -55,7 +65,8 @@ module _ (words : Words) (harts : ℕ) (bytes : List ℕ) where
   }
 
   -- All of them were, where the bytes end.
-  pub collected_all : (left : List ℕ) (number : ℕ) (received : Received) → Reaches words harts bytes left number received → left ≡ []
+  pub collected_all : (left : List ℕ) (number : ℕ) (received : Received)
+      → Reaches words harts bytes left number received → left ≡ []
       → HasCollected words harts bytes received None
   collected_all left number received r ended = record {
     messages = r.messages;
@@ -68,8 +79,10 @@ module _ (words : Words) (harts : ℕ) (bytes : List ℕ) where
   }
 
   -- No message stands behind them.
-  pub collected_before : (left : List ℕ) (number : ℕ) (received : Received) (why : MessageFault) → Reaches words harts bytes left number received
-      → (why ≡ message.Short) ⊎ (why ≡ message.BadLength) → (why ≡ message.Short → IsCut left) → (why ≡ message.BadLength → HasBadLength left)
+  pub collected_before : (left : List ℕ) (number : ℕ) (received : Received) (why : MessageFault)
+      → Reaches words harts bytes left number received
+      → (why ≡ message.Short) ⊎ (why ≡ message.BadLength) → (why ≡ message.Short → IsCut left)
+      → (why ≡ message.BadLength → HasBadLength left)
       → HasCollected words harts bytes received (Some (number, capture_fault.Message why))
   collected_before left number received why r either cut bad = record {
     messages = r.messages;
@@ -81,15 +94,21 @@ module _ (words : Words) (harts : ℕ) (bytes : List ℕ) where
     stops = (r.counted, stops either);
   }
     where
-      stops : (why ≡ message.Short) ⊎ (why ≡ message.BadLength) → StopsBy words harts r.messages left (capture_fault.Message why)
-      stops (inl short) = subst (λ why. StopsBy words harts r.messages left (capture_fault.Message why)) (sym short) (cut short)
-      stops (inr long) = subst (λ why. StopsBy words harts r.messages left (capture_fault.Message why)) (sym long) (bad long)
+      stops : (why ≡ message.Short) ⊎ (why ≡ message.BadLength)
+          → StopsBy words harts r.messages left (capture_fault.Message why)
+      stops (inl short) =
+          subst (λ why. StopsBy words harts r.messages left (capture_fault.Message why)) (sym short) (cut short)
+      stops (inr long) =
+          subst (λ why. StopsBy words harts r.messages left (capture_fault.Message why)) (sym long) (bad long)
 
   -- The message behind them is not received.
-  pub collected_at : (left next : List ℕ) (number : ℕ) (old new : Received) (message : Message) (why : ReceiveFault) (fault : CaptureFault) → Reaches words harts bytes left number old
+  pub collected_at : (left next : List ℕ) (number : ℕ) (old new : Received) (message : Message) (why : ReceiveFault)
+      (fault : CaptureFault) → Reaches words harts bytes left number old
       → IsMessage message → left ≡ message_bytes message ++ next
-      → ((messages : List Message) → HasReceived (λ hart. words) harts messages old → Holds (λ hart. words) harts messages new)
-      → ((messages : List Message) → HasReceived (λ hart. words) harts messages old → IsRefused words harts messages message why)
+      → ((messages : List Message) → HasReceived (λ hart. words) harts messages old
+      → Holds (λ hart. words) harts messages new)
+      → ((messages : List Message) → HasReceived (λ hart. words) harts messages old
+      → IsRefused words harts messages message why)
       → fault ≡ told why → HasCollected words harts bytes new (Some (number, fault))
   collected_at left next number old new message why fault r is here holds refused is_told = record {
     messages = r.messages;
@@ -102,15 +121,24 @@ module _ (words : Words) (harts : ℕ) (bytes : List ℕ) where
   }
     where
       begins : BeginsRefused words harts r.messages left why
-      begins = record { message = message; rest = next; ranges = is; begins = here; refused = refused r.messages r.takes }
+      begins = record {
+        message = message;
+        rest = next;
+        ranges = is;
+        begins = here;
+        refused = refused r.messages r.takes;
+      }
 
-      stops : (why : ReceiveFault) → BeginsRefused words harts r.messages left why → StopsBy words harts r.messages left (told why)
+      stops : (why : ReceiveFault) → BeginsRefused words harts r.messages left why
+          → StopsBy words harts r.messages left (told why)
       stops (receiving.Demux why) b = b
       stops (receiving.Decode why) b = b
 
   -- What a receiver holds is what is decoded.
-  pub collected_decoded : (received : Received) (stop : Option (ℕ × CaptureFault)) (lists : List (List Event)) (closed : List Bool) → HasCollected words harts bytes received stop
-      → ((messages : List Message) → Holds (λ hart. words) harts messages received → AreDecoded (λ hart. words) harts messages lists closed)
+  pub collected_decoded : (received : Received) (stop : Option (ℕ × CaptureFault)) (lists : List (List Event))
+      (closed : List Bool) → HasCollected words harts bytes received stop
+      → ((messages : List Message) → Holds (λ hart. words) harts messages received
+      → AreDecoded (λ hart. words) harts messages lists closed)
       → IsDecoded words harts bytes lists closed stop
   collected_decoded received stop lists closed c decoded = record {
     messages = c.messages;

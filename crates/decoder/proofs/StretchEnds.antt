@@ -16,7 +16,7 @@ pub last_or-last : {A : Type 0} (before : Option A) (front : List A) (last : A) 
 last_or-last before [] last = refl
 last_or-last before (first ∷ front) last = last_or-last (Some first) front last
 
-last_place-last : (at : ℕ) (front : List Event) (last : Event) → last_place at (front ++ last ∷ []) ≡ place last
+pub last_place-last : (at : ℕ) (front : List Event) (last : Event) → last_place at (front ++ last ∷ []) ≡ place last
 last_place-last at [] last = refl
 last_place-last at (event ∷ front) last = last_place-last (place event) front last
 

@@ -3,6 +3,7 @@ use Rattle.std.proofs.Common.{◌≡◌, ℕ, zero, suc, ◌≤◌, Bool, true, 
 use Rattle.std.proofs.Common.{length, Option, Some, None, refl, sym, ap, subst, ◌∙◌, arith, length-append}
 use Rattle.std.specs.List.{AllByRecursion}
 use Rattle.std.proofs.lemmas.Bool.Decides.{nat_tests}
+use Rattle.std.proofs.lemmas.Bool.{and_parts}
 use Rattle.retire.specs.Events.{place, privilege, is_retirement, is_branch, outcomes}
 use Rattle.retire.specs.declared.event.Event.{Event}
 use Rattle.retire.specs.declared.event.Event.TheVariants.{Retire, Trap}
@@ -24,7 +25,6 @@ use Rattle.decoder.specs.steps.WalkSteps.{target_move, move_to, advance, behind,
 use Rattle.decoder.specs.steps.Walks.{WalksOn}
 use Rattle.decoder.proofs.OnOneWord.{retire_on-finds, retire_on-found, empty_is, same_front, leads_one}
 use Rattle.decoder.proofs.OnOneWord.{leads_any, one_stays, any_leaves, stays, kept, kept_stays}
-use Rattle.retire.proofs.BothTrue.{both_true}
 
 module _ (words : Words) (good : IsProgram words) where
   -- A step from a retirement with one successor, and from a discontinuity.
@@ -81,7 +81,7 @@ module _ (words : Words) (good : IsProgram words) where
       stopped : (end : End) → Side words good p end e (f ∷ front) l → stops end f (outcomes (front ++ l ∷ [])) ≡ true →
           ⊥
       stopped AtBranch s h =
-          let k = both_true (is_branch f) (is_empty (outcomes (front ++ l ∷ []))) h in
+          let k = and_parts (is_branch f) (is_empty (outcomes (front ++ l ∷ []))) h in
           let o = empty_is (outcomes (front ++ l ∷ [])) k.1 in
           let now : Side words good p AtBranch e [] f =
           record {
@@ -94,7 +94,7 @@ module _ (words : Words) (good : IsProgram words) where
           } in
           no_longer words good p AtBranch e f f front l now s (same_front f [] (front ++ l ∷ []) o)
       stopped (AtAddress a) s h =
-          let k = both_true (place f == a) (is_empty (outcomes (front ++ l ∷ []))) h in
+          let k = and_parts (place f == a) (is_empty (outcomes (front ++ l ∷ []))) h in
           let o = empty_is (outcomes (front ++ l ∷ [])) k.1 in
           let at : place f ≡ a = grind (arith, nat_tests, k.0) in
           let now : Side words good p (AtAddress a) e [] f =
@@ -216,9 +216,9 @@ module _ (words : Words) (good : IsProgram words) where
 
   stop_sound : (end : End) (e f : Event) (left : List Bool) → is_discontinuity words e ≡ false →
       stops end f left ≡ true → EndsAt words end e [] f × ([] ≡ left)
-  stop_sound AtBranch e f left d h = let k = both_true (is_branch f) (is_empty left) h in
+  stop_sound AtBranch e f left d h = let k = and_parts (is_branch f) (is_empty left) h in
       (((d, tt), k.0), empty_is left k.1)
-  stop_sound (AtAddress a) e f left d h = let k = both_true (place f == a) (is_empty left) h in
+  stop_sound (AtAddress a) e f left d h = let k = and_parts (place f == a) (is_empty left) h in
       (((d, tt), grind (arith, nat_tests, k.0)), empty_is left k.1)
   stop_sound (AtTarget a) e f left d h = cc
 

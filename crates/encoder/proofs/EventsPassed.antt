@@ -1,9 +1,10 @@
 -- Events that are passed over.
 use Rattle.std.proofs.Common.{◌≡◌, ℕ, ◌+◌, ◌-◌, ◌≤◌, Bool, true, false, ◌==◌, ◌&&◌, ◌||◌, not, cond, List, [], Some}
-use Rattle.std.proofs.Common.{None, length, take, get_or, refl, sym, ap, ◌∙◌, arith}
+use Rattle.std.proofs.Common.{None, length, take, get_or, sym, ap, ◌∙◌, arith}
 use Rattle.std.proofs.lemmas.List.{take_more}
 use Rattle.std.specs.List.{last_or}
 use Rattle.std.specs.Prelude.{nat_lt}
+use Rattle.std.proofs.lemmas.Bool.{and_parts, not-true}
 use Rattle.retire.specs.declared.event.Event.{Event}
 use Rattle.retire.specs.declared.event.Event.TheVariants.{Retire, Trap}
 use Rattle.rvclass.specs.Words.{Words}
@@ -14,7 +15,6 @@ use Rattle.encoder.specs.declared.due.Due.TheVariants as due
 use Rattle.encoder.specs.declared.encoder.Encoder.{Encoder}
 use Rattle.encoder.proofs.EventsTaken.{after_quiet, given_quiet}
 use Rattle.encoder.proofs.SpotLemmas.{last_or-snoc}
-use Rattle.retire.proofs.BothTrue.{both_true}
 
 -- The last of the first events.
 pub last_of_first : (events : List Event) (at : ℕ) → 1 ≤ at → at ≤ length events
@@ -24,10 +24,6 @@ last_of_first events at some within =
     let more = take_more events (at - 1) (Retire 0 0 0) (omega (arith, some, within)) in
     ap (λ n. last_or None (take n events)) (sym is) ∙ ap (last_or None) more
     ∙ last_or-snoc None (take (at - 1) events) (get_or events (at - 1) (Retire 0 0 0))
-
-not_true : (b : Bool) → not b ≡ true → b ≡ false
-not_true true h = cc
-not_true false h = refl
 
 -- What an event is that passes.
 record Facts (words : Words) (held : Event) (left : ℕ) (pending : List Bool) (next : Event) : Type 0 where
@@ -39,12 +35,12 @@ record Facts (words : Words) (held : Event) (left : ℕ) (pending : List Bool) (
 facts : (words : Words) (held : Event) (left : ℕ) (pending : List Bool) (next : Event)
     → passes words held left pending next ≡ true → Facts words held left pending next
 facts words (Retire at type level) left pending (Retire addr itype priv) h =
-    let back = both_true _ (not (jumps_back_to words (Retire at type level) (Retire addr itype priv))) h in
-    let few = both_true _ (nat_lt (length pending) 31) back.0 in
-    let leaves = both_true _ (not (is_discontinuity_by_type type)) few.0 in
-    let same = both_true (priv == level) (not (left == 0)) leaves.0 in
-    let some = not_true (left == 0) same.1 in
-    let stays = not_true (is_discontinuity_by_type type) leaves.1 in
+    let back = and_parts _ (not (jumps_back_to words (Retire at type level) (Retire addr itype priv))) h in
+    let few = and_parts _ (nat_lt (length pending) 31) back.0 in
+    let leaves = and_parts _ (not (is_discontinuity_by_type type)) few.0 in
+    let same = and_parts (priv == level) (not (left == 0)) leaves.0 in
+    let some = not-true (left == 0) same.1 in
+    let stays = not-true (is_discontinuity_by_type type) leaves.1 in
     record {
       some_left = some;
       few = few.1;
@@ -54,7 +50,7 @@ facts words (Retire at type level) left pending (Retire addr itype priv) h =
           ∙ ap (λ b. cond (false || b) due.Sync (cond (is_discontinuity_by_type type) due.Target due.Nothing)) some
           ∙ ap (λ b. cond b due.Target due.Nothing) stays;
       unreported =
-          ap (λ b. is_unreported (rule_of_quiet false b)) (not_true
+          ap (λ b. is_unreported (rule_of_quiet false b)) (not-true
           (jumps_back_to words (Retire at type level) (Retire addr itype priv)) back.1);
     }
 facts words (Retire at type level) left pending (Trap epc priv interrupt cause tval) h = cc

@@ -3,6 +3,8 @@ use Rattle.std.proofs.Common.{◌≡◌, ◌⊎◌, ℕ, Bool, true, false, ◌&
 use Rattle.std.proofs.Common.{refl, ap, ◌∙◌, inl, inr}
 use Rattle.std.proofs.lemmas.List.{append-nil}
 use Rattle.std.specs.List.{last_or}
+use Rattle.std.proofs.lemmas.Bool.{and_parts}
+use Rattle.std.proofs.Math.Bool.{and-false}
 use Rattle.retire.specs.Events.{is_retirement}
 use Rattle.retire.specs.declared.event.Event.{Event}
 use Rattle.retire.specs.declared.event.Event.TheVariants.{Retire, Trap}
@@ -26,7 +28,6 @@ use Rattle.encoder.proofs.SpotLemmas.{before_last, count_all-append, last_or-sno
 use Rattle.encoder.proofs.SpotLemmas.{undecided-snoc, since_cut-append}
 use Rattle.encoder.proofs.PacketsReached.{spot_after, spots-snoc, Reaches}
 use Rattle.encoder.proofs.RulesByDue.{following}
-use Rattle.retire.proofs.BothTrue.{both_true}
 
 -- Every log is empty or has a last event.
 pub by_last : (log : List Event) → (log ≡ []) ⊎ ((front : List Event) × (last : Event) × (log ≡ front ++ last ∷ []))
@@ -104,7 +105,7 @@ module _ (words : Words) (period : ℕ) where
   -- A handler's rule does not hang on what follows.
   pub rule_known : (s : Spot) → is_known words s ≡ true → rule words period s ≡ by.Handler
   rule_known s h =
-      let k = both_true (is_retirement s.event) (is_handler words s.before_that s.before s.event) h in
+      let k = and_parts (is_retirement s.event) (is_handler words s.before_that s.before s.event) h in
       by_tests (is_retirement s.event) (is_handler words s.before_that s.before s.event) _ _ k.0 k.1
     where
       by_tests : (x h : Bool) (r t : Rule) → x ≡ true → h ≡ true → cond x (cond h by.Handler r) t ≡ by.Handler
@@ -117,13 +118,9 @@ module _ (words : Words) (period : ℕ) where
       → is_known words (following s next after) ≡ false
   known-behind s next after r = by_event s.event r
     where
-      and_false : (x : Bool) → (x && false) ≡ false
-      and_false true = refl
-      and_false false = refl
-
       by_event : (e : Event) → is_retirement e ≡ true → (is_retirement next && is_handler words s.before (Some e) next)
           ≡ false
-      by_event (Retire addr itype priv) r = and_false (is_retirement next)
+      by_event (Retire addr itype priv) r = and-false (is_retirement next)
       by_event (Trap epc priv interrupt cause tval) r = cc
 
   -- Before a trap every event is a cut.

@@ -3,6 +3,7 @@ use Rattle.std.proofs.Common.{◌≡◌, ℕ, ◌≤◌, Bool, true, false, ◌&
 use Rattle.std.proofs.Common.{Some, None, refl, sym, ap, subst, ◌∙◌, arith}
 use Rattle.std.proofs.lemmas.List.{append-nil}
 use Rattle.std.specs.Prelude.{nat_lt}
+use Rattle.std.proofs.lemmas.Bool.{and_parts}
 use Rattle.retire.specs.Events.{place, is_retirement, outcomes}
 use Rattle.retire.specs.declared.event.Event.{Event}
 use Rattle.retire.specs.declared.event.Event.TheVariants.{Retire, Trap}
@@ -34,7 +35,6 @@ use Rattle.encoder.proofs.LogsByLastEvent.{spot_after-following, Views, view_ope
 use Rattle.encoder.proofs.LogsByLastEvent.{known-behind, none_before_trap}
 use Rattle.encoder.proofs.EventsTaken.{pending_with-outcomes, pending_with-handler, rule_before-IsOwn, quiet_is}
 use Rattle.encoder.proofs.EventsTaken.{packets_by-own, rule_before-handler, Does, does_quiet, does_handler, does_loud}
-use Rattle.retire.proofs.BothTrue.{both_true}
 
 module _ (words : Words) (period : ℕ) where
   -- What an encoder gives at an event is what the log's packets so far have more, and its fields are those of the
@@ -81,7 +81,7 @@ module _ (words : Words) (period : ℕ) where
       (record { number = n; before_that = b2; before = b; event = held; after = Some next }) ≡ by.Trap true
   trap_rule n b2 b (Retire at type level) next k t = cc
   trap_rule n b2 b (Trap epc level irq code value) next k t =
-      ap by.Trap ((both_true (is_retirement next) (with_handler words b (Some next)) k).1)
+      ap by.Trap ((and_parts (is_retirement next) (with_handler words b (Some next)) k).1)
 
   trap_unreported : (n : ℕ) (b2 b : Option Event) (held next : Event) (d' : Due) → is_retirement held ≡ false
       → is_unreported (rule_before words held (due_at words period
@@ -148,7 +148,7 @@ module _ (words : Words) (period : ℕ) where
     after_handler : is_known words here ≡ true → Pushes (front ++ held ∷ []) e next
     after_handler k =
         let base = reaches words period ss in
-        let retired : is_retirement held ≡ true = (both_true (is_retirement held) _ k).0 in
+        let retired : is_retirement held ≡ true = (and_parts (is_retirement held) _ k).0 in
         let on : is_known words (spot_after (front ++ held ∷ []) next None) ≡ false =
         ap (is_known words) there_is ∙ known-behind words period here next None retired in
         let ps = reports 0 (pieces words period [] ss) ++ packet_by (reported_after 0 (pieces words period [] ss))

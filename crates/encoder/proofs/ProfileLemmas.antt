@@ -5,6 +5,7 @@ use Rattle.std.proofs.lemmas.Bool.Decides.{nat_tests}
 use Rattle.std.proofs.lemmas.List.Elements.{All-from_recursion, All-nil, All-cons, All-append, All-head, All-tail}
 use Rattle.std.specs.Prelude.{All}
 use Rattle.std.specs.List.{AllByRecursion}
+use Rattle.std.proofs.lemmas.Bool.{and_parts}
 use Rattle.retire.specs.Events.{place, privilege, is_branch, is_taken, outcomes}
 use Rattle.retire.specs.Is64Bit.{Is64Bit}
 use Rattle.retire.specs.declared.event.Event.{Event}
@@ -25,7 +26,6 @@ use Rattle.encoder.specs.Spot.{Spot, count_with, spots, spots_of}
 use Rattle.encoder.specs.declared.rule.Rule.{Rule}
 use Rattle.encoder.specs.declared.rule.Rule.TheVariants as by
 use Rattle.encoder.proofs.CountLemmas.{IsTrapRule, trap_rule, room_left, one_at_most, length_outcomes-snoc}
-use Rattle.retire.proofs.BothTrue.{both_true}
 
 -- Words stand at even addresses.
 abbrev pub IsEven : Words → Type 0
@@ -76,7 +76,7 @@ module _ (words : Words) (even : IsEven words) where
 
   full_map : (front : List Event) (event : Event) → is_cut front event by.Unreported ≡ true
       → length (outcomes (front ++ event ∷ [])) ≡ 31
-  full_map front event c = let n = (both_true (is_branch event) (length (outcomes (front ++ event ∷ [])) == 31) c).1 in
+  full_map front event c = let n = (and_parts (is_branch event) (length (outcomes (front ++ event ∷ [])) == 31) c).1 in
       grind (arith, nat_tests, n)
 
   packet_in_profile : (reported : ℕ) (front : List Event) (last : Event) (r : Rule) → IsAddress reported

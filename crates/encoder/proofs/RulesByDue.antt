@@ -2,6 +2,7 @@
 use Rattle.std.proofs.Common.{◌≡◌, ◌⊎◌, ℕ, ◌+◌, ◌%◌, Bool, true, false, not, ◌&&◌, ◌||◌, ◌==◌, cond, Option, Some, None}
 use Rattle.std.proofs.Common.{refl, sym, ap, ◌∙◌, inl, inr}
 use Rattle.std.specs.Prelude.{nat_le}
+use Rattle.std.proofs.Math.Bool.{and-false, and_self}
 use Rattle.retire.specs.Events.{place, is_retirement}
 use Rattle.retire.specs.declared.event.Event.{Event}
 use Rattle.retire.specs.declared.event.Event.TheVariants.{Retire, Trap}
@@ -36,25 +37,17 @@ word_type (Some (Uninferable, length)) itype priv r = rw r.0 refl
 word_type (Some (TrapReturn ret, length)) itype priv r = rw r.0 refl
 word_type (Some (NotRetirable, length)) itype priv r = absurd r.0
 
-and_false : (x : Bool) → (x && false) ≡ false
-and_false true = refl
-and_false false = refl
-
-and_same : (x : Bool) → (x && x) ≡ x
-and_same true = refl
-and_same false = refl
-
 -- A backward jump shows by its type and by where the next event stands.
 word_back : (word : Option Word) (addr itype priv at : ℕ) → RetiresOn word itype priv
     → MayStandAt (leads_from addr itype word) at → ((itype == 0) && nat_le at addr && jumps_back addr word)
     ≡ jumps_back addr word
 word_back None addr itype priv at r s = absurd r
-word_back (Some (Plain, length)) addr itype priv at r s = and_false _
-word_back (Some (Jump to, length)) addr itype priv at r s = rw (r.0, s) (and_same (nat_le to addr))
-word_back (Some (Branch to, length)) addr itype priv at r s = and_false _
-word_back (Some (Uninferable, length)) addr itype priv at r s = and_false _
-word_back (Some (TrapReturn ret, length)) addr itype priv at r s = and_false _
-word_back (Some (NotRetirable, length)) addr itype priv at r s = and_false _
+word_back (Some (Plain, length)) addr itype priv at r s = and-false _
+word_back (Some (Jump to, length)) addr itype priv at r s = rw (r.0, s) (and_self (nat_le to addr))
+word_back (Some (Branch to, length)) addr itype priv at r s = and-false _
+word_back (Some (Uninferable, length)) addr itype priv at r s = and-false _
+word_back (Some (TrapReturn ret, length)) addr itype priv at r s = and-false _
+word_back (Some (NotRetirable, length)) addr itype priv at r s = and-false _
 
 pub jumps_back_to-is_backward : (words : Words) (event next : Event) → Right words event → Step words event next
     → jumps_back_to words event next ≡ is_backward words event

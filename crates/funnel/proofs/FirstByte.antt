@@ -2,7 +2,7 @@
 use Rattle.std.proofs.Common.{◌≡◌, ◌≢◌, ◌+◌, ◌-◌, ◌*◌, ◌%◌, ◌^◌, ◌≤◌, ◌==◌, ◌⊎◌, ℕ, suc, Bool, true, false, cond, eqb}
 use Rattle.std.proofs.Common.{eqb-true, List, [], ◌∷◌, length, get_or, Option, Some, None, inl, inr, refl, sym, ◌∙◌}
 use Rattle.std.proofs.Common.{arith}
-use Rattle.std.proofs.lemmas.Bool.{cases_lt}
+use Rattle.std.proofs.lemmas.Bool.{cases_lt, and_parts}
 use Rattle.payload.specs.Bytes.{number}
 use Rattle.payload.specs.Closing.{is_closing, is_closing_packet, is_closing_reading}
 use Rattle.payload.specs.Extension.{extended}
@@ -13,7 +13,6 @@ use Rattle.payload.specs.declared.fault.PackFault.{PackFault}
 use Rattle.payload.specs.declared.packet.Packet.{Packet}
 use Rattle.payload.specs.declared.packet.Packet.TheVariants as packet
 use Rattle.payload.proofs.ByteLists.{power}
-use Rattle.payload.proofs.Choices.{both_true}
 use Rattle.payload.proofs.Extending.{extended_low, extended_high}
 
 -- The lowest bits of a payload are the first byte's.
@@ -32,7 +31,7 @@ low_bits b rest =
 no_support : (n : ℕ) → n % 16 ≢ 15 → is_support n ≡ false
 no_support n other = elim (either (is_support n)) [
   | inl is ↦
-      let both = both_true (eqb (part n 0 2) 3) (eqb (part n 2 2) 3) is in
+      let both = and_parts (eqb (part n 0 2) 3) (eqb (part n 2 2) 3) is in
       absurd (other (fifteen (eqb-true _ _ both.0) (eqb-true _ _ both.1)))
   | inr none ↦ none
 ]

@@ -3,7 +3,8 @@ use Rattle.std.specs.Prelude.{ℕ, ◌++◌, List, codes}
 use Rattle.std.specs.Fmt.{decimal}
 use Rattle.legalpath.specs.declared.fault.PathFault.{PathFault}
 use Rattle.legalpath.specs.declared.fault.Why.{Why}
-use Rattle.legalpath.specs.declared.fault.Why.TheVariants.{OffProgram, NotRetirable, WrongType, WrongNext, WrongPrivilege, WrongEpc}
+use Rattle.legalpath.specs.declared.fault.Why.TheVariants.{OffProgram, NotRetirable, WrongType, WrongNext}
+use Rattle.legalpath.specs.declared.fault.Why.TheVariants.{WrongPrivilege, WrongEpc}
 
 -- The name of a reason.
 abbrev pub why_text : Why → List ℕ

@@ -1,14 +1,11 @@
 -- The bytes of the number that bytes spell.
 use Rattle.std.proofs.Common.{◌≡◌, ◌<◌, ◌≤◌, ◌+◌, ◌*◌, ◌/◌, ◌%◌, ◌^◌, ℕ, zero, suc, List, [], ◌∷◌, length, take}
 use Rattle.std.proofs.Common.{slice_index, refl, sym, ap, ◌∙◌, arith}
-use Rattle.std.proofs.Math.Nat.{div-div-eq-div-mul, div-one, pow-succ'}
+use Rattle.std.proofs.Math.Nat.{div-div-eq-div-mul, pow-succ'}
 use Rattle.std.specs.Int.{byte_at, bytes_low_first}
 use Rattle.byteorder.specs.Endian.{little_from, little_number, little_bytes}
 use Rattle.byteorder.specs.Numbers.{little_from-cons}
-
-byte_at-pow : (j n : ℕ) → byte_at j n ≡ n / 256 ^ j % 256
-byte_at-pow zero n = ap (λ (q : ℕ). q % 256) (sym (div-one n))
-byte_at-pow (suc j) n = refl
+use Rattle.payload.proofs.ByteLists.{byte_at-is}
 
 -- A byte above the lowest is a byte of the number without its lowest byte.
 byte_at-suc : (j b y : ℕ) → b < 256 → byte_at (suc j) (b + 256 * y) ≡ byte_at j y
@@ -17,8 +14,8 @@ byte_at-suc j b y h =
     let power : 256 ^ suc j ≡ 256 * 256 ^ j = pow-succ' 256 j in
     let shift : (b + 256 * y) / 256 ^ suc j ≡ (b + 256 * y) / 256 / 256 ^ j =
     ap (λ (p : ℕ). (b + 256 * y) / p) power ∙ sym (div-div-eq-div-mul (b + 256 * y) 256 (256 ^ j)) in
-    byte_at-pow (suc j) (b + 256 * y) ∙ ap (λ (q : ℕ). q % 256) (shift ∙ ap (λ (q : ℕ). q / 256 ^ j) rest)
-    ∙ sym (byte_at-pow j y)
+    byte_at-is (suc j) (b + 256 * y) ∙ ap (λ (q : ℕ). q % 256) (shift ∙ ap (λ (q : ℕ). q / 256 ^ j) rest)
+    ∙ sym (byte_at-is j y)
 
 -- The bytes above the lowest are those of the number without its lowest byte.
 bytes_low_first-suc : (n j b y : ℕ) → b < 256 → bytes_low_first (suc j) n (b + 256 * y) ≡ bytes_low_first j n y

@@ -9,7 +9,7 @@ use Rattle.payload.specs.Bytes.{low_bytes, number, IsBytes}
 div-one : (n : ℕ) → n / 1 ≡ n
 div-one n = omega arith
 
-byte_at-is : (i n : ℕ) → byte_at i n ≡ n / 256 ^ i % 256
+pub byte_at-is : (i n : ℕ) → byte_at i n ≡ n / 256 ^ i % 256
 byte_at-is zero n = sym (ap (λ x. x % 256) (div-one n))
 byte_at-is (suc i) n = refl
 

@@ -1,5 +1,5 @@
 -- Which test of a chain held.
-use Rattle.std.proofs.Common.{◌≡◌, ◌⊎◌, inl, inr, Bool, true, false, cond, ◌&&◌, not, refl}
+use Rattle.std.proofs.Common.{◌≡◌, ◌⊎◌, inl, inr, Bool, true, false, cond, refl}
 
 pub chosen : {X : Type 0} (a : Bool) (x y z : X) → cond a x y ≡ z → ((a ≡ true) × (x ≡ z)) ⊎ ((a ≡ false) × (y ≡ z))
 chosen true x y z e = inl (refl, e)
@@ -23,12 +23,3 @@ pub chosen_of_5 : {X : Type 0} (a b c d f : Bool) (x y z w v u q : X)
     ⊎ (((d ≡ true) × (w ≡ q)) ⊎ (((f ≡ true) × (v ≡ q)) ⊎ (u ≡ q)))))
 chosen_of_5 true b c d f x y z w v u q e = inl (refl, e)
 chosen_of_5 false b c d f x y z w v u q e = inr (chosen_of_4 b c d f y z w v u q e)
-
-pub not_false : (b : Bool) → not b ≡ false → b ≡ true
-not_false true e = refl
-not_false false e = absurd (cc)
-
-pub both_true : (a b : Bool) → (a && b) ≡ true → (a ≡ true) × (b ≡ true)
-both_true true true e = (refl, refl)
-both_true true false e = absurd (cc)
-both_true false b e = absurd (cc)

@@ -2,6 +2,5 @@
 use Rattle.std.proofs.Common.{◌≡◌, ◌<◌, ◌^◌, ℕ, arith}
 use Rattle.payload.specs.Difference.{difference, aim}
 
-pub aim-difference : (reported address : ℕ) → reported < 2 ^ 64 → address < 2 ^ 64
-    → aim reported (difference reported address) ≡ address
-aim-difference reported address r a = omega arith
+pub aim-difference : (reported address : ℕ) → address < 2 ^ 64 → aim reported (difference reported address) ≡ address
+aim-difference reported address a = omega arith

@@ -2,7 +2,7 @@
 use Rattle.std.proofs.Common.{◌≡◌, ℕ, zero, suc, ◌+◌, ◌-◌, ◌*◌, ◌%◌, ◌^◌, ◌<◌, ◌≤◌, inl, inr, Bool, true, false, cond}
 use Rattle.std.proofs.Common.{ltb, ◌==◌, ◌&&◌, not, List, [], length, Some, None, Ok, Err, refl, sym, ap, ◌∙◌, arith}
 use Rattle.std.proofs.Common.{eq-eqb, ne_eqb, eqb-true, lt-ltb, le-ltb, ltb-false}
-use Rattle.std.proofs.lemmas.Bool.{cases_lt, eqb-false}
+use Rattle.std.proofs.lemmas.Bool.{cases_lt, eqb-false, and_parts}
 use Rattle.std.proofs.lemmas.Nat.{mod_below, pow_pos}
 use Rattle.payload.specs.Bytes.{number, IsBytes}
 use Rattle.payload.specs.Extension.{extended, magnitude}
@@ -21,7 +21,6 @@ use Rattle.payload.specs.declared.fault.PackFault.TheVariants.{Empty, TooLong, B
 use Rattle.payload.specs.declared.fault.PackFault.TheVariants.{BadReport}
 use Rattle.payload.proofs.AddressBits.{three_bits}
 use Rattle.payload.proofs.ByteLists.{number-lt}
-use Rattle.payload.proofs.Choices.{both_true}
 use Rattle.payload.proofs.Extending.{extended-lt, magnitude-lt, magnitude_extended, cut}
 use Rattle.payload.proofs.MapWidths.{map_sizes, part-lt}
 
@@ -186,13 +185,13 @@ kind_first : (n : ℕ) (sync trap support address branches : Bool) → n < 2 ^ 1
     (cond branches (branches_reading n) (Err Unsupported)))))
     ≡ fault_or (first_fault_of_bits n) (packet_in n)
 kind_first n true t u a b bound is_s is_t is_u is_a is_b =
-    let both = both_true (part n 0 2 == 3) (part n 2 2 == 0) is_s in
+    let both = and_parts (part n 0 2 == 3) (part n 2 2 == 0) is_s in
     sync_first n bound (eqb-true _ _ both.0) (eqb-true _ _ both.1)
 kind_first n false true u a b bound is_s is_t is_u is_a is_b =
-    let both = both_true (part n 0 2 == 3) (part n 2 2 == 1) is_t in
+    let both = and_parts (part n 0 2 == 3) (part n 2 2 == 1) is_t in
     trap_first n bound (eqb-true _ _ both.0) (eqb-true _ _ both.1)
 kind_first n false false true a b bound is_s is_t is_u is_a is_b =
-    let both = both_true (part n 0 2 == 3) (part n 2 2 == 3) is_u in
+    let both = and_parts (part n 0 2 == 3) (part n 2 2 == 3) is_u in
     support_first n bound (eqb-true _ _ both.0) (eqb-true _ _ both.1)
 kind_first n false false false true b bound is_s is_t is_u is_a is_b = plain_first n bound (eqb-true _ _ is_a)
 kind_first n false false false false true bound is_s is_t is_u is_a is_b =

@@ -2,7 +2,7 @@
 use Rattle.std.proofs.Common.{◌≡◌, ℕ, ◌*◌, ◌^◌, ◌<◌, ◌≤◌, inl, inr, false, cond, ltb, ◌==◌, List, [], ◌∷◌, length}
 use Rattle.std.proofs.Common.{Option, Some, None, Ok, Err, refl, sym, ◌∙◌, subst, arith, eqb-true, ne_eqb, ltb-false}
 use Rattle.std.proofs.Common.{le-ltb}
-use Rattle.std.proofs.lemmas.Bool.{eqb-false}
+use Rattle.std.proofs.lemmas.Bool.{eqb-false, and_parts}
 use Rattle.std.proofs.lemmas.Nat.{pow_pos}
 use Rattle.std.specs.Result.{result_err}
 use Rattle.payload.specs.Bytes.{number, IsBytes}
@@ -20,7 +20,7 @@ use Rattle.payload.specs.declared.fault.PackFault.{PackFault}
 use Rattle.payload.specs.declared.fault.PackFault.TheVariants.{Empty, TooLong, Unsupported}
 use Rattle.payload.proofs.BranchBits.{plain_found, plain_read, branches_found, some_read, map_read_back}
 use Rattle.payload.proofs.ByteLists.{number-lt}
-use Rattle.payload.proofs.Choices.{chosen, chosen_of_5, both_true}
+use Rattle.payload.proofs.Choices.{chosen, chosen_of_5}
 use Rattle.payload.proofs.Extending.{extended-lt}
 use Rattle.payload.proofs.FirstFaults.{reading_by_kind-is}
 use Rattle.payload.proofs.PaddedBits.{IsRead}
@@ -36,11 +36,11 @@ bits_found n p e =
     elim (chosen_of_5 (is_sync n) (is_trap n) (is_support n) (is_address_alone n) (part n 0 2 == 1)
     (sync_reading n) (trap_reading n) (support_reading n) (address_reading n [] 2) (branches_reading n)
     (Err Unsupported) (Ok p) e) [
-      | inl (so, same) ↦ let t = both_true (part n 0 2 == 3) (part n 2 2 == 0) so in
+      | inl (so, same) ↦ let t = and_parts (part n 0 2 == 3) (part n 2 2 == 0) so in
           sync_found n p (eqb-true _ _ t.0) (eqb-true _ _ t.1) same
-      | inr (inl (so, same)) ↦ let t = both_true (part n 0 2 == 3) (part n 2 2 == 1) so in
+      | inr (inl (so, same)) ↦ let t = and_parts (part n 0 2 == 3) (part n 2 2 == 1) so in
           trap_found n p (eqb-true _ _ t.0) (eqb-true _ _ t.1) same
-      | inr (inr (inl (so, same))) ↦ let t = both_true (part n 0 2 == 3) (part n 2 2 == 3) so in
+      | inr (inr (inl (so, same))) ↦ let t = and_parts (part n 0 2 == 3) (part n 2 2 == 3) so in
           support_found n p (eqb-true _ _ t.0) (eqb-true _ _ t.1) same
       | inr (inr (inr (inl (so, same)))) ↦ plain_found n p (eqb-true _ _ so) same
       | inr (inr (inr (inr (inl (so, same))))) ↦ branches_found n p (eqb-true _ _ so) same

@@ -1,5 +1,6 @@
 -- Bits that read as a support packet are its fields, and its fields read as the packet.
 use Rattle.std.proofs.Common.{◌≡◌, ℕ, ◌<◌, inl, inr, true, cond, eqb, ◌==◌, ◌&&◌, not, Result, Ok, Err, arith, eqb-true}
+use Rattle.std.proofs.lemmas.Bool.{and_parts, not-false}
 use Rattle.payload.specs.Faults.{part}
 use Rattle.payload.specs.PacketFields.{support_fields}
 use Rattle.payload.specs.steps.ReadingByKind.{padded, support_reading}
@@ -9,12 +10,12 @@ use Rattle.payload.specs.declared.packet.Support.{Support}
 use Rattle.payload.specs.declared.packet.Support.TheVariants as support
 use Rattle.payload.specs.declared.fault.PackFault.{PackFault}
 use Rattle.payload.specs.declared.fault.PackFault.TheVariants.{Unsupported}
-use Rattle.payload.proofs.Choices.{chosen, chosen_of_3, not_false, both_true}
+use Rattle.payload.proofs.Choices.{chosen, chosen_of_3}
 use Rattle.payload.proofs.PaddedBits.{IsRead, padded_found, padded_read}
 use Rattle.payload.proofs.Parts.{Holds}
 
 status_parts : (n a b : ℕ) → ((part n 4 2 == a) && (part n 6 2 == b)) ≡ true → (part n 4 2 ≡ a) × (part n 6 2 ≡ b)
-status_parts n a b e = let t = both_true (eqb (part n 4 2) a) (eqb (part n 6 2) b) e in
+status_parts n a b e = let t = and_parts (eqb (part n 4 2) a) (eqb (part n 6 2) b) e in
     (eqb-true _ _ t.0, eqb-true _ _ t.1)
 
 support_holds : (n ienable status : ℕ) → part n 0 2 ≡ 3 → part n 2 2 ≡ 3 → part n 8 5 ≡ 0 → ienable < 2
@@ -70,7 +71,7 @@ unfolding support_reading
 support_found n p format subformat e =
     elim (chosen (not (part n 8 5 == 0)) (Err Unsupported) (status_reading n) (Ok p) e) [
       | inl (so, same) ↦ absurd (cc)
-      | inr (options, rest) ↦ status_found n p format subformat (eqb-true _ _ (not_false _ options)) rest
+      | inr (options, rest) ↦ status_found n p format subformat (eqb-true _ _ (not-false _ options)) rest
     ]
 
 pub support_read : (n : ℕ) (s : Support) → IsRead n (packet.Support s) → support_reading n ≡ Ok (packet.Support s)

@@ -25,7 +25,9 @@ use Rattle.message.specs.declared.hart.Hart.{Hart}
 use Rattle.message.specs.declared.message.Message.{Message}
 use Rattle.receiver.specs.Holds.{HasAccepted}
 use Rattle.receiver.specs.Received.{IsSameHart, Received}
-use Rattle.receiver.specs.Refused.{IsUndecoded}
+use Rattle.receiver.specs.Refused.{IsNotDecoded}
+use Rattle.receiver.specs.declared.fault.ReceiveFault.{ReceiveFault}
+use Rattle.receiver.specs.declared.fault.ReceiveFault.TheVariants as fault
 use Rattle.receiver.proofs.HoldLemmas.{set-other}
 
 -- The answer of a decoder that refuses.
@@ -98,24 +100,24 @@ going harts messages message packet all answer =
         let closed : h.closed ≡ has_ended (packets_of message.hart messages) = ap (λ (h : Hart). h.closed) same in
         sym closed ∙ (or_parts h.closed (not (nat_lt h.expected (2 ^ 63))) next.0).0
 
--- Why its packet is not decoded.
-pub undecoded : (words : Words) (harts : ℕ) (messages : List Message) (message : Message) (packet : Packet) (why : DecodeFault)
-    → AreAccepted (newcomers harts) messages → accepting (expected_after (newcomers harts) messages) message ≡ Ok packet
-    → (refusal why ≡ Err NotOpened) ↔ ((packets_of message.hart messages ≡ []) × ¬ IsOpen packet)
-    → (refusal why ≡ Err AfterClose) ↔ (has_ended (packets_of message.hart messages) ≡ true)
-    → (why ≡ Memory) ⊎ ((log : List Event) → ¬ Describes words (packets_of message.hart messages ++ packet ∷ []) log)
-    → (refusal why ≡ Err Memory → (list log : List Event) × Describes words (packets_of message.hart messages) list
-    × Describes words (packets_of message.hart messages ++ packet ∷ []) log × (length list < length log))
-    → IsUndecoded words harts messages message why
-undecoded words harts messages message packet why all answer not_opened ended either described =
-    let open_yet = going harts messages message packet all answer in
-    record {
-      packet = packet;
-      accepted = answer;
-      not_decoded = record {
-        not_opened = (λ same. not_opened.0 (ap refusal same), λ first. let told = not_opened.1 first in cc);
-        not_ended = λ same. let over = ended.0 (ap refusal same) in cc;
-        memory = λ memory. described (ap refusal memory);
-        reason = either;
-      };
-    }
+-- Why a packet is not decoded, by what the decoder answers.
+pub not_decoded : (words : Words) (packets : List Packet) (packet : Packet) (why : DecodeFault)
+    → (refusal why ≡ Err NotOpened) ↔ ((packets ≡ []) × ¬ IsOpen packet)
+    → (refusal why ≡ Err AfterClose) ↔ (has_ended packets ≡ true)
+    → (why ≡ Memory) ⊎ ((log : List Event) → ¬ Describes words (packets ++ packet ∷ []) log)
+    → (refusal why ≡ Err Memory → (list log : List Event) × Describes words packets list
+    × Describes words (packets ++ packet ∷ []) log × (length list < length log))
+    → IsNotDecoded words packets packet why
+not_decoded words packets packet why not_opened ended either described = record {
+  not_opened = (λ same. not_opened.0 (ap refusal same), λ first. let told = not_opened.1 first in cc);
+  ended = (λ same. ended.0 (ap refusal same), λ over. let told = ended.1 over in cc);
+  memory = λ memory. described (ap refusal memory);
+  reason = either;
+}
+
+-- One answer is one packet, and one fault.
+pub same_packet : (a b : Packet) → ◌≡◌ {A = Result Packet DemuxFault} (Ok a) (Ok b) → a ≡ b
+same_packet a b is = cc
+
+pub same_fault : (a b : DecodeFault) → ◌≡◌ {A = Result Unit ReceiveFault} (Err (fault.Decode a)) (Err (fault.Decode b)) → a ≡ b
+same_fault a b is = cc

@@ -88,6 +88,16 @@ same_hart hart old new same = record {
   closed = ap (λ (r : Received). slice_get r.closed hart) same;
 }
 
+-- Nor where each of two steps changed nothing of it.
+pub same_hart_twice : (hart : ℕ) (old between new : Received) → IsSameHart hart old between → IsSameHart hart between new
+    → IsSameHart hart old new
+same_hart_twice hart old between new one two = record {
+  expected = two.expected ∙ one.expected;
+  decoder = two.decoder ∙ one.decoder;
+  list = two.list ∙ one.list;
+  closed = two.closed ∙ one.closed;
+}
+
 module _ {A : Type 0} (expected : Harts) (decoders : List Decoder) (lists : List (Vec Event A)) (closed : List Bool) (hart at : ℕ) (here : at ≡ hart) where
   -- What stands at the places of all harts, and what does where those of a hart were written.
   abbrev before : Received

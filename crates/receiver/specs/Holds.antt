@@ -31,14 +31,16 @@ pub record Holds (programs : ℕ → Words) (harts : ℕ) (messages : List Messa
   pub closed_count : length received.closed ≡ harts
   pub each : (hart : ℕ) → HoldsHart (programs hart) hart (packets_of hart messages) received
 
--- A receiver of so many harts received just these messages: it accepted them, each in its turn, and holds what they tell.
+-- A receiver of so many harts received just these messages: it accepted them, each in its turn, and holds what they
+-- tell.
 pub record HasReceived (programs : ℕ → Words) (harts : ℕ) (messages : List Message) (received : Received) : Type 0 where
   pub accepts : HasAccepted harts messages received
   pub holds : Holds programs harts messages received
 
 -- The lists of so many harts are what these messages describe, each by the program of its hart, and each hart is closed
 -- exactly where its closing packet is among them.
-pub record AreDecoded (programs : ℕ → Words) (harts : ℕ) (messages : List Message) (lists : List (List Event)) (closed : List Bool) : Type 0 where
+pub record AreDecoded (programs : ℕ → Words) (harts : ℕ) (messages : List Message) (lists : List (List Event))
+    (closed : List Bool) : Type 0 where
   pub lists_count : length lists ≡ harts
   pub closed_count : length closed ≡ harts
   pub described : (hart : ℕ) (list : List Event) → slice_get lists hart ≡ Some list

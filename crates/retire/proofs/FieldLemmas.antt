@@ -5,7 +5,7 @@ use Rattle.std.proofs.Common.{sym, ap, inl, inr, rules}
 use Rattle.std.specs.List.{list_all, list_any}
 use Rattle.std.proofs.Math.Seq.{drop-append_seam}
 use Rattle.std.proofs.lemmas.List.{append_cancel_right, length-append, length-drop, take_all}
-use Rattle.std.proofs.lemmas.Bool.{cases_Bool, eqb-true, false≢true}
+use Rattle.std.proofs.lemmas.Bool.{cases_Bool, eqb-true, false≢true, and_parts}
 use Rattle.csv.specs.Quoting.{needs_byte}
 use Rattle.csv.specs.Writing.{default_writer}
 use Rattle.retire.specs.Number.{is_hex_digit, is_numeral, is_prefix, number_of, without_prefix}
@@ -13,7 +13,6 @@ use Rattle.retire.specs.Row.{is_garbled}
 use Rattle.retire.specs.steps.PlainRow.{EndsField, HasCell, HasField, Spells, digit_count}
 use Rattle.retire.proofs.HexLemmas.{needs_byte-digit}
 use Rattle.retire.proofs.NumberLemmas.{digit_below_16}
-use Rattle.retire.proofs.BothTrue.{both_true}
 
 -- A byte that ends a field is no digit.
 end-no_digit : (byte : ℕ) → needs_byte default_writer byte ≡ true → is_hex_digit byte ≡ false
@@ -29,7 +28,7 @@ unfolding digit_count
 digit_count-at [] i n all none = absurd (omega arith)
 digit_count-at (c ∷ text) zero n all none = rw none refl
 digit_count-at (c ∷ text) (suc i) n all none =
-    let both = both_true (is_hex_digit c) (list_all is_hex_digit (take i text)) all in
+    let both = and_parts (is_hex_digit c) (list_all is_hex_digit (take i text)) all in
     rw (both.0, digit_count-at text i (omega arith) both.1 none) (omega arith)
 
 -- They go on past one.
@@ -39,7 +38,7 @@ unfolding digit_count
 digit_count-past [] i n all digit = absurd (omega arith)
 digit_count-past (c ∷ text) zero n all digit = rw digit (omega arith)
 digit_count-past (c ∷ text) (suc i) n all digit =
-    let both = both_true (is_hex_digit c) (list_all is_hex_digit (take i text)) all in
+    let both = and_parts (is_hex_digit c) (list_all is_hex_digit (take i text)) all in
     let more = digit_count-past text i (omega arith) both.1 digit in
     rw both.0 (omega (arith, more))
 
@@ -53,7 +52,7 @@ pub digit_count-field : (digits rest : List ℕ) → list_all is_hex_digit digit
 unfolding digit_count
 digit_count-field [] rest all end = digit_count-none rest end
 digit_count-field (c ∷ digits) rest all end =
-    let both = both_true (is_hex_digit c) (list_all is_hex_digit digits) all in
+    let both = and_parts (is_hex_digit c) (list_all is_hex_digit digits) all in
     rw (both.0, digit_count-field digits rest both.1 end) (omega arith)
 
 -- Digits alone.
@@ -61,20 +60,20 @@ pub digit_count-all : (text : List ℕ) → list_all is_hex_digit text ≡ true 
 unfolding digit_count
 digit_count-all [] all = refl
 digit_count-all (c ∷ text) all =
-    let both = both_true (is_hex_digit c) (list_all is_hex_digit text) all in
+    let both = and_parts (is_hex_digit c) (list_all is_hex_digit text) all in
     rw (both.0, digit_count-all text both.1) (omega arith)
 
 numeral-size : (text : List ℕ) → is_numeral text ≡ true → (0 < length text) × (length text ≤ 16)
 numeral-size text e =
-    let sized = both_true (nat_lt 0 (length text) && nat_le (length text) 16) (list_all is_hex_digit text) e in
-    let sizes = both_true (nat_lt 0 (length text)) (nat_le (length text) 16) sized.0 in
+    let sized = and_parts (nat_lt 0 (length text) && nat_le (length text) 16) (list_all is_hex_digit text) e in
+    let sizes = and_parts (nat_lt 0 (length text)) (nat_le (length text) 16) sized.0 in
     let some = sizes.0 in
     let few = sizes.1 in
     (search (rules, arith), search (rules, arith))
 
 numeral-digits : (text : List ℕ) → is_numeral text ≡ true → list_all is_hex_digit text ≡ true
 numeral-digits text e =
-    (both_true (nat_lt 0 (length text) && nat_le (length text) 16) (list_all is_hex_digit text) e).1
+    (and_parts (nat_lt 0 (length text) && nat_le (length text) 16) (list_all is_hex_digit text) e).1
 
 -- A numeral up to the end of its field is all that is counted, and what follows it is the rest.
 pub numeral-front : (text field rest : List ℕ) (count : ℕ) → text ≡ field ++ rest → is_numeral field ≡ true
@@ -101,7 +100,7 @@ spelt-numeral field number (spells, filled, plain) some = elim (cases_Bool (is_n
 end-no_prefix : (a c : ℕ) → needs_byte default_writer c ≡ true → is_prefix a c ≡ false
 end-no_prefix a c e = elim (cases_Bool (is_prefix a c)) [
   | inl y ↦
-      let parts = both_true (a == 48) ((c == 120) || (c == 88)) y in
+      let parts = and_parts (a == 48) ((c == 120) || (c == 88)) y in
       elim (cases_Bool (c == 120)) [
         | inl x ↦ cc (rw (eqb-true c 120 x) at e)
         | inr n ↦ cc (rw (eqb-true c 88 (rw n at parts.1)) at e)
@@ -146,13 +145,13 @@ no_prefix-same (a ∷ b ∷ rest) digits e n = elim (cases_Bool (is_prefix a b))
 
 first_digit : (c : ℕ) (field : List ℕ) (number : Option ℕ) → Spells (c ∷ field) number → is_hex_digit c ≡ true
 first_digit c [] number spells =
-    (both_true (is_hex_digit c) true (numeral-digits (c ∷ []) (spelt-numeral (c ∷ []) number spells (omega arith)))).0
+    (and_parts (is_hex_digit c) true (numeral-digits (c ∷ []) (spelt-numeral (c ∷ []) number spells (omega arith)))).0
 first_digit c (b ∷ field) number spells = elim (cases_Bool (is_prefix c b)) [
-  | inl y ↦ rw (eqb-true c 48 (both_true (c == 48) ((b == 120) || (b == 88)) y).0) refl
+  | inl y ↦ rw (eqb-true c 48 (and_parts (c == 48) ((b == 120) || (b == 88)) y).0) refl
   | inr n ↦
       let numeral : is_numeral (c ∷ b ∷ field) ≡ true =
       rw n at (spelt-numeral (c ∷ b ∷ field) number spells (omega arith)) in
-      (both_true (is_hex_digit c) (list_all is_hex_digit (b ∷ field)) (numeral-digits (c ∷ b ∷ field) numeral)).0
+      (and_parts (is_hex_digit c) (list_all is_hex_digit (b ∷ field)) (numeral-digits (c ∷ b ∷ field) numeral)).0
 ]
 
 -- Where no digit stands in front, the field is empty.

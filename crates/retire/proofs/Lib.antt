@@ -1,4 +1,3 @@
-pub mod BothTrue
 pub mod TableLemmas
 pub mod NumberLemmas
 pub mod RowLemmas

@@ -1,8 +1,8 @@
 -- The records of a text with no quote are its lines, each parted at its commas.
-use Rattle.std.proofs.Common.{◌≡◌, ◌==◌, ◌&&◌, ◌++◌, ◌∙◌, ◌⊎◌, ℕ, List, [], ◌∷◌, Bool, true, false, not, Option, Some}
+use Rattle.std.proofs.Common.{◌≡◌, ◌==◌, ◌++◌, ◌∙◌, ◌⊎◌, ℕ, List, [], ◌∷◌, true, false, not, Option, Some}
 use Rattle.std.proofs.Common.{None, map, refl, sym, ap, inl, inr, append_assoc, append-nil}
 use Rattle.std.specs.List.{filter, onto_first, slice_split}
-use Rattle.std.proofs.lemmas.Bool.{cases_Bool, eqb-true}
+use Rattle.std.proofs.lemmas.Bool.{cases_Bool, eqb-true, and_parts, not-true}
 use Rattle.csv.specs.Machine.{Read, next_record}
 use Rattle.csv.specs.Reading.{default_config, is_bom, records_next, strip_bom}
 use Rattle.csv.specs.declared.parser.State.{State}
@@ -10,7 +10,6 @@ use Rattle.csv.specs.declared.parser.State.TheVariants as st
 use Rattle.retire.specs.PlainText.{PlainIsParted, is_filled, is_line_end, is_plain, lines_parted, parted}
 use Rattle.retire.specs.steps.RowsLeft.{IsStart, records_left}
 use Rattle.retire.proofs.RecordsLemmas.{records_left-none, records_left-some}
-use Rattle.retire.proofs.BothTrue.{both_true}
 
 -- The records from the middle of one: its fields so far, and the bytes of the field at hand.
 abbrev records_within : State → List (List ℕ) → List ℕ → List ℕ → List (List (List ℕ))
@@ -149,10 +148,6 @@ no_return c n = elim (cases_Bool (c == 13)) [
   | inr m ↦ m
 ]
 
-not-false : (a : Bool) → not a ≡ true → a ≡ false
-not-false true e = cc e
-not-false false e = refl
-
 -- A byte where a record may start.
 pub left-end : (c : ℕ) (text : List ℕ) (s : State) → IsStart s → is_line_end c ≡ true
     → records_within s [] [] (c ∷ text) ≡ records_within st.StartRecord [] [] text
@@ -179,9 +174,9 @@ left-more c text left within s start = elim (cases_Bool (is_line_end c)) [
 both : (text : List ℕ) → is_plain text ≡ true → Left text × Within text
 both [] h = (left-nil, within-nil)
 both (c ∷ text) h =
-    let parts = both_true (not (c == 34)) (is_plain text) h in
+    let parts = and_parts (not (c == 34)) (is_plain text) h in
     let more = both text parts.1 in
-    let within = within-more c text (not-false (c == 34) parts.0) more.0 more.1 in
+    let within = within-more c text (not-true (c == 34) parts.0) more.0 more.1 in
     (left-more c text more.0 within, within)
 
 -- From where a record may start.
@@ -190,7 +185,7 @@ pub left-plain : (text : List ℕ) (s : State) → is_plain text ≡ true → Is
 left-plain text s h start = (both text h).0 s start
 
 is_plain-tail : (c : ℕ) (text : List ℕ) → is_plain (c ∷ text) ≡ true → is_plain text ≡ true
-is_plain-tail c text h = (both_true (not (c == 34)) (is_plain text) h).1
+is_plain-tail c text h = (and_parts (not (c == 34)) (is_plain text) h).1
 
 is_plain-strip : (text : List ℕ) → is_plain text ≡ true → is_plain (strip_bom text) ≡ true
 unfolding strip_bom

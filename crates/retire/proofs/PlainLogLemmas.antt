@@ -1,10 +1,10 @@
 -- The rows of a plain log, one at a time, and that a log is written plain.
-use Rattle.std.proofs.Common.{◌≡◌, ◌≤◌, ◌<◌, ◌&&◌, ◌||◌, ◌==◌, ◌++◌, ◌∙◌, ◌+◌, Bool, ℕ, List, [], ◌∷◌, Option, Some}
+use Rattle.std.proofs.Common.{◌≡◌, ◌≤◌, ◌<◌, ◌||◌, ◌==◌, ◌++◌, ◌∙◌, ◌+◌, Bool, ℕ, List, [], ◌∷◌, Option, Some}
 use Rattle.std.proofs.Common.{None, Result, Ok, Err, map, nat_eq, nat_lt, IfOk, take, drop, length, true, false, arith}
 use Rattle.std.proofs.Common.{refl, subst, sym, ap, inl, inr, rules, append_assoc}
 use Rattle.std.specs.Cmp.Lexicographic.{pointwise}
 use Rattle.std.specs.List.{flat_map, join_with_byte, list_all, list_any}
-use Rattle.std.proofs.lemmas.Bool.{cases_Bool}
+use Rattle.std.proofs.lemmas.Bool.{cases_Bool, and_parts, or_parts}
 use Rattle.csv.specs.Quoting.{needs_byte}
 use Rattle.csv.specs.Writing.{default_writer}
 use Rattle.retire.specs.Log.{events_from, header, limit}
@@ -15,18 +15,13 @@ use Rattle.retire.specs.Row.{is_garbled, known_event, row_event}
 use Rattle.retire.specs.declared.event.Event.{Event}
 use Rattle.retire.specs.declared.fault.LogFault.{LogFault}
 use Rattle.retire.specs.steps.PlainRow.{IsPlainRow, Spells}
-use Rattle.retire.proofs.HexLemmas.{list_any-AllDigits}
-use Rattle.retire.proofs.PlainRowLemmas.{all-AllDigits, needs_prefix, no_garbled}
+use Rattle.retire.proofs.HexLemmas.{all-AllDigits, list_any-AllDigits}
+use Rattle.retire.proofs.PlainRowLemmas.{needs_prefix, no_garbled}
 use Rattle.retire.proofs.RangeLemmas.{with_event-ok}
 use Rattle.retire.proofs.RoundTrip.{events_from-fields}
-use Rattle.retire.proofs.BothTrue.{both_true}
-
-or-both : (a b : Bool) → (a || b) ≡ false → (a ≡ false) × (b ≡ false)
-or-both false b e = (refl, e)
-or-both true b e = cc e
 
 numeral-plain : (text : List ℕ) → is_numeral text ≡ true → list_any (needs_byte default_writer) text ≡ false
-numeral-plain text e = list_any-AllDigits text (all-AllDigits text (both_true _ (list_all is_hex_digit text) e).1)
+numeral-plain text e = list_any-AllDigits text (all-AllDigits text (and_parts _ (list_all is_hex_digit text) e).1)
 
 spelling-plain : (field : List ℕ) → is_numeral (without_prefix field) ≡ true
     → list_any (needs_byte default_writer) field ≡ false
@@ -113,7 +108,7 @@ five-fields row a b c d e text end rest event whole ends known =
           rw clean at known in
           let (x, y, z, is_x, is_y, is_z) =
           known-numbers row (number_of a) (number_of b) (number_of c) (number_of d) (number_of e) event good in
-          let cleans = or-both (is_garbled d (number_of d)) (is_garbled e (number_of e)) clean in
+          let cleans = or_parts (is_garbled d (number_of d)) (is_garbled e (number_of e)) clean in
           five-numbers row x y z a b c d e text end rest event whole ends is_x is_y is_z cleans.0 cleans.1 good
     ]
 

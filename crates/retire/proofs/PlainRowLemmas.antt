@@ -1,10 +1,10 @@
 -- A row at the front of a text.
-use Rattle.std.proofs.Common.{◌≡◌, ◌≢◌, ◌≤◌, ◌<◌, ◌==◌, ◌&&◌, ◌||◌, ◌++◌, ◌∙◌, ◌+◌, ◌-◌, get_or, Bool, ℕ, List, [], ◌∷◌}
+use Rattle.std.proofs.Common.{◌≡◌, ◌≢◌, ◌≤◌, ◌<◌, ◌==◌, ◌||◌, ◌++◌, ◌∙◌, ◌+◌, ◌-◌, get_or, ℕ, List, [], ◌∷◌}
 use Rattle.std.proofs.Common.{Option, Some, None, Result, Ok, Err, nat_eq, take, drop, length, true, false, codes}
 use Rattle.std.proofs.Common.{arith, refl, subst, sym, ap, inl, inr, rules}
-use Rattle.std.specs.List.{join_with_byte, list_all, list_any}
-use Rattle.std.specs.Str.Parse.{AllDigits, digits_value}
-use Rattle.std.proofs.lemmas.Bool.{cases_Bool, eqb-true, false≢true}
+use Rattle.std.specs.List.{join_with_byte, list_any}
+use Rattle.std.specs.Str.Parse.{digits_value}
+use Rattle.std.proofs.lemmas.Bool.{cases_Bool, eqb-true, false≢true, and_parts, or_parts}
 use Rattle.std.proofs.lemmas.List.{length-drop, length-take, take-append-drop, take_all}
 use Rattle.csv.specs.Machine.{Read, next_record}
 use Rattle.csv.specs.Quoting.{needs_byte}
@@ -12,7 +12,7 @@ use Rattle.csv.specs.Reading.{default_config, strip_bom}
 use Rattle.csv.specs.Writing.{default_writer}
 use Rattle.csv.specs.declared.parser.State.TheVariants as st
 use Rattle.csv.proofs.RoundTrip.{plain-run, record-same, start-same}
-use Rattle.retire.specs.Number.{hex_value, is_hex_digit, is_prefix, number_of, without_prefix, digits_number}
+use Rattle.retire.specs.Number.{hex_value, is_prefix, number_of, without_prefix, digits_number}
 use Rattle.retire.specs.PlainLog.{EndsLine}
 use Rattle.retire.specs.steps.PlainRow.{EndsField, HasCell, HasDigits, HasField, HasRow, Spells}
 use Rattle.retire.specs.Row.{is_garbled, numbers_event, row_event}
@@ -23,18 +23,10 @@ use Rattle.retire.specs.declared.fault.LogFault.{LogFault}
 use Rattle.std.specs.Cmp.Lexicographic.{pointwise, same_text}
 use Rattle.retire.proofs.EventsLemmas.{after-after, after-end, events_from-event}
 use Rattle.retire.proofs.PlainLemmas.{left-end, left-within}
-use Rattle.retire.proofs.HexLemmas.{digits_number-numeral, list_any-AllDigits, without_prefix-AllDigits}
-use Rattle.retire.proofs.NumberLemmas.{digit_below_16, digits_value-digit_more, list_all-digit_more}
+use Rattle.retire.proofs.HexLemmas.{all-AllDigits, digits_number-numeral, list_any-AllDigits}
+use Rattle.retire.proofs.HexLemmas.{without_prefix-AllDigits}
+use Rattle.retire.proofs.NumberLemmas.{digits_value-digit_more, list_all-digit_more}
 use Rattle.retire.proofs.RecordsLemmas.{records_left-none, records_left-some}
-use Rattle.retire.proofs.BothTrue.{both_true}
-
-or-left : (a b : Bool) → (a || b) ≡ false → a ≡ false
-or-left false b e = refl
-or-left true b e = cc e
-
-or-right : (a b : Bool) → (a || b) ≡ false → b ≡ false
-or-right false b e = e
-or-right true b e = cc e
 
 other : (b mark : ℕ) → needs_byte default_writer b ≡ false → needs_byte default_writer mark ≡ true
     → (b == mark) ≡ false
@@ -47,12 +39,6 @@ other b mark e m = elim (cases_Bool (b == mark)) [
 plain-byte : (b : ℕ) → needs_byte default_writer b ≡ false
     → ((b == 44) ≡ false) × ((b == 34) ≡ false) × ((b == 13) ≡ false) × ((b == 10) ≡ false)
 plain-byte b e = (other b 44 e refl, other b 34 e refl, other b 13 e refl, other b 10 e refl)
-
-pub all-AllDigits : (text : List ℕ) → list_all is_hex_digit text ≡ true → AllDigits 16 text
-all-AllDigits [] h = tt
-all-AllDigits (c ∷ rest) h =
-    let parts = both_true (is_hex_digit c) (list_all is_hex_digit rest) h in
-    (digit_below_16 c parts.0, all-AllDigits rest parts.1)
 
 length-front : (count : ℕ) (text : List ℕ) → count ≤ length text → length (take count text) ≡ count
 length-front count text h = let e = length-take count text in omega (arith, e)
@@ -90,7 +76,7 @@ field-none text rest count none e = ([], rw (e, none) refl, (refl, refl, refl))
 
 pub needs_prefix : (a b : ℕ) → is_prefix a b ≡ true
     → (needs_byte default_writer a ≡ false) × (needs_byte default_writer b ≡ false)
-needs_prefix a b h = let parts = both_true (a == 48) ((b == 120) || (b == 88)) h in (
+needs_prefix a b h = let parts = and_parts (a == 48) ((b == 120) || (b == 88)) h in (
   rw (eqb-true a 48 parts.0) refl,
   elim (cases_Bool (b == 120)) [
     | inl y ↦ rw (eqb-true b 120 y) refl
@@ -130,7 +116,7 @@ field-comma : (fields : List (List ℕ)) (x tail : List ℕ) → list_any (needs
 unfolding next_record
 field-comma fields [] tail p = refl
 field-comma fields (b ∷ rest) tail p =
-    let q = plain-byte b (or-left _ _ p) in
+    let q = plain-byte b (or_parts _ _ p).0 in
     start-same fields [] b (rest ++ 44 ∷ tail) q.1 ∙ plain-run fields [] (b ∷ rest) (44 ∷ tail) p
 
 -- The first field of a record.
@@ -139,7 +125,7 @@ field-first : (x tail : List ℕ) → list_any (needs_byte default_writer) x ≡
     (x ++ 44 ∷ tail)
 field-first [] tail p = record-same [] [] 44 tail refl refl
 field-first (b ∷ rest) tail p =
-    let q = plain-byte b (or-left _ _ p) in record-same [] [] b (rest ++ 44 ∷ tail) q.2 q.3
+    let q = plain-byte b (or_parts _ _ p).0 in record-same [] [] b (rest ++ 44 ∷ tail) q.2 q.3
 
 -- A carriage return ends a record, and the line feed behind it belongs to no record.
 left-feed : (rest : List ℕ) → records_left st.AfterCr (10 ∷ rest) ≡ records_left st.StartRecord rest
@@ -162,21 +148,21 @@ field-last fields [] end rest p (inr (inl e)) =
 field-last fields [] end rest p (inr (inr e)) =
     ((fields ++ [] ∷ [], st.StartRecord, []), rw e.0 refl, refl, rw e.1 refl)
 field-last fields (b ∷ more) end rest p (inl e) =
-    let q = plain-byte b (or-left _ _ p) in (
+    let q = plain-byte b (or_parts _ _ p).0 in (
       (fields ++ (b ∷ more) ∷ [], st.StartRecord, rest),
       rw e (start-same fields [] b (more ++ 10 ∷ rest) q.1 ∙ plain-run fields [] (b ∷ more) (10 ∷ rest) p),
       refl,
       refl,
     )
 field-last fields (b ∷ more) end rest p (inr (inl e)) =
-    let q = plain-byte b (or-left _ _ p) in (
+    let q = plain-byte b (or_parts _ _ p).0 in (
       (fields ++ (b ∷ more) ∷ [], st.AfterCr, 10 ∷ rest),
       rw e (start-same fields [] b (more ++ 13 ∷ 10 ∷ rest) q.1 ∙ plain-run fields [] (b ∷ more) (13 ∷ 10 ∷ rest) p),
       refl,
       left-feed rest,
     )
 field-last fields (b ∷ more) end rest p (inr (inr e)) =
-    let q = plain-byte b (or-left _ _ p) in (
+    let q = plain-byte b (or_parts _ _ p).0 in (
       (fields ++ (b ∷ more) ∷ [], st.StartRecord, []),
       rw e.0 (start-same fields [] b (more ++ []) q.1 ∙ plain-run fields [] (b ∷ more) [] p),
       refl,

@@ -1,10 +1,11 @@
 -- What is written is read back.
-use Rattle.std.proofs.Common.{◌≡◌, ◌≢◌, ◌⊎◌, ◌≤◌, ◌<◌, ◌^◌, ◌%◌, ◌==◌, ◌+◌, ◌++◌, ◌∙◌, ◌&&◌, ℕ, List, [], ◌∷◌, All}
-use Rattle.std.proofs.Common.{Bool, true, false, None, Ok, lit<, codes, length, map, nat_lt, arith, rules, refl, ap}
+use Rattle.std.proofs.Common.{◌≡◌, ◌≢◌, ◌⊎◌, ◌≤◌, ◌<◌, ◌^◌, ◌%◌, ◌==◌, ◌+◌, ◌++◌, ◌∙◌, ℕ, List, [], ◌∷◌, All}
+use Rattle.std.proofs.Common.{true, false, None, Ok, lit<, codes, length, map, nat_lt, arith, rules, refl, ap}
 use Rattle.std.proofs.Common.{inl, inr, append-nil}
 use Rattle.std.proofs.lemmas.Bool.{ne_eqb}
 use Rattle.std.proofs.lemmas.List.Elements.{All-head, All-tail}
 use Rattle.std.specs.List.{flat_map, join_with_byte, list_any}
+use Rattle.std.proofs.Math.Bool.{and-false}
 use Rattle.csv.proofs.RoundTrip.{read-write}
 use Rattle.csv.specs.Machine.{next_record}
 use Rattle.csv.specs.Quoting.{needs_byte}
@@ -97,12 +98,8 @@ is_privilege-IsPrivilege priv level =
 is_even : (addr : ℕ) → IsAddress addr → (addr % 2 == 1) ≡ false
 is_even addr (small, even) = rw even refl
 
-and_false : (b : Bool) → (b && false) ≡ false
-and_false true = refl
-and_false false = refl
-
 is_garbled-hex : (n : ℕ) → n < 2 ^ 64 → is_garbled (hex n) (number_of (hex n)) ≡ false
-is_garbled-hex n small = rw (number_of-hex n small) (and_false _)
+is_garbled-hex n small = rw (number_of-hex n small) (and-false _)
 
 is_low_cause : (cause : ℕ) → cause < 64 → nat_lt 63 cause ≡ false
 is_low_cause cause below = search (rules, arith)

@@ -1,8 +1,8 @@
 -- The row of a retirement at an address of eight digits.
-use Rattle.std.proofs.Common.{◌≡◌, ◌≤◌, ◌||◌, ◌++◌, ◌∙◌, Bool, ℕ, List, [], ◌∷◌, Option, Some, None, Ok, take, drop}
+use Rattle.std.proofs.Common.{◌≡◌, ◌≤◌, ◌++◌, ◌∙◌, ℕ, List, [], ◌∷◌, Option, Some, None, Ok, take, drop}
 use Rattle.std.proofs.Common.{length, true, false, arith, refl, sym, ap, inl, inr, subst}
 use Rattle.std.specs.List.{list_any}
-use Rattle.std.proofs.lemmas.Bool.{false≢true}
+use Rattle.std.proofs.lemmas.Bool.{false≢true, or_parts}
 use Rattle.std.proofs.lemmas.List.{append-nil, drop_all, length-take, take-append-drop}
 use Rattle.csv.specs.Quoting.{needs_byte}
 use Rattle.csv.specs.Writing.{default_writer}
@@ -13,14 +13,6 @@ use Rattle.retire.specs.declared.event.Event.{Event}
 use Rattle.retire.specs.steps.PlainRow.{HasCell, HasDigits, HasField, HasRow, IsPlainRow, Spells}
 use Rattle.retire.proofs.PlainRowLemmas.{cell-on, field-digit, field-on, field-some, row-fields}
 
-or-left : (a b : Bool) → (a || b) ≡ false → a ≡ false
-or-left false b e = refl
-or-left true b e = cc e
-
-or-right : (a b : Bool) → (a || b) ≡ false → b ≡ false
-or-right false b e = e
-or-right true b e = cc e
-
 -- A field with no comma ends at the first.
 field-ends : (field other rest more : List ℕ) → list_any (needs_byte default_writer) field ≡ false
     → list_any (needs_byte default_writer) other ≡ false → field ++ 44 ∷ rest ≡ other ++ 44 ∷ more
@@ -28,17 +20,17 @@ field-ends : (field other rest more : List ℕ) → list_any (needs_byte default
 field-ends [] [] rest more p q e = cc e
 field-ends [] (c ∷ other) rest more p q e =
     let comma : c ≡ 44 = cc e in
-    let plain = or-left (needs_byte default_writer c) (list_any (needs_byte default_writer) other) q in
+    let plain = (or_parts (needs_byte default_writer c) (list_any (needs_byte default_writer) other) q).0 in
     let mark : needs_byte default_writer c ≡ true = rw comma refl in
     absurd (false≢true (sym plain ∙ mark))
 field-ends (c ∷ field) [] rest more p q e =
     let comma : c ≡ 44 = cc e in
-    let plain = or-left (needs_byte default_writer c) (list_any (needs_byte default_writer) field) p in
+    let plain = (or_parts (needs_byte default_writer c) (list_any (needs_byte default_writer) field) p).0 in
     let mark : needs_byte default_writer c ≡ true = rw comma refl in
     absurd (false≢true (sym plain ∙ mark))
 field-ends (c ∷ field) (d ∷ other) rest more p q e =
     let tails : field ++ 44 ∷ rest ≡ other ++ 44 ∷ more = cc e in
-    field-ends field other rest more (or-right _ _ p) (or-right _ _ q) tails
+    field-ends field other rest more (or_parts _ _ p).1 (or_parts _ _ q).1 tails
 
 -- So does a cell.
 cell-ends : {text : List ℕ} {m n : Option ℕ} {rest more : List ℕ} → HasCell text m rest → HasCell text n more
@@ -54,7 +46,7 @@ empty-ends rest after more n ([], e, spells) (inr (inl ends)) = let h = e ∙ en
 empty-ends rest after more n ([], e, spells) (inr (inr ends)) = let h = e ∙ ends.0 in cc h
 empty-ends rest after more n (c ∷ field, e, spells) ends =
     let feed : c ≡ 10 = cc e in
-    let plain = or-left (needs_byte default_writer c) (list_any (needs_byte default_writer) field) spells.2 in
+    let plain = (or_parts (needs_byte default_writer c) (list_any (needs_byte default_writer) field) spells.2).0 in
     let mark : needs_byte default_writer c ≡ true = rw feed refl in
     absurd (false≢true (sym plain ∙ mark))
 

@@ -1,8 +1,7 @@
 -- A table holds a function's values: they are compared at each place, by computing.
-use Rattle.std.proofs.Common.{◌≡◌, ◌<◌, ◌==◌, ◌&&◌, ℕ, zero, suc, List, Bool, true, false, get_or, refl, arith, inl}
+use Rattle.std.proofs.Common.{◌≡◌, ◌<◌, ◌==◌, ◌&&◌, ℕ, zero, suc, List, Bool, true, get_or, arith, inl}
 use Rattle.std.proofs.Common.{inr}
-use Rattle.std.proofs.lemmas.Bool.{cases_eq, eqb-true}
-use Rattle.retire.proofs.BothTrue.{both_true}
+use Rattle.std.proofs.lemmas.Bool.{cases_eq, eqb-true, and_parts}
 
 -- The two agree below n.
 unfoldable pub agree_below : (ℕ → ℕ) → (ℕ → ℕ) → ℕ → Bool
@@ -14,7 +13,7 @@ pub agree_at : (f g : ℕ → ℕ) (n : ℕ) → agree_below f g n ≡ true → 
 unfolding agree_below
 agree_at f g zero h b low = absurd (omega arith)
 agree_at f g (suc n) h b low =
-    let both = both_true (f n == g n) (agree_below f g n) h in
+    let both = and_parts (f n == g n) (agree_below f g n) h in
     elim (cases_eq b n)
     [ inl same ↦ rw same (eqb-true (f n) (g n) both.0) | inr other ↦ agree_at f g n both.1 b (omega arith) ]
 

@@ -1,6 +1,7 @@
 -- What each event of a log tells, in the state that it comes in.
 use Rattle.std.proofs.Common.{◌≡◌, ℕ, ◌+◌, ◌^◌, ◌<◌, Bool, true, false, ◌&&◌, not, List, [], ◌∷◌, Option, Some, None}
 use Rattle.std.proofs.Common.{refl, sym, ◌∙◌, arith}
+use Rattle.std.proofs.lemmas.Bool.{and_parts}
 use Rattle.retire.specs.Events.{is_retirement}
 use Rattle.retire.specs.declared.event.Event.{Event}
 use Rattle.retire.specs.declared.event.Event.TheVariants.{Retire, Trap}
@@ -13,7 +14,7 @@ use Rattle.encoder.specs.Spot.{first_event}
 use Rattle.encoder.specs.declared.rule.Rule.{Rule}
 use Rattle.encoder.specs.declared.rule.Rule.TheVariants as by
 use Rattle.decoder.specs.Fits.{AfterInferable}
-use Rattle.roundtrip.proofs.RuleFacts.{TellsOf, and_second, same_privilege}
+use Rattle.roundtrip.proofs.RuleFacts.{TellsOf, same_privilege}
 use Rattle.roundtrip.proofs.Telling.{Told, Quiet, NotHandled, InRangeAfter, Handles, AtCut, AfterTrap, TellsOn, cut}
 use Rattle.roundtrip.proofs.Telling.{not_handled}
 use Rattle.roundtrip.proofs.QuietTelling.{quiet_retirement_told}
@@ -44,8 +45,8 @@ inferable words (Some event) addr itype priv is =
 -- What follows a trap that is reported with its handler is the handler.
 handles : (words : Words) (before : Option Event) (events : List Event)
     → with_handler words before (first_event events None) ≡ true → Handles words before events
-handles words before [] is = and_second _ _ is
-handles words before (Trap epc priv interrupt cause tval ∷ events) is = and_second _ _ is
+handles words before [] is = (and_parts _ _ is).1
+handles words before (Trap epc priv interrupt cause tval ∷ events) is = (and_parts _ _ is).1
 handles words before (Retire addr itype priv ∷ events) is = is
 
 -- What follows another trap is no handler.

@@ -13,7 +13,7 @@ use Rattle.encoder.specs.declared.rule.Rule.{Rule}
 use Rattle.encoder.specs.declared.rule.Rule.TheVariants as by
 use Rattle.decoder.specs.Order.{MayFollow, MayPrecede, first}
 use Rattle.decoder.specs.Pieces.{reported_after}
-use Rattle.roundtrip.proofs.QuietLemmas.{last_place-snoc}
+use Rattle.decoder.proofs.StretchEnds.{last_place-last}
 
 -- The packets of the last pieces of a log, after this last reported address and a piece of this rule, and the closing
 -- packet.
@@ -98,11 +98,11 @@ pub reported_after-packet_by : (reported : ℕ) (front : List Event) (last : Eve
     → reported_after (packet_by reported front last rule) reported (front ++ last ∷ []) ≡ reported_by rule reported
     last
 reported_after-packet_by reported front last (by.Trap handler) =
-    reported_after-trap_packet last _ _ _ _ reported _ ∙ last_place-snoc reported front last
+    reported_after-trap_packet last _ _ _ _ reported _ ∙ last_place-last reported front last
 reported_after-packet_by reported front last by.Handler =
-    reported_after-trap_packet (first_or last front) _ _ _ _ reported _ ∙ last_place-snoc reported front last
-reported_after-packet_by reported front last by.Sync = last_place-snoc reported front last
-reported_after-packet_by reported front last (by.Target cut_off) = last_place-snoc reported front last
-reported_after-packet_by reported front last by.Explicit = last_place-snoc reported front last
-reported_after-packet_by reported front last by.Notify = last_place-snoc reported front last
+    reported_after-trap_packet (first_or last front) _ _ _ _ reported _ ∙ last_place-last reported front last
+reported_after-packet_by reported front last by.Sync = last_place-last reported front last
+reported_after-packet_by reported front last (by.Target cut_off) = last_place-last reported front last
+reported_after-packet_by reported front last by.Explicit = last_place-last reported front last
+reported_after-packet_by reported front last by.Notify = last_place-last reported front last
 reported_after-packet_by reported front last by.Unreported = refl

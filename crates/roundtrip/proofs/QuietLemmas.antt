@@ -1,9 +1,7 @@
 -- Stretches of events, one event more at the end.
-use Rattle.std.proofs.Common.{◌≡◌, ℕ, Bool, true, false, List, [], ◌∷◌, ◌++◌, Some, refl, ap, ◌∙◌}
+use Rattle.std.proofs.Common.{◌≡◌, Bool, true, false, List, [], ◌∷◌, ◌++◌, Some, ap, ◌∙◌}
 use Rattle.std.specs.List.{last_or, AllByRecursion}
-use Rattle.retire.specs.Events.{place}
 use Rattle.retire.specs.declared.event.Event.{Event}
-use Rattle.legalpath.specs.LastPlace.{last_place}
 use Rattle.legalpath.specs.NoneOf.{NoneOf}
 use Rattle.legalpath.specs.OnlyLast.{OnlyLast}
 
@@ -14,10 +12,6 @@ all-snoc Holds [] last all one = (one, tt)
 all-snoc Holds (event ∷ front) last all one = (all.0, all-snoc Holds front last all.1 one)
 
 -- A stretch stands last where its last event stands.
-pub last_place-snoc : (at : ℕ) (front : List Event) (last : Event) → last_place at (front ++ last ∷ []) ≡ place last
-last_place-snoc at [] last = refl
-last_place-snoc at (event ∷ front) last = last_place-snoc (place event) front last
-
 -- No event of the stretch but the last may pass the test.
 abbrev pub NoneEarly : (Event → Bool) → List Event → Type 0
 NoneEarly test [] = Unit {0}

@@ -3,6 +3,7 @@ use Rattle.std.proofs.Common.{◌≡◌, ℕ, ◌+◌, ◌^◌, ◌<◌, Bool, t
 use Rattle.std.proofs.Common.{refl, sym, ap, subst, ◌∙◌, append_assoc}
 use Rattle.std.proofs.Math.Bool.{or-false}
 use Rattle.std.specs.Prelude.{is_none}
+use Rattle.std.proofs.lemmas.Bool.{and_parts}
 use Rattle.retire.specs.Events.{privilege, outcomes}
 use Rattle.retire.specs.declared.event.Event.{Event}
 use Rattle.retire.specs.declared.event.Event.TheVariants.{Retire, Trap}
@@ -24,7 +25,7 @@ use Rattle.decoder.specs.Fits.{FitsAddress}
 use Rattle.decoder.specs.Settling.{makes_explicit, explicit_or_target, settled_by}
 use Rattle.decoder.specs.Walk.{AtBranch, AtAddress, AtTarget, EndsAt, RetiresAt, IsWalk, IsWalkFrom}
 use Rattle.roundtrip.proofs.QuietLemmas.{all-snoc, none_early-none, none_early-last, none_early-snoc}
-use Rattle.roundtrip.proofs.RuleFacts.{TellsOf, and_first}
+use Rattle.roundtrip.proofs.RuleFacts.{TellsOf}
 use Rattle.roundtrip.proofs.Telling.{Told, Quiet, GoesOn, AtCut, InStretch, explicit_before, TellsOn, cut, quiet_walks}
 use Rattle.roundtrip.proofs.Telling.{not_handled}
 
@@ -81,8 +82,7 @@ module _ (words : Words) (period : ℕ) where
       walk_to_target quiet known here fits leaves =
           quiet_walks words since front before (Retire addr itype priv) (AtTarget _) quiet here (
             none_early-last (is_discontinuity words) since front before quiet.early quiet.ends leaves,
-            sym
-                (aim-difference reported addr known fits),
+            sym (aim-difference reported addr fits),
           )
 
       -- Elsewhere it ends a walk to its address.
@@ -94,8 +94,7 @@ module _ (words : Words) (period : ℕ) where
       walk_to_address quiet known here fits stays =
           quiet_walks words since front before (Retire addr itype priv) (AtAddress _) quiet here (
             none_early-none (is_discontinuity words) since front before quiet.early quiet.ends stays,
-            sym
-                (aim-difference reported addr known fits),
+            sym (aim-difference reported addr fits),
           )
 
       -- A retirement that no packet reports fills the branch map, or the stretch goes on.
@@ -118,7 +117,7 @@ module _ (words : Words) (period : ℕ) where
               let ends : EndsAt words AtBranch since front last = (
                 none_early-none (is_discontinuity words) since front
                     before quiet.early quiet.ends tells.1,
-                and_first _ _ full,
+                (and_parts _ _ full).0,
               ) in
               cut words (Some since) reported by_last front last by.Unreported events _ (rest [])
               (quiet_walks words since front before last AtBranch quiet here ends) told

@@ -1,5 +1,5 @@
 -- What the rule of a retirement tells of it.
-use Rattle.std.proofs.Common.{◌≡◌, ℕ, ◌==◌, Bool, true, false, ◌||◌, ◌&&◌, not, cond, Option, refl, arith}
+use Rattle.std.proofs.Common.{◌≡◌, ℕ, ◌==◌, Bool, true, false, ◌||◌, not, cond, Option, refl, arith}
 use Rattle.std.proofs.lemmas.Bool.Decides.{nat_tests}
 use Rattle.std.specs.Prelude.{is_none}
 use Rattle.retire.specs.Events.{privilege}
@@ -58,15 +58,6 @@ pub rule_tells_of : (words : Words) (period number : ℕ) (before_that before : 
     (is_cut_off period number event after) (is_none after) (is_backward words event))
 rule_tells_of words period number before_that before event after =
     rule_tells _ _ _ _ _ _
-
--- Truth tables.
-pub and_first : (left right : Bool) → (left && right) ≡ true → left ≡ true
-and_first true right both = refl
-and_first false right both = both
-
-pub and_second : (left right : Bool) → (left && right) ≡ true → right ≡ true
-and_second true right both = both
-and_second false right both = cc
 
 -- A retirement after another that is no new start has its privilege.
 pub same_privilege : (priv level : ℕ) (periodic : Bool) → (not (priv == level) || periodic) ≡ false → priv ≡ level

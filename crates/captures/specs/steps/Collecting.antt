@@ -14,7 +14,8 @@ use Rattle.captures.specs.declared.outcome.CaptureFault.{CaptureFault}
 use Rattle.captures.specs.declared.outcome.CaptureFault.TheVariants as fault
 
 -- A receiver accepted the messages with which the bytes begin and holds what they tell, and it stops before the rest.
-pub record HasCollected (words : Words) (harts : ℕ) (bytes : List ℕ) (received : Received) (stop : Option (ℕ × CaptureFault)) : Type 0 where
+pub record HasCollected (words : Words) (harts : ℕ) (bytes : List ℕ) (received : Received)
+    (stop : Option (ℕ × CaptureFault)) : Type 0 where
   pub messages : List Message
   pub rest : List ℕ
   pub ranges : All IsMessage messages

@@ -10,14 +10,19 @@ use Rattle.captures.proofs.capture_decoding.collect.Goals as goal
 
 pub loop-message-preserved : goal.loop-message-preserved
 loop-message-preserved g c =
+    let words = words_of c.args.program.now in
     let left = c.loop-message.messages in
     let next = c.next.new.self in
     let found = c.in-Ok-Some.field-0-is in
     let is = subst (λ o. IfSome o (λ m. IsMessage m)) found c.in-Ok-Some.ensures.ranges in
-    let here = subst (λ o. IfSome o (λ (m : Message). left ≡ message_bytes m ++ next)) found c.in-Ok-Some.ensures.message in
-    let shorter = subst (λ o. IfSome o (λ (m : Message). length next < length left)) found c.in-Ok-Some.ensures.shorter in (
-      λ harts has. reaches_more (words_of c.args.program.now) harts c.args.bytes.now left next c.loop-message.number c.loop-message.receiver c.receive.new.self c.in-Ok-Some.message
-          (c.loop-message.invariant.0 harts has) is here (λ messages. c.in-Ok.ensures.received (λ hart. words_of c.args.program.now) harts messages refl),
+    let here =
+    subst (λ o. IfSome o (λ (m : Message). left ≡ message_bytes m ++ next)) found c.in-Ok-Some.ensures.message in
+    let shorter =
+    subst (λ o. IfSome o (λ (m : Message). length next < length left)) found c.in-Ok-Some.ensures.shorter in (
+      λ harts has.
+          reaches_more words harts c.args.bytes.now left next c.loop-message.number c.loop-message.receiver
+          c.receive.new.self c.in-Ok-Some.message (c.loop-message.invariant.0 harts has) is here
+          (λ messages. c.in-Ok.ensures.received (λ hart. words) harts messages refl),
       omega (arith, c.loop-message.invariant.1, shorter),
     )
 
@@ -28,8 +33,10 @@ returns-in-Err-receive g c = λ harts has.
     let next = c.next.new.self in
     let found = c.in-Ok-Some.field-0-is in
     let is = subst (λ o. IfSome o (λ m. IsMessage m)) found c.in-Ok-Some.ensures.ranges in
-    let here = subst (λ o. IfSome o (λ (m : Message). left ≡ message_bytes m ++ next)) found c.in-Ok-Some.ensures.message in
-    collected_at words harts c.args.bytes.now left next c.loop-message.number c.loop-message.receiver c.receive.new.self c.in-Ok-Some.message c.in-Err-receive.fault c.told.result
+    let here =
+    subst (λ o. IfSome o (λ (m : Message). left ≡ message_bytes m ++ next)) found c.in-Ok-Some.ensures.message in
+    collected_at words harts c.args.bytes.now left next c.loop-message.number c.loop-message.receiver
+    c.receive.new.self c.in-Ok-Some.message c.in-Err-receive.fault c.told.result
     (c.loop-message.invariant.0 harts has) is here
     (λ messages. c.in-Err-receive.ensures.held (λ hart. words) harts messages)
     (λ messages. c.in-Err-receive.ensures.refused (λ hart. words) harts messages refl)

@@ -1,3 +1,4 @@
+-- The messages of the harts so far and those of one more are put together by a lemma on lists.
 use Rattle.std.proofs.Common.{take, sym, subst}
 use Rattle.std.specs.Io.KnownBytes.{Appends}
 use Rattle.std.specs.List.{flat_map}

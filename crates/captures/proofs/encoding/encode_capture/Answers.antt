@@ -1,3 +1,4 @@
+-- A capture is the messages' bytes joined: the definitions are related by a lemma.
 use Rattle.captures.specs.Messages.{messages_of_harts}
 use Rattle.captures.proofs.MessageTexts.{capture_is}
 use Rattle.captures.proofs.encoding.encode_capture.Goals as goal

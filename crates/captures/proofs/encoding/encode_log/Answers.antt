@@ -1,3 +1,4 @@
+-- The source's clauses hold for any log and any number, and the prover does not pick this one's.
 use Rattle.std.proofs.Common.{◌≤◌, sym, ap, ◌∙◌, arith, length, subst}
 use Rattle.encoder.specs.Payloads.{payloads}
 use Rattle.encoder.specs.SourceAt.{IsAt, number_behind}

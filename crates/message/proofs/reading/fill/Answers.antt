@@ -1,3 +1,4 @@
+-- What stands before a place of the room and what was put there is one beginning of it: by a lemma on lists.
 use Rattle.std.proofs.Common.{◌≡◌, ℕ, ◌+◌, ◌-◌, ◌≤◌, List, ◌++◌, rules, arith, length, take, drop, sym, ap, ◌∙◌, subst}
 use Rattle.std.proofs.Common.{le_refl, drop_at, length-take-le}
 use Rattle.std.proofs.lemmas.Slice.{take-put_mid_below}

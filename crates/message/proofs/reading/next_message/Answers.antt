@@ -1,3 +1,4 @@
+-- Bytes that end inside a head are a cut message, by a lemma on beginnings of messages.
 use Rattle.std.proofs.Common.{◌≡◌, length, rules}
 use Rattle.std.proofs.KnownBytes.{Consumes-whole}
 use Rattle.message.specs.Cut.{IsCut}

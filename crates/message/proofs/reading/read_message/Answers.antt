@@ -1,3 +1,4 @@
+-- That a whole message is read back follows from all clauses of the reading together, by a lemma.
 use Rattle.message.proofs.ReadBack.{reads_back}
 use Rattle.message.proofs.reading.read_message.Goals as goal
 

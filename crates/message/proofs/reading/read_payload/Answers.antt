@@ -1,3 +1,4 @@
+-- The bytes that came are a head and a beginning of a payload: the lemmas on them are handed over.
 use Rattle.std.proofs.Common.{◌≡◌, ◌++◌, length, ap, ◌∙◌, arith, rules, length-take-le}
 use lib.Seq.{take-append-le}
 use Rattle.std.proofs.KnownBytes.{Consumes-whole}

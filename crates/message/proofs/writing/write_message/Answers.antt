@@ -1,3 +1,4 @@
+-- The head and the payload are written one after the other: by a lemma on what a writer holds.
 use Rattle.message.specs.Capture.{head_bytes}
 use Rattle.message.proofs.Writes.{Appends-then}
 use Rattle.message.proofs.writing.write_message.Goals as goal

@@ -6,4 +6,5 @@ use Rattle.receiver.proofs.receiving.empty_lists.Given as goal
 -- As many empty lists as were counted, and room for the rest.
 abbrev pub invariant-loop : goal.invariant-loop
 invariant-loop g l =
-    (events_in l.lists.items ≡ replicate l.counter []) × (vec_len l.lists ≡ l.counter) × (l.count ≤ vec_capacity l.lists)
+    (events_in l.lists.items ≡ replicate l.counter []) × (vec_len l.lists ≡ l.counter)
+    × (l.count ≤ vec_capacity l.lists)

@@ -1,3 +1,4 @@
+-- The text so far and one bit more is the text of one outcome more: by a lemma on lists.
 use Rattle.std.proofs.Common.{◌≡◌, ◌<◌, ◌+◌, ◌++◌, ℕ, List, [], ◌∷◌, rules, arith, length, take, Bool, true, Some, ap}
 use Rattle.std.proofs.Common.{sym, ◌∙◌, slice_get}
 use Rattle.std.proofs.Output.{has_written_append, has_written_of_eq}

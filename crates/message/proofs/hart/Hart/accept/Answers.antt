@@ -1,3 +1,4 @@
+-- What is answered to the next message is that of the payload's reading: an equation put together by hand.
 use Rattle.std.proofs.Common.{◌≡◌, refl, Ok, ap, sym, ◌∙◌, arith, rules}
 use Rattle.payload.specs.Reading.{reading}
 use Rattle.message.specs.Accepting.{answer}

@@ -6,7 +6,8 @@ use Rattle.receiver.proofs.receiving.Receiver.accept.Goals as goal
 
 pub returns-clause-accepted : goal.returns-clause-accepted
 returns-clause-accepted g c = λ harts messages given.
-    accepts_more harts messages c.args.message.now c.self.inside.demux c.accept.new.self c.self.inside.decoders.items _ c.self.inside.closed.items c.accept.result
+    accepts_more harts messages c.args.message.now c.self.inside.demux c.accept.new.self c.self.inside.decoders.items _
+    c.self.inside.closed.items c.accept.result
     (subst (HasAccepted harts messages) (sym c.self.view_is) given) c.accept.ensures.value c.accept.ensures.state
 
 pub returns-clause-packet : goal.returns-clause-packet

@@ -1,41 +1,58 @@
--- What the hart's decoder answers, for the decoder and the list that stand at the hart's place: by lemmas on lists, which no
--- tactic finds.
-use Rattle.std.proofs.Common.{◌≡◌, set, refl, subst, sym, ap, ◌∙◌}
+-- What the hart's decoder answers, for the decoder and the list that stand at the hart's place: by lemmas on lists,
+-- which no tactic finds.
+use Rattle.std.proofs.Common.{◌≡◌, ◌<◌, List, length, set, refl, subst, sym, ap, ◌∙◌, slice_get}
+use Rattle.std.specs.Prelude.{Some, vec_capacity}
 use Rattle.std.proofs.lemmas.List.{set-get_or}
+use Rattle.retire.specs.declared.event.Event.{Event}
 use Rattle.rvclass.specs.Fetch.{words_of}
-use Rattle.receiver.proofs.HoldLemmas.{count_after, decoded_more, holds_after, longer_here, others_after, same_hart, stands_here, written_same}
+use Rattle.payload.specs.declared.packet.Packet.{Packet}
+use Rattle.decoder.specs.Stands.{Stands}
+use Rattle.decoder.specs.declared.decoding.Decoder.{Decoder}
+use Rattle.receiver.proofs.HoldLemmas.{count_after, decoded_more, holds_after, longer_here, others_after, same_hart}
+use Rattle.receiver.proofs.HoldLemmas.{stands_here, written_same}
 use Rattle.receiver.specs.Holds.{Holds, HoldsHart}
 use Rattle.receiver.specs.Received.{Received, events_in}
+use Rattle.receiver.proofs.receiving.Receiver.decode.Goals.{After-feed}
 use Rattle.receiver.proofs.receiving.Receiver.decode.Goals as goal
+
+module _ (g : _) (c : After-feed g) where
+  -- The decoder and the list at the hart's place stand for what is held of the hart.
+  stand : (packets : List Packet) → HoldsHart (words_of c.args.program.now) c.args.hart packets c.args.self.now
+      → Stands (words_of c.args.program.now) packets c.index_mut-2.result.now.items c.index_mut.result.now
+  stand packets given =
+      stands_here c.self.inside.demux c.self.inside.decoders.items c.self.inside.lists.items c.self.inside.closed.items
+      c.args.hart c.from-hart.result c.from-hart.ensures (words_of c.args.program.now) packets c.index_mut.result.now
+      c.index_mut-2.result.now c.args.self.now c.self.view_is c.self.invariant given c.requires.known
+      c.index_mut.ensures.value c.index_mut-2.ensures.value
+
+  -- A log for which the list has no room is longer than the events that are held of the hart.
+  longer : (list log : List Event) → slice_get c.args.self.now.lists c.args.hart ≡ Some list
+      → vec_capacity c.index_mut-2.result.now < length log → length list < length log
+  longer list log =
+      longer_here c.self.inside.demux c.self.inside.decoders.items c.self.inside.lists.items c.self.inside.closed.items
+      c.args.hart c.from-hart.result c.from-hart.ensures c.index_mut-2.result.now list log c.args.self.now
+      c.self.view_is c.requires.known c.index_mut-2.ensures.value
 
 pub returns-in-Err-clause-none : goal.returns-in-Err-clause-none
 returns-in-Err-clause-none g c = λ packets given.
-    c.in-Err.ensures.none packets (stands_here c.self.inside.demux c.self.inside.decoders.items c.self.inside.lists.items c.self.inside.closed.items
-    c.args.hart c.from-hart.result c.from-hart.ensures (words_of c.args.program.now) packets c.index_mut.result.now c.index_mut-2.result.now
-    c.args.self.now c.self.view_is c.self.invariant given c.requires.known c.index_mut.ensures.value c.index_mut-2.ensures.value)
+    let fed = (goal.at.returns-in-Err-clause-none g c).After-feed in
+    c.in-Err.ensures.none packets (stand g fed packets given)
 
 pub returns-in-Err-clause-memory : goal.returns-in-Err-clause-memory
 returns-in-Err-clause-memory g c = λ packets list given is_list is.
-    let found = c.in-Err.ensures.memory packets (stands_here c.self.inside.demux c.self.inside.decoders.items c.self.inside.lists.items c.self.inside.closed.items
-    c.args.hart c.from-hart.result c.from-hart.ensures (words_of c.args.program.now) packets c.index_mut.result.now c.index_mut-2.result.now
-    c.args.self.now c.self.view_is c.self.invariant given c.requires.known c.index_mut.ensures.value c.index_mut-2.ensures.value) is in (
-      found.0,
-      found.1,
-      longer_here c.self.inside.demux c.self.inside.decoders.items c.self.inside.lists.items c.self.inside.closed.items c.args.hart c.from-hart.result c.from-hart.ensures
-          c.index_mut-2.result.now list found.0 c.args.self.now c.self.view_is c.requires.known c.index_mut-2.ensures.value is_list found.2,
-    )
+    let fed = (goal.at.returns-in-Err-clause-memory g c).After-feed in
+    let found = c.in-Err.ensures.memory packets (stand g fed packets given) is in
+    (found.0, found.1, longer g fed list found.0 is_list found.2)
 
 pub returns-in-Err-clause-not_opened : goal.returns-in-Err-clause-not_opened
 returns-in-Err-clause-not_opened g c = λ packets given.
-    c.in-Err.ensures.not_opened packets (stands_here c.self.inside.demux c.self.inside.decoders.items c.self.inside.lists.items c.self.inside.closed.items
-    c.args.hart c.from-hart.result c.from-hart.ensures (words_of c.args.program.now) packets c.index_mut.result.now c.index_mut-2.result.now
-    c.args.self.now c.self.view_is c.self.invariant given c.requires.known c.index_mut.ensures.value c.index_mut-2.ensures.value)
+    let fed = (goal.at.returns-in-Err-clause-not_opened g c).After-feed in
+    c.in-Err.ensures.not_opened packets (stand g fed packets given)
 
 pub returns-in-Err-clause-ended : goal.returns-in-Err-clause-ended
 returns-in-Err-clause-ended g c = λ packets given.
-    c.in-Err.ensures.closed packets (stands_here c.self.inside.demux c.self.inside.decoders.items c.self.inside.lists.items c.self.inside.closed.items
-    c.args.hart c.from-hart.result c.from-hart.ensures (words_of c.args.program.now) packets c.index_mut.result.now c.index_mut-2.result.now
-    c.args.self.now c.self.view_is c.self.invariant given c.requires.known c.index_mut.ensures.value c.index_mut-2.ensures.value)
+    let fed = (goal.at.returns-in-Err-clause-ended g c).After-feed in
+    c.in-Err.ensures.closed packets (stand g fed packets given)
 
 pub returns-in-Err-clause-refused : goal.returns-in-Err-clause-refused
 returns-in-Err-clause-refused g c =
@@ -43,12 +60,20 @@ returns-in-Err-clause-refused g c =
     let lists = c.self.inside.lists.items in
     let hart = c.from-hart.result in
     let one : set decoders hart c.feed.new.self ≡ decoders =
-    ap (set decoders hart) (c.in-Err.ensures.kept ∙ c.index_mut.ensures.value) ∙ set-get_or decoders hart c.index_mut.result.now in
+    ap (set decoders hart) (c.in-Err.ensures.kept ∙ c.index_mut.ensures.value)
+    ∙ set-get_or decoders hart c.index_mut.result.now in
     let two : events_in (set lists hart c.feed.new.log) ≡ events_in lists =
-    written_same lists hart c.index_mut-2.result.now c.feed.new.log c.index_mut-2.ensures.value c.in-Err.ensures.list_kept in
-    let same : ◌≡◌ {A = Received}
-    (record { expected = c.self.inside.demux; decoders = set decoders hart c.feed.new.self; lists = events_in (set lists hart c.feed.new.log); closed = c.self.inside.closed.items })
-    (record { expected = c.self.inside.demux; decoders = decoders; lists = events_in lists; closed = c.self.inside.closed.items }) = cc in
+    written_same lists hart c.index_mut-2.result.now c.feed.new.log c.index_mut-2.ensures.value
+    c.in-Err.ensures.list_kept in
+    let held : List Decoder → List (List Event) → Received =
+    λ decoders lists. record {
+      expected = c.self.inside.demux;
+      decoders = decoders;
+      lists = lists;
+      closed = c.self.inside.closed.items;
+    } in
+    let same : held (set decoders hart c.feed.new.self) (events_in (set lists hart c.feed.new.log))
+    ≡ held decoders (events_in lists) = cc in
     same ∙ c.self.view_is
 
 pub returns-in-Err-clause-others : goal.returns-in-Err-clause-others
@@ -56,44 +81,44 @@ returns-in-Err-clause-others g c = λ other apart. same_hart other _ _ (returns-
 
 pub returns-clause-memory : goal.returns-clause-memory
 returns-clause-memory g c = λ packets list given is_list is.
-    let found = c.in-Ok.ensures.memory packets (stands_here c.self.inside.demux c.self.inside.decoders.items c.self.inside.lists.items c.self.inside.closed.items
-    c.args.hart c.from-hart.result c.from-hart.ensures (words_of c.args.program.now) packets c.index_mut.result.now c.index_mut-2.result.now
-    c.args.self.now c.self.view_is c.self.invariant given c.requires.known c.index_mut.ensures.value c.index_mut-2.ensures.value) is in (
-      found.0,
-      found.1,
-      longer_here c.self.inside.demux c.self.inside.decoders.items c.self.inside.lists.items c.self.inside.closed.items c.args.hart c.from-hart.result c.from-hart.ensures
-          c.index_mut-2.result.now list found.0 c.args.self.now c.self.view_is c.requires.known c.index_mut-2.ensures.value is_list found.2,
-    )
+    let fed = (goal.at.returns-clause-memory g c).After-feed in
+    let found = c.in-Ok.ensures.memory packets (stand g fed packets given) is in
+    (found.0, found.1, longer g fed list found.0 is_list found.2)
 
 pub returns-clause-not_opened : goal.returns-clause-not_opened
 returns-clause-not_opened g c = λ packets given.
-    c.in-Ok.ensures.not_opened packets (stands_here c.self.inside.demux c.self.inside.decoders.items c.self.inside.lists.items c.self.inside.closed.items
-    c.args.hart c.from-hart.result c.from-hart.ensures (words_of c.args.program.now) packets c.index_mut.result.now c.index_mut-2.result.now
-    c.args.self.now c.self.view_is c.self.invariant given c.requires.known c.index_mut.ensures.value c.index_mut-2.ensures.value)
+    let fed = (goal.at.returns-clause-not_opened g c).After-feed in
+    c.in-Ok.ensures.not_opened packets (stand g fed packets given)
 
 pub returns-clause-ended : goal.returns-clause-ended
 returns-clause-ended g c = λ packets given.
-    c.in-Ok.ensures.closed packets (stands_here c.self.inside.demux c.self.inside.decoders.items c.self.inside.lists.items c.self.inside.closed.items
-    c.args.hart c.from-hart.result c.from-hart.ensures (words_of c.args.program.now) packets c.index_mut.result.now c.index_mut-2.result.now
-    c.args.self.now c.self.view_is c.self.invariant given c.requires.known c.index_mut.ensures.value c.index_mut-2.ensures.value)
+    let fed = (goal.at.returns-clause-ended g c).After-feed in
+    c.in-Ok.ensures.closed packets (stand g fed packets given)
 
 pub returns-clause-hart : goal.returns-clause-hart
 returns-clause-hart g c = λ packets given.
-    holds_after c.self.inside.demux c.self.inside.decoders.items c.self.inside.lists.items c.self.inside.closed.items c.args.hart c.from-hart.result c.from-hart.ensures
-    (words_of c.args.program.now) packets c.args.packet.now c.feed.new.self c.feed.new.log c.is_closing.result c.is_closing.ensures
-    (c.in-Ok.ensures.stands packets (stands_here c.self.inside.demux c.self.inside.decoders.items c.self.inside.lists.items c.self.inside.closed.items
-    c.args.hart c.from-hart.result c.from-hart.ensures (words_of c.args.program.now) packets c.index_mut.result.now c.index_mut-2.result.now
-    c.args.self.now c.self.view_is c.self.invariant given c.requires.known c.index_mut.ensures.value c.index_mut-2.ensures.value))
+    holds_after c.self.inside.demux c.self.inside.decoders.items c.self.inside.lists.items c.self.inside.closed.items
+    c.args.hart c.from-hart.result c.from-hart.ensures (words_of c.args.program.now) packets c.args.packet.now
+    c.feed.new.self c.feed.new.log c.is_closing.result c.is_closing.ensures
+    (c.in-Ok.ensures.stands packets (stand g (goal.at.returns-clause-hart g c).After-feed packets given))
 
 pub returns-clause-others : goal.returns-clause-others
 returns-clause-others g c =
-    others_after c.self.inside.demux c.self.inside.decoders.items c.self.inside.lists.items c.self.inside.closed.items c.args.hart c.from-hart.result c.from-hart.ensures
-    c.feed.new.self c.feed.new.log c.is_closing.result c.args.self.now c.self.view_is
+    others_after c.self.inside.demux c.self.inside.decoders.items c.self.inside.lists.items c.self.inside.closed.items
+    c.args.hart c.from-hart.result c.from-hart.ensures c.feed.new.self c.feed.new.log c.is_closing.result
+    c.args.self.now c.self.view_is
 
 pub returns-clause-decoded : goal.returns-clause-decoded
 returns-clause-decoded g c = λ programs harts messages message program own read given.
     let all = subst (Holds programs harts messages) (sym c.self.view_is) given in
-    decoded_more programs harts messages message c.args.packet.now (words_of c.args.program.now) c.args.hart _ _ program own read all
-    (count_after c.self.inside.demux c.self.inside.decoders.items c.self.inside.lists.items c.self.inside.closed.items c.args.hart c.from-hart.result c.from-hart.ensures c.feed.new.self c.feed.new.log c.is_closing.result)
-    (λ holds. returns-clause-hart g c _ (subst (HoldsHart (words_of c.args.program.now) c.args.hart _) c.self.view_is holds))
-    (others_after c.self.inside.demux c.self.inside.decoders.items c.self.inside.lists.items c.self.inside.closed.items c.args.hart c.from-hart.result c.from-hart.ensures c.feed.new.self c.feed.new.log c.is_closing.result _ refl)
+    decoded_more programs harts messages message c.args.packet.now (words_of c.args.program.now) c.args.hart _ _
+    program own read all
+    (count_after c.self.inside.demux c.self.inside.decoders.items c.self.inside.lists.items
+    c.self.inside.closed.items c.args.hart c.from-hart.result c.from-hart.ensures c.feed.new.self c.feed.new.log
+    c.is_closing.result)
+    (λ holds.
+    returns-clause-hart g c _
+    (subst (HoldsHart (words_of c.args.program.now) c.args.hart _) c.self.view_is holds))
+    (others_after c.self.inside.demux c.self.inside.decoders.items c.self.inside.lists.items
+    c.self.inside.closed.items c.args.hart c.from-hart.result c.from-hart.ensures c.feed.new.self c.feed.new.log
+    c.is_closing.result _ refl)
