@@ -69,7 +69,7 @@ fn tells_each_failure(rt: HostRuntime) -> Result<(), Fail> {
     for call in 0..whole.len() + 3 {
         let mut out = FailsAt::new(rt.alloc(), call);
         let mut err = Vec::new(rt.alloc());
-        let status = run(rt.alloc(), &mut files, ENCODE, &mut out, &mut err)?;
+        let status = run(&rt, &mut files, ENCODE, &mut out, &mut err)?;
         if 1 <= call && call <= whole.len() + 1 {
             assert!(rt;
                 err.as_slice() == b"tracebench: output cannot be written\n".as_slice(),
@@ -95,7 +95,7 @@ fn tells_that_lines_fail(rt: HostRuntime) -> Result<(), Fail> {
         for call in 1..whole.len() + 2 {
             let mut out = FailsAt::new(rt.alloc(), call);
             let mut err = Vec::new(rt.alloc());
-            let status = run(rt.alloc(), &mut files, request, &mut out, &mut err)?;
+            let status = run(&rt, &mut files, request, &mut out, &mut err)?;
             assert!(rt;
                 err.as_slice() == b"tracebench: output cannot be written\n".as_slice(),
                 "{call}"
@@ -125,12 +125,12 @@ fn tells_that_captures_fail(rt: HostRuntime) -> Result<(), Fail> {
     ] {
         let mut whole = FailsAt::new(rt.alloc(), 0);
         let mut err = Vec::new(rt.alloc());
-        let ended = run(rt.alloc(), &mut files, request, &mut whole, &mut err)?;
+        let ended = run(&rt, &mut files, request, &mut whole, &mut err)?;
         assert_eq!(rt; ended, status, "{request:?}");
         for call in 1..whole.calls.saturating_add(1) {
             let mut out = FailsAt::new(rt.alloc(), call);
             let mut err = Vec::new(rt.alloc());
-            let status = run(rt.alloc(), &mut files, request, &mut out, &mut err)?;
+            let status = run(&rt, &mut files, request, &mut out, &mut err)?;
             assert!(rt;
                 err.as_slice() == b"tracebench: output cannot be written\n".as_slice(),
                 "{request:?}, {call}"
@@ -155,7 +155,7 @@ fn keeps_the_status_where_nothing_is_told(rt: HostRuntime) -> Result<(), Fail> {
     for (request, wanted) in cases {
         let mut out = Vec::new(rt.alloc());
         let mut err = FailsAt::new(rt.alloc(), 1);
-        let status = run(rt.alloc(), &mut files, request, &mut out, &mut err)?;
+        let status = run(&rt, &mut files, request, &mut out, &mut err)?;
         assert!(rt; out.is_empty(), "{request:?}");
         assert_eq!(rt; status, wanted, "{request:?}");
     }

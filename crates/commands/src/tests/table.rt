@@ -8,6 +8,8 @@ use crate::{FileFault, Files, carry_out, tell};
 use std::alloc::{AllocError, Global};
 use std::io::Write;
 use std::process::Abort;
+use std::sync::Wait;
+use std::thread::Threads;
 use subcommands::{Asked, Check, Decode, Dump, Encode};
 
 /// A table of paths and contents.
@@ -121,15 +123,15 @@ fn asked_of<'a>(alloc: Global, request: Request<'a>) -> Result<Asked<'a>, AllocE
 }
 
 /// Does what is asked for over the files, tells the fault that ends it, and answers the exit status.
-pub(super) fn run<O: Write, E: Write>(
-    alloc: Global,
+pub(super) fn run<R: AllocGlobal + Threads + Wait + Sync, O: Write, E: Write>(
+    rt: &R,
     files: &mut Table,
     request: Request<'_>,
     out: &mut O,
     err: &mut E,
 ) -> Result<u8, AllocError> {
-    let asked = asked_of(alloc, request)?;
-    let status = match carry_out(alloc, files, &asked, out) {
+    let asked = asked_of(rt.alloc(), request)?;
+    let status = match carry_out(rt.alloc(), rt, files, &asked, out) {
         Ok(status) => status,
         Err(fault) => tell(err, &fault),
     };
@@ -137,7 +139,7 @@ pub(super) fn run<O: Write, E: Write>(
 }
 
 /// What is asked for ends with the status, writes the first text and tells the second.
-pub(super) fn ends<R: Abort + AllocGlobal>(
+pub(super) fn ends<R: Abort + AllocGlobal + Threads + Wait + Sync>(
     rt: &R,
     files: &mut Table,
     request: Request<'_>,
@@ -149,7 +151,7 @@ pub(super) fn ends<R: Abort + AllocGlobal>(
 }
 
 /// What is asked for ends with the status and tells the text. The answer is what it writes.
-pub(super) fn writes<R: Abort + AllocGlobal>(
+pub(super) fn writes<R: Abort + AllocGlobal + Threads + Wait + Sync>(
     rt: &R,
     files: &mut Table,
     request: Request<'_>,
@@ -158,14 +160,14 @@ pub(super) fn writes<R: Abort + AllocGlobal>(
 ) -> Result<Vec<u8>, AllocError> {
     let mut out = Vec::new(rt.alloc());
     let mut err = Vec::new(rt.alloc());
-    let ended = run(rt.alloc(), files, request, &mut out, &mut err)?;
+    let ended = run(rt, files, request, &mut out, &mut err)?;
     assert!(rt; err.as_slice() == told.as_bytes(), "{request:?}");
     assert_eq!(rt; ended, status, "{request:?}");
     Ok(out)
 }
 
 /// Each writes nothing, ends with the status and tells the text.
-pub(super) fn tells<R: Abort + AllocGlobal>(
+pub(super) fn tells<R: Abort + AllocGlobal + Threads + Wait + Sync>(
     rt: &R,
     files: &mut Table,
     cases: &[(Request<'_>, u8, &str)],

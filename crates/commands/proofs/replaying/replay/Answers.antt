@@ -8,7 +8,8 @@ use Rattle.bench.specs.Report.{is_whole, report_text}
 use Rattle.commands.specs.Found.{AreFew, AreLegalLogs, IsProgram}
 use Rattle.commands.specs.Inputs.{CanReplay}
 use Rattle.commands.specs.Printed.{PrintsUnlessDenied}
-use Rattle.commands.specs.Replaying.{AreGot, IsSchedule, IsSetting, Replays, end_of_report}
+use Rattle.commands.specs.Replaying.{AreGot, IsSchedule, Replays}
+use Rattle.commands.specs.Sending.{IsSetting, config_at, end_of_report}
 use Rattle.commands.specs.declared.fault.Fault.TheVariants as fault
 use Rattle.commands.proofs.Runs.{appends-keeps, ends_silently}
 use Rattle.commands.proofs.replaying.replay.Goals as goal
@@ -118,12 +119,12 @@ returns-in_err-outcome-clause-printed g c =
     let paths = ap length c.as_slice-2.ensures.value in
     let count : length logs ≡ length asked.logs.items =
     omega (arith, c.in_ok-legal.legal.ok.0, c.in_ok-legal.ensures.count, paths) in
-    let stands = subst (λ harts. (why ≡ fault.Memory) ⊎ IsSetting harts asked (Err why)) count
-    (subst (λ logs. (why ≡ fault.Memory) ⊎ IsSetting (length logs) asked (Err why)) c.as_slice-3.ensures.value
+    let stands = subst (λ harts. (why ≡ fault.Memory) ⊎ IsSetting harts (config_at asked.period asked.capacity) (Err why)) count
+    (subst (λ logs. (why ≡ fault.Memory) ⊎ IsSetting (length logs) (config_at asked.period asked.capacity) (Err why)) c.as_slice-3.ensures.value
     c.in_err-outcome.ensures.fault) in
     let ready = c.in_ok-program.ensures.program in
     subst (λ r. PrintsUnlessDenied run can r out out) (sym is)
-    (ends_silently run can (IsSetting (length asked.logs.items) asked (Err why)) why out stands
+    (ends_silently run can (IsSetting (length asked.logs.items) (config_at asked.period asked.capacity) (Err why)) why out stands
     (λ none. (
       Ok base,
       c.in_ok-base.ensures.found,
@@ -152,8 +153,8 @@ returns-clause-printed g c =
     let paths = ap length c.as_slice-2.ensures.value in
     let count : length logs ≡ length asked.logs.items =
     omega (arith, c.in_ok-legal.legal.ok.0, c.in_ok-legal.ensures.count, paths) in
-    let stands = subst (λ harts. IsSetting harts asked (Ok tt)) count
-    (subst (λ logs. IsSetting (length logs) asked (Ok tt)) c.as_slice-3.ensures.value c.in_ok-outcome.ensures.setting) in
+    let stands = subst (λ harts. IsSetting harts (config_at asked.period asked.capacity) (Ok tt)) count
+    (subst (λ logs. IsSetting (length logs) (config_at asked.period asked.capacity) (Ok tt)) c.as_slice-3.ensures.value c.in_ok-outcome.ensures.setting) in
     let came = subst (λ turns. AreGot asked.period logs (replayed asked.period asked.capacity logs turns).taken outcome.stop gots)
     c.as_slice-4.ensures.value
     (subst (λ logs. AreGot asked.period logs
