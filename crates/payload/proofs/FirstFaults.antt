@@ -13,7 +13,7 @@ use Rattle.payload.specs.Reading.{support_from, report_from, trap_from, address_
 use Rattle.payload.specs.Reading.{fault_or, reading}
 use Rattle.payload.specs.steps.ReadingByKind.{sync_reading, trap_reading, support_reading, report_in, reported}
 use Rattle.payload.specs.steps.ReadingByKind.{address_reading, map_reading, branches_reading, reading_of_bits}
-use Rattle.payload.specs.steps.ReadingByKind.{reading_by_kind}
+use Rattle.payload.specs.steps.ReadingByKind.{reading_by_kind, address_place, reading_at_place, reading_by_place}
 use Rattle.payload.specs.declared.packet.Packet.{Packet}
 use Rattle.payload.specs.declared.packet.Packet.TheVariants as packet
 use Rattle.payload.specs.declared.packet.Support.TheVariants as support
@@ -216,3 +216,34 @@ size_first bytes false false each is_none is_many =
 pub reading_by_kind-is : (bytes : List ℕ) → IsBytes bytes → reading_by_kind bytes ≡ reading bytes
 unfolding reading_by_kind
 reading_by_kind-is bytes each = size_first bytes (length bytes == 0) (ltb 18 (length bytes)) each refl refl
+
+place_by_numbers : (n format subformat : ℕ) (none : Bool) → part n 0 2 ≡ format → part n 2 2 ≡ subformat
+    → (part n 2 5 == 0) ≡ none → format < 4 → subformat < 4
+    → reading_at_place n (address_place n) ≡ reading_of_bits n
+place_by_numbers n zero s none f_is s_is none_is f_less s_less = rw f_is (rw f_is refl)
+place_by_numbers n (suc zero) s true f_is s_is none_is f_less s_less = rw (f_is, none_is) (rw f_is refl)
+place_by_numbers n (suc zero) s false f_is s_is none_is f_less s_less = rw (f_is, none_is) refl
+place_by_numbers n (suc (suc zero)) s none f_is s_is none_is f_less s_less = rw f_is refl
+place_by_numbers n (suc (suc (suc zero))) zero none f_is s_is none_is f_less s_less = rw (f_is, s_is) (rw f_is refl)
+place_by_numbers n (suc (suc (suc zero))) (suc zero) none f_is s_is none_is f_less s_less =
+    rw (f_is, s_is) (rw f_is refl)
+place_by_numbers n (suc (suc (suc zero))) (suc (suc zero)) none f_is s_is none_is f_less s_less =
+    rw (f_is, s_is) (rw f_is refl)
+place_by_numbers n (suc (suc (suc zero))) (suc (suc (suc zero))) none f_is s_is none_is f_less s_less =
+    rw (f_is, s_is) (rw f_is refl)
+place_by_numbers n (suc (suc (suc zero))) (suc (suc (suc (suc s)))) none f_is s_is none_is f_less s_less =
+    absurd (omega arith)
+place_by_numbers n (suc (suc (suc (suc f)))) s none f_is s_is none_is f_less s_less = absurd (omega arith)
+
+place-is : (n : ℕ) → reading_at_place n (address_place n) ≡ reading_of_bits n
+place-is n =
+    place_by_numbers n (part n 0 2) (part n 2 2) (part n 2 5 == 0) refl refl refl (part-lt n 0 2) (part-lt n 2 2)
+
+by_place : (bytes : List ℕ) → reading_by_place bytes ≡ reading_by_kind bytes
+unfolding reading_by_place reading_by_kind
+by_place bytes =
+    ap (λ r. cond (length bytes == 0) (Err Empty) (cond (ltb 18 (length bytes)) (Err TooLong) r))
+    (place-is (bits_of bytes))
+
+pub reading_by_place-is : (bytes : List ℕ) → IsBytes bytes → reading_by_place bytes ≡ reading bytes
+reading_by_place-is bytes each = by_place bytes ∙ reading_by_kind-is bytes each

@@ -10,7 +10,7 @@ use std::marker::Model;
 #[tactic(auto, using(crate::specs::OutcomesInverse::map_outcomes, crate::specs::OutcomesInverse::length_outcomes))]
 pub struct Outcomes {
     map: u32,
-    count: u8,
+    count: u32,
 }
 
 impl Model for Outcomes {
@@ -50,7 +50,7 @@ impl Outcomes {
         ensures value { result ≡ length self.now }
         ensures few { result ≤ 31 }
     {
-        usize::from(self.count)
+        self.count as usize
     }
 
     /// Whether there are none.
@@ -64,7 +64,7 @@ impl Outcomes {
     pub fn get(&self, i: usize) -> Option<bool>
         ensures { result ≡ slice_get self.now i }
     {
-        if i < usize::from(self.count) {
+        if i < self.count as usize {
             Some((self.map >> i) & 1 == 0)
         } else {
             None
@@ -72,7 +72,7 @@ impl Outcomes {
     }
 
     /// The outcomes of the lowest `count` bits of a branch map.
-    pub(crate) fn of_map(count: u8, map: u32) -> Self
+    pub(crate) fn of_map(count: u32, map: u32) -> Self
         requires few { count ≤ 31 }
         requires below { map < 2 ^ count }
         ensures { result ≡ outcomes count map }

@@ -1,10 +1,11 @@
 //! From bytes to packets.
-ghost use Rattle.std.specs.Prelude.{◌≡◌, ◌<◌, ◌≤◌, IfOk, Ok};
+ghost use Rattle.std.specs.Prelude.{◌≡◌, ◌<◌, ◌≤◌, IfOk, IfSome, Ok};
 ghost use Rattle.std.specs.Result.{result_err};
 ghost use Rattle.payload.specs.Faults.{first_fault};
 ghost use Rattle.payload.specs.Profile.{InProfile};
 ghost use Rattle.payload.specs.Reading.{outcomes_from, reading};
-ghost use Rattle.payload.specs.steps.ReadingByKind.{sync_reading, trap_reading, support_reading, report_in, address_reading, map_reading, branches_reading, reading_by_kind};
+ghost use Rattle.payload.specs.steps.ReadingByKind.{sync_reading, trap_reading, support_reading, report_in};
+ghost use Rattle.payload.specs.steps.ReadingByKind.{address_reading, map_reading, address_place, reading_with_no_place, reading_by_place};
 ghost use Rattle.payload.specs.Spelling.{Spelt};
 ghost use Rattle.payload.specs.declared.packet.Packet.{Packet as AnyPacket};
 
@@ -14,6 +15,7 @@ use crate::outcomes::map_width;
 use crate::{Outcomes, PackFault, Packet, Report, Support};
 
 /// The packet that bytes stand for, be they the shortest or longer, or else the first fault.
+#[inline(always)]
 pub fn unpack(bytes: &[u8]) -> Result<Packet, PackFault>
     ensures found { IfOk result (λ packet. InProfile packet × Spelt bytes.now packet) }
     ensures only { (packet : AnyPacket) → InProfile packet → Spelt bytes.now packet → result ≡ Ok packet }
@@ -25,9 +27,13 @@ pub fn unpack(bytes: &[u8]) -> Result<Packet, PackFault>
 }
 
 /// The packet of bytes, read by its format, or else the first fault.
-#[tactic(auto, unfolding(crate::specs::steps::ReadingByKind::reading_by_kind))]
+///
+/// It is no part of its callers and builds a packet of format 1 or 2 itself: each copy of a packet that was just built
+/// makes the machine wait for the bytes.
+#[inline(never)]
+#[tactic(auto, unfolding(crate::specs::steps::ReadingByKind::reading_by_place, crate::specs::steps::ReadingByKind::address_reading))]
 fn unpacked(bytes: &[u8]) -> Result<Packet, PackFault>
-    ensures { result ≡ reading_by_kind bytes.now }
+    ensures { result ≡ reading_by_place bytes.now }
 {
     if bytes.is_empty() {
         return Err(PackFault::Empty);
@@ -36,15 +42,55 @@ fn unpacked(bytes: &[u8]) -> Result<Packet, PackFault>
         return Err(PackFault::TooLong);
     }
     let bits = Bits::read(bytes);
+    let Some((outcomes, from)) = address_place(&bits) else {
+        return with_no_place(&bits);
+    };
+    let Some(report) = report_of(
+        bits.part(from + TOP_BIT, 1),
+        bits.part(from + NOTIFY_BIT, 3),
+    ) else {
+        return Err(PackFault::BadReport);
+    };
+    if !bits.has_width(from + REPORTED_WIDTH) {
+        return Err(PackFault::BadPad);
+    }
+    Ok(Packet::Address {
+        outcomes,
+        delta: bits.part(from, ADDRESS_WIDTH) << 1,
+        report,
+    })
+}
+
+/// The outcomes of bits that have an address field of format 1 or 2, and the bit at which it begins.
+#[inline(always)]
+fn address_place(bits: &Bits) -> Option<(Outcomes, u32)>
+    ensures value { result ≡ address_place bits.now }
+    ensures inside { IfSome result (λ place. place.1 ≤ 38) }
+{
     match bits.field(FORMAT) {
-        3 => match bits.field(SUBFORMAT) as u8 {
-            SYNC => sync_of(&bits),
-            TRAP => trap_of(&bits),
-            SUPPORT => support_of(&bits),
-            _ => Err(PackFault::Unsupported),
-        },
-        2 => address_of(&bits, Outcomes::new(), ADDRESS_FROM),
-        1 => format_1_of(&bits),
+        2 => Some((Outcomes::new(), ADDRESS_FROM)),
+        1 => {
+            let count = bits.field(BRANCHES) as u32;
+            if count == 0 {
+                return None;
+            }
+            let outcomes = first_outcomes(bits, count);
+            Some((outcomes, MAP_FROM + map_width(count as usize)))
+        }
+        _ => None,
+    }
+}
+
+/// The packet of bits that have no address field of format 1 or 2.
+#[inline(never)]
+fn with_no_place(bits: &Bits) -> Result<Packet, PackFault>
+    ensures { result ≡ reading_with_no_place bits.now }
+{
+    match (bits.field(FORMAT), bits.field(SUBFORMAT) as u8) {
+        (3, SYNC) => sync_of(bits),
+        (3, TRAP) => trap_of(bits),
+        (3, SUPPORT) => support_of(bits),
+        (1, _) => full_map_of(bits),
         _ => Err(PackFault::Unsupported),
     }
 }
@@ -117,21 +163,6 @@ fn support_of(bits: &Bits) -> Result<Packet, PackFault>
     Ok(Packet::Support(support))
 }
 
-/// The packet of bits of format 1.
-fn format_1_of(bits: &Bits) -> Result<Packet, PackFault>
-    ensures { result ≡ branches_reading bits.now }
-{
-    let count = bits.field(BRANCHES) as u8;
-    if count == 0 {
-        return full_map_of(bits);
-    }
-    address_of(
-        bits,
-        first_outcomes(bits, count),
-        MAP_FROM + map_width(usize::from(count)),
-    )
-}
-
 /// The packet of bits of format 1 without branches.
 #[tactic(auto, unfolding(crate::specs::steps::ReadingByKind::map_reading))]
 fn full_map_of(bits: &Bits) -> Result<Packet, PackFault>
@@ -140,38 +171,16 @@ fn full_map_of(bits: &Bits) -> Result<Packet, PackFault>
     if !bits.has_width(MAP_PACKET_WIDTH) {
         return Err(PackFault::BadPad);
     }
-    Ok(Packet::Map(first_outcomes(bits, FULL_MAP.width as u8)))
+    Ok(Packet::Map(first_outcomes(bits, FULL_MAP.width)))
 }
 
 /// So many outcomes of the branch map.
-fn first_outcomes(bits: &Bits, count: u8) -> Outcomes
+fn first_outcomes(bits: &Bits, count: u32) -> Outcomes
     requires some { 1 ≤ count }
     requires few { count ≤ 31 }
     ensures { result ≡ outcomes_from bits.now count }
 {
-    Outcomes::of_map(count, bits.part(MAP_FROM, u32::from(count)) as u32)
-}
-
-/// The packet of bits of format 1 or 2 with these outcomes, whose address field begins at the bit `from`.
-#[tactic(auto, unfolding(crate::specs::steps::ReadingByKind::address_reading))]
-fn address_of(bits: &Bits, outcomes: Outcomes, from: u32) -> Result<Packet, PackFault>
-    requires { from ≤ 38 }
-    ensures { result ≡ address_reading bits.now outcomes from }
-{
-    let Some(report) = report_of(
-        bits.part(from + TOP_BIT, 1),
-        bits.part(from + NOTIFY_BIT, 3),
-    ) else {
-        return Err(PackFault::BadReport);
-    };
-    if !bits.has_width(from + REPORTED_WIDTH) {
-        return Err(PackFault::BadPad);
-    }
-    Ok(Packet::Address {
-        outcomes,
-        delta: bits.part(from, ADDRESS_WIDTH) << 1,
-        report,
-    })
+    Outcomes::of_map(count, bits.part(MAP_FROM, count) as u32)
 }
 
 /// The report of notify, updiscon and irreport behind an address field with this top bit.

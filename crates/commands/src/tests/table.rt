@@ -10,7 +10,7 @@ use std::io::Write;
 use std::process::Abort;
 use std::sync::Wait;
 use std::thread::Threads;
-use subcommands::{Asked, Check, Decode, Dump, Encode};
+use subcommands::{Asked, Bench, Check, Decode, Dump, Encode, Replay};
 
 /// A table of paths and contents.
 #[derive(Drop)]
@@ -66,6 +66,10 @@ pub(super) enum Request<'a> {
     Dump(&'a str),
     /// `decode`.
     Decode(&'a str, u16, &'a str, &'a str),
+    /// `replay` at a period of 1024 and a capacity of 16, with the schedule before the logs.
+    Replay(&'a str, &'a str, &'a str, &'a str),
+    /// `bench` at a period of 1024 and this capacity.
+    Bench(&'a str, u32, &'a str, &'a str),
 }
 
 /// The texts that spaces part.
@@ -118,6 +122,21 @@ fn asked_of<'a>(alloc: Global, request: Request<'a>) -> Result<Asked<'a>, AllocE
             harts: harts.clamp(1, 64),
             image,
             capture,
+        })),
+        Request::Replay(base, image, schedule, logs) => Ok(Asked::Replay(Replay {
+            base,
+            period: 1024,
+            capacity: 16,
+            image,
+            schedule,
+            logs: parted(alloc, logs)?,
+        })),
+        Request::Bench(base, capacity, image, logs) => Ok(Asked::Bench(Bench {
+            base,
+            period: 1024,
+            capacity: capacity.clamp(1, 65_536),
+            image,
+            logs: parted(alloc, logs)?,
         })),
     }
 }

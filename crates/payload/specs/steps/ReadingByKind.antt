@@ -3,7 +3,7 @@ use Rattle.std.specs.Prelude.{ℕ, ◌+◌, ◌-◌, ◌*◌, ◌^◌, nat_lt, �
 use Rattle.std.specs.Prelude.{Option, Some, None, Result, Ok, Err}
 use Rattle.payload.specs.Extension.{magnitude}
 use Rattle.payload.specs.Faults.{bits_of, part, field_at, is_sync, is_trap, trap_width, is_support, is_address_alone}
-use Rattle.payload.specs.Faults.{address_behind_map}
+use Rattle.payload.specs.Faults.{is_map_with_address, address_behind_map}
 use Rattle.payload.specs.Layout as layout
 use Rattle.payload.specs.Reading.{sync_from, trap_from, outcomes_from}
 use Rattle.payload.specs.declared.packet.Packet.{Packet}
@@ -90,3 +90,32 @@ reading_by_kind bytes =
     if length bytes == 0 then Err Empty else
     if nat_lt 18 (length bytes) then Err TooLong else
     reading_of_bits (bits_of bytes)
+
+-- The outcomes of bits that have an address field, and the bit at which it begins: of format 2, or of format 1 with
+-- branches.
+abbrev pub address_place : ℕ → Option (List Bool × ℕ)
+address_place n =
+    if is_address_alone n then Some ([], layout.address_from) else
+    if is_map_with_address n then Some (outcomes_from n (field_at n layout.branches_at), address_behind_map n) else
+    None
+
+-- Bits that have no address field of format 1 or 2.
+abbrev pub reading_with_no_place : ℕ → Result Packet PackFault
+reading_with_no_place n =
+    if is_sync n then sync_reading n else
+    if is_trap n then trap_reading n else
+    if is_support n then support_reading n else
+    if field_at n layout.format_at == 1 then map_reading n else
+    Err Unsupported
+
+-- Bits whose address field begins at this place, if they have one.
+abbrev pub reading_at_place : ℕ → Option (List Bool × ℕ) → Result Packet PackFault
+reading_at_place n (Some place) = address_reading n place.0 place.1
+reading_at_place n None = reading_with_no_place n
+
+-- What bytes unpack to, where those with an address field of format 1 or 2 are read first.
+unfoldable pub reading_by_place : List ℕ → Result Packet PackFault
+reading_by_place bytes =
+    if length bytes == 0 then Err Empty else
+    if nat_lt 18 (length bytes) then Err TooLong else
+    reading_at_place (bits_of bytes) (address_place (bits_of bytes))

@@ -5,4 +5,4 @@ use Rattle.payload.proofs.outcomes.Outcomes.len.Goals as goal
 
 pub returns-clause-value : goal.returns-clause-value
 returns-clause-value c =
-    c.from.ensures ∙ sym (length_outcomes c.self.inside.count c.self.inside.map) ∙ ap length c.self.view_is
+    sym (length_outcomes c.self.inside.count c.self.inside.map) ∙ ap length c.self.view_is
