@@ -75,7 +75,7 @@ fn tells_each_failure(rt: HostRuntime) -> Result<(), Fail> {
     for call in 0..whole.len() + 3 {
         let mut out = FailsAt::new(rt.alloc(), call);
         let mut err = Vec::new(rt.alloc());
-        let status = run(rt.alloc(), &mut files, ENCODE, &mut out, &mut err)?;
+        let status = run(&rt, &mut files, ENCODE, &mut out, &mut err)?;
         if 1 <= call && call <= whole.len() + 1 {
             assert!(rt;
                 err.as_slice() == b"tracebench: output cannot be written\n".as_slice(),
@@ -101,7 +101,7 @@ fn tells_that_lines_fail(rt: HostRuntime) -> Result<(), Fail> {
         for call in 1..whole.len() + 2 {
             let mut out = FailsAt::new(rt.alloc(), call);
             let mut err = Vec::new(rt.alloc());
-            let status = run(rt.alloc(), &mut files, request, &mut out, &mut err)?;
+            let status = run(&rt, &mut files, request, &mut out, &mut err)?;
             assert!(rt;
                 err.as_slice() == b"tracebench: output cannot be written\n".as_slice(),
                 "{call}"
@@ -131,12 +131,12 @@ fn tells_that_captures_fail(rt: HostRuntime) -> Result<(), Fail> {
     ] {
         let mut whole = FailsAt::new(rt.alloc(), 0);
         let mut err = Vec::new(rt.alloc());
-        let ended = run(rt.alloc(), &mut files, request, &mut whole, &mut err)?;
+        let ended = run(&rt, &mut files, request, &mut whole, &mut err)?;
         assert_eq!(rt; ended, status, "{request:?}");
         for call in 1..whole.calls.saturating_add(1) {
             let mut out = FailsAt::new(rt.alloc(), call);
             let mut err = Vec::new(rt.alloc());
-            let status = run(rt.alloc(), &mut files, request, &mut out, &mut err)?;
+            let status = run(&rt, &mut files, request, &mut out, &mut err)?;
             assert!(rt;
                 err.as_slice() == b"tracebench: output cannot be written\n".as_slice(),
                 "{request:?}, {call}"
@@ -176,7 +176,7 @@ impl Write for Held {
 }
 
 // Each subcommand, with the status, what is written and what is told.
-const RUNS: [(Request<'static>, u8, &str, &str); 7] = [
+const RUNS: [(Request<'static>, u8, &str, &str); 8] = [
     (
         Request::Check("80000000", "image.bin", "log.csv"),
         0,
@@ -209,6 +209,12 @@ const RUNS: [(Request<'static>, u8, &str, &str); 7] = [
         "hart 0: 2 events, 0 packets, 0 payload bytes, decoded 0, beginning\nresult: not whole\n",
         "",
     ),
+    (
+        Request::Bench("80000000", 1, "image.bin", "log.csv"),
+        0,
+        "hart 0: 2 events, 4 packets, 8 payload bytes, decoded 2, whole\nresult: whole\n",
+        "",
+    ),
 ];
 
 fn files_of_runs(alloc: Global) -> Result<Table, AllocError> {
@@ -232,7 +238,7 @@ fn flushes(rt: HostRuntime) -> Result<(), Fail> {
                 held: Vec::new(rt.alloc()),
                 bytes: Vec::new(rt.alloc()),
             };
-            let ended = run(rt.alloc(), &mut files, request, &mut out, &mut err)?;
+            let ended = run(&rt, &mut files, request, &mut out, &mut err)?;
             if fails {
                 assert_eq!(rt; ended, 3, "{request:?}");
                 assert!(rt; out.bytes.is_empty(), "{request:?}");
@@ -260,7 +266,7 @@ fn keeps_the_status_where_a_line_is_cut(rt: HostRuntime) -> Result<(), Fail> {
             for kind in [ErrorKind::TimedOut, ErrorKind::Interrupted] {
                 let mut out = Vec::new(rt.alloc());
                 let mut err = FailsAt::with(rt.alloc(), kind, call);
-                let ended = run(rt.alloc(), &mut files, request, &mut out, &mut err)?;
+                let ended = run(&rt, &mut files, request, &mut out, &mut err)?;
                 assert_eq!(rt; ended, status, "{request:?}, {call}");
                 assert!(rt; out.as_slice() == written.as_bytes(), "{request:?}, {call}");
                 let cut = call > 0 && kind == ErrorKind::TimedOut;

@@ -8,7 +8,8 @@ use Rattle.bench.specs.Report.{is_whole, report_text}
 use Rattle.commands.specs.Found.{AreFew, AreLegalLogs}
 use Rattle.commands.specs.Inputs.{CanReplay}
 use Rattle.commands.specs.Printed.{First, PrintsUnlessDenied}
-use Rattle.commands.specs.Replaying.{AreGot, IsSchedule, IsSetting, Replays, WritesReport, end_of_report}
+use Rattle.commands.specs.Replaying.{AreGot, IsSchedule, Replays, WritesReport}
+use Rattle.commands.specs.Sending.{IsSetting, config_at, end_of_report}
 use Rattle.commands.specs.declared.fault.Fault.TheVariants as fault
 use Rattle.commands.proofs.FirstSteps.{count_ends, logs_end, program_ends}
 use Rattle.commands.proofs.Runs.{appends-keeps, ends_silently}
@@ -24,7 +25,7 @@ returns-in_err-counted-clause-printed g c =
     c.in_ok-base.ensures.found c.as_slice.ensures.value is
     (λ _ program. First (AreLegalLogs content program asked.logs.items) (λ logs.
     First (IsSchedule content (length asked.logs.items) asked.schedule) (λ turns.
-    First (IsSetting (length asked.logs.items) asked) (λ _. WritesReport asked logs turns))))
+    First (IsSetting (length asked.logs.items) (config_at asked.period asked.capacity)) (λ _. WritesReport asked logs turns))))
     c.in_err-counted.ensures.found
 
 pub returns-in_err-program-clause-printed : goal.returns-in_err-program-clause-printed
@@ -37,7 +38,7 @@ returns-in_err-program-clause-printed g c =
     c.in_ok-base.ensures.found c.as_slice.ensures.value is c.in_ok-counted.field-0 c.in_ok-counted.ensures.found
     (λ _ program. First (AreLegalLogs content program asked.logs.items) (λ logs.
     First (IsSchedule content (length asked.logs.items) asked.schedule) (λ turns.
-    First (IsSetting (length asked.logs.items) asked) (λ _. WritesReport asked logs turns))))
+    First (IsSetting (length asked.logs.items) (config_at asked.period asked.capacity)) (λ _. WritesReport asked logs turns))))
     c.in_err-program.ensures.fault
 
 pub returns-in_err-legal-clause-printed : goal.returns-in_err-legal-clause-printed
@@ -50,7 +51,7 @@ returns-in_err-legal-clause-printed g c =
     c.in_ok-base.ensures.found c.as_slice.ensures.value is c.in_ok-counted.field-0 c.in_ok-counted.ensures.found
     (λ logs.
     First (IsSchedule content (length asked.logs.items) asked.schedule) (λ turns.
-    First (IsSetting (length asked.logs.items) asked) (λ _. WritesReport asked logs turns)))
+    First (IsSetting (length asked.logs.items) (config_at asked.period asked.capacity)) (λ _. WritesReport asked logs turns)))
     c.in_ok-program.program (g.F.Files.content c.program_of.new.files) c.as_slice-2.result.now c.in_ok-program.ensures.kept
     c.as_slice-2.ensures.value c.in_ok-program.ensures.program c.in_err-legal.ensures.fault
 
@@ -109,12 +110,13 @@ returns-in_err-outcome-clause-printed g c =
     let paths = ap length c.as_slice-2.ensures.value in
     let count : length logs ≡ length asked.logs.items =
     omega (arith, c.in_ok-legal.legal.ok.0, c.in_ok-legal.ensures.count, paths) in
-    let stands = subst (λ harts. (why ≡ fault.Memory) ⊎ IsSetting harts asked (Err why)) count
-    (subst (λ logs. (why ≡ fault.Memory) ⊎ IsSetting (length logs) asked (Err why)) c.as_slice-3.ensures.value
+    let config = config_at asked.period asked.capacity in
+    let stands = subst (λ harts. (why ≡ fault.Memory) ⊎ IsSetting harts config (Err why)) count
+    (subst (λ logs. (why ≡ fault.Memory) ⊎ IsSetting (length logs) config (Err why)) c.as_slice-3.ensures.value
     c.in_err-outcome.ensures.fault) in
     let ready = c.in_ok-program.ensures.program in
     subst (λ r. PrintsUnlessDenied run can r out out) (sym is)
-    (ends_silently run can (IsSetting (length asked.logs.items) asked (Err why)) why out stands
+    (ends_silently run can (IsSetting (length asked.logs.items) config (Err why)) why out stands
     (λ none. (
       Ok base,
       c.in_ok-base.ensures.found,
@@ -143,8 +145,9 @@ returns-clause-printed g c =
     let paths = ap length c.as_slice-2.ensures.value in
     let count : length logs ≡ length asked.logs.items =
     omega (arith, c.in_ok-legal.legal.ok.0, c.in_ok-legal.ensures.count, paths) in
-    let stands = subst (λ harts. IsSetting harts asked (Ok tt)) count
-    (subst (λ logs. IsSetting (length logs) asked (Ok tt)) c.as_slice-3.ensures.value c.in_ok-outcome.ensures.setting) in
+    let config = config_at asked.period asked.capacity in
+    let stands = subst (λ harts. IsSetting harts config (Ok tt)) count
+    (subst (λ logs. IsSetting (length logs) config (Ok tt)) c.as_slice-3.ensures.value c.in_ok-outcome.ensures.setting) in
     let came = subst (λ turns. AreGot asked.period logs (replayed asked.period asked.capacity logs turns).taken outcome.stop gots)
     c.as_slice-4.ensures.value
     (subst (λ logs. AreGot asked.period logs
