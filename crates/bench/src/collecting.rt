@@ -140,6 +140,7 @@ impl<'l, 'p, A: Allocator + Copy, B: Allocator> Collector<'l, 'p, A, B> {
             &mut self.receiver,
             &mut self.harts[hart],
             log.program(),
+            log.events().len(),
             self.keep,
             &message,
             packet,
@@ -208,12 +209,14 @@ fn know<B: Allocator>(log: &LegalLog<'_, B>)
     let _ = log.events();
 }
 
-/// Decodes the next packet of a hart and counts it in the hart's outcome. Room for it is reserved first, where packets
-/// are kept, so that a fault leaves both as they were, but that the outcome tells of memory that was refused.
+/// Decodes the next packet of a hart, whose log has so many events, and counts it in the hart's outcome. Room for it is
+/// reserved first, where packets are kept, and from the second packet on, the first that tells an event, for all events
+/// of the log; so that a fault leaves both as they were, but that the outcome tells of memory that was refused.
 fn take_packet<A: Allocator + Copy>(
     receiver: &mut Receiver<A>,
     outcome: &mut HartOutcome<A>,
     program: &Program,
+    events: usize,
     keep: bool,
     message: &Message,
     packet: Packet,
@@ -236,6 +239,10 @@ fn take_packet<A: Allocator + Copy>(
     ensures complete { IsReceived receiver.old → IsReceived receiver.new }
 {
     if keep && outcome.packets.reserve(1).is_err() {
+        outcome.refused = true;
+        return Err(CollectFault::Memory);
+    }
+    if 0 < outcome.taken && receiver.reserve(message.hart, events).is_err() {
         outcome.refused = true;
         return Err(CollectFault::Memory);
     }

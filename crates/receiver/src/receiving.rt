@@ -133,6 +133,15 @@ impl<A: Allocator + Copy> Receiver<A> {
         Ok(())
     }
 
+    /// Makes room in the hart's list for `total` events. What is held stays, also where memory is refused.
+    pub fn reserve(&mut self, hart: u16, total: usize) -> Result<(), AllocError>
+        requires known { hart < length self.old.lists }
+        ensures { self.new ≡ self.old }
+    {
+        let list = &mut self.lists[usize::from(hart)];
+        list.reserve(total.saturating_sub(list.len()))
+    }
+
     /// Accepts the message and decodes its packet, where the program is that of its hart. A fault leaves the lists and
     /// the flags as they were; of the hart whose packet is not decoded the next message is accepted then.
     pub fn receive(&mut self, program: &Program, message: &Message) -> Result<(), ReceiveFault>
