@@ -1,8 +1,9 @@
 -- What a collector has of a hart stays where it has the same of it.
-use Rattle.std.proofs.Common.{◌≡◌, ℕ, Bool, false, slice_get, subst, sym, ap, ◌∙◌}
+use Rattle.std.proofs.Common.{◌≡◌, ℕ, Bool, true, false, slice_get, subst, sym, ap, ◌∙◌}
 use Rattle.legalpath.specs.ProgramLog.{ProgramLog}
 use Rattle.bench.specs.Collected.{Came, Collected, HasCollected, IsSameOf}
 use Rattle.bench.specs.Got.{Got, got_after, kept}
+use Rattle.bench.specs.steps.Taking.{IsCutOff}
 
 pub came_same : (hart : ℕ) (got : Got) (refused : Bool) (old new : Collected) → IsSameOf hart old new
     → Came hart got refused old → Came hart got refused new
@@ -27,4 +28,15 @@ collected_same period count hart log old new same logs keep has = record {
         has.holds.stands decoder list (sym same.received.decoder ∙ one) (sym same.received.list ∙ two);
     ended = λ is_closed one. has.holds.ended is_closed (sym same.received.closed ∙ one);
   };
+}
+
+pub cut_off_same : (period taken hart : ℕ) (log : ProgramLog) (old new : Collected) → IsSameOf hart old new
+    → new.keep ≡ old.keep → IsCutOff period log taken hart old → IsCutOff period log taken hart new
+cut_off_same period taken hart log old new same keep cut = record {
+  count = cut.count;
+  within = cut.within;
+  few = cut.few;
+  came =
+      subst (λ flag. Came hart (kept flag (got_after period log cut.count)) true new) (sym keep)
+      (came_same hart (kept old.keep (got_after period log cut.count)) true old new same cut.came);
 }

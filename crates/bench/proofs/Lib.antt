@@ -18,3 +18,10 @@ pub mod NewSenders
 pub mod SendingTurn
 pub mod ReplayEnds
 pub mod ReplayTurns
+pub mod FirstItems
+pub mod WorkLemmas
+pub mod AmongLemmas
+pub mod GatheredLemmas
+pub mod StartedLemmas
+pub mod LastPort
+pub mod SettledHarts

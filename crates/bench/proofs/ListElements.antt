@@ -1,6 +1,6 @@
 -- Elements of a list at their places.
 use Rattle.std.proofs.Common.{◌≡◌, ◌≢◌, ℕ, zero, suc, All, List, [], ◌∷◌, ◌++◌, Some, length, set, slice_get, refl, ap, subst}
-use Rattle.std.proofs.lemmas.List.Elements.{All-cons, All-head, All-nil, All-tail}
+use Rattle.std.proofs.lemmas.List.Elements.{All-cons, All-head, All-nil, All-push, All-same, All-tail}
 use Rattle.std.proofs.lemmas.Option.{same_Some}
 
 -- What all elements keep is kept at each place.
@@ -16,6 +16,11 @@ pub All-from_places : {X : Type 0} (P : X → Type 0) (xs : List X)
 All-from_places P [] each = All-nil P
 All-from_places P (x ∷ xs) each =
     All-cons P x xs (each 0 x refl) (All-from_places P xs (λ place y at. each (suc place) y at))
+
+-- What all elements keep, and one more, is kept with it.
+pub All-pushed : {X : Type 0} (P : X → Type 0) (xs all : List X) (x : X) → all ≡ xs ++ x ∷ [] → All P xs → P x
+    → All P all
+All-pushed P xs all x is each last = All-same P all (xs ++ x ∷ []) is (All-push P xs x each last)
 
 -- At another place stands what stood there.
 pub slice_get-unwritten : {X : Type 0} (xs : List X) (place other : ℕ) (x : X) → other ≢ place

@@ -8,18 +8,22 @@ use Rattle.legalpath.specs.ProgramLog.{IsLegalLog, ProgramLog}
 use Rattle.encoder.specs.Packets.{packets}
 use Rattle.message.specs.OfHart.{of_hart}
 use Rattle.message.specs.declared.message.Message.{Message}
-use Rattle.bench.specs.Beginnings.{AreBeginnings, AreThoseTaken, CameOf, NamesRefused}
+use Rattle.bench.specs.Beginnings.{AreBeginnings, AreThoseTaken, CameOf, LackSome, NamesRefused}
 use Rattle.bench.specs.Collected.{Came, Collected, IsRefusedHart}
 use Rattle.bench.specs.Got.{Got, HasGot, got_after, got_of, kept}
 use Rattle.bench.specs.declared.config.Config.{Config}
 use Rattle.bench.specs.declared.outcome.HartOutcome.{HartOutcome}
 use Rattle.bench.specs.declared.stop.Stop.{Stop}
 use Rattle.bench.specs.declared.stop.Stop.TheVariants as stop
-use Rattle.bench.specs.steps.Taking.{AreTaken, IsTakenOf, NamesRefusedHart}
-use Rattle.bench.proofs.CollectedLemmas.{element}
+use Rattle.bench.specs.Stopping.{NoRefusedIsClosed}
+use Rattle.bench.specs.steps.Taking.{AreTaken, IsTakenOf, LacksSome, NamesRefusedHart}
+use Rattle.bench.proofs.CollectedLemmas.{element, taken_by}
 use Rattle.bench.proofs.ListElements.{All-at, All-from_places}
 use Rattle.bench.proofs.TakingIn.{came_not_refused, came_refused}
 use Rattle.bench.proofs.WholeLog.{has_got}
+
+differ : true ≡ false → ⊥
+differ is = cc
 
 -- The outcome of a hart says this.
 abbrev Says : {A : Type 0} → Got → Bool → HartOutcome A → Type 0
@@ -96,6 +100,26 @@ module _ {A : Type 0} (config : Config) (logs : List ProgramLog) (taken : List M
   are_those_taken = λ hart log came known at.
       let out = came_out hart log came known at in (out.count, out.got, out.all)
 
+  -- Of a hart that is refused some is lacking.
+  pub lack_some : LacksSome taken collected → LackSome taken harts
+  lack_some lacks hart came at refused =
+      let within = slice_get_within harts hart came at in
+      let its = element logs hart (omega (arith, within, as_many)) in
+      by_case its.0 (ap (λ some. slice_get some hart) are.own ∙ its.1) (are.each hart its.0 its.1)
+    where
+      by_case : (log : ProgramLog) → slice_get collected.logs hart ≡ Some log
+          → IsTakenOf config.period log (length (of_hart hart taken)) hart collected
+          → came.taken < length (of_hart hart taken)
+      by_case log known (inl has) =
+          let got = kept collected.keep (got_after config.period log (length (of_hart hart taken))) in
+          let told = says hart came got false at has.came in
+          absurd (differ (sym refused ∙ told.1))
+      by_case log known (inr cut) =
+          let got = kept collected.keep (got_after config.period log cut.count) in
+          let told = says hart came got true at cut.came in
+          let less = lacks hart log (taken_by got true) known cut.came.taken refl in
+          subst (λ n. n < length (of_hart hart taken)) (sym (ap (λ (some : Got). some.taken) told.0)) less
+
   -- Of a hart that is not refused all came.
   not_refused : (hart : ℕ) (log : ProgramLog) (came : HartOutcome A) → slice_get harts hart ≡ Some came
       → (IsRefusedHart hart collected → ⊥)
@@ -125,6 +149,28 @@ module _ {A : Type 0} (config : Config) (logs : List ProgramLog) (taken : List M
       let all = length (packets (words_of log.program) config.period log.events) in
       told_refused got (slice_get harts hart) (ne_eqb cut.count all (λ same. omega (arith, same, few)))
       (ends.came hart got true cut.came)
+
+  -- A hart that is refused is not closed.
+  pub none_is_closed : NoRefusedIsClosed harts
+  none_is_closed =
+      All-from_places (λ came. came.refused ≡ true → came.closed ≡ false) harts (λ hart came at refused.
+      let within = slice_get_within harts hart came at in
+      let its = element logs hart (omega (arith, within, as_many)) in
+      by_case hart its.0 came at refused (are.each hart its.0 its.1))
+    where
+      by_case : (hart : ℕ) (log : ProgramLog) (came : HartOutcome A) → slice_get harts hart ≡ Some came
+          → came.refused ≡ true → IsTakenOf config.period log (length (of_hart hart taken)) hart collected
+          → came.closed ≡ false
+      by_case hart log came at refused (inl has) =
+          let got = kept collected.keep (got_after config.period log (length (of_hart hart taken))) in
+          let told : came.refused ≡ false = (says hart came got false at has.came).1 in
+          cc
+      by_case hart log came at refused (inr cut) =
+          let few = cut.few in
+          let all = length (packets (words_of log.program) config.period log.events) in
+          ap (λ (got : Got). got.closed)
+          (says hart came (kept collected.keep (got_after config.period log cut.count)) true at cut.came).0
+          ∙ ne_eqb cut.count all (λ same. omega (arith, same, few))
 
   pub names_refused : (why : Option Stop) → NamesRefusedHart why collected → NamesRefused why harts
   names_refused None none =

@@ -1,5 +1,6 @@
 -- Where a replay stands at first, and after one turn more.
 use Rattle.std.proofs.Common.{◌≡◌, ◌<◌, ◌+◌, ℕ, Bool, true, false, cond, All, List, [], ◌∷◌, ◌++◌, Option, Some, None, length, map, inl, nat_lt, slice_get, slice_index_or, take, refl, sym, ap, subst, ◌∙◌}
+use Rattle.std.specs.Prelude.{IsSomeAnd, IsTrue}
 use Rattle.std.proofs.lemmas.List.{length-map, length-replicate}
 use Rattle.legalpath.specs.ProgramLog.{IsLegalLog, ProgramLog}
 use Rattle.encoder.specs.Payloads.{payloads}
@@ -7,18 +8,19 @@ use Rattle.message.specs.declared.message.Message.{Message}
 use Rattle.funnel.proofs.EveryState.{every-keeps}
 use Rattle.funnel.proofs.Places.{get_or-repeated}
 use Rattle.funnel.specs.Held.{Held}
-use Rattle.funnel.specs.Machine.{Funnel, after_turn, after_turns, add, message_of, opening, send_next, sent_by, take_front, take_of}
+use Rattle.funnel.specs.Machine.{Funnel, after_turn, after_turns, add, opening, send_next, sent_by, take_front, take_of}
+use Rattle.funnel.specs.Order.{next_message}
 use Rattle.funnel.specs.Payloads.{payloads_of}
 use Rattle.funnel.specs.declared.turn.Turn.{Turn}
 use Rattle.funnel.specs.declared.turn.Turn.TheVariants as turn
-use Rattle.bench.specs.Collected.{Collected, HasCollected}
+use Rattle.bench.specs.Collected.{Collected, HasCollected, Taken}
 use Rattle.bench.specs.Replayed.{replayed}
 use Rattle.bench.specs.declared.config.Config.{Config}
 use Rattle.bench.specs.declared.sender.Sender.{Sender}
 use Rattle.bench.specs.declared.stop.Stop.{Stop}
 use Rattle.bench.specs.steps.Replaying.{IsReplayed}
 use Rattle.bench.specs.steps.Sending.{AreNewSenders, AreSending, sender_at}
-use Rattle.bench.specs.steps.Taking.{AreTaken, IsFrontNext, IsReady, NamesRefusedHart}
+use Rattle.bench.specs.steps.Taking.{AreTaken, IsFrontNext, IsReady, LacksSome, NamesRefusedHart}
 use Rattle.bench.proofs.FrontMessage.{front_next}
 use Rattle.bench.proofs.CollectedLemmas.{element, take-next}
 use Rattle.bench.proofs.TakingIn.{came_not_refused}
@@ -37,7 +39,8 @@ send_next-taken : (capacity hart : ℕ) (payload : Option (List ℕ)) (state : F
 send_next-taken capacity hart None state = refl
 send_next-taken capacity hart (Some payload) state = by_room (nat_lt (length state.queue) capacity)
   where
-    by_room : (room : Bool) → (cond room (add (message_of hart state payload) state) state).taken ≡ state.taken
+    by_room : (room : Bool)
+        → (cond room (add (next_message hart (sent_by hart state) payload) state) state).taken ≡ state.taken
     by_room true = refl
     by_room false = refl
 
@@ -81,6 +84,10 @@ module _ (config : Config) (logs : List ProgramLog) where
     };
     keep = keep;
     taken = record { own = own; each = λ hart log at. inl (begun hart log at) };
+    lacks = λ hart log at known is refused.
+        let has = begun hart log (sym (ap (λ some. slice_get some hart) own) ∙ known) in
+        absurd (came_not_refused hart _ collected has.came
+        (subst (λ some. IsSomeAnd some (λ (taken : Taken). IsTrue taken.refused)) (sym is) refused));
     named = λ hart known refused.
         let its = element logs hart (subst (λ n. hart < n) (ap length own) known) in
         came_not_refused hart _ collected (begun hart its.0 its.1).came refused;
@@ -145,6 +152,13 @@ module _ (config : Config) (logs : List ProgramLog) where
           (slice_get (payloads_of hart (map (payloads config.period) logs))
           (length (sent_by hart before))) before))
           is.taken;
+      lacks =
+          subst (λ some. LacksSome some collected)
+          (sym (ap (λ (state : Funnel). state.taken) next
+          ∙ send_next-taken config.capacity hart
+          (slice_get (payloads_of hart (map (payloads config.period) logs))
+          (length (sent_by hart before))) before))
+          is.lacks;
       named = is.named;
     }
       where
@@ -160,9 +174,12 @@ module _ (config : Config) (logs : List ProgramLog) where
         → ((period : ℕ) (some : List ProgramLog) (state : Funnel) → state.queue ≡ core.queue
         → IsFrontNext period some state.taken state.queue → AreTaken period some state.taken collected
         → AreTaken period some (take_front state).taken now)
+        → ((period : ℕ) (some : List ProgramLog) (state : Funnel) → state.queue ≡ core.queue
+        → IsFrontNext period some state.taken state.queue → AreTaken period some state.taken collected
+        → LacksSome state.taken collected → LacksSome (take_front state).taken now)
         → (NamesRefusedHart why collected → NamesRefusedHart told now)
         → IsReplayed config logs (take (place + 1) all) new senders now told
-    after_collect at new now told step keep came names = record {
+    after_collect at new now told step keep came lack names = record {
       sending =
           subst (λ state. AreSending config.period config.capacity logs state new senders) (sym next) (record {
             funnel =
@@ -180,6 +197,9 @@ module _ (config : Config) (logs : List ProgramLog) where
       taken =
           subst (λ (state : Funnel). AreTaken config.period logs state.taken now) (sym next)
           (came config.period logs before (sym waits) next_is is.taken);
+      lacks =
+          subst (λ (state : Funnel). LacksSome state.taken now) (sym next)
+          (lack config.period logs before (sym waits) next_is is.taken is.lacks);
       named = names is.named;
     }
       where

@@ -5,8 +5,10 @@ use Rattle.std.proofs.lemmas.List.{get_or-set_other, get_or-set_same, length-set
 use Rattle.std.proofs.lemmas.Option.{same_Some, slice_get_within}
 use Rattle.legalpath.specs.ProgramLog.{ProgramLog}
 use Rattle.encoder.specs.Payloads.{payloads}
+use Rattle.message.specs.declared.message.Message.{Message}
 use Rattle.funnel.specs.Held.{Held}
-use Rattle.funnel.specs.Machine.{Funnel, add, message_of, send_next, sent_by}
+use Rattle.funnel.specs.Machine.{Funnel, add, send_next, sent_by}
+use Rattle.funnel.specs.Order.{next_message}
 use Rattle.funnel.specs.Payloads.{payloads_of}
 use Rattle.bench.specs.declared.sender.Sender.{Sender}
 use Rattle.bench.specs.steps.Sending.{AreSending, sender_at}
@@ -55,24 +57,27 @@ module _ {B : Type 0} (period capacity : ℕ) (logs : List ProgramLog) (state : 
           slice_get-unwritten senders hart other next apart ∙ sending.each other its there
 
   module _ (payload : List ℕ) where
-    abbrev after : Funnel
-    after = add (message_of hart state payload) state
+    abbrev message : Message
+    message = next_message hart (sent_by hart state) payload
 
-    sent_own : sent_by hart after ≡ sent_by hart state ++ message_of hart state payload ∷ []
+    abbrev after : Funnel
+    after = add message state
+
+    sent_own : sent_by hart after ≡ sent_by hart state ++ message ∷ []
     sent_own =
-        get_or-set_same state.sent hart (sent_by hart state ++ message_of hart state payload ∷ []) []
+        get_or-set_same state.sent hart (sent_by hart state ++ message ∷ []) []
         (let inside = slice_get_within logs hart log at in omega (arith, inside, sending.places))
 
     sent_other : (other : ℕ) → other ≢ hart → sent_by other after ≡ sent_by other state
     sent_other other apart =
-        get_or-set_other state.sent hart other (sent_by hart state ++ message_of hart state payload ∷ []) [] apart
+        get_or-set_other state.sent hart other (sent_by hart state ++ message ∷ []) [] apart
 
     module _ (next : Sender B) (is : next ≡ sender_at period log (count + 1)) where
       by_hart : (other : ℕ) (its : ProgramLog) → slice_get logs other ≡ Some its
           → (other ≡ hart) ⊎ (other ≡ hart → ⊥)
           → slice_get (set senders hart next) other ≡ Some (sender_at period its (length (sent_by other after)))
       by_hart other its there (inl same) =
-          let one_more = ap length sent_own ∙ length_push (sent_by hart state) (message_of hart state payload) in
+          let one_more = ap length sent_own ∙ length_push (sent_by hart state) message in
           let its_own : Some log ≡ Some its = sym at ∙ ap (slice_get logs) (sym same) ∙ there in
           ap (slice_get (set senders hart next)) same
           ∙ set-at senders hart next within
@@ -100,7 +105,7 @@ module _ {B : Type 0} (period capacity : ℕ) (logs : List ProgramLog) (state : 
           (record {
             funnel = stands;
             places =
-                length-set state.sent hart (sent_by hart state ++ message_of hart state payload ∷ [])
+                length-set state.sent hart (sent_by hart state ++ message ∷ [])
                 ∙ sending.places;
             count = length-set senders hart next ∙ sending.count;
             each = λ other its there. by_hart other its there (cases_eq other hart);

@@ -7,7 +7,8 @@ use Rattle.encoder.specs.Payloads.{payloads}
 use Rattle.encoder.specs.SourceAt.{number_behind}
 use Rattle.message.specs.declared.message.Message.{Message}
 use Rattle.funnel.specs.Held.{Held}
-use Rattle.funnel.specs.Machine.{Funnel, add, message_of, send, send_next, sent_by}
+use Rattle.funnel.specs.Machine.{Funnel, add, send, send_next, sent_by}
+use Rattle.funnel.specs.Order.{next_message}
 use Rattle.funnel.specs.Payloads.{payloads_of}
 use Rattle.bench.specs.declared.sender.Sender.{Sender}
 use Rattle.bench.specs.steps.Sending.{AreSending, message_with, sender_at}
@@ -104,7 +105,7 @@ module _ {B : Type 0} (period capacity : ℕ) (logs : List ProgramLog) (state : 
       here = ap (λ waits. nat_lt (length waits) capacity) (sym queue) ∙ room
 
       all : List Message
-      all = state.queue ++ message_of hart state found.bytes ∷ []
+      all = state.queue ++ next_message hart (sent_by hart state) found.bytes ∷ []
 
       sent : (send capacity message state).queue ≡ all
       sent =

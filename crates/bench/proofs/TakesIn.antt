@@ -20,9 +20,10 @@ use Rattle.message.specs.declared.fault.DemuxFault.{DemuxFault}
 use Rattle.message.specs.declared.hart.Hart.{Hart}
 use Rattle.message.specs.declared.message.Message.{Message}
 use Rattle.receiver.proofs.AcceptLemmas.{accepts_others}
-use Rattle.receiver.proofs.HoldLemmas.{set-other}
+use Rattle.receiver.proofs.HoldLemmas.{same_hart_twice, set-other}
 use Rattle.receiver.specs.Holds.{HoldsHart}
 use Rattle.receiver.specs.Received.{IsReceived, IsSameHart, Received}
+use Rattle.receiver.specs.Refused.{IsNotDecoded}
 use Rattle.bench.specs.Collected.{Accepts, Came, Collected, HasCollected, HasDecoded, IsMessageOf, IsSameOf, Taken, with_packet}
 use Rattle.bench.specs.Got.{Got, got_after, kept}
 use Rattle.bench.specs.declared.collecting.CollectFault.{CollectFault}
@@ -55,17 +56,11 @@ pub record TakesIn (message : Message) (packet : Packet) (answer : Result (Unit 
   pub none : (packets : List Packet) → HoldsHart (words_of own.program) message.hart packets accepted
       → IfErr answer (λ why. (why ≡ fault.Memory)
       ⊎ ((log : List Event) → ¬ Describes (words_of own.program) (packets ++ packet ∷ []) log))
+  pub reason : (packets : List Packet) (why : DecodeFault)
+      → HoldsHart (words_of own.program) message.hart packets accepted
+      → answer ≡ Err (fault.Decode why) → IsNotDecoded (words_of own.program) packets packet why
   pub expected : new.received.expected ≡ accepted.expected
   pub complete : IsReceived new.received
-
--- What stays of a hart of which two steps change nothing.
-same_twice : (hart : ℕ) (a b c : Received) → IsSameHart hart a b → IsSameHart hart b c → IsSameHart hart a c
-same_twice hart a b c one two = record {
-  expected = two.expected ∙ one.expected;
-  decoder = two.decoder ∙ one.decoder;
-  list = two.list ∙ one.list;
-  closed = two.closed ∙ one.closed;
-}
 
 -- What is held of a hart has no part in what is expected.
 pub holds_moved : (words : Words) (hart : ℕ) (packets : List Packet) (old accepted : Received) (message : Message)
@@ -99,7 +94,7 @@ module _ (message : Message) (packet : Packet) (old new : Collected) where
       → (hart : ℕ) → hart ≢ message.hart → IsSameOf hart old new
   takes_others answer t hart apart = record {
     taken = ap (λ harts. slice_get harts hart) t.harts ∙ set-other old.harts message.hart t.after hart apart;
-    received = same_twice hart old.received t.accepted new.received (accepts_others old.received t.accepted message hart apart t.moved) (t.others hart apart);
+    received = same_hart_twice hart old.received t.accepted new.received (accepts_others old.received t.accepted message hart apart t.moved) (t.others hart apart);
   }
 
   -- What came of the hart where its packet was not decoded.
@@ -171,6 +166,20 @@ module _ (message : Message) (packet : Packet) (old new : Collected) where
       ⊎ ((events : List Event) → ¬ Describes (words_of own.program) (some ++ packet ∷ []) events)) same (t.none some) in
       subst (λ one. (why ≡ fault.Memory) ⊎ ((events : List Event) → ¬ Describes words (some ++ one ∷ []) events))
       packet_is (either before)
+
+  -- And a fault of the decoder is told for its reason.
+  pub takes_reason : (answer : Result (Unit {0}) CollectFault) → TakesIn message packet answer old new
+      → (one : Packet) (log : ProgramLog) (some : List Packet) (why : DecodeFault) → Accepts message one old
+      → HasDecoded log message.hart some old → answer ≡ Err (fault.Decode why)
+      → IsNotDecoded (words_of log.program) some one why
+  takes_reason answer t one log some why accepts has is =
+      let same : t.own ≡ log = same_Some t.own log (sym t.log_at ∙ has.known) in
+      let packet_is : packet ≡ one = same_Ok packet one (sym t.packet_answered ∙ accepts.answer) in
+      let words = words_of log.program in
+      let before = holds_moved words message.hart some old.received t.accepted message t.moved has.holds in
+      let told = subst (λ (own : ProgramLog). HoldsHart (words_of own.program) message.hart some t.accepted
+      → IsNotDecoded (words_of own.program) some packet why) same (λ holds. t.reason some why holds is) in
+      subst (λ one. IsNotDecoded words some one why) packet_is (told before)
 
   -- It is counted.
   pub takes_counts : (answer : Result (Unit {0}) CollectFault) → TakesIn message packet answer old new
@@ -309,10 +318,12 @@ pub takes_in : {A : Type 0} (logs : List ProgramLog) (keep : Bool) (old accepted
     → ((other : ℕ) → other ≢ message.hart → IsSameHart other accepted new)
     → ((packets : List Packet) → HoldsHart (words_of image) message.hart packets accepted
     → IfErr answer (λ why. (why ≡ fault.Memory) ⊎ ((log : List Event) → ¬ Describes (words_of image) (packets ++ packet ∷ []) log)))
+    → ((packets : List Packet) (why : DecodeFault) → HoldsHart (words_of image) message.hart packets accepted
+    → answer ≡ Err (fault.Decode why) → IsNotDecoded (words_of image) packets packet why)
     → new.expected ≡ accepted.expected → (IsReceived accepted → IsReceived new)
     → TakesIn message packet answer (record { logs = logs; keep = keep; received = old; harts = taken_in harts })
     (record { logs = logs; keep = keep; received = new; harts = taken_in (set harts at written) })
-takes_in {A} logs keep old accepted new harts message packet at own image outcome written answer here all answered moved known is_log is_outcome is_image counts leaves stays holds others none expected complete =
+takes_in {A} logs keep old accepted new harts message packet at own image outcome written answer here all answered moved known is_log is_outcome is_image counts leaves stays holds others none reason expected complete =
     record {
       own = own;
       accepted = accepted;
@@ -334,6 +345,9 @@ takes_in {A} logs keep old accepted new harts message packet at own image outcom
       others = others;
       none = subst (λ image. (packets : List Packet) → HoldsHart (words_of image) message.hart packets accepted
           → IfErr answer (λ why. (why ≡ fault.Memory) ⊎ ((log : List Event) → ¬ Describes (words_of image) (packets ++ packet ∷ []) log))) is_image none;
+      reason = subst (λ image. (packets : List Packet) (why : DecodeFault)
+          → HoldsHart (words_of image) message.hart packets accepted → answer ≡ Err (fault.Decode why)
+          → IsNotDecoded (words_of image) packets packet why) is_image reason;
       expected = expected;
       complete = complete (record {
         decoders = omega (arith, decoders, counts_expected, all_decoders);

@@ -18,8 +18,9 @@ use Rattle.bench.specs.declared.collecting.CollectFault.{CollectFault}
 use Rattle.bench.specs.declared.collecting.CollectFault.TheVariants as fault
 use Rattle.bench.specs.declared.stop.Stop.{Stop}
 use Rattle.bench.specs.declared.stop.Stop.TheVariants as stop
-use Rattle.bench.specs.steps.Taking.{AreTaken, IsCutOff, IsFrontNext, IsNext, IsTakenOf, NamesRefusedHart}
-use Rattle.bench.proofs.CollectedSame.{came_same, collected_same}
+use Rattle.bench.specs.steps.Taking.{AreTaken, IsCutOff, IsFrontNext, IsNext, IsTakenOf, LacksSome, NamesRefusedHart}
+use Rattle.bench.proofs.CollectedLemmas.{taken_by}
+use Rattle.bench.proofs.CollectedSame.{collected_same, cut_off_same}
 
 -- What a collector promises of a message that it is given.
 pub record TakesMessage (message : Message) (result : Result (Unit {0}) CollectFault) (old new : Collected)
@@ -57,6 +58,62 @@ pub came_not_refused : (hart : ℕ) (got : Got) (collected : Collected) → Came
 came_not_refused hart got collected came refused =
     apart (subst IsRefused came.taken refused)
 
+module _ (message : Message) (result : Result (Unit {0}) CollectFault) (old new : Collected)
+    (takes : TakesMessage message result old new) (period : ℕ) where
+  cut_off_refused : (count : ℕ) (log : ProgramLog) → IsCutOff period log count message.hart old
+      → IsRefusedHart message.hart old
+  cut_off_refused count log cut =
+      came_refused message.hart (kept old.keep (got_after period log cut.count)) old cut.came
+
+  -- A hart of which memory was refused stays as it was.
+  pub cut_off_stays : (count : ℕ) (log : ProgramLog) → IsCutOff period log count message.hart old
+      → IsCutOff period log (count + 1) message.hart new
+  cut_off_stays count log cut =
+      subst (λ (c : Collected). IsCutOff period log (count + 1) message.hart c)
+      (sym (takes.passed_over (cut_off_refused count log cut)).1)
+      (record { count = cut.count; within = omega (arith, cut.within); few = cut.few; came = cut.came })
+
+  -- A message of a log is below all of them.
+  below_all : (count : ℕ) (log : ProgramLog) → IsMessageOf period log count message
+      → count < length (packets (words_of log.program) period log.events)
+  below_all count log own =
+      let within = slice_get_within (payloads period log) count message.payload own.payload in
+      omega (arith, within, length-map (packets (words_of log.program) period log.events) payload_of)
+
+  -- The next message of a hart came, or memory for it was refused.
+  pub own_taken : (count : ℕ) (log : ProgramLog) → IsMessageOf period log count message
+      → IsTakenOf period log count message.hart old → IsTakenOf period log (count + 1) message.hart new
+  own_taken count log own (inl has) =
+      by_result result refl (takes.next period count log has own) (takes.only_memory period count log has own)
+    where
+      by_result : (r : Result (Unit {0}) CollectFault) → result ≡ r
+          → OnOk r (HasCollected period log (count + 1) message.hart new)
+          → IfErr r (λ why. why ≡ fault.Memory)
+          → IsTakenOf period log (count + 1) message.hart new
+      by_result (Ok unit) is more memory = inl more
+      by_result (Err why) is more memory = inr (record {
+        count = count;
+        within = omega arith;
+        few = below_all count log own;
+        came =
+            subst (λ flag. Came message.hart (kept flag (got_after period log count)) true new)
+            (sym takes.logs.1)
+            (takes.memory (kept old.keep (got_after period log count)) false has.came (is ∙ ap Err memory));
+      })
+  own_taken count log own (inr cut) = inr (cut_off_stays count log cut)
+
+  -- Of another hart what came stays.
+  pub other_cut_off : (hart count : ℕ) (log : ProgramLog) → hart ≢ message.hart → IsCutOff period log count hart old
+      → IsCutOff period log count hart new
+  other_cut_off hart count log other cut =
+      cut_off_same period count hart log old new (takes.others hart other) takes.logs.1 cut
+
+  pub other_taken : (hart count : ℕ) (log : ProgramLog) → hart ≢ message.hart → IsTakenOf period log count hart old
+      → IsTakenOf period log count hart new
+  other_taken hart count log other (inl has) =
+      inl (collected_same period count hart log old new (takes.others hart other) takes.logs.0 takes.logs.1 has)
+  other_taken hart count log other (inr cut) = inr (other_cut_off hart count log other cut)
+
 module _ (period : ℕ) (logs : List ProgramLog) (taken : List Message) (message : Message)
     (result : Result (Unit {0}) CollectFault) (old new : Collected) (takes : TakesMessage message result old new)
     (came : AreTaken period logs taken old) (next : IsNext period logs taken message) where
@@ -70,8 +127,9 @@ module _ (period : ℕ) (logs : List ProgramLog) (taken : List Message) (message
   one_more : length (of_hart message.hart (taken ++ message ∷ [])) ≡ before + 1
   one_more = ap length (of_hart-next taken message) ∙ length_push (of_hart message.hart taken) message
 
-  cut_off_refused : IsCutOff period next.log before message.hart old → IsRefusedHart message.hart old
-  cut_off_refused cut = came_refused message.hart (kept old.keep (got_after period next.log cut.count)) old cut.came
+  -- A message of a hart of which memory was refused is no fault and changes nothing.
+  passed_over : IsCutOff period next.log before message.hart old → (result ≡ Ok tt) × (new ≡ old)
+  passed_over cut = takes.passed_over (cut_off_refused message result old new takes period before next.log cut)
 
   -- A message is refused for want of memory alone.
   pub only_memory : IfErr result (λ why. why ≡ fault.Memory)
@@ -80,60 +138,7 @@ module _ (period : ℕ) (logs : List ProgramLog) (taken : List Message) (message
       by_case : IsTakenOf period next.log before message.hart old → IfErr result (λ why. why ≡ fault.Memory)
       by_case (inl has) = takes.only_memory period before next.log has next.own
       by_case (inr cut) =
-          subst (λ r. IfErr r (λ why. why ≡ fault.Memory)) (sym (takes.passed_over (cut_off_refused cut)).0) tt
-
-  -- It is one of the messages of its log.
-  below_all : before < length (packets (words_of next.log.program) period next.log.events)
-  below_all =
-      let below = slice_get_within (payloads period next.log) before message.payload next.own.payload in
-      let as_many = length-map (packets (words_of next.log.program) period next.log.events) payload_of in
-      omega (arith, below, as_many)
-
-  -- It came of its hart, or memory for that was refused.
-  own_after : IsTakenOf period next.log (before + 1) message.hart new
-  own_after = by_case own_before
-    where
-      by_result : (r : Result (Unit {0}) CollectFault) → result ≡ r
-          → HasCollected period next.log before message.hart old
-          → OnOk r (HasCollected period next.log (before + 1) message.hart new)
-          → IfErr r (λ why. why ≡ fault.Memory)
-          → IsTakenOf period next.log (before + 1) message.hart new
-      by_result (Ok unit) is has more memory = inl more
-      by_result (Err why) is has more memory = inr (record {
-        count = before;
-        within = omega arith;
-        few = below_all;
-        came =
-            subst (λ flag. Came message.hart (kept flag (got_after period next.log before)) true new)
-            (sym takes.logs.1)
-            (takes.memory (kept old.keep (got_after period next.log before)) false has.came
-            (is ∙ ap Err memory));
-      })
-
-      by_case : IsTakenOf period next.log before message.hart old
-          → IsTakenOf period next.log (before + 1) message.hart new
-      by_case (inl has) =
-          by_result result refl has (takes.next period before next.log has next.own)
-          (takes.only_memory period before next.log has next.own)
-      by_case (inr cut) =
-          subst (λ (c : Collected). IsTakenOf period next.log (before + 1) message.hart c)
-          (sym (takes.passed_over (cut_off_refused cut)).1)
-          (inr (record { count = cut.count; within = omega (arith, cut.within); few = cut.few; came = cut.came }))
-
-  -- Of another hart what came stays.
-  other_stays : (hart count : ℕ) (log : ProgramLog) → IsSameOf hart old new → IsTakenOf period log count hart old
-      → IsTakenOf period log count hart new
-  other_stays hart count log same (inl has) =
-      inl (collected_same period count hart log old new same takes.logs.0 takes.logs.1 has)
-  other_stays hart count log same (inr cut) =
-      inr (record {
-        count = cut.count;
-        within = cut.within;
-        few = cut.few;
-        came =
-            subst (λ flag. Came hart (kept flag (got_after period log cut.count)) true new) (sym takes.logs.1)
-            (came_same hart (kept old.keep (got_after period log cut.count)) true old new same cut.came);
-      })
+          subst (λ r. IfErr r (λ why. why ≡ fault.Memory)) (sym (passed_over cut).0) tt
 
   -- Of each hart the messages that were taken and this one came, or memory for it was refused.
   pub takes_more : AreTaken period logs (taken ++ message ∷ []) new
@@ -150,11 +155,57 @@ module _ (period : ℕ) (logs : List ProgramLog) (taken : List Message) (message
           same_Some next.log log (sym next.known ∙ ap (slice_get logs) (sym same) ∙ at) in
           subst (λ h. IsTakenOf period log (length (of_hart h (taken ++ message ∷ []))) h new) (sym same)
           (subst (λ n. IsTakenOf period log n message.hart new) (sym one_more)
-          (subst (λ (l : ProgramLog). IsTakenOf period l (before + 1) message.hart new) its own_after))
+          (subst (λ (l : ProgramLog). IsTakenOf period l (before + 1) message.hart new) its
+          (own_taken message result old new takes period before next.log next.own own_before)))
       by_hart hart log at (inr other) =
           subst (λ n. IsTakenOf period log n hart new)
           (sym (ap length (of_hart-other hart taken message (λ same. other (sym same)))))
-          (other_stays hart (length (of_hart hart taken)) log (takes.others hart other) (came.each hart log at))
+          (other_taken message result old new takes period hart (length (of_hart hart taken)) log other
+          (came.each hart log at))
+
+  -- Of a hart that is refused fewer messages came than were taken, this one among them.
+  pub lacks_more : LacksSome taken old → LacksSome (taken ++ message ∷ []) new
+  lacks_more lacks hart log at new_log is refused = by_hart (cases_eq hart message.hart)
+    where
+      known : slice_get old.logs hart ≡ Some log
+      known = sym (ap (λ some. slice_get some hart) takes.logs.0) ∙ new_log
+
+      by_result : (r : Result (Unit {0}) CollectFault) → result ≡ r
+          → HasCollected period next.log before message.hart old
+          → OnOk r (HasCollected period next.log (before + 1) message.hart new)
+          → IfErr r (λ why. why ≡ fault.Memory) → slice_get new.harts message.hart ≡ Some at → at.taken < before + 1
+      by_result (Ok unit) answer has more memory here =
+          let got = kept new.keep (got_after period next.log (before + 1)) in
+          let same = same_Some at (taken_by got false) (sym here ∙ more.came.taken) in
+          absurd (apart (sym (ap (λ (some : Taken). some.refused) same) ∙ refused))
+      by_result (Err why) answer has more memory here =
+          let got = kept old.keep (got_after period next.log before) in
+          let cut = takes.memory got false has.came (answer ∙ ap Err memory) in
+          let same : at.taken ≡ before =
+          ap (λ (some : Taken). some.taken) (same_Some at (taken_by got true) (sym here ∙ cut.taken)) in
+          omega (arith, same)
+
+      own : slice_get old.logs message.hart ≡ Some log → slice_get new.harts message.hart ≡ Some at
+          → IsTakenOf period next.log before message.hart old → at.taken < before + 1
+      own there here (inl has) =
+          by_result result refl has (takes.next period before next.log has next.own)
+          (takes.only_memory period before next.log has next.own) here
+      own there here (inr cut) =
+          let stays = ap (λ (c : Collected). slice_get c.harts message.hart)
+          (passed_over cut).1 in
+          let less = lacks message.hart log at there (sym stays ∙ here) refused in
+          omega (arith, less)
+
+      by_hart : (hart ≡ message.hart) ⊎ (hart ≡ message.hart → ⊥)
+          → at.taken < length (of_hart hart (taken ++ message ∷ []))
+      by_hart (inl same) =
+          subst (λ h. at.taken < length (of_hart h (taken ++ message ∷ []))) (sym same)
+          (subst (λ n. at.taken < n) (sym one_more)
+          (own (ap (slice_get old.logs) (sym same) ∙ known) (ap (slice_get new.harts) (sym same) ∙ is) own_before))
+      by_hart (inr other) =
+          subst (λ n. at.taken < n)
+          (sym (ap length (of_hart-other hart taken message (λ same. other (sym same)))))
+          (lacks hart log at known (sym (takes.others hart other).taken ∙ is) refused)
 
   -- The hart is one of those with logs.
   has_place : message.hart < length new.logs
@@ -171,7 +222,7 @@ module _ (period : ℕ) (logs : List ProgramLog) (taken : List Message) (message
       by_case (inl has) =
           let got = kept old.keep (got_after period next.log before) in
           came_refused message.hart got new (takes.memory got false has.came memory)
-      by_case (inr cut) = absurd (no_fault result (takes.passed_over (cut_off_refused cut)).0 memory)
+      by_case (inr cut) = absurd (no_fault result (passed_over cut).0 memory)
 
   -- Another hart is refused where it was.
   same_refused : (hart : ℕ) → hart ≢ message.hart → slice_get new.harts hart ≡ slice_get old.harts hart
@@ -216,7 +267,7 @@ module _ (period : ℕ) (logs : List ProgramLog) (taken : List Message) (message
           (subst (λ r. OnOk r (HasCollected period next.log (before + 1) message.hart new)) ok
           (takes.next period before next.log has next.own)) names
       by_case (inr cut) =
-          subst (NamesRefusedHart why) (sym (takes.passed_over (cut_off_refused cut)).1) names
+          subst (NamesRefusedHart why) (sym (passed_over cut).1) names
 
 -- The message in front is the next of its hart.
 pub next_in_front : (period : ℕ) (logs : List ProgramLog) (taken waiting : List Message) (message : Message)

@@ -1,5 +1,5 @@
 -- What came of harts through a funnel.
-use Rattle.std.specs.Prelude.{ℕ, ◌≡◌, ◌≤◌, All, Bool, true, false, IsFalse, IsSomeAnd, IsTrue, List, Option, Some, None, length, slice_get}
+use Rattle.std.specs.Prelude.{ℕ, ◌≡◌, ◌≤◌, ◌<◌, All, Bool, true, false, IsFalse, IsSomeAnd, IsTrue, List, Option, Some, None, length, slice_get}
 use Rattle.legalpath.specs.ProgramLog.{ProgramLog}
 use Rattle.message.specs.OfHart.{of_hart}
 use Rattle.message.specs.declared.message.Message.{Message}
@@ -30,6 +30,12 @@ AreThoseTaken {A} config logs taken harts =
     → slice_get harts hart ≡ Some came
     → (count : ℕ) × HasGot config.period config.keep log count (got_of came)
     × CameOf came.refused (length (of_hart hart taken)) count
+
+-- Of each hart for which memory was refused fewer packets came than messages of it are among these.
+abbrev pub LackSome : {A : Type 0} → List Message → List (HartOutcome A) → Type 0
+LackSome {A} taken harts =
+    (hart : ℕ) (came : HartOutcome A) → slice_get harts hart ≡ Some came → IsTrue came.refused
+    → came.taken < length (of_hart hart taken)
 
 -- There is no stop exactly where memory for no hart was refused, and else one of those harts is named, whose closing
 -- packet did not come.

@@ -5,5 +5,7 @@ pub mod Replayed
 pub mod Collected
 pub mod Beginnings
 pub mod Setting
+pub mod Working
+pub mod Stopping
 pub mod SetupText
 pub mod steps

@@ -2,3 +2,4 @@ pub mod Collecting
 pub mod Sending
 pub mod Taking
 pub mod Replaying
+pub mod Gathering

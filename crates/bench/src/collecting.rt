@@ -11,6 +11,7 @@ ghost use Rattle.message.specs.Accepting.{accepting, harts_after};
 ghost use Rattle.message.specs.declared.fault.DemuxFault.{DemuxFault as AnyDemuxFault};
 ghost use Rattle.receiver.specs.Holds.{HoldsHart};
 ghost use Rattle.receiver.specs.Received.{IsReceived, IsSameHart, events_in};
+ghost use Rattle.receiver.specs.Refused.{IsNotDecoded};
 ghost use Rattle.bench.specs.Collected.{Accepts, Came, Collected, HasCollected, HasDecoded, IsMessageOf, IsRefusedHart, IsSameOf, Taken, with_packet};
 ghost use Rattle.bench.specs.Got.{Got, got_of};
 ghost use Rattle.bench.specs.steps.Collecting.{IsCollected, IsLeftBy, closed_in, decoded_in, nothing, taken_in, taken_of};
@@ -114,6 +115,9 @@ impl<'l, 'p, A: Allocator + Copy, B: Allocator> Collector<'l, 'p, A, B> {
         ensures none { (packet : AnyPacket) (log : ProgramLog) (packets : List AnyPacket) → Accepts message packet self.old
             → HasDecoded log message.hart packets self.old → IfErr result (λ fault. (fault ≡ CollectFault.Memory)
             ⊎ ((events : List AnyEvent) → ¬ Describes (words_of log.program) (packets ++ packet ∷ []) events)) }
+        ensures reason { (packet : AnyPacket) (log : ProgramLog) (packets : List AnyPacket) (why : AnyDecodeFault) → Accepts message packet self.old
+            → HasDecoded log message.hart packets self.old → result ≡ Err (CollectFault.Decode why)
+            → IsNotDecoded (words_of log.program) packets packet why }
         ensures counts { (packet : AnyPacket) (taken : Taken) → Accepts message packet self.old
             → slice_get self.old.harts message.hart ≡ Some taken → OnOk result (slice_get self.new.harts message.hart
             ≡ Some (with_packet self.old.keep packet (length message.payload) taken)) }
@@ -226,6 +230,8 @@ fn take_packet<A: Allocator + Copy>(
     ensures none { (packets : List AnyPacket) → HoldsHart (words_of program.now) message.now.hart packets receiver.old
         → IfErr result (λ fault. (fault ≡ CollectFault.Memory)
         ⊎ ((log : List AnyEvent) → ¬ Describes (words_of program.now) (packets ++ packet ∷ []) log)) }
+    ensures reason { (packets : List AnyPacket) (why : AnyDecodeFault) → HoldsHart (words_of program.now) message.now.hart packets receiver.old
+        → result ≡ Err (CollectFault.Decode why) → IsNotDecoded (words_of program.now) packets packet why }
     ensures expected { receiver.new.expected ≡ receiver.old.expected }
     ensures complete { IsReceived receiver.old → IsReceived receiver.new }
 {

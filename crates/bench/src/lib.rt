@@ -6,25 +6,33 @@
 
 mod collecting;
 mod config;
+mod gate;
+mod gathering;
 mod hart_line;
 mod laws;
 mod outcome;
 mod replaying;
 mod reporting;
+mod running;
 mod sender;
 mod setup;
+mod starting;
 mod stop;
+mod stopping;
 #[cfg(test)]
 mod tests;
 mod verdict;
+mod worker;
 
 pub use collecting::{CollectFault, Collector};
 pub use config::Config;
 pub use funnel::Turn;
+pub use gate::{Gate, Open};
 pub use laws::turns_let_beginnings_through;
 pub use outcome::{HartOutcome, Outcome};
 pub use replaying::replay;
 pub use reporting::{is_whole, report};
+pub use running::{run, run_on};
 pub use setup::Setup;
 pub use stop::Stop;
 pub use verdict::{Verdict, compare};

@@ -6,12 +6,12 @@ ghost use Rattle.encoder.specs.Payloads.{payloads};
 ghost use Rattle.funnel.specs.Limits.{limit_fault, most_harts};
 ghost use Rattle.funnel.specs.Machine.{Funnel, after_turn, take_front};
 ghost use Rattle.funnel.specs.declared.turn.Turn.TheVariants as turn;
-ghost use Rattle.bench.specs.Beginnings.{AreBeginnings, AreThoseTaken, NamesRefused};
+ghost use Rattle.bench.specs.Beginnings.{AreBeginnings, AreThoseTaken, LackSome, NamesRefused};
 ghost use Rattle.bench.specs.Replayed.{replayed};
 ghost use Rattle.bench.specs.Setting.{setup_fault};
 ghost use Rattle.bench.specs.declared.setup.Setup.{Setup as AnySetup};
 ghost use Rattle.bench.specs.steps.Sending.{AreSending};
-ghost use Rattle.bench.specs.steps.Taking.{AreTaken, IsFrontNext, IsReady, NamesRefusedHart};
+ghost use Rattle.bench.specs.steps.Taking.{AreTaken, IsFrontNext, IsReady, LacksSome, NamesRefusedHart};
 
 use crate::collecting::{CollectFault, Collector};
 use crate::config::Config;
@@ -37,6 +37,8 @@ pub fn replay<A: Allocator + Copy, B: Allocator>(
     ensures beginnings { IfOk result (λ outcome. AreBeginnings config logs.now outcome.harts.items) }
     // As many messages came of each hart as were taken of it, but where memory for it was refused.
     ensures taken { IfOk result (λ outcome. AreThoseTaken config logs.now
+        (replayed config.period config.capacity logs.now turns.now).taken outcome.harts.items) }
+    ensures lacks { IfOk result (λ outcome. LackSome
         (replayed config.period config.capacity logs.now turns.now).taken outcome.harts.items) }
     ensures stop { IfOk result (λ outcome. NamesRefused outcome.stop outcome.harts.items) }
     ensures refused { (fault : AnySetup) → setup_fault (length logs.now) config ≡ Some fault → result ≡ Err fault }
@@ -70,7 +72,7 @@ pub fn replay<A: Allocator + Copy, B: Allocator>(
 }
 
 /// The first fault of this count of logs and this configuration, where there is one.
-fn fault_of(logs: usize, config: Config) -> Option<Setup>
+pub(crate) fn fault_of(logs: usize, config: Config) -> Option<Setup>
     ensures fault { result ≡ setup_fault logs config }
     ensures harts { result ≡ None → logs ≤ most_harts }
     ensures limits { result ≡ None → limit_fault logs config.capacity ≡ None }
@@ -133,6 +135,9 @@ fn collect<A: Allocator + Copy, B: Allocator>(
     ensures taken { (period : ℕ) (logs : List ProgramLog) (state : Funnel) → state.queue ≡ core.old.queue
         → IsFrontNext period logs state.taken state.queue → AreTaken period logs state.taken collector.old
         → AreTaken period logs (take_front state).taken collector.new }
+    ensures lacks { (period : ℕ) (logs : List ProgramLog) (state : Funnel) → state.queue ≡ core.old.queue
+        → IsFrontNext period logs state.taken state.queue → AreTaken period logs state.taken collector.old
+        → LacksSome state.taken collector.old → LacksSome (take_front state).taken collector.new }
     ensures names { NamesRefusedHart stop.old collector.old → NamesRefusedHart stop.new collector.new }
 {
     let Some(message) = core.take() else {

@@ -1,4 +1,4 @@
-//! Reports of outcomes that were made by hand, what comes of messages, and replays.
+//! Reports of outcomes that were made by hand, what comes of messages, replays, and runs.
 
 mod collect;
 mod made;
@@ -6,3 +6,4 @@ mod memory;
 mod plain;
 mod replays;
 mod report;
+mod runs;

@@ -1,5 +1,6 @@
 mod Beginnings
 mod DecodedRuns
+mod ErrorLines
 mod FromFiles
 mod Gots
 mod HartTexts

@@ -1,5 +1,6 @@
 pub mod Status
 pub mod Faults
+pub mod FaultText
 pub mod Decoding
 pub mod Order
 pub mod Known

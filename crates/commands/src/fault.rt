@@ -1,12 +1,14 @@
 //! Why a command stops.
 
-ghost use Rattle.std.specs.Prelude.{◌≡◌, ◌≢◌};
+ghost use Rattle.std.specs.Prelude.{◌≡◌, ◌≢◌, ◌++◌, codes, IfOk, Some};
+ghost use Rattle.commands.specs.FaultText.{fault_text, place_text, reason_text};
 ghost use Rattle.commands.specs.declared.fault.Fault.TheVariants as fault;
 ghost use Rattle.commands.specs.Faults.{capture_fault, file_fault, log_fault, schedule_fault, status_of};
 ghost use Rattle.commands.specs.Faults.{unsent_fault, write_fault};
 
 use crate::files::FileFault;
 use crate::status::Status;
+use arrayvec::ArrayString;
 use bench::Setup;
 use captures::CaptureFault;
 use decoder::DecodeFault;
@@ -14,49 +16,38 @@ use legalpath::PathFault;
 use retire::{LogFault, WriteFault};
 use rvclass::ProgramFault;
 use schedule::ScheduleFault;
-use thiserror::Error;
+use std::error::Error;
+use std::fmt;
+use std::fmt::Write;
 
 /// Why a command stops. Its text is the line that is told, without the program's name.
-#[derive(Clone, Copy, Debug, PartialEq, Eq, Error)]
+#[derive(Clone, Copy, Debug, PartialEq, Eq)]
 pub enum Fault<'a> {
     /// The words were not given as text.
-    #[error("words cannot be read")]
     Words,
     /// The base is not spelt as a number of a log.
-    #[error("base is not a number")]
     Base,
     /// More logs are given than there may be harts.
-    #[error("more than 64 logs")]
     ManyLogs,
     /// The file at this path was not read.
-    #[error("{0}: cannot be read")]
     Unreadable(&'a str),
     /// The image makes no program at the base.
-    #[error("{0}")]
     Image(ProgramFault),
     /// The log at this path is none.
-    #[error("{0}: {1}")]
     Log(&'a str, LogFault),
     /// The log at this path is not legal for the program.
-    #[error("{0}: {1}")]
     Illegal(&'a str, PathFault),
     /// The schedule is none.
-    #[error("schedule: {0}")]
     Schedule(ScheduleFault),
     /// Nothing is sent through the funnel. Words within their limits, with one log at least, come to no such fault.
-    #[error("{0}")]
     Unsent(Setup),
     /// The message of the capture with this number, counted from 0 over all harts, is refused.
-    #[error("message {0}: {1}")]
     Message(u64, CaptureFault),
     /// The capture ends before the closing packet of this hart.
-    #[error("hart {0}: no closing packet")]
     Unclosed(usize),
     /// The output was not written whole.
-    #[error("output cannot be written")]
     Output,
     /// Memory was refused.
-    #[error("out of memory")]
     Memory,
 }
 
@@ -113,6 +104,25 @@ impl<'a> Fault<'a> {
         }
     }
 
+    /// The path of the file that the fault is of, and a colon; nothing where it is of no file.
+    pub(crate) fn place(&self) -> (&'a str, &'static str)
+        ensures { result.0.now ++ result.1.now ≡ place_text self.now }
+    {
+        match *self {
+            Fault::Unreadable(path) | Fault::Log(path, _) | Fault::Illegal(path, _) => (path, ": "),
+            _ => ("", ""),
+        }
+    }
+
+    /// The rest of a line behind this text: what is wrong, without the file's path, and the line's end.
+    pub(crate) fn rest(&self, text: &str) -> Result<ArrayString<LONGEST_REST>, fmt::Error>
+        ensures { IfOk result (λ rest. rest.bytes ≡ text.now ++ (reason_text self.now ++ codes "\n")) }
+    {
+        let mut rest = ArrayString::new();
+        writeln!(rest, "{text}{}", Reason { of: self })?;
+        Ok(rest)
+    }
+
     /// The status that a command ends with at this fault.
     pub fn status(&self) -> Status
         ensures { result ≡ status_of self.now }
@@ -131,6 +141,48 @@ impl<'a> Fault<'a> {
         }
     }
 }
+
+/// The most bytes that the rest of a line takes.
+const LONGEST_REST: usize = 128;
+
+/// What is wrong, without the file's path.
+#[derive(Clone, Copy)]
+struct Reason<'a, 'b> {
+    of: &'b Fault<'a>,
+}
+
+impl fmt::Display for Reason<'_, '_> {
+    ghost output = { λ reason. Some (reason_text reason.of.now) };
+
+    fn fmt<W: fmt::Write>(&self, f: &mut fmt::Formatter<W>) -> fmt::Result {
+        match self.of {
+            Fault::Words => f.write_str("words cannot be read"),
+            Fault::Base => f.write_str("base is not a number"),
+            Fault::ManyLogs => f.write_str("more than 64 logs"),
+            Fault::Unreadable(_) => f.write_str("cannot be read"),
+            Fault::Image(why) => write!(f, "{why}"),
+            Fault::Log(_, why) => write!(f, "{why}"),
+            Fault::Illegal(_, why) => write!(f, "{why}"),
+            Fault::Schedule(why) => write!(f, "schedule: {why}"),
+            Fault::Unsent(why) => write!(f, "{why}"),
+            Fault::Message(number, why) => write!(f, "message {number}: {why}"),
+            Fault::Unclosed(hart) => write!(f, "hart {hart}: no closing packet"),
+            Fault::Output => f.write_str("output cannot be written"),
+            Fault::Memory => f.write_str("out of memory"),
+        }
+    }
+}
+
+impl fmt::Display for Fault<'_> {
+    ghost output = { λ fault. Some (fault_text fault) };
+
+    fn fmt<W: fmt::Write>(&self, f: &mut fmt::Formatter<W>) -> fmt::Result {
+        let (path, colon) = self.place();
+        write!(f, "{path}{colon}{}", Reason { of: self })
+    }
+}
+
+impl Error for Fault<'_> {}
 
 impl From<ProgramFault> for Fault<'_> {
     ghost from_gives = { λ why told. told ≡ fault.Image why };

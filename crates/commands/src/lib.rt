@@ -17,6 +17,7 @@ mod status;
 mod telling;
 #[cfg(test)]
 mod tests;
+mod writing;
 
 pub use checking::check;
 pub use decoding::decode;

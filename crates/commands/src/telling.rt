@@ -1,17 +1,35 @@
 //! What is told on standard error.
 
-ghost use Rattle.std.specs.Prelude.{◌≡◌};
+ghost use Rattle.std.specs.Prelude.{◌≡◌, OnOk};
+ghost use Rattle.std.specs.Io.KnownBytes.{Appends};
+ghost use Rattle.commands.specs.Begun.{AppendsBeginning};
+ghost use Rattle.commands.specs.FaultText.{error_line};
 ghost use Rattle.commands.specs.Faults.{status_of};
 
 use crate::fault::Fault;
 use crate::status::Status;
+use crate::writing::write_text;
+use std::io;
 use std::io::Write;
 
-/// Tells a fault on one line, and answers how the command ends. Where the line is not written, that
-/// stays so.
+/// Tells a fault on one line, and answers how the command ends. Where a write fails, the rest of the line stays untold.
 pub fn tell<E: Write>(err: &mut E, fault: &Fault<'_>) -> Status
-    ensures { result ≡ status_of fault.now }
+    ensures status { result ≡ status_of fault.now }
+    // What is written is the line, or a beginning of it where a write failed.
+    ensures line { AppendsBeginning (error_line fault.now) (E.contents err.old) (E.contents err.new) }
 {
-    let _ = writeln!(err, "tracebench: {fault}");
+    let _ = write_line(err, fault);
     fault.status()
+}
+
+/// Writes the line of a fault, with no memory taken.
+fn write_line<E: Write>(err: &mut E, fault: &Fault<'_>) -> io::Result<()>
+    ensures whole { OnOk result (Appends (E.contents err.old) (E.contents err.new) (error_line fault.now)) }
+    ensures begun { AppendsBeginning (error_line fault.now) (E.contents err.old) (E.contents err.new) }
+{
+    let (path, colon) = fault.place();
+    let rest = fault.rest(colon)?;
+    write_text(err, b"tracebench: ")?;
+    write_text(err, path.as_bytes())?;
+    write_text(err, rest.as_str().as_bytes())
 }

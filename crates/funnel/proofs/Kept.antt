@@ -10,6 +10,7 @@ use Rattle.message.specs.declared.message.Message.{Message}
 use Rattle.funnel.specs.Lawful.{Lawful, HasFirstTaken}
 use Rattle.funnel.specs.Machine.{Funnel, opening, sent_by}
 use Rattle.funnel.specs.Payloads.{ClosesOnlyLast, payloads_in, payloads_of}
+use Rattle.funnel.proofs.OrderLemmas.{closes_last-by}
 use Rattle.funnel.proofs.Places.{get_or-repeated, slice_get-front}
 
 -- The message is the one of this number that the hart with these payloads sends.
@@ -85,10 +86,10 @@ module _ (capacity : ℕ) (payloads : List (List (List ℕ))) (state : Funnel) (
     whole = keeps.whole;
     in_order = λ hart. record {
       numbered = λ n message is. let nth = keeps.nth hart n message is in (nth.own, nth.number);
-      closes_last = λ n message is closing.
+      closes_last = closes_last-by (sent_by hart state) (λ n message is closing.
           let all = closes_last_of last hart n message.payload (keeps.nth hart n message is).payload closing in
           let inside = slice_get_within (sent_by hart state) n message is in
-          omega (arith, all, inside, few_sent hart);
+          omega (arith, all, inside, few_sent hart));
     };
   }
 

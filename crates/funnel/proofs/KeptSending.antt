@@ -7,7 +7,8 @@ use Rattle.std.proofs.lemmas.List.{length_push}
 use Rattle.message.proofs.OfHartLemmas.{of_hart-next, of_hart-other}
 use Rattle.message.specs.OfHart.{of_hart}
 use Rattle.message.specs.declared.message.Message.{Message}
-use Rattle.funnel.specs.Machine.{Funnel, add, message_of, send_next, sent_by}
+use Rattle.funnel.specs.Machine.{Funnel, add, send_next, sent_by}
+use Rattle.funnel.specs.Order.{next_message}
 use Rattle.funnel.specs.Payloads.{payloads_of}
 use Rattle.funnel.proofs.Kept.{IsNth, Keeps}
 use Rattle.funnel.proofs.Places.{slice_get-next}
@@ -110,9 +111,9 @@ module _ (capacity : ℕ) (payloads : List (List (List ℕ))) (state : Funnel) (
     where
       by_room : (payload : List ℕ) → slice_get (payloads_of hart payloads) (length (sent_by hart state)) ≡ Some payload
           → (has_room : Bool) → nat_lt (length state.queue) capacity ≡ has_room
-          → Keeps capacity payloads (cond has_room (add (message_of hart state payload) state) state)
+          → Keeps capacity payloads (cond has_room (add (next_message hart (sent_by hart state) payload) state) state)
       by_room payload next true room =
-          add-keeps (message_of hart state payload) (ltb-true (length state.queue) capacity room)
+          add-keeps (next_message hart (sent_by hart state) payload) (ltb-true (length state.queue) capacity room)
           (record { own = refl; number = refl; payload = next })
       by_room payload next false full = keeps
 

@@ -6,6 +6,7 @@ pub mod EveryState
 mod WorkedTurns
 pub mod OrderLemmas
 pub mod RuleSteps
+pub mod LiveSteps
 pub mod PassSteps
 pub mod NewPorts
 pub mod FirstByte

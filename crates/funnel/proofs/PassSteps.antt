@@ -1,5 +1,5 @@
 -- The steps at the views that ports and the outlet know.
-use Rattle.std.proofs.Common.{◌≡◌, ◌+◌, ◌<◌, ◌^◌, nat_le, ℕ, Bool, true, false, List, [], ◌∷◌, ◌++◌, length, Option}
+use Rattle.std.proofs.Common.{◌≡◌, ◌+◌, ◌<◌, nat_le, ℕ, Bool, true, false, List, [], ◌∷◌, ◌++◌, length, Option}
 use Rattle.std.proofs.Common.{Some, sym, refl, ap, ◌∙◌, subst, arith, length-append}
 use Rattle.std.proofs.lemmas.Bool.Decides.{nat_tests}
 use Rattle.crossbeam_channel.specs.Fifo.{Pushes, Pops, Forks, Merges, Learns}
@@ -8,23 +8,24 @@ use Rattle.message.specs.OfHart.{of_hart}
 use Rattle.message.specs.declared.message.Message.{Message}
 use Rattle.funnel.specs.declared.rule.View.{View}
 use Rattle.funnel.specs.declared.rule.View.TheVariants as V
+use Rattle.funnel.specs.Limits.{most_messages}
 use Rattle.funnel.specs.Order.{AreInOrder}
-use Rattle.funnel.specs.Rule.{Kept, handed_out, next_port, told_of, TakesOne, Compares, SendsOn, SendsLast}
+use Rattle.funnel.specs.Rule.{Kept, handed_out, next_port, told_of, TookInOrder, TakesOne, Compares, SendsOn, SendsLast}
 use Rattle.funnel.specs.Ends.{has_closing, is_finished}
 use Rattle.funnel.specs.steps.Passes.{IsPort, IsOutlet, sent_of, taken_of}
 use Rattle.funnel.proofs.OrderLemmas.{or_false, none_closes, has_closing-next}
-use Rattle.funnel.proofs.RuleSteps.{sends_on, sends_last, takes, forks, merges, learns}
+use Rattle.funnel.proofs.RuleSteps.{sends_on, sends_last, takes, takes_in_order, forks, merges, learns}
 
 -- Nothing is learned.
 abbrev Nothing : List Message → Type 0
 Nothing queue = Unit {0}
 
-few_sent : (sent : List Message) → is_finished sent ≡ false → length sent < 2 ^ 32
+few_sent : (sent : List Message) → is_finished sent ≡ false → length sent < most_messages
 few_sent sent unfinished =
-    let t = (or_false (has_closing sent) (nat_le (2 ^ 32) (length sent)) unfinished).1 in grind (arith, nat_tests)
+    let t = (or_false (has_closing sent) (nat_le most_messages (length sent)) unfinished).1 in grind (arith, nat_tests)
 
 none_sent : (sent : List Message) → is_finished sent ≡ false → has_closing sent ≡ false
-none_sent sent unfinished = (or_false (has_closing sent) (nat_le (2 ^ 32) (length sent)) unfinished).0
+none_sent sent unfinished = (or_false (has_closing sent) (nat_le most_messages (length sent)) unfinished).0
 
 pub may_send : (n pass : ℕ) (v : View) (x : Message) → IsPort x.hart v → x.number ≡ length (sent_of v)
     → is_finished (sent_of v) ≡ false → is_closing x.payload ≡ false
@@ -51,10 +52,32 @@ may_send_last n pass v x is number unfinished closing =
     )
 
 pub may_take : (pass made : ℕ) (v : View) → IsOutlet made v
-    → Pops Kept pass v (TakesOne v) × Learns Kept pass v Nothing
+    → Pops Kept pass v (TakesOne v) × Learns Kept pass v (λ _. TookInOrder v)
 may_take pass made v is =
-    let P : View → Type 0 = λ u. Pops Kept pass u (TakesOne u) in
-    (subst P (sym is.is) (takes pass made (taken_of v) is.told is.list), λ items views k at. tt)
+    let P : View → Type 0 = λ u. Pops Kept pass u (TakesOne u) × Learns Kept pass u (λ _. TookInOrder u) in
+    subst P (sym is.is) (
+      takes pass made (taken_of v) is.told is.list,
+      takes_in_order pass made (taken_of v) is.told is.list,
+    )
+
+pub outlet_is : (v : View) (made : ℕ) (t : List Message) (u : Option ℕ) (l : List Message) → v ≡ V.Outlet made t u l
+    → IsOutlet made v × (taken_of v ≡ t)
+outlet_is v made t u l e =
+    let P : View → Type 0 = λ x. IsOutlet made x × (taken_of x ≡ t) in
+    subst P (sym e) (record { told = u; list = l; is = refl }, refl)
+
+-- The outlet's view once it took a message.
+pub took : (v : View) (made : ℕ) (message : Message) (w : View) → IsOutlet made v → TakesOne v message w
+    → IsOutlet made w × (taken_of w ≡ taken_of v ++ message ∷ []) × TookInOrder w
+took v made message w is step =
+    let now = subst (λ u. TakesOne u message w) is.is step in
+    let known = outlet_is w made _ _ _ now.0 in
+    (known.0, known.1, now.4)
+
+-- What the outlet's view knows to be taken is in order.
+pub took_in_order : (v : View) (made : ℕ) → IsOutlet made v → TookInOrder v
+    → (hart : ℕ) → AreInOrder hart (of_hart hart (taken_of v))
+took_in_order v made is order = subst TookInOrder is.is order
 
 pub may_hand_out : (pass made : ℕ) (v : View) → IsOutlet made v → Forks Kept pass v (handed_out v) (next_port v)
 may_hand_out pass made v is =
@@ -84,12 +107,6 @@ pub compared : (u : View) (made : ℕ) (t : List Message) (h : ℕ) (s : List Me
     → u ≡ V.Outlet made t (Some h) s → Compares u items
     → (s ≡ of_hart h t ++ of_hart h items) × AreInOrder h s × (h < made)
 compared u made t h s items e c = let P : View → Type 0 = λ v. Compares v items in subst P e c h refl
-
-pub outlet_is : (v : View) (made : ℕ) (t : List Message) (u : Option ℕ) (l : List Message) → v ≡ V.Outlet made t u l
-    → IsOutlet made v × (taken_of v ≡ t)
-outlet_is v made t u l e =
-    let P : View → Type 0 = λ x. IsOutlet made x × (taken_of x ≡ t) in
-    subst P (sym e) (record { told = u; list = l; is = refl }, refl)
 
 pub port_is : (v : View) (h : ℕ) (s : List Message) → v ≡ V.Port h s → IsPort h v × (sent_of v ≡ s)
 port_is v h s e = let P : View → Type 0 = λ x. IsPort h x × (sent_of x ≡ s) in subst P (sym e) (refl, refl)

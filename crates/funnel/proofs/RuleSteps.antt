@@ -1,5 +1,5 @@
 -- Each step keeps the rule, whatever the number of ports.
-use Rattle.std.proofs.Common.{◌≡◌, ◌≢◌, ◌⊎◌, ◌+◌, ◌<◌, ◌≤◌, ◌^◌, ℕ, zero, suc, true, false, List, [], ◌∷◌, ◌++◌, length}
+use Rattle.std.proofs.Common.{◌≡◌, ◌≢◌, ◌⊎◌, ◌+◌, ◌<◌, ◌≤◌, ℕ, zero, suc, true, false, List, [], ◌∷◌, ◌++◌, length}
 use Rattle.std.proofs.Common.{set, Option, Some, None, slice_get, sym, refl, ap, ◌∙◌, subst, inl, inr, ⊎_elim}
 use Rattle.std.proofs.Common.{append_assoc, arith, length-append}
 use mathlib.Core.Option.{some, some-ne-none}
@@ -16,10 +16,11 @@ use Rattle.message.proofs.OfHartLemmas.{of_hart-append, of_hart-own, of_hart-nex
 use Rattle.message.specs.declared.message.Message.{Message}
 use Rattle.funnel.specs.declared.rule.View.{View}
 use Rattle.funnel.specs.declared.rule.View.TheVariants as V
+use Rattle.funnel.specs.Limits.{most_messages}
 use Rattle.funnel.specs.Order.{AreInOrder}
-use Rattle.funnel.specs.Rule.{Fits, Kept, newborn, TakesOne, Compares, SendsOn, SendsLast}
+use Rattle.funnel.specs.Rule.{Fits, Kept, newborn, TookInOrder, TakesOne, Compares, SendsOn, SendsLast}
 use Rattle.funnel.proofs.Places.{get_elem-next, slice_get-behind, slice_get-front, slice_get-some}
-use Rattle.funnel.proofs.OrderLemmas.{NoneCloses, in_order-next}
+use Rattle.funnel.proofs.OrderLemmas.{NoneCloses, in_order-front, in_order-next}
 
 abbrev All : (ℕ → View → Type 0) → List View → Type 0
 All F views = (p : ℕ) (v : View) → get_elem? views p ≡ some v → F p v
@@ -54,7 +55,7 @@ begins = record {
   fits = λ p v e. ⊎_elim (λ (t : get_elem? [] p ≡ some v). absurd (some-ne-none v (sym t)))
       (λ (t : (p ≡ 0) × (newborn ≡ v)). subst (Fits 0 [] [] None [] [] p) t.1 (t.0, refl, refl, refl, refl))
       (get_elem-next [] newborn v p e);
-  in_order = λ h. record { numbered = λ n m e. cc; closes_last = λ n m e c. cc };
+  in_order = λ h. record { numbered = λ n m e. cc; closes_last = λ n payload e c. cc };
   few = λ h. omega arith;
   strangers = λ h _. refl;
   settled = λ h p e _. cc;
@@ -75,8 +76,8 @@ stays o seats t told l items more p pass h (V.Port g s) seat other same f = (
 stays o seats t told l items more p pass h V.Spent seat other same f = tt
 
 -- A port that knows what it sent may send the next message, unless it is finished.
-pub pushes : (n pass : ℕ) (s : List Message) (x : Message) → x.number ≡ length s → NoneCloses s → length s < 2 ^ 32
-    → Pushes Kept n pass (V.Port x.hart s) x (λ w. w ≡ V.Port x.hart (s ++ x ∷ []))
+pub pushes : (n pass : ℕ) (s : List Message) (x : Message) → x.number ≡ length s → NoneCloses s
+    → length s < most_messages → Pushes Kept n pass (V.Port x.hart s) x (λ w. w ≡ V.Port x.hart (s ++ x ∷ []))
 pushes n pass s x number none room items views _ k at =
     let h = x.hart in
     let w = V.Port h (s ++ x ∷ []) in
@@ -122,13 +123,15 @@ pushes n pass s x number none room items views _ k at =
       refl,
     )
 
-pub sends_on : (n pass : ℕ) (s : List Message) (x : Message) → x.number ≡ length s → NoneCloses s → length s < 2 ^ 32
-    → is_closing x.payload ≡ false → Pushes Kept n pass (V.Port x.hart s) x (SendsOn (V.Port x.hart s) x)
+pub sends_on : (n pass : ℕ) (s : List Message) (x : Message) → x.number ≡ length s → NoneCloses s
+    → length s < most_messages → is_closing x.payload ≡ false
+    → Pushes Kept n pass (V.Port x.hart s) x (SendsOn (V.Port x.hart s) x)
 sends_on n pass s x number none room last items views r k at =
     let p = pushes n pass s x number none room items views r k at in (p.0, p.1, (p.2, last))
 
-pub sends_last : (n pass : ℕ) (s : List Message) (x : Message) → x.number ≡ length s → NoneCloses s → length s < 2 ^ 32
-    → is_closing x.payload ≡ true → Pushes Kept n pass (V.Port x.hart s) x (SendsLast (V.Port x.hart s) x)
+pub sends_last : (n pass : ℕ) (s : List Message) (x : Message) → x.number ≡ length s → NoneCloses s
+    → length s < most_messages → is_closing x.payload ≡ true
+    → Pushes Kept n pass (V.Port x.hart s) x (SendsLast (V.Port x.hart s) x)
 sends_last n pass s x number none room last items views r k at =
     let p = pushes n pass s x number none room items views r k at in (p.0, p.1, (p.2, last))
 
@@ -161,13 +164,15 @@ takes pass made taken told list x items views k at =
     let order : AreInOrder h (of_hart h taken ++ x ∷ of_hart h items) = subst (AreInOrder h) front (k.in_order h) in
     let number : x.number ≡ length (of_hart h taken) =
     (order.numbered (length (of_hart h taken)) x (slice_get-behind (of_hart h taken) x (of_hart h items))).1 in
-    let below : x.number < 2 ^ 32 =
+    let below : x.number < most_messages =
     let f = k.few h in let e = ap length front in
     omega (arith, length-append (of_hart h taken) (x ∷ of_hart h items)) in
     let known : h < made = ⊎_elim (λ (t : h < length k.seats). let m = mine.1 in omega arith)
     (λ (t : length k.seats ≤ h). let gone = sym front ∙ k.strangers h t in absurd
     (let e = ap length gone in omega (arith, length-append (of_hart h taken) (x ∷ of_hart h items))))
-    (below_or h (length k.seats)) in (
+    (below_or h (length k.seats)) in
+    let ordered : TookInOrder w = λ j. in_order-front j (of_hart j now) (of_hart j items)
+    (subst (AreInOrder j) (ap (of_hart j) (sym same) ∙ of_hart-append j now items) (k.in_order j)) in (
       w,
       record {
         outlet = k.outlet;
@@ -188,8 +193,17 @@ takes pass made taken told list x items views k at =
         );
         told_made = k.told_made;
       },
-      (refl, number, known, below),
+      (refl, number, known, below, ordered),
     )
+
+-- The outlet may learn that what it took is in order.
+pub takes_in_order : (pass made : ℕ) (taken : List Message) (told : Option ℕ) (list : List Message)
+    → Learns Kept pass (V.Outlet made taken told list) (λ _. TookInOrder (V.Outlet made taken told list))
+takes_in_order pass made taken told list items views k at hart =
+    let mine = k.fits pass (V.Outlet made taken told list) at in
+    in_order-front hart (of_hart hart taken) (of_hart hart items)
+    (subst (AreInOrder hart) (ap (λ t. of_hart hart (t ++ items)) (sym mine.2) ∙ of_hart-append hart taken items)
+    (k.in_order hart))
 
 -- A view that the hand-out of a port leaves as it fits.
 kept_by : (o : ℕ) (seats : List ℕ) (t : List Message) (told : Option ℕ) (l : List Message) (items : List Message)
@@ -247,7 +261,7 @@ beside o seats t told told' l l' items p (V.Outlet m a b c) other f = absurd (ot
 beside o seats t told told' l l' items p (V.Port g s) other f = f
 beside o seats t told told' l l' items p V.Spent other f = tt
 
-set_there : (l : List View) (i : ℕ) (a b : View) → get_elem? l i ≡ some a → get_elem? (set l i b) i ≡ some b
+pub set_there : (l : List View) (i : ℕ) (a b : View) → get_elem? l i ≡ some a → get_elem? (set l i b) i ≡ some b
 set_there [] i a b e = absurd (some-ne-none a (sym e))
 set_there (x ∷ xs) zero a b e = refl
 set_there (x ∷ xs) (suc i) a b e = set_there xs i a b e

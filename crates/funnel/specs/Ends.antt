@@ -1,5 +1,5 @@
 -- What contracts see of a funnel's ports, of its outlet and of its receipts.
-use Rattle.std.specs.Prelude.{◌≡◌, ◌+◌, ◌<◌, ◌^◌, ◌++◌, ◌∷◌, [], length, ℕ, List, Bool, true, ◌||◌, nat_le, Some}
+use Rattle.std.specs.Prelude.{◌≡◌, ◌+◌, ◌<◌, ◌++◌, ◌∷◌, [], length, ℕ, List, Bool, true, ◌||◌, nat_le, Some}
 use Rattle.std.specs.Prelude.{slice_get}
 use Rattle.std.specs.List.{list_any}
 use Rattle.atomic_table.specs.Seated.{TableId}
@@ -7,6 +7,8 @@ use Rattle.atomic_table.specs.declared.badge.Badge.{Badge}
 use Rattle.crossbeam_channel.specs.declared.flavors.array.Key.{Key}
 use Rattle.payload.specs.Closing.{is_closing}
 use Rattle.message.specs.declared.message.Message.{Message}
+use Rattle.funnel.specs.Limits.{most_messages}
+use Rattle.funnel.specs.Order.{next_message}
 
 -- Which funnel an end belongs to.
 pub record FunnelId : Type 0 where
@@ -30,17 +32,13 @@ pub record OutletView : Type 0 where
 abbrev pub has_closing : List Message → Bool
 has_closing messages = list_any (λ message. is_closing message.payload) messages
 
--- Nothing more may be sent: a closing payload was, or 2^32 messages were.
+-- Nothing more may be sent: a closing payload was, or the most messages were.
 abbrev pub is_finished : List Message → Bool
-is_finished sent = has_closing sent || nat_le (2 ^ 32) (length sent)
-
--- The message of the payload that a port sends next.
-abbrev pub next_message : PortView → List ℕ → Message
-next_message port payload = record { hart = port.hart; number = length port.sent; payload = payload }
+is_finished sent = has_closing sent || nat_le most_messages (length sent)
 
 -- The port after it sent the payload.
 abbrev pub after_sending : PortView → List ℕ → PortView
-after_sending port payload = record port { sent = port.sent ++ next_message port payload ∷ [] }
+after_sending port payload = record port { sent = port.sent ++ next_message port.hart port.sent payload ∷ [] }
 
 -- The first list is the second's beginning.
 abbrev pub IsBeginning : List Message → List Message → Type 0

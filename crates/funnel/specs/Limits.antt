@@ -1,5 +1,5 @@
--- How many harts a funnel serves, and how many messages it holds.
-use Rattle.std.specs.Prelude.{ℕ, ◌==◌, ◌||◌, nat_lt, if◌then◌else◌, Option, Some, None}
+-- How many harts a funnel serves, how many messages it holds, and how many a hart sends.
+use Rattle.std.specs.Prelude.{ℕ, ◌^◌, ◌==◌, ◌||◌, nat_lt, if◌then◌else◌, Option, Some, None}
 use Rattle.funnel.specs.declared.fault.OpenFault.{OpenFault}
 use Rattle.funnel.specs.declared.fault.OpenFault.TheVariants as fault
 
@@ -10,6 +10,10 @@ most_harts = 64
 -- The most messages that are held.
 abbrev pub most_capacity : ℕ
 most_capacity = 65_536
+
+-- The most messages that a hart sends.
+abbrev pub most_messages : ℕ
+most_messages = 2 ^ 32
 
 -- The first fault of these numbers of harts and of messages that are held.
 abbrev pub limit_fault : ℕ → ℕ → Option OpenFault

@@ -2,6 +2,7 @@
 use Rattle.std.specs.Prelude.{ℕ, ◌++◌, nat_lt, if◌then◌else◌, List, [], ◌∷◌, Option, Some, None, length, replicate}
 use Rattle.std.specs.Prelude.{slice_get, slice_index_or, slice_set}
 use Rattle.message.specs.declared.message.Message.{Message}
+use Rattle.funnel.specs.Order.{next_message}
 use Rattle.funnel.specs.Payloads.{payloads_of}
 use Rattle.funnel.specs.declared.turn.Turn.{Turn}
 use Rattle.funnel.specs.declared.turn.Turn.TheVariants as turn
@@ -36,14 +37,11 @@ take_of (front ∷ rest) state = record state { queue = rest; taken = state.take
 abbrev pub take_front : Funnel → Funnel
 take_front state = take_of state.queue state
 
--- The message with which a hart sends a payload: its number is the count of those that the hart sent before.
-abbrev pub message_of : ℕ → Funnel → List ℕ → Message
-message_of hart state payload = record { hart = hart; number = length (sent_by hart state); payload = payload }
-
 -- A hart sends a payload, where it has one.
 abbrev pub send_next : ℕ → ℕ → Option (List ℕ) → Funnel → Funnel
 send_next capacity hart None state = state
-send_next capacity hart (Some payload) state = send capacity (message_of hart state payload) state
+send_next capacity hart (Some payload) state =
+    send capacity (next_message hart (sent_by hart state) payload) state
 
 -- What one turn does, with these payloads of each hart; where it cannot act it changes nothing.
 abbrev pub after_turn : ℕ → List (List (List ℕ)) → Turn → Funnel → Funnel

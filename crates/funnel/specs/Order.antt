@@ -1,11 +1,14 @@
 -- The order of one hart's messages.
-use Rattle.std.specs.Prelude.{◌≡◌, ◌+◌, ℕ, true, List, length, Some, slice_get}
-use Rattle.payload.specs.Closing.{is_closing}
+use Rattle.std.specs.Prelude.{◌≡◌, ℕ, List, length, Some, slice_get}
 use Rattle.message.specs.declared.message.Message.{Message}
+use Rattle.funnel.specs.Payloads.{ClosesOnlyLast, payloads_in}
 
--- The messages are of this hart, numbered from 0 on, and a closing payload stands only last among them.
+-- The messages are of this hart, numbered from 0 on, and a closing payload stands only last among theirs.
 pub record AreInOrder (hart : ℕ) (messages : List Message) : Type 0 where
   pub numbered : (n : ℕ) (message : Message) → slice_get messages n ≡ Some message
       → (message.hart ≡ hart) × (message.number ≡ n)
-  pub closes_last : (n : ℕ) (message : Message) → slice_get messages n ≡ Some message
-      → is_closing message.payload ≡ true → length messages ≡ n + 1
+  pub closes_last : ClosesOnlyLast (payloads_in messages)
+
+-- The message with which a hart that sent these sends a payload: its number is their count.
+abbrev pub next_message : ℕ → List Message → List ℕ → Message
+next_message hart sent payload = record { hart = hart; number = length sent; payload = payload }

@@ -1,12 +1,13 @@
 -- The rule of the channel: of each hart, what was taken and then what the channel holds is in order, and a live port
 -- knows just that list.
-use Rattle.std.specs.Prelude.{◌≡◌, ◌+◌, ◌<◌, ◌≤◌, ◌^◌, ℕ, false, true, List, [], ◌∷◌, ◌++◌, length, Option, Some, None}
+use Rattle.std.specs.Prelude.{◌≡◌, ◌+◌, ◌<◌, ◌≤◌, ℕ, false, true, List, [], ◌∷◌, ◌++◌, length, Option, Some, None}
 use Rattle.std.specs.Prelude.{slice_get}
 use mathlib.Core.Option.{some}
 use lib.ListN.{get_elem?}
 use Rattle.payload.specs.Closing.{is_closing}
 use Rattle.message.specs.OfHart.{of_hart}
 use Rattle.message.specs.declared.message.Message.{Message}
+use Rattle.funnel.specs.Limits.{most_messages}
 use Rattle.funnel.specs.Order.{AreInOrder}
 use Rattle.funnel.specs.declared.rule.View.{View}
 use Rattle.funnel.specs.declared.rule.View.TheVariants as V
@@ -53,13 +54,21 @@ SendsLast (V.Port hart sent) message after =
 SendsLast (V.Outlet _ _ _ _) message after = ⊥
 SendsLast V.Spent message after = ⊥
 
--- A take: the front goes last in what the outlet took. It is the next of its hart, whose port was handed out.
+-- What the outlet took of each hart is in order.
+abbrev pub TookInOrder : View → Type 0
+TookInOrder (V.Outlet made taken told list) = (hart : ℕ) → AreInOrder hart (of_hart hart taken)
+TookInOrder (V.Port _ _) = Unit {0}
+TookInOrder V.Spent = Unit {0}
+
+-- A take: the front goes last in what the outlet took, which stays in order. It is the next of its hart, whose port was
+-- handed out.
 abbrev pub TakesOne : View → Message → View → Type 0
 TakesOne (V.Outlet made taken told list) message after =
     (after ≡ V.Outlet made (taken ++ message ∷ []) told list)
     × (message.number ≡ length (of_hart message.hart taken))
     × (message.hart < made)
-    × (message.number < 2 ^ 32)
+    × (message.number < most_messages)
+    × TookInOrder after
 TakesOne (V.Port _ _) message after = ⊥
 TakesOne V.Spent message after = ⊥
 
@@ -89,7 +98,7 @@ pub record Kept (queue : List Message) (views : List View) : Type 0 where
   pub list : List Message
   pub fits : (pass : ℕ) (v : View) → get_elem? views pass ≡ some v → Fits outlet seats taken told list queue pass v
   pub in_order : (hart : ℕ) → AreInOrder hart (of_hart hart (taken ++ queue))
-  pub few : (hart : ℕ) → length (of_hart hart (taken ++ queue)) ≤ 2 ^ 32
+  pub few : (hart : ℕ) → length (of_hart hart (taken ++ queue)) ≤ most_messages
   pub strangers : (hart : ℕ) → length seats ≤ hart → of_hart hart (taken ++ queue) ≡ []
   pub settled : (hart pass : ℕ) → told ≡ Some hart → slice_get seats hart ≡ Some pass
       → (get_elem? views pass ≡ some V.Spent) × (list ≡ of_hart hart (taken ++ queue))

@@ -1,4 +1,4 @@
-//! How many harts a funnel serves, and how many messages it holds.
+//! How many harts a funnel serves, how many messages it holds, and how many a hart sends.
 
 ghost use Rattle.std.specs.Prelude.{◌≡◌};
 ghost use Rattle.funnel.specs.Limits.{limit_fault};
@@ -10,6 +10,9 @@ pub const MOST_HARTS: u16 = 64;
 
 /// The most messages that a funnel holds.
 pub const MOST_CAPACITY: u32 = 65_536;
+
+/// The most messages that a hart sends.
+pub(crate) const MOST_MESSAGES: u64 = 1 << 32;
 
 /// The first fault of these numbers of harts and of messages that a funnel is to hold, where there is one.
 pub(crate) fn fault_of(harts: u16, capacity: u32) -> Option<OpenFault>

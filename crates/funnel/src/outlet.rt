@@ -4,6 +4,7 @@ ghost use Rattle.crossbeam_channel.specs.Claims.{IsSeatAt};
 ghost use Rattle.crossbeam_channel.specs.Ends.{sends_on, receives_on, ruled_capacity};
 ghost use Rattle.message.specs.OfHart.{of_hart};
 ghost use Rattle.funnel.specs.Ends.{OutletView, IsBeginning, EndsClosing};
+ghost use Rattle.funnel.specs.Order.{AreInOrder};
 ghost use Rattle.funnel.specs.steps.Passes.{id_of, knows, sent_of, taken_of, IsPort, IsOutlet};
 
 use crate::Ended;
@@ -48,6 +49,9 @@ impl<A: Allocator> Outlet<A> {
         ensures taken { IfOk result (λ message. self.new ≡ record self.old { taken = self.old.taken ++ message ∷ [] }) }
         ensures number { IfOk result (λ message. message.number ≡ length (of_hart message.hart self.old.taken)) }
         ensures hart { IfOk result (λ message. message.hart < self.old.made) }
+        // Of its hart it is one more, and what was taken of each hart is in order.
+        ensures one_more { IfOk result (λ message. of_hart message.hart self.new.taken ≡ of_hart message.hart self.old.taken ++ message ∷ []) }
+        ensures in_order { (hart : ℕ) → AreInOrder hart (of_hart hart self.new.taken) }
         ensures ended { OnErr result (self.new ≡ self.old) }
         ensures funnel { self.new.funnel ≡ self.old.funnel }
         ensures room { self.new.room ≡ self.old.room }
@@ -55,7 +59,8 @@ impl<A: Allocator> Outlet<A> {
     {
         match self.receiver.recv_as::<Takes, R>(rt, &mut self.pass) {
             Ok(message) => {
-                self.counts[usize::from(message.hart)] += 1;
+                // Its number is how many were taken of its hart before.
+                self.counts[usize::from(message.hart)] = message.number + 1;
                 Ok(message)
             }
             Err(_) => Err(Ended),

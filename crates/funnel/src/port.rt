@@ -9,6 +9,7 @@ ghost use Rattle.funnel.specs.steps.Passes.{id_of, knows, sent_of, IsPort};
 ghost use Rattle.funnel.specs.Refusals.{payload_of};
 
 use crate::SendFault;
+use crate::limits::MOST_MESSAGES;
 use crate::receipt::Receipt;
 use crate::rule::{Sender, Sends, SendsLast, Ticket};
 use message::Message;
@@ -16,9 +17,6 @@ use payload::Payload;
 use std::alloc::{Allocator, Global};
 use std::marker::Model;
 use std::sync::Wait;
-
-/// How many messages a port may send.
-const MOST: u64 = 1 << 32;
 
 /// The end of one hart, which sends its payloads.
 ///
@@ -56,7 +54,7 @@ impl<A: Allocator> Port<A> {
         ensures funnel { self.new.funnel ≡ self.old.funnel }
         ensures hart { self.new.hart ≡ self.old.hart }
     {
-        if self.closed || self.count >= MOST {
+        if self.closed || self.count >= MOST_MESSAGES {
             return Err(SendFault::Closed(payload));
         }
         let closing = closes(&payload);

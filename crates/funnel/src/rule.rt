@@ -86,7 +86,9 @@ impl Outcome<Message, View> for Takes {
 }
 
 impl Lesson<Message, View> for Takes {
-    ghost fact = { λ v queue. Unit {0} };
+    ghost use Rattle.funnel.specs.Rule.{TookInOrder};
+
+    ghost fact = { λ v queue. TookInOrder v };
 }
 
 /// A port's pass is taken in.

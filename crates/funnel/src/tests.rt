@@ -15,7 +15,7 @@ ghost use Rattle.std.specs.Prelude.{◌≡◌, IfOk, IfSome};
 use crate::{Outlet, Port, Settled, open};
 use message::Message;
 use payload::{PackFault, Payload};
-use std::alloc::Global;
+use std::alloc::Allocator;
 use std::sync::Wait;
 
 /// The packet Open.
@@ -42,7 +42,7 @@ fn message(hart: u16, number: u64, byte: u8) -> Result<Message, PackFault>
 }
 
 /// Whether a payload of one byte is sent.
-fn sends<R: Wait>(rt: &R, port: &mut Port, byte: u8) -> bool
+fn sends<A: Allocator, R: Wait>(rt: &R, port: &mut Port<A>, byte: u8) -> bool
     ensures { port.new.funnel ≡ port.old.funnel }
 {
     match Payload::new(&[byte]) {
@@ -52,7 +52,7 @@ fn sends<R: Wait>(rt: &R, port: &mut Port, byte: u8) -> bool
 }
 
 /// The two ports of a funnel of two harts, and its outlet.
-fn two(alloc: Global, capacity: u32) -> Option<(Port, Port, Outlet)>
+fn two<A: Allocator + Clone>(alloc: A, capacity: u32) -> Option<(Port<A>, Port<A>, Outlet<A>)>
     ensures first { IfSome result (λ ends. ends.0.funnel ≡ ends.2.funnel) }
     ensures second { IfSome result (λ ends. ends.1.funnel ≡ ends.2.funnel) }
 {
@@ -65,7 +65,7 @@ fn two(alloc: Global, capacity: u32) -> Option<(Port, Port, Outlet)>
 }
 
 /// Finishes a port, and settles its receipt.
-fn settled(outlet: &mut Outlet, port: Port) -> Settled
+fn settled<A: Allocator>(outlet: &mut Outlet<A>, port: Port<A>) -> Settled
     requires { port.funnel ≡ outlet.old.funnel }
     ensures { outlet.new ≡ outlet.old }
 {

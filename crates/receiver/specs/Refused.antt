@@ -1,7 +1,8 @@
 -- Why a message is not received.
-use Rattle.std.specs.Prelude.{ℕ, ◌⊎◌, ◌≡◌, ◌<◌, ◌↔◌, ◌++◌, List, [], ◌∷◌, Ok, Err, length}
+use Rattle.std.specs.Prelude.{ℕ, ◌⊎◌, ◌≡◌, ◌<◌, ◌↔◌, ◌++◌, true, false, List, [], ◌∷◌, Ok, Err, length}
 use Rattle.retire.specs.declared.event.Event.{Event}
 use Rattle.rvclass.specs.Words.{Words}
+use Rattle.payload.specs.Ended.{has_ended}
 use Rattle.payload.specs.declared.packet.Packet.{Packet}
 use Rattle.decoder.specs.Describes.{Describes}
 use Rattle.decoder.specs.Order.{IsOpen}
@@ -14,24 +15,25 @@ use Rattle.message.specs.declared.message.Message.{Message}
 use Rattle.receiver.specs.declared.fault.ReceiveFault.{ReceiveFault}
 use Rattle.receiver.specs.declared.fault.ReceiveFault.TheVariants as fault
 
--- Why a packet is not decoded after packets that have not ended: it comes first and opens no trace, or no log is
--- described by them and it, or one is that is longer than the list that they describe, and memory was refused.
+-- Why a packet is not decoded after packets: it comes first and opens no trace, or they have ended, or no log is described
+-- by them and it, or one is that is longer than the list that they describe, and memory was refused.
 pub record IsNotDecoded (words : Words) (packets : List Packet) (packet : Packet) (why : DecodeFault) : Type 0 where
   pub not_opened : (why ≡ NotOpened) ↔ ((packets ≡ []) × ¬ IsOpen packet)
-  pub not_ended : ¬ (why ≡ AfterClose)
+  pub ended : (why ≡ AfterClose) ↔ (has_ended packets ≡ true)
   pub memory : why ≡ Memory → (list log : List Event) × Describes words packets list
       × Describes words (packets ++ packet ∷ []) log × (length list < length log)
   pub reason : (why ≡ Memory) ⊎ ((log : List Event) → ¬ Describes words (packets ++ packet ∷ []) log)
 
--- The message is accepted after these messages, and its packet is not decoded.
-pub record IsUndecoded (words : Words) (harts : ℕ) (messages : List Message) (message : Message)
-    (why : DecodeFault) : Type 0 where
+-- The message is accepted after these messages, of which the closing one of its hart is none, and its packet is not
+-- decoded.
+pub record IsUndecoded (words : Words) (harts : ℕ) (messages : List Message) (message : Message) (why : DecodeFault)
+    : Type 0 where
   pub packet : Packet
   pub accepted : accepting (expected_after (newcomers harts) messages) message ≡ Ok packet
+  pub not_ended : has_ended (packets_of message.hart messages) ≡ false
   pub not_decoded : IsNotDecoded words (packets_of message.hart messages) packet why
 
 -- Why a message is not received after these messages, by the program of its hart.
 abbrev pub IsRefused : Words → ℕ → List Message → Message → ReceiveFault → Type 0
-IsRefused words harts messages message (fault.Demux why) =
-    accepting (expected_after (newcomers harts) messages) message ≡ Err why
+IsRefused words harts messages message (fault.Demux why) = accepting (expected_after (newcomers harts) messages) message ≡ Err why
 IsRefused words harts messages message (fault.Decode why) = IsUndecoded words harts messages message why

@@ -10,13 +10,15 @@ ghost use Rattle.payload.specs.Reading.{reading};
 ghost use Rattle.payload.specs.declared.packet.Packet.{Packet as AnyPacket};
 ghost use Rattle.decoder.specs.Describes.{Describes};
 ghost use Rattle.decoder.specs.Order.{IsOpen};
+ghost use Rattle.decoder.specs.declared.fault.DecodeFault.{DecodeFault as AnyDecodeFault};
 ghost use Rattle.decoder.specs.declared.fault.DecodeFault.TheVariants.{NotOpened, AfterClose, Memory};
 ghost use Rattle.message.specs.Accepting.{accepting, harts_after};
+ghost use Rattle.message.specs.OfHart.{packets_of};
 ghost use Rattle.message.specs.declared.fault.DemuxFault.{DemuxFault as AnyDemuxFault};
 ghost use Rattle.message.specs.declared.message.Message.{Message as AnyMessage};
 ghost use Rattle.receiver.specs.Holds.{AreDecoded, HasAccepted, HasReceived, Holds, HoldsHart};
 ghost use Rattle.receiver.specs.Received.{Received, IsReceived, IsSameHart, events_in};
-ghost use Rattle.receiver.specs.Refused.{IsRefused};
+ghost use Rattle.receiver.specs.Refused.{IsNotDecoded, IsRefused};
 
 use crate::fault::ReceiveFault;
 use decoder::{DecodeFault, Decoder};
@@ -149,10 +151,15 @@ impl<A: Allocator + Copy> Receiver<A> {
         ensures refused { (programs : ℕ → Words) (harts : ℕ) (messages : List AnyMessage)
             → programs message.now.hart ≡ words_of program.now → HasReceived programs harts messages self.old
             → IfErr result (λ fault. IsRefused (words_of program.now) harts messages message.now fault) }
-        // Whatever was received before: the demultiplexer's part, and that a fault leaves all else as it was.
+        ensures undecoded { (programs : ℕ → Words) (harts : ℕ) (messages : List AnyMessage) (packet : AnyPacket)
+            (why : AnyDecodeFault) → programs message.now.hart ≡ words_of program.now → Holds programs harts messages self.old
+            → accepting self.old.expected message.now ≡ Ok packet → result ≡ Err (ReceiveFault.Decode why)
+            → IsNotDecoded (words_of program.now) (packets_of message.now.hart messages) packet why }
+        // Whatever was received before: the demultiplexer's part, that a fault leaves all else as it was, and the others.
         ensures expected { self.new.expected ≡ harts_after self.old.expected message.now }
         ensures kept { OnErr result
             (self.new ≡ record self.old { expected = harts_after self.old.expected message.now }) }
+        ensures others { (other : ℕ) → other ≢ message.now.hart → IsSameHart other self.old self.new }
     {
         let packet = match self.accept(message) {
             Ok(packet) => packet,

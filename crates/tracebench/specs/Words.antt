@@ -1,22 +1,39 @@
 -- What words ask for, carried out.
-use Rattle.std.specs.Prelude.{◌≡◌, ℕ, List, Option, Result, Err}
+use Rattle.std.specs.Prelude.{◌≡◌, ℕ, List, Option, Result, Ok, Err, IfSome}
 use Rattle.cli.specs.Asking.{WordsAsk}
-use Rattle.commands.specs.Begun.{IsBegun}
+use Rattle.commands.specs.Begun.{AppendsBeginning, IsBegun}
 use Rattle.commands.specs.CarriedOut.{IsCarriedOut}
 use Rattle.commands.specs.Faults.{end_of}
+use Rattle.commands.specs.FaultText.{error_line}
 use Rattle.commands.specs.Known.{Content}
+use Rattle.commands.specs.Order.{early_fault}
 use Rattle.commands.specs.Status.{code_of}
 use Rattle.commands.specs.declared.fault.Fault.{Fault}
 use Rattle.commands.specs.declared.fault.Fault.TheVariants as fault
 use Rattle.commands.specs.declared.status.Status.{Status}
 use Rattle.subcommands.specs.declared.words.Asked.{Asked}
 
--- The words ask for something, and that was carried out, with this exit status; where memory was refused, a beginning
--- of its text was written.
-pub record AreCarriedOut (content : Content) (words : List (List ℕ)) (code : ℕ) (old new : Option (List ℕ)) : Type 0 where
-  pub asked : Asked
+-- Of an end without a fault nothing is told, and of a fault its line, or a beginning of it where a write failed.
+abbrev pub Tells : Result Status Fault → Option (List ℕ) → Option (List ℕ) → Type 0
+Tells (Ok status) old new = new ≡ old
+Tells (Err why) old new = AppendsBeginning (error_line why) old new
+
+-- What is asked was carried out, and ended so: a fault that is seen before any file is the end, the text is that of what
+-- is asked, where memory was refused a beginning of it, and a fault is told.
+pub record IsDone (content : Content) (asked : Asked) (status : Status) (out_old out_new err_old err_new : Option (List ℕ))
+    : Type 0 where
   pub ended : Result Status Fault
+  pub ends : status ≡ end_of ended
+  pub early : IfSome (early_fault asked) (λ why. ended ≡ Err why)
+  pub carried : IsCarriedOut content asked ended out_old out_new
+  pub begun : ended ≡ Err fault.Memory → IsBegun content asked out_old out_new
+  pub told : Tells ended err_old err_new
+
+-- The words ask for something, and that was carried out, with this exit status.
+pub record AreCarriedOut (content : Content) (words : List (List ℕ)) (code : ℕ) (out_old out_new err_old err_new : Option (List ℕ))
+    : Type 0 where
+  pub asked : Asked
+  pub status : Status
   pub asks : WordsAsk words asked
-  pub status : code ≡ code_of (end_of ended)
-  pub carried : IsCarriedOut content asked ended old new
-  pub begun : ended ≡ Err fault.Memory → IsBegun content asked old new
+  pub coded : code ≡ code_of status
+  pub done : IsDone content asked status out_old out_new err_old err_new

@@ -1,14 +1,17 @@
 //! One run of the program.
 
-ghost use Rattle.std.specs.Prelude.{◌≡◌, ◌⊎◌, ◌≤◌, map, string_bytes};
+ghost use Rattle.std.specs.Prelude.{◌≡◌, ◌⊎◌, ◌≤◌, Err, map, string_bytes};
 ghost use Rattle.cli.specs.Asking.{AreRefused, AskNoCheck};
-ghost use Rattle.tracebench.specs.Words.{AreCarriedOut};
+ghost use Rattle.subcommands.specs.Kind.{IsCheck};
+ghost use Rattle.subcommands.specs.Limits.{IsWithinLimits};
+ghost use Rattle.tracebench.specs.Words.{AreCarriedOut, IsDone, Tells};
 
 use crate::words_fault::tell_words;
 use cli::asked;
-use commands::{Files, carry_out, tell};
+use commands::{Fault, Files, Status, carry_out, tell};
 use std::alloc::Global;
 use std::io::Write;
+use subcommands::Asked;
 
 /// Does what the words ask for, the program's name first among them, and answers the exit status: 0
 /// where all is done, 1 where a capture is not good or a log does not come back whole, 2 where the words,
@@ -30,16 +33,37 @@ pub fn command<F: Files, O: Write, E: Write>(
     ensures words { AreRefused (map string_bytes words.now) → (2 ≤ result) × (out.new ≡ out.old) }
     // Where the input is refused, nothing is written, but for the lines of `check`.
     ensures refused { AskNoCheck (map string_bytes words.now) → result ≡ 2 → out.new ≡ out.old }
+    // Where all is done, nothing is told.
+    ensures quiet { result ≡ 0 → err.new ≡ err.old }
     // Else what the words ask for is carried out, of what files tell, unless memory for the words themselves is refused.
-    ensures printed { AreRefused (map string_bytes words.now) ⊎ (((result ≡ 3) × (out.new ≡ out.old))
-        ⊎ AreCarriedOut (F.content files.old) (map string_bytes words.now) result (O.contents out.old) (O.contents out.new)) }
+    ensures printed { AreRefused (map string_bytes words.now)
+        ⊎ (((result ≡ 3) × (out.new ≡ out.old) × Tells (Err Fault.Memory) (E.contents err.old) (E.contents err.new))
+        ⊎ AreCarriedOut (F.content files.old) (map string_bytes words.now) result (O.contents out.old) (O.contents out.new)
+        (E.contents err.old) (E.contents err.new)) }
 {
     let status = match asked(alloc, words) {
-        Ok(asked) => match carry_out(alloc, files, &asked, out) {
-            Ok(status) => status,
-            Err(fault) => tell(err, &fault),
-        },
+        Ok(asked) => run(alloc, files, &asked, out, err),
         Err(error) => tell_words(err, &error),
     };
     status.code()
+}
+
+/// Carries out what is asked, and tells the fault that ends it.
+fn run<F: Files, O: Write, E: Write>(
+    alloc: Global,
+    files: &mut F,
+    asked: &Asked<'_>,
+    out: &mut O,
+    err: &mut E,
+) -> Status
+    requires { IsWithinLimits asked.now }
+    ensures quiet { result ≡ Status.Whole → err.new ≡ err.old }
+    ensures refused { ¬ IsCheck asked.now → result ≡ Status.Refused → out.new ≡ out.old }
+    ensures done { IsDone (F.content files.old) asked.now result (O.contents out.old) (O.contents out.new)
+        (E.contents err.old) (E.contents err.new) }
+{
+    match carry_out(alloc, files, asked, out) {
+        Ok(status) => status,
+        Err(fault) => tell(err, &fault),
+    }
 }

@@ -9,7 +9,7 @@ use Rattle.bench.specs.declared.config.Config.{Config}
 use Rattle.bench.specs.declared.sender.Sender.{Sender}
 use Rattle.bench.specs.declared.stop.Stop.{Stop}
 use Rattle.bench.specs.steps.Sending.{AreSending}
-use Rattle.bench.specs.steps.Taking.{AreTaken, NamesRefusedHart}
+use Rattle.bench.specs.steps.Taking.{AreTaken, LacksSome, NamesRefusedHart}
 
 -- The funnel and the harts stand where the funnel machine does after these turns; what it took came, or memory was
 -- refused.
@@ -19,4 +19,5 @@ pub record IsReplayed {B : Type 0} (config : Config) (logs : List ProgramLog) (t
       senders
   pub keep : collected.keep ≡ config.keep
   pub taken : AreTaken config.period logs (replayed config.period config.capacity logs turns).taken collected
+  pub lacks : LacksSome (replayed config.period config.capacity logs turns).taken collected
   pub named : NamesRefusedHart why collected

@@ -1,11 +1,11 @@
 -- What a collector has of the messages that were taken of a funnel.
-use Rattle.std.specs.Prelude.{ℕ, ◌≡◌, ◌≤◌, ◌<◌, ◌⊎◌, ◌∷◌, true, List, [], Option, Some, None, length, slice_get}
+use Rattle.std.specs.Prelude.{ℕ, ◌≡◌, ◌≤◌, ◌<◌, ◌⊎◌, ◌∷◌, true, IsTrue, List, [], Option, Some, None, length, slice_get}
 use Rattle.rvclass.specs.Fetch.{words_of}
 use Rattle.legalpath.specs.ProgramLog.{ProgramLog}
 use Rattle.encoder.specs.Packets.{packets}
 use Rattle.message.specs.OfHart.{of_hart}
 use Rattle.message.specs.declared.message.Message.{Message}
-use Rattle.bench.specs.Collected.{Came, Collected, HasCollected, IsMessageOf, IsRefusedHart}
+use Rattle.bench.specs.Collected.{Came, Collected, HasCollected, IsMessageOf, IsRefusedHart, Taken}
 use Rattle.bench.specs.Got.{got_after, kept}
 use Rattle.bench.specs.declared.stop.Stop.{Stop}
 use Rattle.bench.specs.declared.stop.Stop.TheVariants as stop
@@ -27,6 +27,12 @@ pub record AreTaken (period : ℕ) (logs : List ProgramLog) (taken : List Messag
   pub own : collected.logs ≡ logs
   pub each : (hart : ℕ) (log : ProgramLog) → slice_get logs hart ≡ Some log
       → IsTakenOf period log (length (of_hart hart taken)) hart collected
+
+-- Of each hart for which memory was refused fewer messages came than were taken.
+abbrev pub LacksSome : List Message → Collected → Type 0
+LacksSome taken collected =
+    (hart : ℕ) (log : ProgramLog) (at : Taken) → slice_get collected.logs hart ≡ Some log
+    → slice_get collected.harts hart ≡ Some at → IsTrue at.refused → at.taken < length (of_hart hart taken)
 
 -- The message is of a hart with a log, and the next of it behind those that were taken.
 pub record IsNext (period : ℕ) (logs : List ProgramLog) (taken : List Message) (message : Message) : Type 0 where

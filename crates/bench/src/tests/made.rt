@@ -1,9 +1,10 @@
-//! A program of four words, and the logs of two harts that run it.
+//! A program of four words, the logs of two harts that run it, and the report of what came of them.
 
+use crate::{Outcome, Turn, report};
 use legalpath::LegalLog;
 use retire::Event;
 use rvclass::Program;
-use std::alloc::{AllocError, Global};
+use std::alloc::{AllocError, Allocator, Global};
 use std::test::Fail;
 
 /// Where the program stands.
@@ -75,4 +76,30 @@ pub(super) fn kinds<'p>(
         logs.push(legal_log(program, events)?)?;
     }
     Ok(logs)
+}
+
+/// Turns by which each message is taken at once: five of the first hart and four of the second, which are all.
+pub(super) fn turns(alloc: Global) -> Result<Vec<Turn>, AllocError> {
+    let mut turns = Vec::new(alloc);
+    for (hart, count) in [(0, 5), (1, 4)] {
+        for _ in 0..count {
+            turns.push(Turn::Hart(hart))?;
+            turns.push(Turn::Collect)?;
+        }
+    }
+    Ok(turns)
+}
+
+/// The report of an outcome that has as many harts as there are logs.
+pub(super) fn text_of<A: Allocator>(
+    alloc: Global,
+    outcome: &Outcome<A>,
+    logs: &[LegalLog<'_>],
+) -> Result<Vec<u8>, Fail> {
+    let mut text = Vec::new(alloc);
+    if logs.len() != outcome.harts.len() {
+        return Err(Fail::new("another number of harts"));
+    }
+    report(outcome, logs, &mut text)?;
+    Ok(text)
 }

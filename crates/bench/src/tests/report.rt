@@ -1,6 +1,6 @@
 //! The text of reports.
 
-use super::made::{branches, logs, program, retired, returns};
+use super::made::{branches, logs, program, retired, returns, text_of};
 use crate::{HartOutcome, Outcome, Stop, is_whole, report};
 use legalpath::LegalLog;
 use retire::{Event, WriteFault};
@@ -34,33 +34,9 @@ fn outcome_of(
     })
 }
 
-/// Writes a report where the outcome has as many harts as there are logs.
-fn told<W: Write>(
-    outcome: &Outcome,
-    logs: &[LegalLog<'_>],
-    sink: &mut W,
-) -> Result<Result<bool, WriteFault>, Fail> {
-    if logs.len() != outcome.harts.len() {
-        return Err(Fail::new("another number of harts"));
-    }
-    match report(outcome, logs, sink) {
-        Ok(()) => Ok(Ok(is_whole(outcome, logs))),
-        Err(fault) => Ok(Err(fault)),
-    }
-}
-
-/// The text of a report, which is told to be whole or not.
-fn text_of(
-    alloc: Global,
-    outcome: &Outcome,
-    logs: &[LegalLog<'_>],
-    whole: bool,
-) -> Result<Vec<u8>, Fail> {
-    let mut text = Vec::new(alloc);
-    if told(outcome, logs, &mut text)? != Ok(whole) {
-        return Err(Fail::new("told otherwise"));
-    }
-    Ok(text)
+/// Whether every log came back whole.
+fn came_back(outcome: &Outcome, logs: &[LegalLog<'_>]) -> bool {
+    logs.len() == outcome.harts.len() && is_whole(outcome, logs)
 }
 
 #[test]
@@ -71,7 +47,8 @@ fn all_came_back(rt: HostRuntime) -> Result<(), Fail> {
     let first = hart(alloc, branches(alloc)?, 5, 9, true);
     let second = hart(alloc, returns(alloc)?, 4, 9, true);
     let outcome = outcome_of(alloc, first, second, None)?;
-    let text = text_of(alloc, &outcome, &logs, true)?;
+    let text = text_of(alloc, &outcome, &logs)?;
+    assert!(rt; came_back(&outcome, &logs));
     let want = "hart 0: 33 events, 5 packets, 9 payload bytes, decoded 33, whole\n\
         hart 1: 4 events, 4 packets, 9 payload bytes, decoded 4, whole\n\
         result: whole\n";
@@ -87,7 +64,8 @@ fn beginnings(rt: HostRuntime) -> Result<(), Fail> {
     let first = hart(alloc, Vec::new(alloc), 1, 1, false);
     let second = hart(alloc, Vec::new(alloc), 0, 0, false);
     let outcome = outcome_of(alloc, first, second, None)?;
-    let text = text_of(alloc, &outcome, &logs, false)?;
+    let text = text_of(alloc, &outcome, &logs)?;
+    assert!(rt; !came_back(&outcome, &logs));
     let want = "hart 0: 33 events, 1 packets, 1 payload bytes, decoded 0, beginning\n\
         hart 1: 4 events, 0 packets, 0 payload bytes, decoded 0, beginning\n\
         result: not whole\n";
@@ -97,7 +75,8 @@ fn beginnings(rt: HostRuntime) -> Result<(), Fail> {
     let first = hart(alloc, branches(alloc)?, 4, 8, false);
     let second = hart(alloc, vec![in alloc; retired(0, 0)]?, 4, 9, true);
     let outcome = outcome_of(alloc, first, second, None)?;
-    let text = text_of(alloc, &outcome, &logs, false)?;
+    let text = text_of(alloc, &outcome, &logs)?;
+    assert!(rt; !came_back(&outcome, &logs));
     let want = "hart 0: 33 events, 4 packets, 8 payload bytes, decoded 33, beginning\n\
         hart 1: 4 events, 4 packets, 9 payload bytes, decoded 1, beginning\n\
         result: not whole\n";
@@ -116,7 +95,8 @@ fn other_events(rt: HostRuntime) -> Result<(), Fail> {
     let first = hart(alloc, longer, 5, 9, true);
     let second = hart(alloc, other, 3, 7, false);
     let outcome = outcome_of(alloc, first, second, None)?;
-    let text = text_of(alloc, &outcome, &logs, false)?;
+    let text = text_of(alloc, &outcome, &logs)?;
+    assert!(rt; !came_back(&outcome, &logs));
     let want = "hart 0: 33 events, 5 packets, 9 payload bytes, decoded 34, differs at row 34\n\
         hart 1: 4 events, 3 packets, 7 payload bytes, decoded 2, differs at row 2\n\
         result: not whole\n";
@@ -147,7 +127,8 @@ fn stops(rt: HostRuntime) -> Result<(), Fail> {
         let first = hart(alloc, branches(alloc)?, 5, 9, true);
         let second = hart(alloc, returns(alloc)?, 4, 9, true);
         let outcome = outcome_of(alloc, first, second, Some(stop))?;
-        let text = text_of(alloc, &outcome, &logs, false)?;
+        let text = text_of(alloc, &outcome, &logs)?;
+        assert!(rt; !came_back(&outcome, &logs));
         assert!(rt; text.as_slice().ends_with(end.as_bytes()));
     }
     Ok(())
@@ -184,14 +165,17 @@ fn writer_fails_at_each_call(rt: HostRuntime) -> Result<(), Fail> {
     let first = hart(alloc, branches(alloc)?, 5, 9, true);
     let second = hart(alloc, returns(alloc)?, 4, 9, true);
     let outcome = outcome_of(alloc, first, second, Some(Stop::Memory(1)))?;
-    let want = text_of(alloc, &outcome, &logs, false)?;
+    let want = text_of(alloc, &outcome, &logs)?;
     for calls in 0..want.len() + 1 {
         let mut sink = FailingWriter {
             held: Vec::new(alloc),
             calls,
         };
-        match told(&outcome, &logs, &mut sink)? {
-            Ok(_) => assert_eq!(rt; calls, want.len()),
+        if logs.len() != outcome.harts.len() {
+            return Err(Fail::new("another number of harts"));
+        }
+        match report(&outcome, &logs, &mut sink) {
+            Ok(()) => assert_eq!(rt; calls, want.len()),
             Err(fault) => assert!(rt; fault == WriteFault::Write && calls < want.len()),
         }
         assert!(rt; want.as_slice().starts_with(sink.held.as_slice()));

@@ -11,12 +11,13 @@ fn a_receipt_tells_what_was_sent_and_taken(rt: HostRuntime) -> Result<(), Fail> 
     let two = sends(&rt, &mut second, OPEN);
     let three = sends(&rt, &mut first, ENDED);
     let refused = first.send(&rt, payload(OPEN)?);
+    assert!(rt; one && two && three);
+    assert_eq!(rt; refused, Err(SendFault::Closed(payload(OPEN)?)));
+    drop(second);
     let front = outlet.take(&rt);
     let next = outlet.take(&rt);
     let told = settled(&mut outlet, first);
     let last = outlet.take(&rt);
-    assert!(rt; one && two && three);
-    assert_eq!(rt; refused, Err(SendFault::Closed(payload(OPEN)?)));
     assert_eq!(rt; front, Ok(message(0, 0, OPEN)?));
     assert_eq!(rt; next, Ok(message(1, 0, OPEN)?));
     assert_eq!(rt;

@@ -1,28 +1,52 @@
 //! Memory that is refused to a channel.
 
-use super::{ENDED, payload};
-use crate::{OpenFault, open};
+use super::{ENDED, OPEN, message, payload, sends, settled, two};
+use crate::{Ended, SendFault};
 use linked_list_allocator::LocalHeap;
+use std::alloc::{AllocError, Global};
 use std::test::Fail;
 
-#[test]
-fn a_channel_is_refused(rt: HostRuntime) -> Result<(), Fail> {
-    let mut refused = 0u32;
-    for step in 0..128usize {
-        let heap = LocalHeap::new(rt.alloc(), step * 64)?;
-        match open(&heap, 3, 5) {
-            Ok((mut ports, mut outlet)) => {
-                let mut port = ports.pop().ok_or("a port")?;
-                assert!(rt; port.send(&rt, payload(ENDED)?).is_ok());
-                assert!(rt; outlet.take(&rt).is_ok());
-            }
-            Err(fault) => {
-                assert_eq!(rt; fault, OpenFault::Memory);
-                refused = refused.saturating_add(1);
-            }
-        }
-        assert_eq!(rt; heap.used(), 0);
+// All that is left of a heap, in the least pieces that it gives.
+fn rest_of(alloc: Global, heap: &LocalHeap) -> Result<Vec<Vec<u8, &LocalHeap>>, AllocError> {
+    let mut pieces = Vec::new(alloc);
+    for _ in 0..heap.free() / 16 {
+        let piece = Vec::with_capacity(heap, 16)?;
+        pieces.push(piece)?;
     }
-    assert!(rt; 8 <= refused && refused < 128);
+    Ok(pieces)
+}
+
+#[test]
+fn memory_is_taken_at_opening_alone(rt: HostRuntime) -> Result<(), Fail> {
+    let mut opened = false;
+    for step in 0..256usize {
+        let heap = LocalHeap::new(rt.alloc(), step * 16)?;
+        let Some((mut first, second, mut outlet)) = two(&heap, 4) else {
+            assert_eq!(rt; heap.used(), 0);
+            continue;
+        };
+        opened = true;
+        // Nothing of the heap is left for the calls.
+        let rest = rest_of(rt.alloc(), &heap)?;
+        let made = heap.size();
+        assert_eq!(rt; heap.used(), made);
+        assert!(rt; sends(&rt, &mut first, OPEN) && sends(&rt, &mut first, ENDED));
+        let refused = first.send(&rt, payload(OPEN)?);
+        assert_eq!(rt; refused, Err(SendFault::Closed(payload(OPEN)?)));
+        drop(second);
+        assert_eq!(rt; heap.used(), made);
+        assert_eq!(rt; outlet.take(&rt), Ok(message(0, 0, OPEN)?));
+        assert_eq!(rt; heap.used(), made);
+        let told = settled(&mut outlet, first);
+        assert_eq!(rt; heap.used(), made);
+        assert_eq!(rt; (told.hart, told.sent, told.taken), (0, 2, 1));
+        assert_eq!(rt; outlet.take(&rt), Ok(message(0, 1, ENDED)?));
+        assert_eq!(rt; outlet.take(&rt), Err(Ended));
+        assert_eq!(rt; heap.used(), made);
+        drop((rest, outlet));
+        assert_eq!(rt; heap.used(), 0);
+        break;
+    }
+    assert!(rt; opened);
     Ok(())
 }

@@ -85,54 +85,69 @@ fn is_next(message: &Message, next: &mut [u64; 64], count: u64) -> bool {
     message.payload.is_closing() == (next[hart] == count)
 }
 
-// Takes all that so many harts send: whether each message was the next of its hart.
-fn take_all<R: Wait>(rt: &R, outlet: &mut Outlet, harts: u16, count: u64) -> bool
+// Takes so many messages: whether each was the next of its hart.
+fn take_some<R: Wait>(
+    rt: &R,
+    outlet: &mut Outlet,
+    next: &mut [u64; 64],
+    messages: u64,
+    count: u64,
+) -> bool
     ensures { outlet.new.funnel ≡ outlet.old.funnel }
 {
-    let mut next = [0u64; 64];
-    for _ in 0..u64::from(harts).saturating_mul(count) {
+    for _ in 0..messages {
         let Ok(message) = outlet.take(rt) else {
             return false;
         };
-        if !is_next(&message, &mut next, count) {
+        if !is_next(&message, next, count) {
             return false;
         }
     }
     true
 }
 
-// Joins all workers: whether each sent so many payloads, which were all taken.
-fn settle_all<R: Threads>(rt: &R, mut workers: Vec<Worker>, outlet: &mut Outlet, count: u64) -> bool
+// Joins all workers: whether each sent so many payloads, and the outlet tells how many were taken.
+fn settle_all<R: Threads>(
+    rt: &R,
+    mut workers: Vec<Worker>,
+    outlet: &mut Outlet,
+    next: &[u64; 64],
+    count: u64,
+) -> bool
     requires { All (λ worker. worker.promise.0.value.funnel ≡ outlet.old.funnel) workers.items }
 {
     let mut whole = true;
     while let Some(worker) = workers.pop() {
         let settled = outlet.settle(worker.join(rt));
-        whole = whole && settled.sent == count && settled.taken == count;
+        let taken = next.get(usize::from(settled.hart));
+        whole = whole && settled.sent == count && taken == Some(&settled.taken);
     }
     whole
 }
 
-// Starts the workers, takes what they send, and settles their receipts.
+// Starts the workers, takes until the channel has room for all that is left, settles the receipts, and takes what is
+// left. No end is left by then that sends, so a lost message shows as the channel's end.
 fn conduct<'s, E, R: Threads + Wait + Sync>(
     scope: &Scope<'s, E>,
     rt: &'s R,
     alloc: Global,
     ports: Vec<Port>,
     mut outlet: Outlet,
+    capacity: u32,
     count: u64,
-) -> Option<Outlet>
+) -> bool
     requires { All (λ port. port.funnel ≡ outlet.funnel) ports.items }
 {
-    let harts = ports.len().min(64) as u16;
-    let workers = start_all(scope, rt, alloc, ports, count, &outlet)?;
-    if !take_all(rt, &mut outlet, harts, count) {
-        return None;
-    }
-    if !settle_all(rt, workers, &mut outlet, count) {
-        return None;
-    }
-    Some(outlet)
+    let all = (ports.len() as u64).saturating_mul(count);
+    let last = all.min(u64::from(capacity));
+    let mut next = [0u64; 64];
+    let Some(workers) = start_all(scope, rt, alloc, ports, count, &outlet) else {
+        return false;
+    };
+    take_some(rt, &mut outlet, &mut next, all.saturating_sub(last), count)
+        && settle_all(rt, workers, &mut outlet, &next, count)
+        && take_some(rt, &mut outlet, &mut next, last, count)
+        && outlet.take(rt) == Err(Ended)
 }
 
 // Whether all that so many workers send is taken in order, their receipts say so, and then the channel ends.
@@ -146,17 +161,13 @@ fn is_whole<R: Threads + Wait + Sync>(
     let Ok((ports, outlet)) = open(alloc, harts, capacity) else {
         return false;
     };
-    let conducted = thread::scope(
+    thread::scope(
         thread::scope_env(),
         rt,
-        move |scope| -> Option<Outlet>
+        move |scope| -> bool
             requires { All (λ port. port.funnel ≡ outlet.funnel) ports.items }
-        { conduct(scope, rt, alloc, ports, outlet, count) },
-    );
-    match conducted {
-        Some(mut outlet) => outlet.take(rt) == Err(Ended),
-        None => false,
-    }
+        { conduct(scope, rt, alloc, ports, outlet, capacity, count) },
+    )
 }
 
 #[test]
@@ -167,9 +178,10 @@ fn two_workers_at_capacity_1(rt: HostRuntime) -> Result<(), Fail> {
 
 #[test]
 fn sixty_four_workers(rt: HostRuntime) -> Result<(), Fail> {
-    assert!(rt; is_whole(&rt, rt.alloc(), 64, 1, 200));
-    assert!(rt; is_whole(&rt, rt.alloc(), 64, 3, 200));
+    // At the greatest capacity all messages are sent before the first is taken.
     assert!(rt; is_whole(&rt, rt.alloc(), 64, 65_536, 200));
+    assert!(rt; is_whole(&rt, rt.alloc(), 64, 3, 200));
+    assert!(rt; is_whole(&rt, rt.alloc(), 64, 1, 200));
     Ok(())
 }
 

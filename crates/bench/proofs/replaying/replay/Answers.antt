@@ -4,8 +4,8 @@ use Rattle.std.proofs.lemmas.List.{take_all}
 use Rattle.std.proofs.lemmas.Option.{slice_get-get_or}
 use Rattle.funnel.specs.declared.turn.Turn.TheVariants as turn
 use Rattle.bench.specs.Replayed.{replayed}
-use Rattle.bench.specs.steps.Taking.{AreTaken}
-use Rattle.bench.proofs.ReplayEnds.{are_beginnings, are_those_taken, names_refused}
+use Rattle.bench.specs.steps.Taking.{AreTaken, LacksSome}
+use Rattle.bench.proofs.ReplayEnds.{are_beginnings, are_those_taken, lack_some, names_refused}
 use Rattle.bench.proofs.ReplayTurns.{after_collect, after_hart, as_many, is_ready, starts}
 use Rattle.bench.proofs.replaying.replay.Goals as goal
 use Rattle.bench.proofs.replaying.replay.Goals.{in-Hart, in-Collect}
@@ -48,7 +48,7 @@ loop-turn-preserved g c =
           (after_collect c.args.config c.args.logs.now turns place c.loop-turn.core c.loop-turn.senders.items
           c.loop-turn.collector c.loop-turn.stop c.loop-turn.invariant (at ∙ ap Some w.in-Collect.is)
           w.collect.new.core w.collect.new.collector w.collect.new.stop w.collect.ensures.core w.collect.ensures.keep
-          w.collect.ensures.taken w.collect.ensures.names)
+          w.collect.ensures.taken w.collect.ensures.lacks w.collect.ensures.names)
     ]
 
 pub returns-clause-beginnings : goal.returns-clause-beginnings
@@ -76,3 +76,17 @@ returns-clause-stop g c =
     let r = c.loop-turn.invariant in
     names_refused c.args.config c.args.logs.now _ c.loop-turn.collector c.finish-outcome.result.harts.items
     c.in-Ok-new.ensures.legal r.keep r.taken (record { count = e.count; came = e.came }) c.loop-turn.stop r.named
+
+pub returns-clause-lacks : goal.returns-clause-lacks
+returns-clause-lacks g c =
+    let e = c.finish-outcome.ensures in
+    let r = c.loop-turn.invariant in
+    let config = c.args.config in
+    let logs = c.args.logs.now in
+    let all = take_all c.loop-turn.turn-index c.args.turns.now c.loop-turn-test.false in
+    let taken = subst (λ turns. AreTaken config.period logs (replayed config.period config.capacity logs turns).taken
+    c.loop-turn.collector) all r.taken in
+    let lacks = subst (λ turns. LacksSome (replayed config.period config.capacity logs turns).taken
+    c.loop-turn.collector) all r.lacks in
+    lack_some config logs _ c.loop-turn.collector c.finish-outcome.result.harts.items
+    c.in-Ok-new.ensures.legal r.keep taken (record { count = e.count; came = e.came }) lacks

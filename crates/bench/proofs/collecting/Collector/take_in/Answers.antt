@@ -1,7 +1,7 @@
 -- A collector sees outcomes as what came of harts, so what was written of one has to be said of all: by laws on lists, which
 -- no tactic finds.
 use Rattle.std.proofs.Common.{set, sym, ap, subst, ◌∙◌, arith}
-use Rattle.bench.proofs.TakesIn.{TakesIn, goes_on, not_refused, passes_over, takes_counts, takes_decoded, takes_expected, takes_in, takes_kept, takes_kept_received, takes_memory, takes_next, takes_none, takes_only_memory, takes_others, takes_undecoded}
+use Rattle.bench.proofs.TakesIn.{TakesIn, goes_on, not_refused, passes_over, takes_counts, takes_decoded, takes_expected, takes_in, takes_kept, takes_kept_received, takes_memory, takes_next, takes_none, takes_only_memory, takes_others, takes_reason, takes_undecoded}
 use Rattle.bench.specs.Collected.{Collected, IsRefusedHart}
 use Rattle.bench.specs.steps.Collecting.{IsCollected, taken_in}
 use Rattle.message.specs.Accepting.{accepting}
@@ -46,7 +46,7 @@ module _ (g : _) (c : goal.After-self-1 g) where
       c.take_packet.result c.from-hart.ensures c.self.invariant (sym c.accept.ensures.value ∙ c.in-Ok.is) c.accept.ensures.state
       c.in-Ok.ensures.known c.log_at-log.ensures c.index_mut.ensures.value c.program.ensures.program
       c.take_packet.ensures.taken c.take_packet.ensures.left c.take_packet.ensures.kept c.take_packet.ensures.hart
-      c.take_packet.ensures.others c.take_packet.ensures.none c.take_packet.ensures.expected c.take_packet.ensures.complete)
+      c.take_packet.ensures.others c.take_packet.ensures.none c.take_packet.ensures.reason c.take_packet.ensures.expected c.take_packet.ensures.complete)
 
   -- The hart is none whose memory was refused.
   goes : IsRefusedHart c.args.message.hart c.args.self.now → ⊥
@@ -104,3 +104,7 @@ returns-clause-expected g c = λ going.
 pub returns-clause-kept : goal.returns-clause-kept
 returns-clause-kept g c =
     takes_kept_received c.args.message c.in-Ok.packet c.args.self.now (now g c) c.take_packet.result (step g c)
+
+pub returns-clause-reason : goal.returns-clause-reason
+returns-clause-reason g c =
+    takes_reason c.args.message c.in-Ok.packet c.args.self.now (now g c) c.take_packet.result (step g c)

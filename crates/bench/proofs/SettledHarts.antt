@@ -1,0 +1,31 @@
+-- What came of harts whose workers are settled.
+use Rattle.std.proofs.Common.{◌≡◌, inr, ℕ, Bool, true, false, List, Some, length, slice_get, arith}
+use Rattle.std.proofs.lemmas.Option.{slice_get_within}
+use Rattle.legalpath.specs.ProgramLog.{ProgramLog}
+use Rattle.message.specs.OfHart.{of_hart}
+use Rattle.message.specs.declared.message.Message.{Message}
+use Rattle.funnel.proofs.Places.{slice_get-some}
+use Rattle.bench.specs.Collected.{Collected}
+use Rattle.bench.specs.Working.{CarryFirst}
+use Rattle.bench.specs.steps.Gathering.{AreGathered}
+use Rattle.bench.specs.steps.Taking.{AreTaken, IsTakenOf}
+
+-- What was gathered was taken, where what was taken of each hart whose worker was started carries the first payloads of
+-- its log.
+pub gathered_taken : (period : ℕ) (logs : List ProgramLog) (started : List Bool) (taken : List Message)
+    (collected : Collected) → length started ≡ length logs → AreGathered period logs started taken collected
+    → ((hart : ℕ) (log : ProgramLog) → slice_get logs hart ≡ Some log → slice_get started hart ≡ Some true
+    → CarryFirst period log (of_hart hart taken))
+    → AreTaken period logs taken collected
+gathered_taken period logs started taken collected flags came carried = record {
+  own = came.own;
+  each = λ hart log at.
+      let within = slice_get_within logs hart log at in
+      let found = slice_get-some started hart (omega (arith, within, flags)) in
+      by_flag hart log at found.0 found.1;
+}
+  where
+    by_flag : (hart : ℕ) (log : ProgramLog) → slice_get logs hart ≡ Some log → (flag : Bool)
+        → slice_get started hart ≡ Some flag → IsTakenOf period log (length (of_hart hart taken)) hart collected
+    by_flag hart log at true on = came.running hart log at on (carried hart log at on)
+    by_flag hart log at false off = inr (came.others hart log at off)

@@ -1,0 +1,124 @@
+-- Messages that carry the first payloads of a log.
+use Rattle.std.proofs.Common.{◌≡◌, ◌⊎◌, ◌≤◌, ◌+◌, ◌^◌, ℕ, zero, suc, true, List, [], ◌∷◌, ◌++◌, Some, length, take, slice_get, nat_le, refl, sym, ap, subst, inl, inr, ⊎_elim, ◌∙◌, arith}
+use Rattle.std.specs.Option.{option_map}
+use Rattle.std.proofs.lemmas.Bool.{or_cases}
+use Rattle.std.proofs.lemmas.Bool.Decides.{nat_tests}
+use Rattle.std.proofs.lemmas.List.{length-map, length_push, map-append}
+use Rattle.std.proofs.lemmas.List.Elements.{All-cons, All-head, All-nil}
+use Rattle.std.proofs.lemmas.Option.{same_Some, slice_get-map, slice_get_within}
+use Rattle.legalpath.specs.ProgramLog.{IsLegalLog, ProgramLog}
+use Rattle.payload.specs.Closing.{is_closing}
+use Rattle.encoder.specs.Payloads.{payloads}
+use Rattle.message.specs.OfHart.{of_hart}
+use Rattle.message.specs.declared.message.Message.{Message}
+use Rattle.funnel.specs.Ends.{IsBeginning, PortView, has_closing, is_finished}
+use Rattle.funnel.specs.Payloads.{ClosesOnlyLast, payloads_in}
+use Rattle.bench.specs.Working.{CarryFirst, IsWork}
+use Rattle.bench.specs.steps.Gathering.{Among}
+use Rattle.bench.proofs.AmongLemmas.{among-fewer}
+use Rattle.bench.proofs.CollectedLemmas.{take-next}
+use Rattle.bench.proofs.FirstItems.{take-at, take-front, take-last}
+use Rattle.bench.proofs.GotLemmas.{close_last}
+
+payloads_joined : (front rest : List Message) → payloads_in (front ++ rest) ≡ payloads_in front ++ payloads_in rest
+payloads_joined front rest = map-append (λ (message : Message). message.payload) front rest
+
+count_payloads : (messages : List Message) → length (payloads_in messages) ≡ length messages
+count_payloads messages = length-map messages (λ (message : Message). message.payload)
+
+-- A message with a closing payload, where there is one.
+closing_among : (messages : List Message) → has_closing messages ≡ true
+    → (n : ℕ) × (message : Message) × (slice_get messages n ≡ Some message) × (is_closing message.payload ≡ true)
+closing_among [] closing = cc
+closing_among (m ∷ messages) closing =
+    ⊎_elim (λ (closes : is_closing m.payload ≡ true). (zero, m, refl, closes))
+    (λ (behind : has_closing messages ≡ true).
+    let found = closing_among messages behind in (suc found.0, found.1, found.2, found.3))
+    (or_cases (is_closing m.payload) (has_closing messages) closing)
+
+module _ (period : ℕ) (log : ProgramLog) where
+  abbrev all : List (List ℕ)
+  all = payloads period log
+
+  -- With the next one.
+  pub carry_more : (sent : List Message) (message : Message) → CarryFirst period log sent
+      → slice_get (payloads period log) (length sent) ≡ Some message.payload
+      → CarryFirst period log (sent ++ message ∷ [])
+  carry_more sent message first at =
+      payloads_joined sent (message ∷ [])
+      ∙ ap (λ more. more ++ message.payload ∷ []) first
+      ∙ sym (take-next all (length sent) message.payload at)
+      ∙ ap (λ n. take n all) (sym (length_push sent message))
+
+  -- A front of them.
+  pub carry_front : (front rest : List Message) → CarryFirst period log (front ++ rest) → CarryFirst period log front
+  carry_front front rest first =
+      take-front (payloads_in front) (payloads_in rest) all (length (front ++ rest))
+      (sym (payloads_joined front rest) ∙ first)
+      ∙ ap (λ n. take n all) (count_payloads front)
+
+  -- The last of them is the log's next.
+  pub carry_last : (front : List Message) (message : Message) → CarryFirst period log (front ++ message ∷ [])
+      → slice_get (payloads period log) (length front) ≡ Some message.payload
+  carry_last front message first =
+      ap (slice_get all) (sym (count_payloads front))
+      ∙ take-last (payloads_in front) message.payload all (length (front ++ message ∷ []))
+      (sym (payloads_joined front (message ∷ [])) ∙ first)
+
+  -- A port that sent them and has another to send is not finished.
+  pub not_finished : (sent : List Message) (payload : List ℕ) → IsLegalLog log → CarryFirst period log sent
+      → slice_get (payloads period log) (length sent) ≡ Some payload → length sent ≤ 2 ^ 24 + 2
+      → is_finished sent ≡ true → ⊥
+  not_finished sent payload legal first at few finished =
+      ⊎_elim closed many (or_cases (has_closing sent) (nat_le (2 ^ 32) (length sent)) finished)
+    where
+      closes_last : ClosesOnlyLast all
+      closes_last =
+          All-head ClosesOnlyLast all []
+          (close_last period (log ∷ []) (All-cons IsLegalLog log [] legal (All-nil IsLegalLog)))
+
+      closed : has_closing sent ≡ true → ⊥
+      closed closing =
+          let found = closing_among sent closing in
+          let among : slice_get (payloads_in sent) found.0 ≡ Some found.1.payload =
+          slice_get-map (λ (m : Message). m.payload) sent found.0
+          ∙ ap (option_map (λ (m : Message). m.payload)) found.2 in
+          let of_log : slice_get all found.0 ≡ Some found.1.payload =
+          take-at all (length sent) found.0 found.1.payload (ap (λ some. slice_get some found.0) (sym first) ∙ among) in
+          let last : length all ≡ found.0 + 1 = closes_last found.0 found.1.payload of_log found.3 in
+          let within = slice_get_within sent found.0 found.1 found.2 in
+          let more = slice_get_within all (length sent) payload at in
+          omega (arith, last, within, more)
+
+      many : nat_le (2 ^ 32) (length sent) ≡ true → ⊥
+      many most = let over : 2 ^ 32 ≤ length sent = grind (arith, nat_tests) in omega (arith, over, few)
+
+-- What was taken of a worker's hart carries the first payloads of its log.
+pub settled_first : (period : ℕ) (log : ProgramLog) (port receipt : PortView) (taken : List Message)
+    → IsWork period port log receipt → IsBeginning (of_hart receipt.hart taken) receipt.sent
+    → CarryFirst period log (of_hart port.hart taken)
+settled_first period log port receipt taken work begins =
+    carry_front period log (of_hart port.hart taken) begins.0
+    (subst (CarryFirst period log)
+    (begins.1 ∙ ap (λ hart. of_hart hart taken ++ begins.0) work.1) work.2)
+
+-- What was taken of the harts of workers carries the first payloads of their logs, with one worker more settled.
+pub carried_fewer : {W : Type 0} (hart_of : W → ℕ) (period own_period : ℕ) (logs : List ProgramLog)
+    (taken : List Message) (workers : List W) (worker : W) (own : ProgramLog)
+    → slice_get logs (hart_of worker) ≡ Some own → own_period ≡ period
+    → CarryFirst own_period own (of_hart (hart_of worker) taken) → (hart : ℕ) (log : ProgramLog)
+    → slice_get logs hart ≡ Some log
+    → CarryFirst period log (of_hart hart taken) ⊎ Among (λ w. hart_of w ≡ hart) (workers ++ worker ∷ [])
+    → CarryFirst period log (of_hart hart taken) ⊎ Among (λ w. hart_of w ≡ hart) workers
+carried_fewer hart_of period own_period logs taken workers worker own known same first hart log at (inl done) = inl done
+carried_fewer hart_of period own_period logs taken workers worker own known same first hart log at (inr still) =
+    by_rest (among-fewer (λ w. hart_of w ≡ hart) workers worker still)
+  where
+    by_rest : Among (λ w. hart_of w ≡ hart) workers ⊎ (hart_of worker ≡ hart)
+        → CarryFirst period log (of_hart hart taken) ⊎ Among (λ w. hart_of w ≡ hart) workers
+    by_rest (inl rest) = inr rest
+    by_rest (inr here) =
+        let its : own ≡ log = same_Some own log (sym known ∙ ap (slice_get logs) here ∙ at) in
+        inl (subst (λ h. CarryFirst period log (of_hart h taken)) here
+        (subst (λ (l : ProgramLog). CarryFirst period l (of_hart (hart_of worker) taken)) its
+        (subst (λ p. CarryFirst p own (of_hart (hart_of worker) taken)) same first)))

@@ -1,0 +1,41 @@
+-- One worker more is settled: by a lemma on lists, which no tactic finds.
+use Rattle.std.proofs.Common.{◌≡◌, ◌⊎◌, IfSome, Some, slice_get, subst, ◌∙◌}
+use Rattle.std.specs.declared.thread.PromisedHandle.{PromisedHandle}
+use Rattle.std.proofs.lemmas.List.{length-set}
+use Rattle.std.proofs.lemmas.List.Elements.{All-pop}
+use Rattle.message.specs.OfHart.{of_hart}
+use Rattle.funnel.specs.Ends.{OutletView}
+use Rattle.bench.specs.Working.{CarryFirst}
+use Rattle.bench.specs.declared.worker.Sending.{Sending}
+use Rattle.bench.specs.declared.worker.Work.{Work}
+use Rattle.bench.specs.steps.Gathering.{Among}
+use Rattle.bench.proofs.WorkLemmas.{carried_fewer}
+use Rattle.bench.proofs.gathering.settle_all.Goals as goal
+
+pub loop-worker-preserved : goal.loop-worker-preserved
+loop-worker-preserved g c =
+    let now = c.loop-worker in
+    let worker = c.in-Some.worker in
+    let at = g.S.Payloads.at in
+    let IsOwn : PromisedHandle Work (Sending g.row.S.Denot) → Type 0 =
+    λ w. (w.promise.port.value.funnel ≡ c.args.outlet.now.funnel)
+    × (slice_get c.args.logs.now w.promise.port.value.hart ≡ Some (at w.promise.source.value).log)
+    × ((at w.promise.source.value).period ≡ c.args.period) in
+    let popped = All-pop IsOwn now.workers.items c.pop.new.self.items c.pop.result c.pop.ensures.items
+    now.invariant.workers in
+    let own = subst (λ r. IfSome r IsOwn) c.in-Some.is popped.1 in
+    let source = at worker.promise.source.value in
+    let first =
+    subst (λ (o : OutletView). CarryFirst source.period source.log (of_hart worker.promise.port.value.hart o.taken))
+    now.invariant.outlet c.settle-hart.ensures.carried in
+    record {
+      outlet = c.settle-hart.ensures.outlet ∙ now.invariant.outlet;
+      workers = popped.0;
+      count = length-set now.handed_back c.from.result c.settle-hart.result.1 ∙ now.invariant.count;
+      carried = λ hart log at_log among.
+          carried_fewer (λ w. w.promise.port.value.hart) c.args.period source.period c.args.logs.now
+          c.args.outlet.now.taken c.pop.new.self.items worker source.log own.1 own.2 first hart log at_log
+          (subst (λ items. CarryFirst c.args.period log (of_hart hart c.args.outlet.now.taken)
+          ⊎ Among (λ w. w.promise.port.value.hart ≡ hart) items) c.in-Some.ensures.items
+          (now.invariant.carried hart log at_log among));
+    }

@@ -1,0 +1,23 @@
+use Rattle.std.proofs.Common.{◌≡◌, ◌⊎◌, ℕ, All, Some, length, slice_get, vec_len}
+use Rattle.legalpath.specs.ProgramLog.{ProgramLog}
+use Rattle.message.specs.OfHart.{of_hart}
+use Rattle.bench.specs.Working.{CarryFirst}
+use Rattle.bench.specs.steps.Gathering.{Among}
+use Rattle.bench.proofs.gathering.settle_all.Given as goal
+
+abbrev pub invariant-loop-worker : goal.invariant-loop-worker
+invariant-loop-worker g l = record {
+  outlet : l.outlet ≡ l.fn.outlet;
+  workers : All (λ w. (w.promise.port.value.funnel ≡ l.fn.outlet.funnel)
+      × (slice_get l.logs w.promise.port.value.hart ≡ Some (g.S.Payloads.at w.promise.source.value).log)
+      × ((g.S.Payloads.at w.promise.source.value).period ≡ l.period))
+      l.workers.items;
+  count : length l.handed_back ≡ length l.fn.handed_back;
+  carried : (hart : ℕ) (log : ProgramLog) → slice_get l.logs hart ≡ Some log
+      → Among (λ w. w.promise.port.value.hart ≡ hart) l.fn.workers.items
+      → CarryFirst l.period log (of_hart hart l.fn.outlet.taken)
+      ⊎ Among (λ w. w.promise.port.value.hart ≡ hart) l.workers.items;
+}
+
+abbrev pub decreases-loop-worker : goal.decreases-loop-worker
+decreases-loop-worker g l = vec_len l.workers

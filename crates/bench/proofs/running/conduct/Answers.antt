@@ -1,0 +1,84 @@
+-- What came of harts, by lemmas on collectors, which no tactic finds.
+use Rattle.std.proofs.Common.{◌≡◌, ◌∙◌, length, sym, ap, subst, arith}
+use Rattle.funnel.specs.Ends.{OutletView}
+use Rattle.bench.specs.Beginnings.{AreThoseTaken}
+use Rattle.bench.specs.steps.Gathering.{AreGathered}
+use Rattle.bench.specs.steps.Taking.{AreTaken}
+use Rattle.bench.proofs.ReplayEnds.{are_beginnings, are_those_taken, none_is_closed}
+use Rattle.bench.proofs.SettledHarts.{gathered_taken}
+use Rattle.bench.proofs.running.conduct.Goals as goal
+
+pub start_all-workers-requires-clause-begun : goal.start_all-workers-requires-clause-begun
+start_all-workers-requires-clause-begun g c κs within = λ hart log at.
+    c.in_ok-collector.ensures.begun c.args.config.period hart log at
+
+pub settle_all-requires-clause-workers : goal.settle_all-requires-clause-workers
+settle_all-requires-clause-workers g c κs within = λ k d low.
+    let own = c.start_all-workers.ensures.workers k d low in
+    (own.0 ∙ sym (ap (λ (outlet : OutletView). outlet.funnel) c.collect.ensures.outlet), own.1, own.2)
+
+module _ (g : _) (c : goal.After-drop-handed_back-2 g) where
+  -- What was taken of the funnel is gathered.
+  gathered : AreGathered c.args.config.period c.args.logs.now c.start_all-workers.new.started c.collect.new.outlet.taken
+      c.collect.new.collector
+  gathered =
+      c.collect.ensures.gathered c.args.config.period c.args.logs.now c.start_all-workers.new.started
+      (subst (λ taken. AreGathered c.args.config.period c.args.logs.now c.start_all-workers.new.started taken
+      c.start_all-workers.new.collector) (sym c.requires.outlet.0) c.start_all-workers.ensures.gathered)
+
+  flags : length c.start_all-workers.new.started ≡ length c.args.logs.now
+  flags =
+      let same = c.start_all-workers.ensures.flags in
+      let slice = c.as_mut_slice.ensures.len in
+      let all = c.in_ok-started.ensures.len in
+      omega (arith, same, slice, all)
+
+  -- And taken, now that the workers are settled.
+  taken : AreTaken c.args.config.period c.args.logs.now c.collect.new.outlet.taken c.collect.new.collector
+  taken =
+      gathered_taken c.args.config.period c.args.logs.now c.start_all-workers.new.started c.collect.new.outlet.taken
+      c.collect.new.collector flags gathered
+      (λ hart log at on. c.settle_all.ensures.carried hart log at (c.start_all-workers.ensures.started hart on))
+
+  keep : c.collect.new.collector.keep ≡ c.args.config.keep
+  keep = c.collect.ensures.keep ∙ c.start_all-workers.ensures.keep ∙ c.in_ok-collector.ensures.made.1
+
+pub stop_of-outcome-requires : goal.stop_of-outcome-requires
+stop_of-outcome-requires g c =
+    let came =
+    c.collect.ensures.gathered c.args.config.period c.args.logs.now c.start_all-workers.new.started
+    (subst (λ taken. AreGathered c.args.config.period c.args.logs.now c.start_all-workers.new.started taken
+    c.start_all-workers.new.collector) (sym c.requires.outlet.0) c.start_all-workers.ensures.gathered) in
+    let harts = c.as_slice.ensures.len in
+    let flags = c.as_slice-2.ensures.len in
+    let count = c.finish-outcome.ensures.count in
+    let own = ap length came.own in
+    let same = c.settle_all.ensures.count in
+    let slice = c.as_mut_slice-2.ensures.len in
+    let all = c.in_ok-handed_back.ensures.len in
+    let few = c.requires.count in
+    (omega (arith, harts, flags, count, own, same, slice, all), omega (arith, harts, count, own, few))
+
+pub returns-clause-beginnings : goal.returns-clause-beginnings
+returns-clause-beginnings g c =
+    let ends = c.finish-outcome.ensures in
+    are_beginnings c.args.config c.args.logs.now c.collect.new.outlet.taken c.collect.new.collector
+    c.finish-outcome.result.harts.items c.in_ok-collector.ensures.legal (keep g c) (taken g c)
+    (record { count = ends.count; came = ends.came })
+
+pub returns-clause-refused_harts : goal.returns-clause-refused_harts
+returns-clause-refused_harts g c =
+    let ends = c.finish-outcome.ensures in
+    none_is_closed c.args.config c.args.logs.now c.collect.new.outlet.taken c.collect.new.collector
+    c.finish-outcome.result.harts.items c.in_ok-collector.ensures.legal (keep g c) (taken g c)
+    (record { count = ends.count; came = ends.came })
+
+pub returns-clause-taken : goal.returns-clause-taken
+returns-clause-taken g c =
+    let ends = c.finish-outcome.ensures in
+    subst (λ (outlet : OutletView).
+    AreThoseTaken c.args.config c.args.logs.now outlet.taken c.finish-outcome.result.harts.items)
+    (sym c.settle_all.ensures.outlet)
+    (are_those_taken c.args.config c.args.logs.now c.collect.new.outlet.taken c.collect.new.collector
+    c.finish-outcome.result.harts.items c.in_ok-collector.ensures.legal (keep g c) (taken g c)
+    (record { count = ends.count; came = ends.came }))

@@ -1,0 +1,106 @@
+-- The workers that were started, by lemmas on lists, which no tactic finds.
+use Rattle.std.proofs.Common.{◌≡◌, ◌∙◌, Some, length, slice_get, refl, sym, ap, subst, arith}
+use Rattle.std.proofs.lemmas.List.{length-set}
+use Rattle.std.proofs.lemmas.Option.{slice_get_read}
+use Rattle.legalpath.specs.ProgramLog.{IsLegalLog}
+use Rattle.funnel.specs.Ends.{AreNewPorts}
+use Rattle.bench.proofs.LastPort.{last_port}
+use Rattle.bench.proofs.ListElements.{All-pushed}
+use Rattle.bench.proofs.StartedLemmas.{begun_refused, begun_started, new_worker, none_begun}
+use Rattle.bench.proofs.starting.start_all.Goals as goal
+
+pub loop-port-init : goal.loop-port-init
+loop-port-init g c =
+    let has = c.requires.ports in
+    let count = c.args.ports.ok.0 in
+    let all = has.0 in
+    let enough = c.requires.room.0 in
+    let none = ap length c.requires.room.1 in
+    let few = c.args.workers.ok.0 in
+    record {
+      ports = (sym count, λ hart below. has.1 hart (omega (arith, below, count, all)));
+      few = omega (arith, count, all);
+      room = omega (arith, count, all, enough, none, few);
+      workers = λ k d within. absurd (omega (arith, within, none));
+      flags = c.requires.flags;
+      keep = refl;
+      harts =
+          none_begun (λ w. w.promise.port.value.hart) c.args.period c.args.logs.now _ c.args.started.now
+          c.args.workers.items c.args.collector.now (count ∙ all) c.requires.flags c.requires.own c.requires.begun;
+    }
+
+pub start-requires-after_bounds : goal.start-requires-after_bounds
+start-requires-after_bounds g c κs within =
+    let popped =
+    last_port _ _ _ _ _ c.in-Some.port c.loop-port.invariant.ports c.in-Some.ensures.items c.pop.new.self.ok.0 in
+    let told = c.events.ensures in
+    let legal : IsLegalLog c.index-logs-hart.result =
+    record { legal = told.legal; short = told.short; numbers = told.numbers; image = told.image } in
+    let short = told.short in
+    let events = ap length told.events in (
+      ap (λ at. at.number) c.new.ensures,
+      ap (λ port. port.sent) popped.1,
+      subst (λ at. IsLegalLog at.log) (sym c.new.ensures) legal,
+      omega (arith, short, events),
+    )
+
+pub loop-port-preserved-in-Some-start : goal.loop-port-preserved-in-Some-start
+loop-port-preserved-in-Some-start g c =
+    let now = c.loop-port.invariant in
+    let worker = c.in-Some-start.worker in
+    let pushed = c.push_reserved.ensures in
+    let popped =
+    last_port _ _ _ _ _ c.in-Some.port now.ports c.in-Some.ensures.items (c.len-hart.ensures ∙ c.pop.new.self.ok.0) in
+    let place = c.len-hart.ensures in
+    let count = popped.2 in
+    let few = now.few in
+    let room = now.room in
+    let flags = now.flags in
+    let grown = pushed.len in
+    let same = pushed.capacity in
+    let known =
+    slice_get_read c.args.logs.now _ c.len-hart.result c.index-logs-hart.result refl (omega (arith, count, few))
+    c.index-logs-hart.is in
+    let new =
+    new_worker _ _ _ _ _ _ _ _ _ c.in-Some-start.ensures.0 c.in-Some-start.ensures.1 popped.1 c.new.ensures known in
+    record {
+      ports = subst (λ n. AreNewPorts c.args.outlet.now.funnel n c.pop.new.self.items) place popped.0;
+      few = omega (arith, few, count, place);
+      room = omega (arith, room, count, place, grown, same);
+      workers =
+          All-pushed (λ w. (w.promise.port.value.funnel ≡ c.args.outlet.now.funnel)
+          × (slice_get c.args.logs.now w.promise.port.value.hart ≡ Some w.promise.source.value.log)
+          × (w.promise.source.value.period ≡ c.args.period)) c.loop-port.workers.items c.push_reserved.new.self.items
+          worker pushed.items now.workers new;
+      flags = length-set c.loop-port.started c.len-hart.result _ ∙ now.flags;
+      keep = now.keep;
+      harts =
+          begun_started (λ w. w.promise.port.value.hart) c.args.period c.args.logs.now _ c.len-hart.result _
+          c.loop-port.started c.loop-port.workers.items c.loop-port.collector count place now.harts
+          (omega (arith, few, count, flags)) c.push_reserved.new.self.items worker pushed.items
+          (ap (λ port. port.hart) (c.in-Some-start.ensures.0 ∙ popped.1));
+    }
+
+pub loop-port-preserved : goal.loop-port-preserved
+loop-port-preserved g c =
+    let now = c.loop-port.invariant in
+    let popped =
+    last_port _ _ _ _ _ c.in-Some.port now.ports c.in-Some.ensures.items (c.len-hart.ensures ∙ c.pop.new.self.ok.0) in
+    let place = c.len-hart.ensures in
+    let count = popped.2 in
+    let few = now.few in
+    let room = now.room in
+    let flags = now.flags in
+    record {
+      ports = subst (λ n. AreNewPorts c.args.outlet.now.funnel n c.pop.new.self.items) place popped.0;
+      few = omega (arith, few, count, place);
+      room = omega (arith, room, count, place);
+      workers = now.workers;
+      flags = length-set c.loop-port.started c.len-hart.result _ ∙ now.flags;
+      keep = ap (λ c. c.keep) c.refuse.ensures.same ∙ now.keep;
+      harts =
+          begun_refused (λ w. w.promise.port.value.hart) c.args.period c.args.logs.now _ c.len-hart.result _
+          c.loop-port.started c.loop-port.workers.items c.loop-port.collector count place now.harts
+          (omega (arith, few, count, flags)) c.refuse.new.self c.refuse.ensures.refused c.refuse.ensures.others
+          c.refuse.ensures.same;
+    }

@@ -1,0 +1,31 @@
+-- What a stop of a run tells.
+use Rattle.std.specs.Prelude.{ℕ, ◌≡◌, All, true, false, IsFalse, IsSomeAnd, IsTrue, List, Option, Some, None, slice_get}
+use Rattle.bench.specs.declared.outcome.HartOutcome.{HartOutcome}
+use Rattle.bench.specs.declared.stop.Stop.{Stop}
+use Rattle.bench.specs.declared.stop.Stop.TheVariants as stop
+
+-- Every hart is closed.
+abbrev pub AreClosed : {A : Type 0} → List (HartOutcome A) → Type 0
+AreClosed harts = All (λ came. IsTrue came.closed) harts
+
+-- No hart of which memory, or the start of its worker, was refused is closed.
+abbrev pub NoRefusedIsClosed : {A : Type 0} → List (HartOutcome A) → Type 0
+NoRefusedIsClosed harts = All (λ came. came.refused ≡ true → came.closed ≡ false) harts
+
+-- The hart is not closed.
+abbrev pub IsOpenHart : {A : Type 0} → List (HartOutcome A) → ℕ → Type 0
+IsOpenHart harts hart = IsSomeAnd (slice_get harts hart) (λ came. IsFalse came.closed)
+
+-- A hart that is not closed is named: for want of memory only one for which memory was refused, where every hart for
+-- which it was not is closed.
+abbrev pub IsStopOf : {A : Type 0} → Stop → List (HartOutcome A) → Type 0
+IsStopOf (stop.Memory hart) harts =
+    IsOpenHart harts hart × IsSomeAnd (slice_get harts hart) (λ came. IsTrue came.refused)
+    × All (λ came. came.refused ≡ false → came.closed ≡ true) harts
+IsStopOf (stop.HandedBack hart) harts = IsOpenHart harts hart
+IsStopOf (stop.Ended hart) harts = IsOpenHart harts hart
+
+-- There is no stop exactly where every hart is closed, and else one tells of a hart that is not.
+abbrev pub NamesOpen : {A : Type 0} → Option Stop → List (HartOutcome A) → Type 0
+NamesOpen None harts = AreClosed harts
+NamesOpen (Some why) harts = IsStopOf why harts

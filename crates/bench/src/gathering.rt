@@ -1,0 +1,102 @@
+//! What workers sent, collected and settled.
+
+ghost use Rattle.std.specs.Prelude.{ℕ, ◌≡◌, ◌≤◌, All, Bool, List, length, slice_get, Some};
+ghost use Rattle.legalpath.specs.ProgramLog.{ProgramLog};
+ghost use Rattle.message.specs.OfHart.{of_hart};
+ghost use Rattle.bench.specs.Working.{CarryFirst};
+ghost use Rattle.bench.specs.steps.Gathering.{Among, AreGathered};
+
+use crate::collecting::Collector;
+use crate::worker::{Payloads, Work, Worker};
+use funnel::Outlet;
+use legalpath::LegalLog;
+use std::alloc::Allocator;
+use std::sync::Wait;
+use std::thread::Threads;
+
+/// Takes messages in until the closing ones of so many harts came, or the channel ended.
+pub(crate) fn collect<A: Allocator + Copy, R: Wait>(
+    rt: &R,
+    running: usize,
+    collector: &mut Collector<'_, '_, A>,
+    outlet: &mut Outlet,
+)
+    ensures gathered { (period : ℕ) (logs : List ProgramLog) (started : List Bool)
+        → AreGathered period logs started outlet.old.taken collector.old
+        → AreGathered period logs started outlet.new.taken collector.new }
+    ensures outlet { outlet.new ≡ record outlet.old { taken = outlet.new.taken } }
+    ensures keep { collector.new.keep ≡ collector.old.keep }
+{
+    let mut left = running;
+    for _ in rt.forever() {
+        if left == 0 {
+            break;
+        }
+        let Some(closing) = collect_one(rt, collector, outlet) else {
+            break;
+        };
+        left -= usize::from(closing);
+    }
+}
+
+/// Takes one message in, and tells whether it closes its hart's trace; `None` where the channel ended.
+fn collect_one<A: Allocator + Copy, R: Wait>(
+    rt: &R,
+    collector: &mut Collector<'_, '_, A>,
+    outlet: &mut Outlet,
+) -> Option<bool>
+    ensures gathered { (period : ℕ) (logs : List ProgramLog) (started : List Bool)
+        → AreGathered period logs started outlet.old.taken collector.old
+        → AreGathered period logs started outlet.new.taken collector.new }
+    ensures outlet { outlet.new ≡ record outlet.old { taken = outlet.new.taken } }
+    ensures keep { collector.new.keep ≡ collector.old.keep }
+{
+    let Ok(message) = outlet.take(rt) else {
+        return None;
+    };
+    let closing = message.payload.is_closing();
+    let _ = collector.take_in(message);
+    Some(closing)
+}
+
+/// Joins the workers and settles their receipts. At each place, whether a payload of that hart was handed back.
+pub(crate) fn settle_all<S: Payloads, A: Allocator, R: Threads>(
+    rt: &R,
+    logs: &[LegalLog<'_>],
+    period: u16,
+    workers: Vec<Worker<S>, A>,
+    handed_back: &mut [bool],
+    outlet: &mut Outlet,
+)
+    requires workers { All (λ w. (w.promise.port.value.funnel ≡ outlet.old.funnel)
+        × (slice_get logs.now w.promise.port.value.hart ≡ Some (S.at w.promise.source.value).log)
+        × ((S.at w.promise.source.value).period ≡ period)) workers.items }
+    requires count { length logs.now ≤ length handed_back.old }
+    ensures outlet { outlet.new ≡ outlet.old }
+    ensures carried { (hart : ℕ) (log : ProgramLog) → slice_get logs.now hart ≡ Some log
+        → Among (λ w. w.promise.port.value.hart ≡ hart) workers.items
+        → CarryFirst period log (of_hart hart outlet.old.taken) }
+    ensures count { length handed_back.new ≡ length handed_back.old }
+{
+    let mut workers = workers;
+    while let Some(worker) = workers.pop() {
+        let (hart, back) = settle(rt, worker, outlet);
+        handed_back[usize::from(hart)] = back;
+    }
+}
+
+/// Joins a worker and settles its receipt, and tells its hart and whether a payload was handed back.
+fn settle<S: Payloads, R: Threads>(rt: &R, worker: Worker<S>, outlet: &mut Outlet) -> (u16, bool)
+    requires { worker.promise.port.value.funnel ≡ outlet.old.funnel }
+    ensures outlet { outlet.new ≡ outlet.old }
+    ensures hart { result.0 ≡ worker.promise.port.value.hart }
+    ensures carried { CarryFirst (S.at worker.promise.source.value).period (S.at worker.promise.source.value).log
+        (of_hart worker.promise.port.value.hart outlet.old.taken) }
+{
+    let Work {
+        receipt,
+        handed_back,
+    } = worker.join(rt);
+    let settled = outlet.settle(receipt);
+    (settled.hart, handed_back)
+}

@@ -1,0 +1,156 @@
+//! Logs through the funnel over threads.
+
+ghost use Rattle.std.specs.Prelude.{ℕ, ◌≡◌, ◌≤◌, [], IfErr, IfOk, None, Some, Err, OnErr, length};
+ghost use Rattle.funnel.specs.Ends.{AreNewPorts};
+ghost use Rattle.bench.specs.Beginnings.{AreBeginnings, AreThoseTaken};
+ghost use Rattle.bench.specs.Setting.{setup_fault};
+ghost use Rattle.bench.specs.Stopping.{NamesOpen, NoRefusedIsClosed};
+ghost use Rattle.bench.specs.declared.setup.Setup.{Setup as AnySetup};
+
+use crate::collecting::Collector;
+use crate::config::Config;
+use crate::gate::Gate;
+use crate::gathering::{collect, settle_all};
+use crate::outcome::Outcome;
+use crate::replaying::fault_of;
+use crate::setup::Setup;
+use crate::starting::start_all;
+use crate::stopping::stop_of;
+use funnel::{Outlet, Port, open};
+use legalpath::LegalLog;
+use std::alloc::{AllocError, Allocator, Global};
+use std::sync::Wait;
+use std::thread;
+use std::thread::{Scope, Threads};
+
+/// Sends the payloads of logs through a funnel, each log's in a thread of its own, and decodes what is taken of it in the
+/// caller's thread.
+///
+/// Each send waits for the gate, and for room in the funnel. The caller's thread takes until the closing message of every
+/// hart came whose thread was started, or the channel ended. A hart whose thread was not started is refused.
+pub fn run<A: Allocator + Copy, G: Gate, R: Threads + Wait + Sync>(
+    alloc: A,
+    global: Global,
+    logs: &[LegalLog<'_>],
+    config: Config,
+    gate: &G,
+    rt: &R,
+) -> Result<Outcome<A>, Setup>
+    ensures beginnings { IfOk result (λ outcome. AreBeginnings config logs.now outcome.harts.items) }
+    ensures stop { IfOk result (λ outcome. NamesOpen outcome.stop outcome.harts.items) }
+    ensures refused_harts { IfOk result (λ outcome. NoRefusedIsClosed outcome.harts.items) }
+    ensures refused { (fault : AnySetup) → setup_fault (length logs.now) config ≡ Some fault → result ≡ Err fault }
+    ensures memory { setup_fault (length logs.now) config ≡ None → IfErr result (λ fault. fault ≡ Setup.Memory) }
+{
+    if let Some(fault) = fault_of(logs.len(), config) {
+        return Err(fault);
+    }
+    let (ports, outlet) = match open(global, logs.len() as u16, config.capacity) {
+        Ok(ends) => ends,
+        Err(_) => return Err(Setup::Memory),
+    };
+    let mut outlet = outlet;
+    match run_on(alloc, logs, config, gate, ports, &mut outlet, rt) {
+        Ok(outcome) => Ok(outcome),
+        Err(_) => Err(Setup::Memory),
+    }
+}
+
+/// The same over the ends of a funnel that was opened for as many harts, of which nothing was sent. The configuration's
+/// capacity is not looked at.
+///
+/// Where memory is refused that is for no single hart nothing is sent, and the ports are dropped.
+pub fn run_on<A: Allocator + Copy, G: Gate, R: Threads + Wait + Sync>(
+    alloc: A,
+    logs: &[LegalLog<'_>],
+    config: Config,
+    gate: &G,
+    ports: Vec<Port>,
+    outlet: &mut Outlet,
+    rt: &R,
+) -> Result<Outcome<A>, AllocError>
+    requires period { 1 ≤ config.period }
+    requires ports { AreNewPorts outlet.old.funnel (length logs.now) ports.items }
+    requires outlet { (outlet.old.taken ≡ []) × (outlet.old.made ≡ length logs.now) }
+    requires count { length logs.now ≤ 64 }
+    ensures beginnings { IfOk result (λ outcome. AreBeginnings config logs.now outcome.harts.items) }
+    // As many messages came of each hart as were taken of it, but where memory for it was refused.
+    ensures taken { IfOk result (λ outcome. AreThoseTaken config logs.now outlet.new.taken outcome.harts.items) }
+    ensures stop { IfOk result (λ outcome. NamesOpen outcome.stop outcome.harts.items) }
+    ensures refused_harts { IfOk result (λ outcome. NoRefusedIsClosed outcome.harts.items) }
+    ensures untouched { OnErr result (outlet.new ≡ outlet.old) }
+    ensures funnel { outlet.new ≡ record outlet.old { taken = outlet.new.taken } }
+{
+    let (outcome, back) = thread::scope(
+        thread::scope_env(),
+        rt,
+        move |scope| -> (Result<Outcome<A>, AllocError>, &mut Outlet)
+            requires { (1 ≤ config.period) × AreNewPorts outlet.now.funnel (length logs.now) ports.items
+                × (outlet.now.taken ≡ []) × (outlet.now.made ≡ length logs.now) × (length logs.now ≤ 64) }
+            ensures same { result.1.ghost_name ≡ outlet.entry.ghost_name }
+            ensures beginnings { IfOk result.0 (λ outcome. AreBeginnings config logs.entry.now outcome.harts.items) }
+            ensures taken { IfOk result.0 (λ outcome. AreThoseTaken config logs.entry.now result.1.now.taken outcome.harts.items) }
+            ensures stop { IfOk result.0 (λ outcome. NamesOpen outcome.stop outcome.harts.items) }
+            ensures refused_harts { IfOk result.0 (λ outcome. NoRefusedIsClosed outcome.harts.items) }
+            ensures untouched { OnErr result.0 (result.1.now ≡ outlet.entry.now) }
+            ensures funnel { result.1.now ≡ record outlet.entry.now { taken = result.1.now.taken } }
+        {
+            let outcome = conduct(scope, rt, alloc, logs, config, gate, ports, outlet);
+            (outcome, outlet)
+        },
+    );
+    let _ = back;
+    outcome
+}
+
+/// Starts the workers, collects what they send, and settles their receipts.
+fn conduct<'s, 'p, E, A: Allocator + Copy, G: Gate, R: Threads + Wait + Sync>(
+    scope: &Scope<'s, E>,
+    rt: &'s R,
+    alloc: A,
+    logs: &'s [LegalLog<'p>],
+    config: Config,
+    gate: &'s G,
+    ports: Vec<Port>,
+    outlet: &mut Outlet,
+) -> Result<Outcome<A>, AllocError>
+    requires period { 1 ≤ config.period }
+    requires ports { AreNewPorts outlet.old.funnel (length logs.now) ports.items }
+    requires outlet { (outlet.old.taken ≡ []) × (outlet.old.made ≡ length logs.now) }
+    requires count { length logs.now ≤ 64 }
+    ensures beginnings { IfOk result (λ outcome. AreBeginnings config logs.now outcome.harts.items) }
+    ensures taken { IfOk result (λ outcome. AreThoseTaken config logs.now outlet.new.taken outcome.harts.items) }
+    ensures stop { IfOk result (λ outcome. NamesOpen outcome.stop outcome.harts.items) }
+    ensures refused_harts { IfOk result (λ outcome. NoRefusedIsClosed outcome.harts.items) }
+    ensures untouched { OnErr result (outlet.new ≡ outlet.old) }
+    ensures funnel { outlet.new ≡ record outlet.old { taken = outlet.new.taken } }
+{
+    let mut collector = Collector::new(alloc, logs, config.keep)?;
+    let mut handed_back = Vec::from_elem(alloc, false, logs.len())?;
+    let mut started = Vec::from_elem(alloc, false, logs.len())?;
+    let workers = Vec::with_capacity(alloc, logs.len())?;
+    let workers = start_all(
+        scope,
+        rt,
+        gate,
+        logs,
+        config.period,
+        ports,
+        workers,
+        started.as_mut_slice(),
+        &mut collector,
+        outlet,
+    );
+    collect(rt, workers.len(), &mut collector, outlet);
+    settle_all(
+        rt,
+        logs,
+        config.period,
+        workers,
+        handed_back.as_mut_slice(),
+        outlet,
+    );
+    let mut outcome = collector.finish();
+    outcome.stop = stop_of(outcome.harts.as_slice(), handed_back.as_slice());
+    Ok(outcome)
+}

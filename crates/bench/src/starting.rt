@@ -1,0 +1,74 @@
+//! The workers of all harts.
+
+ghost use Rattle.std.specs.Prelude.{ℕ, ◌≡◌, ◌≤◌, All, [], length, slice_get, Some, true, vec_capacity};
+ghost use Rattle.legalpath.specs.ProgramLog.{ProgramLog};
+ghost use Rattle.funnel.specs.Ends.{AreNewPorts};
+ghost use Rattle.bench.specs.Collected.{HasCollected};
+ghost use Rattle.bench.specs.steps.Gathering.{Among, AreGathered};
+
+use crate::collecting::Collector;
+use crate::gate::Gate;
+use crate::worker::{Worker, start};
+use encoder::Source;
+use funnel::{Outlet, Port};
+use legalpath::LegalLog;
+use std::alloc::Allocator;
+use std::sync::Wait;
+use std::thread::Scope;
+
+/// Starts the worker of each hart, the last first, and notes at each hart's place whether it was started. A hart whose
+/// worker was not is refused.
+pub(crate) fn start_all<'s, 'p, E, A: Allocator + Copy, G: Gate, R: Wait + Sync>(
+    scope: &Scope<'s, E>,
+    rt: &'s R,
+    gate: &'s G,
+    logs: &'s [LegalLog<'p>],
+    period: u16,
+    ports: Vec<Port>,
+    mut workers: Vec<Worker<Source<'s, 'p>>, A>,
+    started: &mut [bool],
+    collector: &mut Collector<'_, '_, A>,
+    outlet: &Outlet,
+) -> Vec<Worker<Source<'s, 'p>>, A>
+    requires period { 1 ≤ period }
+    requires count { length logs.now ≤ 64 }
+    requires ports { AreNewPorts outlet.now.funnel (length logs.now) ports.items }
+    requires room { (length logs.now ≤ vec_capacity workers) × (workers.items ≡ []) }
+    requires flags { length started.old ≡ length logs.now }
+    requires own { collector.old.logs ≡ logs.now }
+    requires begun { (hart : ℕ) (log : ProgramLog) → slice_get logs.now hart ≡ Some log
+        → HasCollected period log 0 hart collector.old }
+    ensures workers { All (λ w. (w.promise.port.value.funnel ≡ outlet.now.funnel)
+        × (slice_get logs.now w.promise.port.value.hart ≡ Some w.promise.source.value.log) × (w.promise.source.value.period ≡ period)) result.items }
+    ensures flags { length started.new ≡ length logs.now }
+    ensures started { (hart : ℕ) → slice_get started.new hart ≡ Some true
+        → Among (λ w. w.promise.port.value.hart ≡ hart) result.items }
+    ensures gathered { AreGathered period logs.now started.new [] collector.new }
+    ensures keep { collector.new.keep ≡ collector.old.keep }
+{
+    let mut ports = ports;
+    while let Some(port) = ports.pop() {
+        let hart = ports.len();
+        let log = &logs[hart];
+        let most = log.events().len() + 2;
+        match start(
+            scope,
+            rt,
+            gate,
+            hart as u16,
+            port,
+            Source::new(log, period),
+            most,
+        ) {
+            Some(worker) => {
+                workers.push_reserved(worker);
+                started[hart] = true;
+            }
+            None => {
+                collector.refuse(hart as u16);
+                started[hart] = false;
+            }
+        }
+    }
+    workers
+}

@@ -1,0 +1,65 @@
+//! What stopped a run.
+
+ghost use Rattle.std.specs.Prelude.{◌≡◌, ◌≤◌, All, IfNone, IfSome, false, length, true};
+ghost use Rattle.bench.specs.Stopping.{AreClosed, IsOpenHart, NamesOpen};
+
+use crate::outcome::HartOutcome;
+use crate::stop::Stop;
+use std::alloc::Allocator;
+
+/// Why some hart is not closed, where one is not: a payload that was handed back, before a channel that ended, before
+/// memory that was refused.
+pub(crate) fn stop_of<A: Allocator>(harts: &[HartOutcome<A>], handed_back: &[bool]) -> Option<Stop>
+    requires { (length harts.now ≡ length handed_back.now) × (length harts.now ≤ 64) }
+    ensures { NamesOpen result harts.now }
+{
+    if let Some(hart) = first_handed_back(harts, handed_back) {
+        return Some(Stop::HandedBack(hart as u16));
+    }
+    if let Some(hart) = first_ended(harts) {
+        return Some(Stop::Ended(hart as u16));
+    }
+    match first_open(harts) {
+        Some(hart) => Some(Stop::Memory(hart as u16)),
+        None => None,
+    }
+}
+
+/// The first hart that is not closed and of which a payload was handed back.
+fn first_handed_back<A: Allocator>(harts: &[HartOutcome<A>], handed_back: &[bool]) -> Option<usize>
+    requires { length harts.now ≡ length handed_back.now }
+    ensures { IfSome result (IsOpenHart harts.now) }
+{
+    for hart in 0..harts.len() {
+        if !harts[hart].closed && handed_back[hart] {
+            return Some(hart);
+        }
+    }
+    None
+}
+
+/// The first hart that is not closed although memory for it was not refused.
+fn first_ended<A: Allocator>(harts: &[HartOutcome<A>]) -> Option<usize>
+    ensures some { IfSome result (IsOpenHart harts.now) }
+    ensures none { IfNone result (All (λ came. came.refused ≡ false → came.closed ≡ true) harts.now) }
+{
+    for hart in 0..harts.len() {
+        if !harts[hart].closed && !harts[hart].refused {
+            return Some(hart);
+        }
+    }
+    None
+}
+
+/// The first hart that is not closed.
+fn first_open<A: Allocator>(harts: &[HartOutcome<A>]) -> Option<usize>
+    ensures some { IfSome result (IsOpenHart harts.now) }
+    ensures none { IfNone result (AreClosed harts.now) }
+{
+    for hart in 0..harts.len() {
+        if !harts[hart].closed {
+            return Some(hart);
+        }
+    }
+    None
+}

@@ -1,0 +1,127 @@
+//! The worker of a hart, which sends its log's payloads.
+
+ghost use Rattle.std.specs.Prelude.{ℕ, ◌≡◌, ◌≤◌, ◌+◌, ◌^◌, [], IfSome, slice_get};
+ghost use Rattle.legalpath.specs.ProgramLog.{IsLegalLog, ProgramLog};
+ghost use Rattle.encoder.specs.Payloads.{payloads};
+ghost use Rattle.encoder.specs.SourceAt.{IsAt, SourceAt, number_behind};
+ghost use Rattle.bench.specs.Working.{IsWork};
+
+use crate::gate::Gate;
+use encoder::Source;
+use funnel::{Port, Receipt, SendFault};
+use payload::Payload;
+use std::snapshot::Snapshot;
+use std::sync::Wait;
+use std::thread::{Promise, PromisedHandle, Scope};
+
+/// What a worker gives back.
+#[derive(Drop)]
+pub(crate) struct Work {
+    /// What its port leaves.
+    pub(crate) receipt: Receipt,
+    /// Whether the channel handed a payload back.
+    pub(crate) handed_back: bool,
+}
+
+/// Payloads of a log, one at a time, which a worker sends.
+///
+/// A thread's closure tells what it promises of a type that it does not know, and not of one with lifetimes.
+pub(crate) trait Payloads: Send + Drop {
+    ghost at: { Self → SourceAt };
+
+    /// The next payload, where there is one.
+    fn next(&mut self) -> Option<Payload>
+        ensures given { (period number : ℕ) (log : ProgramLog) → IsAt period log number (Self.at self.old)
+            → result ≡ slice_get (payloads period log) number }
+        ensures goes_on { (period number : ℕ) (log : ProgramLog) → IsAt period log number (Self.at self.old)
+            → IsAt period log (number_behind number result) (Self.at self.new) };
+}
+
+impl<'l, 'p> Payloads for Source<'l, 'p> {
+    ghost at = { λ source. source };
+
+    fn next(&mut self) -> Option<Payload> {
+        Source::next(self)
+    }
+}
+
+/// What a worker promises: the receipt of its port, through which the first payloads of its log went.
+#[derive(Drop)]
+pub(crate) struct Sending<S> {
+    pub(crate) port: Snapshot<Port>,
+    pub(crate) source: Snapshot<S>,
+}
+
+impl<S: Payloads> Promise<Work> for Sending<S> {
+    ghost use Rattle.bench.specs.Working.{IsWork};
+
+    ghost kept_by = { λ p w. IsWork (S.at p.source.value).period p.port.value (S.at p.source.value).log w.receipt };
+}
+
+/// A worker that was started.
+pub(crate) type Worker<S> = PromisedHandle<Work, Sending<S>>;
+
+/// Starts the worker of a hart, which sends at most so many payloads; `None` where no thread could be made.
+pub(crate) fn start<'s, E, S: Payloads + 's, G: Gate, R: Wait + Sync>(
+    scope: &Scope<'s, E>,
+    rt: &'s R,
+    gate: &'s G,
+    hart: u16,
+    port: Port,
+    source: S,
+    most: usize,
+) -> Option<Worker<S>>
+    requires { ((S.at source).number ≡ 0) × (port.sent ≡ []) × IsLegalLog (S.at source).log × (most ≤ 2 ^ 24 + 2) }
+    ensures { IfSome result (λ w. (w.promise.port.value ≡ port) × (w.promise.source.value ≡ source)) }
+{
+    let promise = Sending {
+        port: Snapshot::of(&port),
+        source: Snapshot::of(&source),
+    };
+    scope
+        .spawn_with(
+            promise,
+            move || -> Work
+                requires { ((S.at source).number ≡ 0) × (port.sent ≡ []) × IsLegalLog (S.at source).log
+                    × (most ≤ 2 ^ 24 + 2) }
+                ensures { IsWork (S.at source).period port (S.at source).log result.receipt }
+            { send_all(rt, gate, hart, port, source, most) },
+        )
+        .ok()
+}
+
+/// Sends the payloads of a source through a port, at most so many and as far as the channel takes them.
+fn send_all<S: Payloads, G: Gate, R: Wait>(
+    rt: &R,
+    gate: &G,
+    hart: u16,
+    port: Port,
+    source: S,
+    most: usize,
+) -> Work
+    requires { ((S.at source).number ≡ 0) × (port.sent ≡ []) × IsLegalLog (S.at source).log × (most ≤ 2 ^ 24 + 2) }
+    ensures { IsWork (S.at source).period port (S.at source).log result.receipt }
+{
+    let mut port = port;
+    let mut source = source;
+    let mut handed_back = false;
+    for number in 0..most {
+        let Some(payload) = source.next() else {
+            break;
+        };
+        gate.before_send(rt, hart, number as u64);
+        match port.send(rt, payload) {
+            Ok(()) => {}
+            Err(SendFault::HandedBack(_)) => {
+                handed_back = true;
+                break;
+            }
+            Err(SendFault::Closed(_)) => unreachable!(),
+        }
+        gate.after_send(rt, hart, number as u64);
+    }
+    Work {
+        receipt: port.finish(),
+        handed_back,
+    }
+}

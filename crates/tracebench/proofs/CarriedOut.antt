@@ -1,0 +1,23 @@
+-- What words ask for, carried out.
+use Rattle.std.proofs.Common.{◌≡◌, ◌∙◌, ℕ, List, Option, sym, ap, subst}
+use Rattle.cli.specs.Asking.{WordsAsk}
+use Rattle.commands.specs.Known.{Content}
+use Rattle.commands.specs.Status.{code_of}
+use Rattle.commands.specs.declared.status.Status.{Status}
+use Rattle.subcommands.specs.declared.words.Asked.{Asked}
+use Rattle.tracebench.specs.Words.{AreCarriedOut, IsDone}
+
+-- What the words ask for was done, and its status is the exit status.
+pub carried_out : {O E : Type 0} (contents : O → Option (List ℕ)) (told : E → Option (List ℕ)) (content : Content)
+    (words : List (List ℕ)) (asked : Asked) (status now : Status) (code : ℕ) (out mid new : O) (err err_mid err_new : E)
+    → WordsAsk words asked → now ≡ status → code ≡ code_of now → new ≡ mid → err_new ≡ err_mid
+    → IsDone content asked status (contents out) (contents mid) (told err) (told err_mid)
+    → AreCarriedOut content words code (contents out) (contents new) (told err) (told err_new)
+carried_out contents told content words asked status now code out mid new err err_mid err_new asks is coded out_is err_is done = record {
+  asked = asked;
+  status = status;
+  asks = asks;
+  coded = coded ∙ ap code_of is;
+  done = subst (λ e. IsDone content asked status (contents out) (contents new) (told err) (told e)) (sym err_is)
+      (subst (λ o. IsDone content asked status (contents out) (contents o) (told err) (told err_mid)) (sym out_is) done);
+}
