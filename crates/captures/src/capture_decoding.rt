@@ -27,10 +27,12 @@ pub fn decode_capture<A: Allocator + Copy>(
     bytes: &[u8],
 ) -> Result<CaptureOutcome<A>, AllocError>
     ensures decoded { IfOk result (λ outcome.
-        IsDecoded (words_of program.now) harts bytes.now (events_in outcome.harts.items) outcome.closed.items outcome.fault) }
+        IsDecoded (words_of program.now) harts bytes.now (events_in outcome.harts.items) outcome.closed.items
+        outcome.fault) }
 
     // The capture of all messages of legal logs gives the logs back, unless room was refused.
-    ensures whole { (period : ℕ) (logs : List ProgramLog) → IsCaptureOf program.now period logs bytes.now → length logs ≡ harts
+    ensures whole { (period : ℕ) (logs : List ProgramLog) → IsCaptureOf program.now period logs bytes.now
+        → length logs ≡ harts
         → IfOk result (λ outcome. AreReturned logs (events_in outcome.harts.items) outcome.closed.items outcome.fault) }
 {
     let mut receiver = match Receiver::new(alloc, harts) {

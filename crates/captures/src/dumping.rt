@@ -26,7 +26,8 @@ pub struct Dumped {
 /// message stands. The only fault is [`WriteFault::Write`], where the writer failed; a beginning of the text may have
 /// been written then. No memory is taken.
 pub fn dump_capture<W: Write>(capture: &[u8], sink: &mut W) -> Result<Dumped, WriteFault>
-    ensures dumped { IfOk result (λ dumped. IsDump capture.now dumped.bad dumped.fault (W.contents sink.old) (W.contents sink.new)) }
+    ensures dumped { IfOk result
+        (λ dumped. IsDump capture.now dumped.bad dumped.fault (W.contents sink.old) (W.contents sink.new)) }
     ensures fault { IfErr result (λ fault. fault ≡ WriteFault.Write) }
 {
     let mut messages = Messages::new(capture);

@@ -28,7 +28,8 @@ pub fn encode_capture<W: Write, A: Allocator>(
 ) -> Result<(), MessageFault>
     requires period { 1 ≤ period }
     requires few { length logs.now ≤ 2 ^ 16 }
-    ensures capture { OnOk result (Appends (W.contents sink.old) (W.contents sink.new) (capture (messages_of_harts period 0 logs.now))) }
+    ensures capture { OnOk result (Appends (W.contents sink.old) (W.contents sink.new)
+        (capture (messages_of_harts period 0 logs.now))) }
     ensures fault { IfErr result (λ fault. fault ≡ MessageFault.Write) }
 {
     encode::<Capture, W, A>(logs, period, sink)
@@ -46,7 +47,8 @@ pub fn encode_hex<W: Write, A: Allocator>(
 ) -> Result<(), MessageFault>
     requires period { 1 ≤ period }
     requires few { length logs.now ≤ 2 ^ 16 }
-    ensures text { OnOk result (Appends (W.contents sink.old) (W.contents sink.new) (hex_text (messages_of_harts period 0 logs.now))) }
+    ensures text { OnOk result (Appends (W.contents sink.old) (W.contents sink.new)
+        (hex_text (messages_of_harts period 0 logs.now))) }
     ensures fault { IfErr result (λ fault. fault ≡ MessageFault.Write) }
 {
     encode::<Lines, W, A>(logs, period, sink)
@@ -60,7 +62,8 @@ fn encode<F: Form, W: Write, A: Allocator>(
 ) -> Result<(), MessageFault>
     requires period { 1 ≤ period }
     requires few { length logs.now ≤ 2 ^ 16 }
-    ensures text { OnOk result (Appends (W.contents sink.old) (W.contents sink.new) (flat_map F.text (messages_of_harts period 0 logs.now))) }
+    ensures text { OnOk result (Appends (W.contents sink.old) (W.contents sink.new)
+        (flat_map F.text (messages_of_harts period 0 logs.now))) }
     ensures fault { IfErr result (λ fault. fault ≡ MessageFault.Write) }
 {
     for (hart, log) in logs.iter().enumerate() {
@@ -77,7 +80,8 @@ fn encode_log<F: Form, W: Write, A: Allocator>(
     sink: &mut W,
 ) -> Result<(), MessageFault>
     requires { 1 ≤ period }
-    ensures text { OnOk result (Appends (W.contents sink.old) (W.contents sink.new) (flat_map F.text (messages_from hart 0 (payloads period log.now)))) }
+    ensures text { OnOk result (Appends (W.contents sink.old) (W.contents sink.new)
+        (flat_map F.text (messages_from hart 0 (payloads period log.now)))) }
     ensures fault { IfErr result (λ fault. fault ≡ MessageFault.Write) }
 {
     let mut source = Source::new(log, period);

@@ -1,7 +1,8 @@
 //! Packets as text.
 
 ghost use Rattle.std.specs.Prelude.{◌≡◌, Some, codes};
-ghost use Rattle.captures.specs.PacketText.{branch_text, cause_text, map_text, packet_text, place_text, reading_text, report_text, support_text};
+ghost use Rattle.captures.specs.PacketText.{branch_text, cause_text, map_text, packet_text, place_text, reading_text};
+ghost use Rattle.captures.specs.PacketText.{report_text, support_text};
 
 use payload::{Outcomes, PackFault, Packet, Report, Support};
 use std::fmt;

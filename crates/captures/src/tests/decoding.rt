@@ -26,7 +26,8 @@ fn take(
     Ok(())
 }
 
-/// A hundred thousand events, encoded at several periods: the packets give the log back, and no packet comes after them.
+/// A hundred thousand events, encoded at several periods: the packets give the log back, and no packet comes after
+/// them.
 #[test]
 fn has_logs_back(rt: HostRuntime) -> Result<(), Fail> {
     let program = Program::new(BASE, image_of(rt.alloc(), &WORDS)?)?;
