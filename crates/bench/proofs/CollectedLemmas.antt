@@ -56,13 +56,16 @@ take-suc [] n x is = cc
 take-suc (a ∷ xs) zero x is = ap (λ a. a ∷ []) (same_Some a x is)
 take-suc (a ∷ xs) (suc n) x is = ap (λ ys. a ∷ ys) (take-suc xs n x is)
 
-pub take-next : {X : Type 0} (xs : List X) (n : ℕ) (x : X) → slice_get xs n ≡ Some x → take (n + 1) xs ≡ take n xs ++ x ∷ []
+pub take-next : {X : Type 0} (xs : List X) (n : ℕ) (x : X) → slice_get xs n ≡ Some x
+    → take (n + 1) xs ≡ take n xs ++ x ∷ []
 take-next xs n x is = ap (λ n. take n xs) (add-one n) ∙ take-suc xs n x is
 
 -- The sum of lengths, with one list more behind the others.
-sum-lengths-next : (lists : List (List ℕ)) (list : List ℕ) → sum (map length (lists ++ list ∷ [])) ≡ sum (map length lists) + length list
+sum-lengths-next : (lists : List (List ℕ)) (list : List ℕ)
+    → sum (map length (lists ++ list ∷ [])) ≡ sum (map length lists) + length list
 sum-lengths-next lists list =
-    sum-map length (lists ++ list ∷ []) ∙ sum_by_push length lists list ∙ ap (λ n. n + length list) (sym (sum-map length lists))
+    sum-map length (lists ++ list ∷ []) ∙ sum_by_push length lists list
+    ∙ ap (λ n. n + length list) (sym (sum-map length lists))
 
 -- The sum of the first lengths, where all are at most 18.
 sum-lengths-few : (lists : List (List ℕ)) (n : ℕ) → All (λ (list : List ℕ). length list ≤ 18) lists
@@ -109,7 +112,8 @@ module _ (period : ℕ) (log : ProgramLog) (legal : IsLegalLog log) where
   few_all = let short = legal.short in omega (arith, few_packets words period log.events, short)
 
   -- What is held of a hart of which so many packets were decoded is what they reach.
-  pub held_first : (count hart : ℕ) (received : Received) → HoldsHart words hart (take count ps) received → count ≤ length ps
+  pub held_first : (count hart : ℕ) (received : Received) → HoldsHart words hart (take count ps) received
+      → count ≤ length ps
       → IsReceived received → hart < length received.expected
       → (slice_get received.lists hart ≡ Some (take (reach words period log.events count) log.events))
       × (slice_get received.closed hart ≡ Some (count == length ps))
@@ -119,8 +123,10 @@ module _ (period : ℕ) (log : ProgramLog) (legal : IsLegalLog log) where
       let flag = element received.closed hart (omega (arith, known, all.closed)) in
       let same = one_log words program (take count ps) list.0 (take (reach words period log.events count) log.events)
       (holds.stands decoder.0 list.0 decoder.1 list.1).described
-      (first_packets_describe words program period log.events legal.legal count) in
-      (list.1 ∙ ap Some same, flag.1 ∙ ap Some (holds.ended flag.0 flag.1 ∙ first_ended words period log.events count few))
+      (first_packets_describe words program period log.events legal.legal count) in (
+        list.1 ∙ ap Some same,
+        flag.1 ∙ ap Some (holds.ended flag.0 flag.1 ∙ first_ended words period log.events count few),
+      )
 
   -- The message carries the packet of this number.
   pub record IsNext (count : ℕ) (message : Message) : Type 0 where
@@ -134,11 +140,13 @@ module _ (period : ℕ) (log : ProgramLog) (legal : IsLegalLog log) where
       record {
         packet = found.0;
         at = found.1;
-        read = ap reading (sym found.2) ∙ reading-payload_of found.0 (All_at InProfile ps count found.0 found.1 (profile period log legal));
+        read = ap reading (sym found.2)
+            ∙ reading-payload_of found.0 (All_at InProfile ps count found.0 found.1 (profile period log legal));
       }
 
   -- It is accepted.
-  pub next_accepted : (count : ℕ) (message : Message) (collected : Collected) → HasCollected period log count message.hart collected
+  pub next_accepted : (count : ℕ) (message : Message) (collected : Collected)
+      → HasCollected period log count message.hart collected
       → (is : IsMessageOf period log count message)
       → accepting collected.received.expected message ≡ Ok (next_packet count message is).packet
   next_accepted count message collected has is =
@@ -164,7 +172,8 @@ module _ (period : ℕ) (log : ProgramLog) (legal : IsLegalLog log) where
       (first_packets_describe words program period log.events legal.legal (count + 1))
 
   -- What is expected then.
-  pub next_expected : (count : ℕ) (message : Message) (collected : Collected) → HasCollected period log count message.hart collected
+  pub next_expected : (count : ℕ) (message : Message) (collected : Collected)
+      → HasCollected period log count message.hart collected
       → (is : IsMessageOf period log count message)
       → slice_get (harts_after collected.received.expected message) message.hart
       ≡ Some (record { expected = count + 1; closed = (count + 1) == length ps })
@@ -199,10 +208,13 @@ module _ (period : ℕ) (log : ProgramLog) (legal : IsLegalLog log) where
       let room : sum (map length (take count lists)) + length message.payload < 2 ^ 64 =
       let few = few_all in omega (arith, few, sums, short, length-map ps payload_of) in
       let one : counted count 1 ≡ count + 1 = counted-few count 1 (let few = few_all in omega (arith, few, within)) in
-      let bytes : counted (sum (map length (take count lists))) (length message.payload) ≡ sum (map length (take (count + 1) lists)) =
+      let bytes : counted (sum (map length (take count lists))) (length message.payload)
+      ≡ sum (map length (take (count + 1) lists)) =
       counted-few (sum (map length (take count lists))) (length message.payload) room ∙ sym sums in
-      ap (λ some. taken some (counted count 1) (counted (sum (map length (take count lists))) (length message.payload))) some
-      ∙ ap (λ number. taken (if keep then take (count + 1) ps else []) number (counted (sum (map length (take count lists))) (length message.payload))) one
+      ap (λ some. taken some (counted count 1) (counted (sum (map length (take count lists))) (length message.payload)))
+      some
+      ∙ ap (λ number. taken (if keep then take (count + 1) ps else []) number
+      (counted (sum (map length (take count lists))) (length message.payload))) one
       ∙ ap (taken (if keep then take (count + 1) ps else []) (count + 1)) bytes
     where
       taken : List Packet → ℕ → ℕ → Taken

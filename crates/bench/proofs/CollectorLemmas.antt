@@ -28,15 +28,18 @@ use Rattle.bench.proofs.CollectedLemmas.{element, held_first, set-at, taken_by}
 -- A list of one value repeated, at a place.
 replicate-at : {X : Type 0} (n : ℕ) (x : X) (i : ℕ) → i < n → slice_get (replicate n x) i ≡ Some x
 replicate-at n x i within =
-    slice_get-get_or (replicate n x) i x (omega (arith, within, length-replicate n x)) ∙ ap Some (get_or-replicate n i x x within)
+    slice_get-get_or (replicate n x) i x (omega (arith, within, length-replicate n x))
+    ∙ ap Some (get_or-replicate n i x x within)
 
 -- With one more behind it.
 replicate-next : {X : Type 0} (n : ℕ) (x : X) → replicate n x ++ x ∷ [] ≡ replicate (n + 1) x
 replicate-next n x = replicate-append-replicate n 1 x
 
 -- One outcome more of which nothing came.
-pub nothing-next : {A : Type 0} (harts new : List (HartOutcome A)) (outcome : HartOutcome A) (n : ℕ) → new ≡ harts ++ outcome ∷ []
-    → taken_in harts ≡ replicate n nothing → outcome.packets.items ≡ [] → taken_of outcome ≡ record nothing { packets = outcome.packets.items }
+pub nothing-next : {A : Type 0} (harts new : List (HartOutcome A)) (outcome : HartOutcome A) (n : ℕ)
+    → new ≡ harts ++ outcome ∷ []
+    → taken_in harts ≡ replicate n nothing → outcome.packets.items ≡ []
+    → taken_of outcome ≡ record nothing { packets = outcome.packets.items }
     → taken_in new ≡ replicate (n + 1) nothing
 nothing-next harts new outcome n whole before none is =
     ap taken_in whole ∙ map-append taken_of harts (outcome ∷ [])
@@ -45,7 +48,8 @@ nothing-next harts new outcome n whole before none is =
     ∙ replicate-next n nothing
 
 -- The list that is left, where one was taken of its end, and the one that was taken.
-left-before : {X : Type 0} (all left rest : List X) (n : ℕ) → left ≡ take (length left) all → rest ≡ take n left → length left ≡ n + 1
+left-before : {X : Type 0} (all left rest : List X) (n : ℕ) → left ≡ take (length left) all → rest ≡ take n left
+    → length left ≡ n + 1
     → rest ≡ take n all
 left-before all left rest n is taken count =
     taken ∙ ap (take n) is ∙ take-take n (length left) all (omega (arith, count))
@@ -70,7 +74,8 @@ none_kept true = refl
 none_kept false = refl
 
 -- What came is told by its parts.
-same_got : (a b : Got) → a.packets ≡ b.packets → a.taken ≡ b.taken → a.bytes ≡ b.bytes → a.decoded ≡ b.decoded → a.closed ≡ b.closed → a ≡ b
+same_got : (a b : Got) → a.packets ≡ b.packets → a.taken ≡ b.taken → a.bytes ≡ b.bytes → a.decoded ≡ b.decoded
+    → a.closed ≡ b.closed → a ≡ b
 same_got a b packets taken bytes decoded closed =
     ap (λ packets. got packets a.taken a.bytes a.decoded a.closed) packets
     ∙ ap (λ taken. got b.packets taken a.bytes a.decoded a.closed) taken
@@ -79,11 +84,14 @@ same_got a b packets taken bytes decoded closed =
     ∙ ap (got b.packets b.taken b.bytes b.decoded) closed
   where
     got : List Packet → ℕ → ℕ → List Event → Bool → Got
-    got packets taken bytes decoded closed = record { packets = packets; taken = taken; bytes = bytes; decoded = decoded; closed = closed }
+    got packets taken bytes decoded closed =
+        record { packets = packets; taken = taken; bytes = bytes; decoded = decoded; closed = closed }
 
 -- The logs up to one more are legal where it is.
-pub legal-next : (logs : List ProgramLog) (n : ℕ) (log : ProgramLog) → n < length logs → log ≡ get_or logs n log → IsLegalLog log
-    → ((k : ℕ) (d : ProgramLog) → k < n → IsLegalLog (get_or logs k d)) → (k : ℕ) (d : ProgramLog) → k < n + 1 → IsLegalLog (get_or logs k d)
+pub legal-next : (logs : List ProgramLog) (n : ℕ) (log : ProgramLog) → n < length logs → log ≡ get_or logs n log
+    → IsLegalLog log
+    → ((k : ℕ) (d : ProgramLog) → k < n → IsLegalLog (get_or logs k d)) → (k : ℕ) (d : ProgramLog) → k < n + 1
+    → IsLegalLog (get_or logs k d)
 legal-next logs n log within is legal before k d low =
     ⊎_elim (λ same. subst (λ k. IsLegalLog (get_or logs k d)) (sym same) (subst IsLegalLog (sym here) legal))
     (λ other. before k d (omega (arith, low, other))) (cases_eq k n)
@@ -93,7 +101,8 @@ legal-next logs n log within is legal before k d low =
 
 module _ (logs : List ProgramLog) (keep : Bool) (received : Received) (taken : List Taken) (count : ℕ)
     (begins : (programs : ℕ → Words) → HasReceived programs count [] received)
-    (all_logs : count ≡ length logs) (all_taken : taken ≡ replicate (length logs) nothing) (legal : All IsLegalLog logs) where
+    (all_logs : count ≡ length logs) (all_taken : taken ≡ replicate (length logs) nothing)
+    (legal : All IsLegalLog logs) where
   abbrev opened : Collected
   opened = record { logs = logs; keep = keep; received = received; harts = taken }
 
@@ -122,7 +131,8 @@ module _ (logs : List ProgramLog) (keep : Bool) (received : Received) (taken : L
       }
 
   -- Nothing came of a hart.
-  pub opened_begun : (period hart : ℕ) (log : ProgramLog) → slice_get logs hart ≡ Some log → HasCollected period log 0 hart opened
+  pub opened_begun : (period hart : ℕ) (log : ProgramLog) → slice_get logs hart ≡ Some log
+      → HasCollected period log 0 hart opened
   opened_begun period hart log known =
       let own = All_at IsLegalLog logs hart log known legal in
       let within = slice_get_within logs hart log known in
@@ -141,11 +151,13 @@ module _ (logs : List ProgramLog) (keep : Bool) (received : Received) (taken : L
         };
         expected = ap (λ harts. slice_get harts hart) has.accepts.expected
             ∙ replicate-at count newcomer hart (omega (arith, within, all_logs))
-            ∙ ap (λ closed. Some (record { expected = 0; closed = closed })) (sym (ne_eqb 0 (length ps) (λ same. omega (arith, same))));
+            ∙ ap (λ closed. Some (record { expected = 0; closed = closed }))
+            (sym (ne_eqb 0 (length ps) (λ same. omega (arith, same))));
         holds = holds;
       }
 
-module _ {A : Type 0} (logs : List ProgramLog) (keep : Bool) (received : Received) (harts : List (HartOutcome A)) (at hart : ℕ) (here : at ≡ hart) (outcome written : HartOutcome A) (is : outcome ≡ get_or harts at outcome) where
+module _ {A : Type 0} (logs : List ProgramLog) (keep : Bool) (received : Received) (harts : List (HartOutcome A))
+    (at hart : ℕ) (here : at ≡ hart) (outcome written : HartOutcome A) (is : outcome ≡ get_or harts at outcome) where
   abbrev whole : List (HartOutcome A) → Collected
   whole harts = record { logs = logs; keep = keep; received = received; harts = taken_in harts }
 
@@ -159,9 +171,11 @@ module _ {A : Type 0} (logs : List ProgramLog) (keep : Bool) (received : Receive
       let inside : at < length harts = omega (arith, here, within, length-map harts taken_of) in
       let now = ap (slice_get (taken_in harts)) (sym here) ∙ slice_get-map taken_of harts at
       ∙ ap (option_map taken_of) (slice_get_read harts (length harts) at outcome refl inside is) in
-      let before : taken_of outcome ≡ taken_by got refused = same_Some (taken_of outcome) (taken_by got refused) (sym now ∙ came.taken) in
+      let before : taken_of outcome ≡ taken_by got refused =
+      same_Some (taken_of outcome) (taken_by got refused) (sym now ∙ came.taken) in
       record {
-        taken = ap (λ taken. slice_get taken hart) (map-set taken_of harts at written ∙ ap (λ i. set (taken_in harts) i (taken_of written)) here)
+        taken = ap (λ taken. slice_get taken hart)
+            (map-set taken_of harts at written ∙ ap (λ i. set (taken_in harts) i (taken_of written)) here)
             ∙ set-at (taken_in harts) hart (taken_of written) within
             ∙ ap Some (same ∙ ap (λ (taken : Taken). record taken { refused = true }) before);
         decoded = came.decoded;
@@ -169,7 +183,8 @@ module _ {A : Type 0} (logs : List ProgramLog) (keep : Bool) (received : Receive
       }
 
   -- Of the others nothing changes.
-  pub refused_others : (old : Collected) → whole harts ≡ old → (other : ℕ) → other ≢ hart → IsSameOf other old (whole (set harts at written))
+  pub refused_others : (old : Collected) → whole harts ≡ old → (other : ℕ) → other ≢ hart
+      → IsSameOf other old (whole (set harts at written))
   refused_others old view other apart = subst (λ old. IsSameOf other old (whole (set harts at written))) view (record {
     taken = ap (λ taken. slice_get taken other) (map-set taken_of harts at written)
         ∙ set-other (taken_in harts) at (taken_of written) other (λ same. apart (same ∙ here));
@@ -177,8 +192,10 @@ module _ {A : Type 0} (logs : List ProgramLog) (keep : Bool) (received : Receive
   })
 
 -- The outcome of a hart, with its events and its flag, is what came of it.
-pub finished_came : {A : Type 0} (harts : List (HartOutcome A)) (hart : ℕ) (got : Got) (refused : Bool) (collected : Collected)
-    → taken_in harts ≡ collected.harts → decoded_in harts ≡ collected.received.lists → closed_in harts ≡ collected.received.closed
+pub finished_came : {A : Type 0} (harts : List (HartOutcome A)) (hart : ℕ) (got : Got) (refused : Bool)
+    (collected : Collected)
+    → taken_in harts ≡ collected.harts → decoded_in harts ≡ collected.received.lists
+    → closed_in harts ≡ collected.received.closed
     → Came hart got refused collected
     → IsSomeAnd (slice_get harts hart) (λ came. (got_of came ≡ got) × (came.refused ≡ refused))
 finished_came {A} harts hart got refused collected taken lists closed came =
@@ -186,21 +203,26 @@ finished_came {A} harts hart got refused collected taken lists closed came =
     let within = slice_get_within (taken_in harts) hart (taken_by got refused) one in
     let found = element harts hart (omega (arith, within, length-map harts taken_of)) in
     let outcome = found.0 in
-    let same = same_Some (taken_of outcome) (taken_by got refused) (sym (slice_get-map taken_of harts hart ∙ ap (option_map taken_of) found.1) ∙ one) in
+    let same = same_Some (taken_of outcome) (taken_by got refused)
+    (sym (slice_get-map taken_of harts hart ∙ ap (option_map taken_of) found.1) ∙ one) in
     let events : outcome.decoded.items ≡ got.decoded = same_Some outcome.decoded.items got.decoded
-    (sym (slice_get-map (λ (hart : HartOutcome A). hart.decoded.items) harts hart ∙ ap (option_map (λ (hart : HartOutcome A). hart.decoded.items)) found.1)
+    (sym (slice_get-map (λ (hart : HartOutcome A). hart.decoded.items) harts hart
+    ∙ ap (option_map (λ (hart : HartOutcome A). hart.decoded.items)) found.1)
     ∙ ap (λ all. slice_get all hart) lists ∙ came.decoded) in
     let flag : outcome.closed ≡ got.closed = same_Some outcome.closed got.closed
-    (sym (slice_get-map (λ (hart : HartOutcome A). hart.closed) harts hart ∙ ap (option_map (λ (hart : HartOutcome A). hart.closed)) found.1)
+    (sym (slice_get-map (λ (hart : HartOutcome A). hart.closed) harts hart
+    ∙ ap (option_map (λ (hart : HartOutcome A). hart.closed)) found.1)
     ∙ ap (λ all. slice_get all hart) closed ∙ came.closed) in
     let packets = ap (λ (t : Taken). t.packets) same in
     let number = ap (λ (t : Taken). t.taken) same in
     let bytes = ap (λ (t : Taken). t.bytes) same in
     let all = same_got (got_of outcome) got packets number bytes events flag in
-    subst (λ o. IsSomeAnd o (λ came. (got_of came ≡ got) × (came.refused ≡ refused))) (sym found.1) (all, ap (λ (t : Taken). t.refused) same)
+    subst (λ o. IsSomeAnd o (λ came. (got_of came ≡ got) × (came.refused ≡ refused))) (sym found.1)
+    (all, ap (λ (t : Taken). t.refused) same)
 
 -- The outcomes behind those whose lists are left have their events and their flags.
-pub record IsFilled {A : Type 0} (first : List (HartOutcome A)) (lists : List (Vec Event A)) (closed : List Bool) (harts : List (HartOutcome A)) (left : List (Vec Event A)) : Type 0 where
+pub record IsFilled {A : Type 0} (first : List (HartOutcome A)) (lists : List (Vec Event A)) (closed : List Bool)
+    (harts : List (HartOutcome A)) (left : List (Vec Event A)) : Type 0 where
   pub count : length harts ≡ length first
   pub few : length left ≤ length first
   pub taken : taken_in harts ≡ taken_in first
@@ -208,28 +230,36 @@ pub record IsFilled {A : Type 0} (first : List (HartOutcome A)) (lists : List (V
   pub decoded : drop (length left) (decoded_in harts) ≡ drop (length left) (events_in lists)
   pub flags : drop (length left) (closed_in harts) ≡ drop (length left) closed
 
-pub filled_next : {A : Type 0} (first : List (HartOutcome A)) (lists : List (Vec Event A)) (closed : List Bool) (harts : List (HartOutcome A)) (left rest : List (Vec Event A))
+pub filled_next : {A : Type 0} (first : List (HartOutcome A)) (lists : List (Vec Event A)) (closed : List Bool)
+    (harts : List (HartOutcome A)) (left rest : List (Vec Event A))
     → (list : Vec Event A) (at : ℕ) (outcome written : HartOutcome A) → IsFilled first lists closed harts left
     → length lists ≡ length first → length closed ≡ length first → left ≡ rest ++ list ∷ [] → at ≡ length rest
-    → outcome ≡ get_or harts at outcome → taken_of written ≡ taken_of outcome → written.decoded ≡ list → written.closed ≡ get_or closed at false
+    → outcome ≡ get_or harts at outcome → taken_of written ≡ taken_of outcome → written.decoded ≡ list
+    → written.closed ≡ get_or closed at false
     → IsFilled first lists closed (set harts at written) rest
-filled_next {A} first lists closed harts left rest list at outcome written before all_lists all_closed split here is same events flag = record {
-  count = length-set harts at written ∙ before.count;
-  few = let few = before.few in omega (arith, len, here, few);
-  taken = map-set_same taken_of harts at written outcome (same ∙ ap taken_of is) ∙ before.taken;
-  rest = left-before lists left rest (length rest) before.rest taken (ap length split ∙ length_push rest list);
-  decoded = ap (λ n. drop n (decoded_in (set harts at written))) (sym here)
-      ∙ ap (drop at) (map-set decoded_of harts at written ∙ ap (λ (list : Vec Event A). set (decoded_in harts) at list.items) events)
-      ∙ behind-set (decoded_in harts) (events_in lists) at list.items (omega (arith, of_harts, length-map harts decoded_of))
-      (omega (arith, of_lists, length-map lists items)) item (subst (λ n. drop n (decoded_in harts) ≡ drop n (events_in lists)) len before.decoded)
-      ∙ ap (λ n. drop n (events_in lists)) here;
-  flags = ap (λ n. drop n (closed_in (set harts at written))) (sym here)
-      ∙ ap (drop at) (map-set closed_of harts at written ∙ ap (set (closed_in harts) at) flag)
-      ∙ behind-set (closed_in harts) closed at (get_or closed at false) (omega (arith, of_harts, length-map harts closed_of)) of_closed
-      (sym (get_or_from_slice_get closed at (get_or closed at false) (get_or closed at false) (slice_get-get_or closed at false of_closed)))
-      (subst (λ n. drop n (closed_in harts) ≡ drop n closed) len before.flags)
-      ∙ ap (λ n. drop n closed) here;
-}
+filled_next {A} first lists closed harts left rest list at outcome written before all_lists all_closed split here is
+    same events flag = record {
+      count = length-set harts at written ∙ before.count;
+      few = let few = before.few in omega (arith, len, here, few);
+      taken = map-set_same taken_of harts at written outcome (same ∙ ap taken_of is) ∙ before.taken;
+      rest = left-before lists left rest (length rest) before.rest taken (ap length split ∙ length_push rest list);
+      decoded = ap (λ n. drop n (decoded_in (set harts at written))) (sym here)
+          ∙ ap (drop at)
+          (map-set decoded_of harts at written ∙ ap (λ (list : Vec Event A). set (decoded_in harts) at list.items) events)
+          ∙ behind-set (decoded_in harts) (events_in lists) at list.items
+          (omega (arith, of_harts, length-map harts decoded_of))
+          (omega (arith, of_lists, length-map lists items)) item
+          (subst (λ n. drop n (decoded_in harts) ≡ drop n (events_in lists)) len before.decoded)
+          ∙ ap (λ n. drop n (events_in lists)) here;
+      flags = ap (λ n. drop n (closed_in (set harts at written))) (sym here)
+          ∙ ap (drop at) (map-set closed_of harts at written ∙ ap (set (closed_in harts) at) flag)
+          ∙ behind-set (closed_in harts) closed at (get_or closed at false)
+          (omega (arith, of_harts, length-map harts closed_of)) of_closed
+          (sym (get_or_from_slice_get closed at (get_or closed at false) (get_or closed at false)
+          (slice_get-get_or closed at false of_closed)))
+          (subst (λ n. drop n (closed_in harts) ≡ drop n closed) len before.flags)
+          ∙ ap (λ n. drop n closed) here;
+    }
   where
     decoded_of : HartOutcome A → List Event
     decoded_of hart = hart.decoded.items

@@ -34,7 +34,8 @@ use Rattle.bench.proofs.ClosingLast.{All_at}
 use Rattle.bench.proofs.CollectedLemmas.{held_first, next_accepted, next_described, next_expected, next_first, next_packet, next_taken, set-at, taken_by}
 
 -- The answer to a message whose packet was accepted, and what a collector has then.
-pub record TakesIn (message : Message) (packet : Packet) (answer : Result (Unit {0}) CollectFault) (old new : Collected) : Type 0 where
+pub record TakesIn (message : Message) (packet : Packet) (answer : Result (Unit {0}) CollectFault)
+    (old new : Collected) : Type 0 where
   pub own : ProgramLog
   pub accepted : Received
   pub before : Taken
@@ -94,11 +95,13 @@ module _ (message : Message) (packet : Packet) (old new : Collected) where
       → (hart : ℕ) → hart ≢ message.hart → IsSameOf hart old new
   takes_others answer t hart apart = record {
     taken = ap (λ harts. slice_get harts hart) t.harts ∙ set-other old.harts message.hart t.after hart apart;
-    received = same_hart_twice hart old.received t.accepted new.received (accepts_others old.received t.accepted message hart apart t.moved) (t.others hart apart);
+    received = same_hart_twice hart old.received t.accepted new.received
+        (accepts_others old.received t.accepted message hart apart t.moved) (t.others hart apart);
   }
 
   -- What came of the hart where its packet was not decoded.
-  came_left : (t : Received) → (after : Taken) → (got : Got) (was is : Bool) → slice_get old.harts message.hart ≡ Some (taken_by got was)
+  came_left : (t : Received) → (after : Taken) → (got : Got) (was is : Bool)
+      → slice_get old.harts message.hart ≡ Some (taken_by got was)
       → t ≡ record old.received { expected = harts_after old.received.expected message }
       → new.harts ≡ set old.harts message.hart after → new.received ≡ t
       → after ≡ taken_by got is → Came message.hart got was old → Came message.hart got is new
@@ -111,7 +114,8 @@ module _ (message : Message) (packet : Packet) (old new : Collected) where
   }
 
   -- Memory was refused then.
-  pub takes_memory : (answer : Result (Unit {0}) CollectFault) → TakesIn message packet answer old new → (got : Got) (refused : Bool)
+  pub takes_memory : (answer : Result (Unit {0}) CollectFault) → TakesIn message packet answer old new
+      → (got : Got) (refused : Bool)
       → Came message.hart got refused old → answer ≡ Err fault.Memory → Came message.hart got true new
   takes_memory (Ok u) t got refused came is = cc
   takes_memory (Err (fault.Demux why)) t got refused came is = absurd t.leaves
@@ -122,7 +126,8 @@ module _ (message : Message) (packet : Packet) (old new : Collected) where
       (t.leaves ∙ ap (λ (taken : Taken). record taken { refused = true }) before) came
 
   -- The packet tells something else than a log.
-  pub takes_undecoded : (answer : Result (Unit {0}) CollectFault) → TakesIn message packet answer old new → (got : Got) (refused : Bool) (why : DecodeFault)
+  pub takes_undecoded : (answer : Result (Unit {0}) CollectFault) → TakesIn message packet answer old new
+      → (got : Got) (refused : Bool) (why : DecodeFault)
       → Came message.hart got refused old → answer ≡ Err (fault.Decode why) → Came message.hart got refused new
   takes_undecoded (Ok u) t got refused why came is = cc
   takes_undecoded (Err (fault.Demux other)) t got refused why came is = absurd t.leaves
@@ -208,25 +213,31 @@ module _ (message : Message) (packet : Packet) (old new : Collected) where
   takes_kept_received (Err why) t = t.stays ∙ t.moved
 
   -- The next message of a log is refused for want of memory alone.
-  pub takes_only_memory : (answer : Result (Unit {0}) CollectFault) → TakesIn message packet answer old new → (period count : ℕ) (log : ProgramLog)
-      → HasCollected period log count message.hart old → IsMessageOf period log count message → IfErr answer (λ why. why ≡ fault.Memory)
+  pub takes_only_memory : (answer : Result (Unit {0}) CollectFault) → TakesIn message packet answer old new
+      → (period count : ℕ) (log : ProgramLog)
+      → HasCollected period log count message.hart old → IsMessageOf period log count message
+      → IfErr answer (λ why. why ≡ fault.Memory)
   takes_only_memory (Ok u) t period count log has is = tt
   takes_only_memory (Err why) t period count log has is =
+      let words = words_of log.program in
       let same : t.own ≡ log = same_Some t.own log (sym t.log_at ∙ has.known) in
       let legal = All_at IsLegalLog old.logs message.hart log has.known t.all.legal in
       let next = next_packet period log legal count message is in
       let packet_is : next.packet ≡ packet =
       same_Ok next.packet packet (sym (next_accepted period log legal count message old has is) ∙ t.packet_answered) in
-      let described = subst (λ one. Describes (words_of log.program) (take count (packets_of_log period log) ++ one ∷ []) (beginning period log (count + 1)))
+      let first = take count (packets_of_log period log) in
+      let described = subst (λ one. Describes words (first ++ one ∷ []) (beginning period log (count + 1)))
       packet_is (next_described period log legal count message is) in
-      let holds = holds_moved (words_of log.program) message.hart (take count (packets_of_log period log)) old.received t.accepted message t.moved has.holds in
-      let either = subst (λ (own : ProgramLog). HoldsHart (words_of own.program) message.hart (take count (packets_of_log period log)) t.accepted
-      → (why ≡ fault.Memory) ⊎ ((events : List Event) → ¬ Describes (words_of own.program) (take count (packets_of_log period log) ++ packet ∷ []) events))
-      same (t.none (take count (packets_of_log period log))) holds in
+      let holds = holds_moved words message.hart first old.received t.accepted message t.moved has.holds in
+      let either = subst (λ (own : ProgramLog). HoldsHart (words_of own.program) message.hart first t.accepted
+      → (why ≡ fault.Memory)
+      ⊎ ((events : List Event) → ¬ Describes (words_of own.program) (first ++ packet ∷ []) events))
+      same (t.none first) holds in
       ⊎_elim (λ memory. memory) (λ none. absurd (none (beginning period log (count + 1)) described)) either
 
   -- And else adds what it tells.
-  pub takes_next : (answer : Result (Unit {0}) CollectFault) → TakesIn message packet answer old new → (period count : ℕ) (log : ProgramLog)
+  pub takes_next : (answer : Result (Unit {0}) CollectFault) → TakesIn message packet answer old new
+      → (period count : ℕ) (log : ProgramLog)
       → HasCollected period log count message.hart old → IsMessageOf period log count message
       → OnOk answer (HasCollected period log (count + 1) message.hart new)
   takes_next (Err why) t period count log has is = tt
@@ -239,21 +250,27 @@ module _ (message : Message) (packet : Packet) (old new : Collected) where
       same_Ok next.packet packet (sym (next_accepted period log legal count message old has is) ∙ t.packet_answered) in
       let within = slice_get_within ps count next.packet next.at in
       let few : count + 1 ≤ length ps = omega (arith, within) in
-      let holds = holds_moved (words_of log.program) message.hart (take count ps) old.received t.accepted message t.moved has.holds in
+      let holds = holds_moved (words_of log.program) message.hart (take count ps) old.received t.accepted message
+      t.moved has.holds in
       let held = subst (λ (own : ProgramLog). HoldsHart (words_of own.program) message.hart (take count ps) t.accepted
-      → HoldsHart (words_of own.program) message.hart (take count ps ++ packet ∷ []) new.received) same (t.holds (take count ps)) holds in
+      → HoldsHart (words_of own.program) message.hart (take count ps ++ packet ∷ []) new.received) same
+      (t.holds (take count ps)) holds in
       let first : take count ps ++ packet ∷ [] ≡ take (count + 1) ps =
       ap (λ one. take count ps ++ one ∷ []) (sym packet_is) ∙ sym (next_first period log legal count message is) in
       let now = subst (λ some. HoldsHart (words_of log.program) message.hart some new.received) first held in
-      let moved : new.received.expected ≡ harts_after old.received.expected message = t.expected ∙ ap (λ (r : Received). r.expected) t.moved in
-      let expected = ap (λ harts. slice_get harts message.hart) moved ∙ next_expected period log legal count message old has is in
+      let moved : new.received.expected ≡ harts_after old.received.expected message =
+      t.expected ∙ ap (λ (r : Received). r.expected) t.moved in
+      let expected = ap (λ harts. slice_get harts message.hart) moved
+      ∙ next_expected period log legal count message old has is in
       let reached = held_first period log legal (count + 1) message.hart new.received now few t.complete
       (slice_get_within new.received.expected message.hart _ expected) in
-      let before = same_Some t.before (taken_by (kept old.keep (got_after period log count)) false) (sym t.taken_at ∙ has.came.taken) in
+      let before = same_Some t.before (taken_by (kept old.keep (got_after period log count)) false)
+      (sym t.taken_at ∙ has.came.taken) in
       let after : t.after ≡ taken_by (kept new.keep (got_after period log (count + 1))) false =
       t.counts
       ∙ ap (with_packet old.keep packet (length message.payload)) before
-      ∙ ap (λ one. with_packet old.keep one (length message.payload) (taken_by (kept old.keep (got_after period log count)) false)) (sym packet_is)
+      ∙ ap (λ one. with_packet old.keep one (length message.payload)
+      (taken_by (kept old.keep (got_after period log count)) false)) (sym packet_is)
       ∙ next_taken period log legal old.keep count message is
       ∙ ap (λ keep. taken_by (kept keep (got_after period log (count + 1))) false) (sym t.keep) in
       record {
@@ -273,7 +290,8 @@ module _ (message : Message) (packet : Packet) (old new : Collected) where
   -- A collector has each of these of every hart still.
   pub takes_kept : (answer : Result (Unit {0}) CollectFault) → TakesIn message packet answer old new → IsCollected new
   takes_kept answer t =
-      let expected = ap length t.expected ∙ ap (λ (r : Received). length r.expected) t.moved ∙ length-harts_after old.received.expected message in
+      let expected = ap length t.expected ∙ ap (λ (r : Received). length r.expected) t.moved
+      ∙ length-harts_after old.received.expected message in
       let logs = ap length t.logs in
       let harts = ap length t.harts ∙ length-set old.harts message.hart t.after in
       let all_logs = t.all.logs in
@@ -295,15 +313,18 @@ not_refused collected all message why answer period count log has is =
     cc
 
 -- What stands at a place of the outcomes.
-taken_at : {A : Type 0} (harts : List (HartOutcome A)) (at hart : ℕ) (outcome : HartOutcome A) → at ≡ hart → at < length harts
+taken_at : {A : Type 0} (harts : List (HartOutcome A)) (at hart : ℕ) (outcome : HartOutcome A) → at ≡ hart
+    → at < length harts
     → outcome ≡ get_or harts at outcome → slice_get (taken_in harts) hart ≡ Some (taken_of outcome)
 taken_at harts at hart outcome here within is =
     ap (slice_get (taken_in harts)) (sym here) ∙ slice_get-map taken_of harts at
     ∙ ap (option_map taken_of) (slice_get_read harts (length harts) at outcome refl within is)
 
 -- The same, by what the outcomes are and what was written.
-pub takes_in : {A : Type 0} (logs : List ProgramLog) (keep : Bool) (old accepted new : Received) (harts : List (HartOutcome A))
-    → (message : Message) (packet : Packet) (at : ℕ) (own : ProgramLog) (image : Image) (outcome written : HartOutcome A)
+pub takes_in : {A : Type 0} (logs : List ProgramLog) (keep : Bool) (old accepted new : Received)
+    (harts : List (HartOutcome A))
+    → (message : Message) (packet : Packet) (at : ℕ) (own : ProgramLog) (image : Image)
+    (outcome written : HartOutcome A)
     → (answer : Result (Unit {0}) CollectFault) → at ≡ message.hart
     → IsCollected (record { logs = logs; keep = keep; received = old; harts = taken_in harts })
     → accepting old.expected message ≡ Ok packet
@@ -317,13 +338,15 @@ pub takes_in : {A : Type 0} (logs : List ProgramLog) (keep : Bool) (old accepted
     → OnOk answer (HoldsHart (words_of image) message.hart (packets ++ packet ∷ []) new))
     → ((other : ℕ) → other ≢ message.hart → IsSameHart other accepted new)
     → ((packets : List Packet) → HoldsHart (words_of image) message.hart packets accepted
-    → IfErr answer (λ why. (why ≡ fault.Memory) ⊎ ((log : List Event) → ¬ Describes (words_of image) (packets ++ packet ∷ []) log)))
+    → IfErr answer (λ why. (why ≡ fault.Memory)
+    ⊎ ((log : List Event) → ¬ Describes (words_of image) (packets ++ packet ∷ []) log)))
     → ((packets : List Packet) (why : DecodeFault) → HoldsHart (words_of image) message.hart packets accepted
     → answer ≡ Err (fault.Decode why) → IsNotDecoded (words_of image) packets packet why)
     → new.expected ≡ accepted.expected → (IsReceived accepted → IsReceived new)
     → TakesIn message packet answer (record { logs = logs; keep = keep; received = old; harts = taken_in harts })
     (record { logs = logs; keep = keep; received = new; harts = taken_in (set harts at written) })
-takes_in {A} logs keep old accepted new harts message packet at own image outcome written answer here all answered moved known is_log is_outcome is_image counts leaves stays holds others none reason expected complete =
+takes_in {A} logs keep old accepted new harts message packet at own image outcome written answer here all answered moved
+    known is_log is_outcome is_image counts leaves stays holds others none reason expected complete =
     record {
       own = own;
       accepted = accepted;
@@ -344,7 +367,8 @@ takes_in {A} logs keep old accepted new harts message packet at own image outcom
           → OnOk answer (HoldsHart (words_of image) message.hart (packets ++ packet ∷ []) new)) is_image holds;
       others = others;
       none = subst (λ image. (packets : List Packet) → HoldsHart (words_of image) message.hart packets accepted
-          → IfErr answer (λ why. (why ≡ fault.Memory) ⊎ ((log : List Event) → ¬ Describes (words_of image) (packets ++ packet ∷ []) log))) is_image none;
+          → IfErr answer (λ why. (why ≡ fault.Memory)
+          ⊎ ((log : List Event) → ¬ Describes (words_of image) (packets ++ packet ∷ []) log))) is_image none;
       reason = subst (λ image. (packets : List Packet) (why : DecodeFault)
           → HoldsHart (words_of image) message.hart packets accepted → answer ≡ Err (fault.Decode why)
           → IsNotDecoded (words_of image) packets packet why) is_image reason;
@@ -389,16 +413,19 @@ pub passes_over : {A : Type 0} (harts : List (HartOutcome A)) (at hart : ℕ) �
 passes_over harts at hart here past refused =
     no_element (slice_get (taken_in harts) hart) refl refused
   where
-    no_element : (found : Option Taken) → slice_get (taken_in harts) hart ≡ found → IsSomeAnd found (λ (taken : Taken). IsTrue taken.refused) → ⊥
+    no_element : (found : Option Taken) → slice_get (taken_in harts) hart ≡ found
+        → IsSomeAnd found (λ (taken : Taken). IsTrue taken.refused) → ⊥
     no_element None is never = never
     no_element (Some taken) is refused =
         let within = slice_get_within (taken_in harts) hart taken is in
         omega (arith, within, past, here, length-map harts taken_of)
 
-pub goes_on : {A : Type 0} (harts : List (HartOutcome A)) (at hart : ℕ) (outcome : HartOutcome A) → at ≡ hart → at < length harts
+pub goes_on : {A : Type 0} (harts : List (HartOutcome A)) (at hart : ℕ) (outcome : HartOutcome A) → at ≡ hart
+    → at < length harts
     → outcome ≡ get_or harts at outcome → outcome.refused ≡ false
     → IsSomeAnd (slice_get (taken_in harts) hart) (λ (taken : Taken). IsTrue taken.refused) → ⊥
 goes_on harts at hart outcome here within is going refused =
-    let found = subst (λ o. IsSomeAnd o (λ (taken : Taken). IsTrue taken.refused)) (taken_at harts at hart outcome here within is) refused in
+    let found = subst (λ o. IsSomeAnd o (λ (taken : Taken). IsTrue taken.refused))
+    (taken_at harts at hart outcome here within is) refused in
     let never : true ≡ false = sym found ∙ going in
     cc

@@ -192,7 +192,7 @@ module _ (period : ℕ) (logs : List ProgramLog) (taken : List Message) (message
           (takes.only_memory period before next.log has next.own) here
       own there here (inr cut) =
           let stays = ap (λ (c : Collected). slice_get c.harts message.hart)
-          (takes.passed_over (cut_off_refused cut)).1 in
+          (passed_over cut).1 in
           let less = lacks message.hart log at there (sym stays ∙ here) refused in
           omega (arith, less)
 

@@ -27,12 +27,13 @@ pub record Collected : Type 0 where
 
 -- This came of a hart, and memory for it was refused or not.
 pub record Came (hart : ℕ) (got : Got) (refused : Bool) (collected : Collected) : Type 0 where
-  pub taken : slice_get collected.harts hart ≡ Some (record { packets = got.packets; taken = got.taken; bytes = got.bytes; refused = refused })
+  pub taken : slice_get collected.harts hart
+      ≡ Some (record { packets = got.packets; taken = got.taken; bytes = got.bytes; refused = refused })
   pub decoded : slice_get collected.received.lists hart ≡ Some got.decoded
   pub closed : slice_get collected.received.closed hart ≡ Some got.closed
 
--- The first packets of this log were taken in of a hart, this many, and memory for it was not refused: what came of it is
--- what comes of them, the message behind them is expected, and its decoder stands for them.
+-- The first packets of this log were taken in of a hart, this many, and memory for it was not refused: what came of it
+-- is what comes of them, the message behind them is expected, and its decoder stands for them.
 pub record HasCollected (period : ℕ) (log : ProgramLog) (count hart : ℕ) (collected : Collected) : Type 0 where
   pub known : slice_get collected.logs hart ≡ Some log
   pub few : count ≤ length (packets (words_of log.program) period log.events)

@@ -3,6 +3,7 @@
 mod collect;
 mod made;
 mod memory;
+mod no_memory;
 mod plain;
 mod replays;
 mod report;

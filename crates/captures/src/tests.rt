@@ -1,6 +1,7 @@
 //! Logs to captures and back.
 
 mod captures;
+mod changed;
 mod decoding;
 mod dumping;
 mod encoding;

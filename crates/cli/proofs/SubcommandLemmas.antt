@@ -229,7 +229,7 @@ finds_own words none =
         inl (inr (inl refl)),
         (
           inl (inr (inr (inl refl))),
-          (inl (inr (inr (inr (inl refl)))), (inl (inr (inr (inr (inr refl)))), (inr (refl, refl), tt))),
+          (inl (inr (inr (inr (inl refl)))), (inl (inr (inr (inr (inr (inl refl))))), (inl (inr (inr (inr (inr (inr refl))))), (inr (refl, refl), tt)))),
         ),
       ),
     ) met.1 met.0

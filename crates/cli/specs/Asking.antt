@@ -7,7 +7,7 @@ use Rattle.cli.specs.Grammar.{program_app}
 use Rattle.subcommands.specs.Kind.{IsCheck}
 use Rattle.subcommands.specs.Limits.{largest_capacity, longest_period, most_harts}
 use Rattle.subcommands.specs.declared.words.Asked.{Asked}
-use Rattle.subcommands.specs.declared.words.Asked.TheVariants.{Check, Decode, Dump, Encode, Replay}
+use Rattle.subcommands.specs.declared.words.Asked.TheVariants.{Bench, Check, Decode, Dump, Encode, Replay}
 
 -- The first value of an argument, or no text where it has none.
 abbrev pub text_of : Text → List Row → Text
@@ -64,6 +64,11 @@ Asks name rows (Replay asked) = (name ≡ codes "replay")
     × (asked.base.now ≡ text_of (codes "base") rows) × IsPeriod (one_of (codes "period") rows) asked.period
     × IsCapacity (one_of (codes "capacity") rows) asked.capacity
     × (asked.image.now ≡ text_of (codes "IMAGE") rows) × (asked.schedule.now ≡ text_of (codes "SCHEDULE") rows)
+    × (map (λ log. log.now) asked.logs.items ≡ texts_of (codes "LOG") rows)
+Asks name rows (Bench asked) = (name ≡ codes "bench")
+    × (asked.base.now ≡ text_of (codes "base") rows) × IsPeriod (one_of (codes "period") rows) asked.period
+    × IsCapacity (one_of (codes "capacity") rows) asked.capacity
+    × (asked.image.now ≡ text_of (codes "IMAGE") rows)
     × (map (λ log. log.now) asked.logs.items ≡ texts_of (codes "LOG") rows)
 
 -- What was found of a subcommand is what is asked.

@@ -116,6 +116,11 @@ abbrev pub replay_app : App
 replay_app = with_rule (with_rule (with_rule (with_rule (with_rule (with_rule (new_app (codes "replay")) base_rule)
     period_rule) capacity_rule) image_rule) schedule_rule) logs_rule
 
+-- `bench --base B [--period N] [--capacity N] IMAGE LOG...`.
+abbrev pub bench_app : App
+bench_app = with_rule (with_rule (with_rule (with_rule (with_rule (new_app (codes "bench")) base_rule)
+    period_rule) capacity_rule) image_rule) logs_rule
+
 -- The program by itself, which wants a subcommand.
 abbrev pub bare_program : App
 bare_program =
@@ -123,13 +128,14 @@ bare_program =
 
 -- The program with its subcommands.
 abbrev pub program_app : App
-program_app = with_subcommand (with_subcommand (with_subcommand (with_subcommand (with_subcommand bare_program
-    check_app.top) encode_app.top) dump_app.top) decode_app.top) replay_app.top
+program_app = with_subcommand (with_subcommand (with_subcommand (with_subcommand (with_subcommand (with_subcommand
+    bare_program check_app.top) encode_app.top) dump_app.top) decode_app.top) replay_app.top) bench_app.top
 
 -- The names of the program's subcommands.
 abbrev pub IsSubcommand : Text → Type 0
 IsSubcommand name = (name ≡ codes "check")
-    ⊎ ((name ≡ codes "encode") ⊎ ((name ≡ codes "dump") ⊎ ((name ≡ codes "decode") ⊎ (name ≡ codes "replay"))))
+    ⊎ ((name ≡ codes "encode") ⊎ ((name ≡ codes "dump") ⊎ ((name ≡ codes "decode")
+    ⊎ ((name ≡ codes "replay") ⊎ (name ≡ codes "bench")))))
 
 -- The argument is read by this rule, and at its own subcommand alone.
 abbrev pub IsReadBy : Rule → Arg → Type 0

@@ -11,7 +11,7 @@ use crate::grammar::program;
 use clap::{ArgMatches, Error};
 use std::alloc::{AllocError, Global};
 use subcommands::{
-    Asked, Check, Decode, Dump, Encode, LARGEST_CAPACITY, MOST_HARTS, Replay, SHORTEST_PERIOD,
+    Asked, Bench, Check, Decode, Dump, Encode, LARGEST_CAPACITY, MOST_HARTS, Replay, SHORTEST_PERIOD,
     SMALLEST_CAPACITY,
 };
 
@@ -126,6 +126,18 @@ fn replay_asked<'a>(alloc: Global, given: &ArgMatches<'a>) -> Result<Asked<'a>, 
     }))
 }
 
+fn bench_asked<'a>(alloc: Global, given: &ArgMatches<'a>) -> Result<Asked<'a>, AllocError>
+    ensures { IfOk result (Asks (codes "bench") (rows_of (found_of given.now))) }
+{
+    Ok(Asked::Bench(Bench {
+        base: text(given, "base"),
+        period: period(given),
+        capacity: capacity(given),
+        image: text(given, "IMAGE"),
+        logs: texts(alloc, given, "LOG")?,
+    }))
+}
+
 fn asked_of<'a>(alloc: Global, name: &str, given: &ArgMatches<'a>) -> Result<Asked<'a>, AllocError>
     requires { IsSubcommand name.now }
     ensures { IfOk result (Asks name.now (rows_of (found_of given.now))) }
@@ -136,6 +148,7 @@ fn asked_of<'a>(alloc: Global, name: &str, given: &ArgMatches<'a>) -> Result<Ask
         "dump" => Ok(dump_asked(given)),
         "decode" => Ok(decode_asked(given)),
         "replay" => replay_asked(alloc, given),
+        "bench" => bench_asked(alloc, given),
         _ => unreachable!("clap knows no other subcommand"),
     }
 }

@@ -1,7 +1,7 @@
 //! The program's subcommands, one function each.
 
 ghost use Rattle.std.specs.Prelude.{IfOk};
-ghost use Rattle.cli.specs.Grammar.{HasGrammar, check_app, decode_app, dump_app, encode_app, program_app, replay_app};
+ghost use Rattle.cli.specs.Grammar.{HasGrammar, bench_app, check_app, decode_app, dump_app, encode_app, program_app, replay_app};
 
 use crate::arguments::{base, capacity, capture, harts, hex, image, logs, period, schedule};
 use clap::Command;
@@ -66,6 +66,19 @@ fn replay<'a>(alloc: Global) -> Result<Command<'a>, AllocError>
     Ok(command)
 }
 
+fn bench<'a>(alloc: Global) -> Result<Command<'a>, AllocError>
+    ensures { IfOk result (HasGrammar bench_app) }
+{
+    let command = Command::new(alloc, "bench")
+        .about("Send logs through the funnel, each from a thread of its own, and report what comes of them")
+        .arg(base(alloc))?
+        .arg(period(alloc))?
+        .arg(capacity(alloc))?
+        .arg(image(alloc))?
+        .arg(logs(alloc))?;
+    Ok(command)
+}
+
 /// The program with all its subcommands.
 pub(crate) fn program<'a>(alloc: Global) -> Result<Command<'a>, AllocError>
     ensures { IfOk result (HasGrammar program_app) }
@@ -77,6 +90,7 @@ pub(crate) fn program<'a>(alloc: Global) -> Result<Command<'a>, AllocError>
         .subcommand(encode(alloc)?)?
         .subcommand(dump(alloc)?)?
         .subcommand(decode(alloc)?)?
-        .subcommand(replay(alloc)?)?;
+        .subcommand(replay(alloc)?)?
+        .subcommand(bench(alloc)?)?;
     Ok(command)
 }

@@ -59,7 +59,7 @@ fn reads_words(rt: HostRuntime) -> Result<(), Fail> {
         (
             "tracebench",
             "error: 'tracebench' requires a subcommand but one was not provided\n  \
-             [subcommands: check, encode, dump, decode, replay, help]\n\n\
+             [subcommands: check, encode, dump, decode, replay, bench, help]\n\n\
              Usage: tracebench <COMMAND>\n\n\
              For more information, try '--help'.\n",
         ),
@@ -157,6 +157,26 @@ fn reads_words(rt: HostRuntime) -> Result<(), Fail> {
             "tracebench replay --base 0 image.bin turns.txt",
             "error: the following required arguments were not provided:\n  <LOG>...\n\n\
              Usage: tracebench replay --base <B> <IMAGE> <SCHEDULE> <LOG>...\n\n\
+             For more information, try '--help'.\n",
+        ),
+        (
+            "tracebench bench --base 80000000 image.bin a.csv b.csv",
+            "Bench(Bench { base: \"80000000\", period: 1024, capacity: 16, image: \"image.bin\", \
+             logs: [\"a.csv\", \"b.csv\"] })",
+        ),
+        (
+            "tracebench bench --base 0 --capacity 1 --period 65535 image.bin log.csv",
+            "Bench(Bench { base: \"0\", period: 65535, capacity: 1, image: \"image.bin\", logs: [\"log.csv\"] })",
+        ),
+        (
+            "tracebench bench --base 0 --capacity 65537 image.bin log.csv",
+            "error: invalid value '65537' for '--capacity <N>': 65537 is not in 1..=65536\n\n\
+             For more information, try '--help'.\n",
+        ),
+        (
+            "tracebench bench --base 0 image.bin",
+            "error: the following required arguments were not provided:\n  <LOG>...\n\n\
+             Usage: tracebench bench --base <B> <IMAGE> <LOG>...\n\n\
              For more information, try '--help'.\n",
         ),
         (

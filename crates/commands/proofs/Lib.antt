@@ -1,6 +1,7 @@
 mod Beginnings
 mod DecodedRuns
 mod ErrorLines
+mod FirstSteps
 mod FromFiles
 mod Gots
 mod HartTexts

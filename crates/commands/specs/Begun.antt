@@ -3,7 +3,7 @@ use Rattle.std.specs.Prelude.{◌≡◌, ◌⊎◌, ℕ, ◌++◌, List, Option,
 use Rattle.std.specs.Io.KnownBytes.{Appends, Keeps}
 use Rattle.rvclass.specs.Image.{Image}
 use Rattle.subcommands.specs.declared.words.Asked.{Asked}
-use Rattle.subcommands.specs.declared.words.Asked.TheVariants.{Check, Decode, Dump, Encode, Replay}
+use Rattle.subcommands.specs.declared.words.Asked.TheVariants.{Bench, Check, Decode, Dump, Encode, Replay}
 use Rattle.subcommands.specs.declared.words.Check.{Check as CheckWords}
 use Rattle.commands.specs.Checking.{WritesLines}
 use Rattle.commands.specs.Decoded.{Decodes}
@@ -50,3 +50,4 @@ IsBegun content (Encode asked) old new = Keeps old new
 IsBegun content (Dump asked) old new = Keeps old new
 IsBegun content (Decode asked) old new = Keeps old new ⊎ BeginsPrinted (Decodes content asked) old new
 IsBegun content (Replay asked) old new = Keeps old new
+IsBegun content (Bench asked) old new = Keeps old new

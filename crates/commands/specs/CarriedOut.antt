@@ -1,12 +1,13 @@
 -- What is printed of what is asked.
 use Rattle.std.specs.Prelude.{ℕ, List, Option, Result}
 use Rattle.subcommands.specs.declared.words.Asked.{Asked}
-use Rattle.subcommands.specs.declared.words.Asked.TheVariants.{Check, Decode, Dump, Encode, Replay}
+use Rattle.subcommands.specs.declared.words.Asked.TheVariants.{Bench, Check, Decode, Dump, Encode, Replay}
+use Rattle.commands.specs.Benching.{Benches}
 use Rattle.commands.specs.Checking.{Checks}
 use Rattle.commands.specs.Decoded.{Decodes}
 use Rattle.commands.specs.Dumping.{Dumps}
 use Rattle.commands.specs.Encoding.{Encodes}
-use Rattle.commands.specs.Inputs.{CanCheck, CanDecode, CanDump, CanEncode, CanReplay}
+use Rattle.commands.specs.Inputs.{CanBench, CanCheck, CanDecode, CanDump, CanEncode, CanReplay}
 use Rattle.commands.specs.Known.{Content}
 use Rattle.commands.specs.Printed.{PrintsUnlessDenied}
 use Rattle.commands.specs.Replaying.{Replays}
@@ -21,3 +22,4 @@ IsCarriedOut content (Encode asked) ended old new = PrintsUnlessDenied (Encodes 
 IsCarriedOut content (Dump asked) ended old new = PrintsUnlessDenied (Dumps content asked) (CanDump content asked) ended old new
 IsCarriedOut content (Decode asked) ended old new = PrintsUnlessDenied (Decodes content asked) (CanDecode content asked) ended old new
 IsCarriedOut content (Replay asked) ended old new = PrintsUnlessDenied (Replays content asked) (CanReplay content asked) ended old new
+IsCarriedOut content (Bench asked) ended old new = PrintsUnlessDenied (Benches content asked) (CanBench content asked) ended old new

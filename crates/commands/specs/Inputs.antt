@@ -3,6 +3,7 @@ use Rattle.std.specs.Prelude.{ℕ, List, Ok, length}
 use Rattle.funnel.specs.declared.turn.Turn.{Turn}
 use Rattle.legalpath.specs.ProgramLog.{ProgramLog}
 use Rattle.rvclass.specs.Image.{Image}
+use Rattle.subcommands.specs.declared.words.Bench.{Bench}
 use Rattle.subcommands.specs.declared.words.Check.{Check}
 use Rattle.subcommands.specs.declared.words.Decode.{Decode}
 use Rattle.subcommands.specs.declared.words.Dump.{Dump}
@@ -11,7 +12,8 @@ use Rattle.subcommands.specs.declared.words.Replay.{Replay}
 use Rattle.commands.specs.Faults.{Path}
 use Rattle.commands.specs.Found.{AreFew, AreLegalLogs, IsBase, IsProgram, IsRead}
 use Rattle.commands.specs.Known.{Content}
-use Rattle.commands.specs.Replaying.{IsSchedule, IsSetting}
+use Rattle.commands.specs.Replaying.{IsSchedule}
+use Rattle.commands.specs.Sending.{IsSetting, config_at}
 
 -- The base is a number, and the image makes a program there.
 pub record HasProgram (content : Content) (text : List ℕ) (image : Path) : Type 0 where
@@ -61,4 +63,10 @@ abbrev pub CanReplay : Content → Replay → Type 0
 CanReplay content asked =
     HasLogs content asked.base.now asked.image asked.logs.items
     × HasTurns content (length asked.logs.items) asked.schedule
-    × IsSetting (length asked.logs.items) asked (Ok tt)
+    × IsSetting (length asked.logs.items) (config_at asked.period asked.capacity) (Ok tt)
+
+-- `bench` writes once it has the legal logs, and nothing stands against sending.
+abbrev pub CanBench : Content → Bench → Type 0
+CanBench content asked =
+    HasLogs content asked.base.now asked.image asked.logs.items
+    × IsSetting (length asked.logs.items) (config_at asked.period asked.capacity) (Ok tt)

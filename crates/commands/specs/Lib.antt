@@ -10,7 +10,9 @@ pub mod Encoding
 pub mod Checking
 pub mod Dumping
 pub mod Decoded
+pub mod Sending
 pub mod Replaying
 pub mod Inputs
+pub mod Benching
 pub mod CarriedOut
 pub mod Begun

@@ -3,7 +3,7 @@ use Rattle.std.specs.Prelude.{ℕ, Option, Some, None, length, nat_lt, if◌then
 use Rattle.retire.specs.Number.{number_of}
 use Rattle.subcommands.specs.Limits.{most_harts}
 use Rattle.subcommands.specs.declared.words.Asked.{Asked}
-use Rattle.subcommands.specs.declared.words.Asked.TheVariants.{Check, Encode, Dump, Decode, Replay}
+use Rattle.subcommands.specs.declared.words.Asked.TheVariants.{Bench, Check, Encode, Dump, Decode, Replay}
 use Rattle.commands.specs.declared.fault.Fault.{Fault}
 use Rattle.commands.specs.declared.fault.Fault.TheVariants as fault
 
@@ -24,3 +24,4 @@ early_fault (Encode asked) = logs_fault (number_of asked.base.now) (length asked
 early_fault (Dump asked) = None
 early_fault (Decode asked) = base_fault (number_of asked.base.now)
 early_fault (Replay asked) = logs_fault (number_of asked.base.now) (length asked.logs.items)
+early_fault (Bench asked) = logs_fault (number_of asked.base.now) (length asked.logs.items)

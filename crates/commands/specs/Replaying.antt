@@ -1,5 +1,5 @@
 -- What `replay` prints, and how it ends.
-use Rattle.std.specs.Prelude.{◌≡◌, ℕ, ◌+◌, ◌≤◌, ⊤, Bool, true, false, IsFalse, IsSomeAnd, List, [], ◌∷◌, Option, Some, None, Result, Ok, Err, length, slice_get}
+use Rattle.std.specs.Prelude.{◌≡◌, ℕ, ◌+◌, ◌≤◌, ⊤, false, IsFalse, IsSomeAnd, List, [], ◌∷◌, Option, Some, None, Result, Ok, Err, length, slice_get}
 use Rattle.std.specs.Result.{result_map_both}
 use Rattle.legalpath.specs.ProgramLog.{ProgramLog}
 use Rattle.message.specs.OfHart.{of_hart}
@@ -9,19 +9,15 @@ use Rattle.schedule.specs.Schedule.{schedule_of}
 use Rattle.bench.specs.Got.{Got, HasGot, got_after, kept}
 use Rattle.bench.specs.Replayed.{replayed}
 use Rattle.bench.specs.Report.{is_whole, report_text}
-use Rattle.bench.specs.Setting.{setup_fault}
-use Rattle.bench.specs.declared.config.Config.{Config}
-use Rattle.bench.specs.declared.setup.Setup.{Setup}
 use Rattle.bench.specs.declared.stop.Stop.{Stop}
 use Rattle.bench.specs.declared.stop.Stop.TheVariants as stop
 use Rattle.subcommands.specs.declared.words.Replay.{Replay}
-use Rattle.commands.specs.Faults.{Path, schedule_fault, unsent_fault}
+use Rattle.commands.specs.Faults.{Path, schedule_fault}
 use Rattle.commands.specs.Found.{AreFew, AreLegalLogs, IsBase, IsProgram, IsRead}
 use Rattle.commands.specs.Known.{Content}
 use Rattle.commands.specs.Printed.{First, Printed}
+use Rattle.commands.specs.Sending.{IsSetting, config_at, end_of_report}
 use Rattle.commands.specs.declared.fault.Fault.{Fault}
-use Rattle.commands.specs.declared.status.Status.{Status}
-use Rattle.commands.specs.declared.status.Status.TheVariants.{Whole, NotWhole, Machine}
 
 -- The turns that a schedule's bytes tell, where there are so many harts, or why they tell none.
 abbrev pub schedule_at : ℕ → Result (List ℕ) Fault → Result (List Turn) Fault
@@ -33,19 +29,6 @@ pub record IsSchedule (content : Content) (harts : ℕ) (path : Path) (found : R
   pub bytes : Result (List ℕ) Fault
   pub read : IsRead content path bytes
   pub made : found ≡ schedule_at harts bytes
-
--- How logs are sent: at the period and the capacity that are asked, and no packets are kept.
-abbrev pub config_of : Replay → Config
-config_of asked = record { period = asked.period; capacity = asked.capacity; keep = false }
-
--- Nothing stands against sending, or what does is told.
-abbrev pub setting_at : Option Setup → Result (Unit {0}) Fault
-setting_at None = Ok tt
-setting_at (Some why) = Err (unsent_fault why)
-
--- It is found whether anything stands against sending the logs of so many harts.
-abbrev pub IsSetting : ℕ → Replay → Result (Unit {0}) Fault → Type 0
-IsSetting harts asked found = found ≡ setting_at (setup_fault harts (config_of asked))
 
 -- What comes of each hart, the first of them this one, where these messages were taken: as many packets of its log as
 -- the messages are that were taken of it.
@@ -74,12 +57,6 @@ AreGot period logs taken (Some (stop.Memory hart)) gots =
     IsSomeAnd (slice_get gots hart) (λ got. IsFalse got.closed) × AreGotOfSome 0 period logs taken gots
 AreGot period logs taken (Some why) gots = ⊥
 
--- All logs came back whole, or not, or there was a stop.
-abbrev pub end_of_report : Option Stop → Bool → Status
-end_of_report None true = Whole
-end_of_report None false = NotWhole
-end_of_report (Some why) whole = Machine
-
 -- The logs went through the funnel, whose machine made these turns, and the report of what came of them is written.
 pub record WritesReport (asked : Replay) (logs : List ProgramLog) (turns : List Turn) (printed : Printed) : Type 0 where
   pub stop : Option Stop
@@ -97,4 +74,5 @@ Replays content asked =
     First (IsProgram content base asked.image) (λ program.
     First (AreLegalLogs content program asked.logs.items) (λ logs.
     First (IsSchedule content (length asked.logs.items) asked.schedule) (λ turns.
-    First (IsSetting (length asked.logs.items) asked) (λ _. WritesReport asked logs turns))))))
+    First (IsSetting (length asked.logs.items) (config_at asked.period asked.capacity)) (λ _.
+    WritesReport asked logs turns))))))

@@ -8,6 +8,7 @@ ghost use Rattle.commands.specs.Order.{early_fault};
 ghost use Rattle.subcommands.specs.Kind.{IsCheck};
 ghost use Rattle.subcommands.specs.Limits.{IsWithinLimits};
 
+use crate::benching::bench;
 use crate::checking::check;
 use crate::decoding::decode;
 use crate::dumping::dump;
@@ -18,14 +19,17 @@ use crate::replaying::replay;
 use crate::status::Status;
 use std::alloc::Global;
 use std::io::Write;
+use std::sync::Wait;
+use std::thread::Threads;
 use subcommands::Asked;
 
 /// Does what is asked, and answers how that ended: by a status, or at the first fault in the order base, count of logs,
 /// image, each log in turn, schedule, capture.
 ///
 /// Illegal logs are no fault of `check`, which has a line for each log on `out`.
-pub fn carry_out<'a, F: Files, O: Write>(
+pub fn carry_out<'a, F: Files, O: Write, R: Threads + Wait + Sync>(
     alloc: Global,
+    rt: &R,
     files: &mut F,
     asked: &Asked<'a>,
     out: &mut O,
@@ -44,5 +48,6 @@ pub fn carry_out<'a, F: Files, O: Write>(
         Asked::Dump(asked) => dump(files, asked, out),
         Asked::Decode(asked) => decode(alloc, files, asked, out),
         Asked::Replay(asked) => replay(alloc, files, asked, out),
+        Asked::Bench(asked) => bench(alloc, rt, files, asked, out),
     }
 }

@@ -4,6 +4,7 @@
 //! it. How words ask for a subcommand is no matter of this crate.
 #![tactic(auto)]
 
+mod benching;
 mod checking;
 mod decoding;
 mod dispatch;
@@ -13,12 +14,14 @@ mod fault;
 mod files;
 mod inputs;
 mod replaying;
+mod reporting;
 mod status;
 mod telling;
 #[cfg(test)]
 mod tests;
 mod writing;
 
+pub use benching::bench;
 pub use checking::check;
 pub use decoding::decode;
 pub use dispatch::carry_out;

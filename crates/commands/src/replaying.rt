@@ -1,22 +1,22 @@
 //! The subcommand `replay`.
 
-ghost use Rattle.std.specs.Prelude.{◌≡◌, ◌⊎◌, IfErr, IfOk, IfSome, OnOk, Ok, Err, length, map};
-ghost use Rattle.std.specs.Io.KnownBytes.{Appends};
+ghost use Rattle.std.specs.Prelude.{◌≡◌, ◌⊎◌, IfErr, IfOk, IfSome, Ok, Err, length, map};
 ghost use Rattle.retire.specs.Number.{number_of};
 ghost use Rattle.bench.specs.Got.{got_of};
 ghost use Rattle.bench.specs.Replayed.{replayed};
-ghost use Rattle.bench.specs.Report.{is_whole, report_text};
 ghost use Rattle.commands.specs.Faults.{end_of};
 ghost use Rattle.commands.specs.Order.{logs_fault};
 ghost use Rattle.commands.specs.Inputs.{CanReplay};
 ghost use Rattle.commands.specs.Printed.{PrintsUnlessDenied};
-ghost use Rattle.commands.specs.Replaying.{AreGot, IsSchedule, IsSetting, Replays, config_of, end_of_report};
+ghost use Rattle.commands.specs.Replaying.{AreGot, IsSchedule, Replays};
+ghost use Rattle.commands.specs.Sending.{IsSetting, config_at};
 
 use crate::fault::Fault;
 use crate::files::Files;
 use crate::inputs::{base_of, content_of, counted, legal_logs_of, program_of};
+use crate::reporting::{status_of, write_report};
 use crate::status::Status;
-use bench::{Config, Outcome, is_whole, report};
+use bench::{Config, Outcome};
 use funnel::Turn;
 use legalpath::LegalLog;
 use schedule::read_schedule;
@@ -75,11 +75,11 @@ fn outcome_of<'a>(
     asked: &Replay<'a>,
     turns: &[Turn],
 ) -> Result<Outcome, Fault<'a>>
-    ensures setting { IfOk result (λ _. IsSetting (length logs.now) asked.now (Ok tt)) }
+    ensures setting { IfOk result (λ _. IsSetting (length logs.now) (config_at asked.now.period asked.now.capacity) (Ok tt)) }
     ensures count { IfOk result (λ outcome. length logs.now ≡ length outcome.harts.items) }
     ensures came { IfOk result (λ outcome. AreGot asked.now.period logs.now
         (replayed asked.now.period asked.now.capacity logs.now turns.now).taken outcome.stop (map got_of outcome.harts.items)) }
-    ensures fault { IfErr result (λ why. (why ≡ Fault.Memory) ⊎ IsSetting (length logs.now) asked.now (Err why)) }
+    ensures fault { IfErr result (λ why. (why ≡ Fault.Memory) ⊎ IsSetting (length logs.now) (config_at asked.now.period asked.now.capacity) (Err why)) }
 {
     let config = Config {
         period: asked.period,
@@ -89,34 +89,5 @@ fn outcome_of<'a>(
     match bench::replay(alloc, logs, config, turns) {
         Ok(outcome) => Ok(outcome),
         Err(why) => Err(Fault::of_setup(why)),
-    }
-}
-
-/// Writes the report of what came of the logs.
-fn write_report<'a, O: Write>(
-    outcome: &Outcome,
-    logs: &[LegalLog<'_>],
-    out: &mut O,
-) -> Result<(), Fault<'a>>
-    requires { length logs.now ≡ length outcome.now.harts.items }
-    ensures fault { IfErr result (λ fault. fault ≡ Fault.Output) }
-    ensures text { OnOk result (Appends (O.contents out.old) (O.contents out.new)
-        (report_text outcome.now.stop (map got_of outcome.now.harts.items) logs.now)) }
-{
-    report(outcome, logs, out).map_err(|_| Fault::Output)
-}
-
-/// How it ends.
-fn status_of(outcome: &Outcome, logs: &[LegalLog<'_>]) -> Status
-    requires { length logs.now ≡ length outcome.now.harts.items }
-    ensures { result ≡ end_of_report outcome.now.stop
-        (is_whole outcome.now.stop (map got_of outcome.now.harts.items) logs.now) }
-{
-    if outcome.stop.is_some() {
-        Status::Machine
-    } else if is_whole(outcome, logs) {
-        Status::Whole
-    } else {
-        Status::NotWhole
     }
 }

@@ -30,6 +30,9 @@ const BEQ: u32 = 0x0000_0463;
 // To 4 bytes before.
 const BACK_JUMP: u32 = 0xffdf_f06f;
 
+// To 8 bytes before.
+const BACK_JUMP_TWICE: u32 = 0xff9f_f06f;
+
 const RET: u32 = 0x0000_8067;
 
 const MRET: u32 = 0x3020_0073;

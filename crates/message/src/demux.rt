@@ -37,16 +37,20 @@ impl<A: Allocator> Demux<A> {
     /// The packet of the message, where it is the next of a hart that is known and open. A refusal changes nothing.
     pub fn accept(&mut self, message: &Message) -> Result<Packet, DemuxFault>
         ensures accepted { (packet : AnyPacket) → (result ≡ Ok packet)
-            ↔ (Expects self.old message.now.hart (λ expected. expected ≡ message.now.number) × (reading message.now.payload ≡ Ok packet)) }
+            ↔ (Expects self.old message.now.hart (λ expected. expected ≡ message.now.number)
+            × (reading message.now.payload ≡ Ok packet)) }
         ensures stranger { (result ≡ Err DemuxFault.Stranger) ↔ (length self.old ≤ message.now.hart) }
         ensures after_close { (result ≡ Err DemuxFault.AfterClose) ↔ IsOver self.old message.now.hart }
-        ensures repeat { (result ≡ Err DemuxFault.Repeat) ↔ Expects self.old message.now.hart (λ expected. message.now.number < expected) }
+        ensures repeat { (result ≡ Err DemuxFault.Repeat)
+            ↔ Expects self.old message.now.hart (λ expected. message.now.number < expected) }
         ensures gap { (k : ℕ) → (result ≡ Err (DemuxFault.Gap k))
             ↔ Expects self.old message.now.hart (λ expected. (expected ≡ k) × (k < message.now.number)) }
         ensures bad_packet { (why : AnyFault) → (result ≡ Err (DemuxFault.Packet why))
-            ↔ (Expects self.old message.now.hart (λ expected. expected ≡ message.now.number) × (reading message.now.payload ≡ Err why)) }
+            ↔ (Expects self.old message.now.hart (λ expected. expected ≡ message.now.number)
+            × (reading message.now.payload ≡ Err why)) }
 
-        ensures moves { IfOk result (λ packet. self.new ≡ slice_set self.old message.now.hart (next_of message.now.number packet)) }
+        ensures moves { IfOk result
+            (λ packet. self.new ≡ slice_set self.old message.now.hart (next_of message.now.number packet)) }
         ensures refused { OnErr result (self.new ≡ self.old) }
 
         // What is answered and what is expected then are functions of the message and of what was expected.

@@ -1,6 +1,7 @@
 //! Bytes in memory to messages.
 
-ghost use Rattle.std.specs.Prelude.{◌≡◌, ◌⊎◌, ◌↔◌, ◌<◌, ◌++◌, ℕ, List, [], length, Ok, Err, Some, None, IfOk, IfErr, IfSome};
+ghost use Rattle.std.specs.Prelude.{◌≡◌, ◌⊎◌, ◌↔◌, ◌<◌, ◌++◌, ℕ, List, [], length, Ok, Err, Some, None, IfOk, IfErr};
+ghost use Rattle.std.specs.Prelude.{IfSome};
 ghost use Rattle.message.specs.steps.Filling.{AreBytes};
 ghost use Rattle.message.specs.Capture.{message_bytes};
 ghost use Rattle.message.specs.Cut.{IsCut, IsMessage, HasBadLength};
@@ -39,7 +40,8 @@ impl<'a> Messages<'a> {
     /// for the payload's length is 0 or above 18, and no other fault. No memory is taken.
     pub fn next(&mut self) -> Result<Option<Message>, MessageFault>
         ensures ranges { IfOk result (λ found. IfSome found (λ message. IsMessage message)) }
-        ensures message { IfOk result (λ found. IfSome found (λ message. self.old ≡ message_bytes message ++ self.new)) }
+        ensures message { IfOk result
+            (λ found. IfSome found (λ message. self.old ≡ message_bytes message ++ self.new)) }
         ensures shorter { IfOk result (λ found. IfSome found (λ message. length self.new < length self.old)) }
         ensures end { (result ≡ Ok None) ↔ (self.old ≡ []) }
         ensures short { (result ≡ Err MessageFault.Short) ↔ IsCut self.old }
@@ -49,7 +51,8 @@ impl<'a> Messages<'a> {
         ensures stays { IfErr result (λ fault. self.new ≡ self.old) }
 
         // A message that stands there is read.
-        ensures reads_back { (message : AnyMessage) (rest : List ℕ) → IsMessage message → self.old ≡ message_bytes message ++ rest
+        ensures reads_back { (message : AnyMessage) (rest : List ℕ) → IsMessage message
+            → self.old ≡ message_bytes message ++ rest
             → (result ≡ Ok (Some message)) × (self.new ≡ rest) }
     {
         self.pass()

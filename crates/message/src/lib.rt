@@ -2,7 +2,8 @@
 //!
 //! A [`Message`] is one payload of one hart with its number. [`write_message`] and [`read_message`] are the two ways of
 //! a capture, which is messages one after the other; [`Messages`] gives those of bytes in memory. [`Demux`] takes the
-//! messages of several harts and lets through just those that come in each hart's order. Only [`Demux::new`] takes memory.
+//! messages of several harts and lets through just those that come in each hart's order. Only [`Demux::new`] takes
+//! memory.
 #![tactic(auto)]
 
 mod demux;

@@ -1,5 +1,6 @@
 //! Bytes to messages.
-ghost use Rattle.std.specs.Prelude.{◌⊎◌, List, ◌≡◌, ◌≢◌, ◌<◌, ◌++◌, ℕ, length, take, slice_index, Ok, Err, Some, None, IfOk, IfErr, IfSome};
+ghost use Rattle.std.specs.Prelude.{◌⊎◌, List, ◌≡◌, ◌≢◌, ◌<◌, ◌++◌, ℕ, length, take, slice_index, Ok, Err, Some, None};
+ghost use Rattle.std.specs.Prelude.{IfOk, IfErr, IfSome};
 ghost use Rattle.std.specs.Io.KnownBytes.{Consumes, IsAtEnd, Keeps};
 ghost use Rattle.message.specs.Capture.{head_bytes, message_bytes};
 ghost use Rattle.message.specs.Cut.{IsCut, IsMessage, IsBadLength, HasBadLength};
@@ -24,7 +25,8 @@ pub fn read_message<R: Read>(r: &mut R) -> Result<Option<Message>, MessageFault>
     ensures never_write { IfErr result (λ fault. fault ≢ MessageFault.Write) }
 
     // A message that the input begins with is read, unless the reader fails.
-    ensures reads_back { (message : AnyMessage) (rest : List ℕ) → IsMessage message → R.remaining r.old ≡ Some (message_bytes message ++ rest)
+    ensures reads_back { (message : AnyMessage) (rest : List ℕ) → IsMessage message
+        → R.remaining r.old ≡ Some (message_bytes message ++ rest)
         → (result ≡ Ok (Some message)) ⊎ (result ≡ Err MessageFault.Read) }
 {
     next_message(r)

@@ -1,5 +1,6 @@
 //! The bits that bytes spell, which go on with copies of the last byte's top bit.
-ghost use Rattle.std.specs.Prelude.{◌≡◌, ◌+◌, ◌-◌, ◌*◌, ◌/◌, ◌%◌, ◌^◌, ◌<◌, ◌≤◌, ◌++◌, nat_lt, length, replicate, take, drop, ℕ};
+ghost use Rattle.std.specs.Prelude.{◌≡◌, ◌+◌, ◌-◌, ◌*◌, ◌/◌, ◌%◌, ◌^◌, ◌<◌, ◌≤◌, ◌++◌, nat_lt, length, replicate, take};
+ghost use Rattle.std.specs.Prelude.{drop, ℕ};
 ghost use Rattle.payload.specs.Bytes.{number};
 ghost use Rattle.payload.specs.Extension.{extended, magnitude};
 ghost use Rattle.payload.specs.Faults.{bits_of, part, field_at};

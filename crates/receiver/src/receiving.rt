@@ -1,6 +1,7 @@
 //! The receiver.
 
-ghost use Rattle.std.specs.Prelude.{ℕ, ◌≡◌, ◌≢◌, ◌<◌, ◌⊎◌, ◌↔◌, ◌++◌, true, List, [], ◌∷◌, Some, Ok, Err, IfErr, IfOk, OnErr, OnOk, length, replicate, slice_get};
+ghost use Rattle.std.specs.Prelude.{ℕ, ◌≡◌, ◌≢◌, ◌<◌, ◌⊎◌, ◌↔◌, ◌++◌, true, List, [], ◌∷◌, Some, Ok, Err, IfErr, IfOk};
+ghost use Rattle.std.specs.Prelude.{OnErr, OnOk, length, replicate, slice_get};
 ghost use Rattle.retire.specs.declared.event.Event.{Event as AnyEvent};
 ghost use Rattle.rvclass.specs.Fetch.{words_of};
 ghost use Rattle.rvclass.specs.Words.{Words};
@@ -43,9 +44,19 @@ pub struct Receiver<A: Allocator = Global> {
 impl<A: Allocator> Model for Receiver<A> {
     ghost Value = { Received };
 
-    ghost view = { λ r. record { expected = r.demux; decoders = r.decoders.items; lists = events_in r.lists.items; closed = r.closed.items } };
+    ghost view = { λ r. record {
+      expected = r.demux;
+      decoders = r.decoders.items;
+      lists = events_in r.lists.items;
+      closed = r.closed.items;
+    } };
 
-    ghost invariant = { λ r. IsReceived (record { expected = r.demux; decoders = r.decoders.items; lists = events_in r.lists.items; closed = r.closed.items }) };
+    ghost invariant = { λ r. IsReceived (record {
+      expected = r.demux;
+      decoders = r.decoders.items;
+      lists = events_in r.lists.items;
+      closed = r.closed.items;
+    }) };
 }
 
 impl<A: Allocator + Copy> Receiver<A> {
@@ -95,11 +106,13 @@ impl<A: Allocator + Copy> Receiver<A> {
         // With the packet of one more message of the hart the receiver holds what that message tells too.
         ensures decoded { (programs : ℕ → Words) (harts : ℕ) (messages : List AnyMessage) (message : AnyMessage)
             → programs hart ≡ words_of program.now → message.hart ≡ hart → reading message.payload ≡ Ok packet.now
-            → Holds programs harts messages self.old → OnOk result (Holds programs harts (messages ++ message ∷ []) self.new) }
+            → Holds programs harts messages self.old
+            → OnOk result (Holds programs harts (messages ++ message ∷ []) self.new) }
         ensures none { (packets : List AnyPacket) → HoldsHart (words_of program.now) hart packets self.old
             → IfErr result (λ fault. (fault ≡ Memory)
             ⊎ ((log : List AnyEvent) → ¬ Describes (words_of program.now) (packets ++ packet.now ∷ []) log)) }
-        ensures memory { (packets : List AnyPacket) (list : List AnyEvent) → HoldsHart (words_of program.now) hart packets self.old
+        ensures memory { (packets : List AnyPacket) (list : List AnyEvent)
+            → HoldsHart (words_of program.now) hart packets self.old
             → slice_get self.old.lists hart ≡ Some list → result ≡ Err Memory
             → (log : List AnyEvent) × Describes (words_of program.now) (packets ++ packet.now ∷ []) log
             × (length list < length log) }
@@ -120,8 +133,8 @@ impl<A: Allocator + Copy> Receiver<A> {
         Ok(())
     }
 
-    /// Accepts the message and decodes its packet, where the program is that of its hart. A fault leaves the lists and the
-    /// flags as they were; of the hart whose packet is not decoded the next message is accepted then.
+    /// Accepts the message and decodes its packet, where the program is that of its hart. A fault leaves the lists and
+    /// the flags as they were; of the hart whose packet is not decoded the next message is accepted then.
     pub fn receive(&mut self, program: &Program, message: &Message) -> Result<(), ReceiveFault>
         ensures received { (programs : ℕ → Words) (harts : ℕ) (messages : List AnyMessage)
             → programs message.now.hart ≡ words_of program.now → HasReceived programs harts messages self.old
@@ -132,7 +145,8 @@ impl<A: Allocator + Copy> Receiver<A> {
             → programs message.now.hart ≡ words_of program.now → Holds programs harts messages self.old
             → OnOk result (Holds programs harts (messages ++ message.now ∷ []) self.new) }
         // It is refused by the demultiplexer exactly where that is what the demultiplexer answers.
-        ensures demux { (why : AnyDemuxFault) → (result ≡ Err (ReceiveFault.Demux why)) ↔ (accepting self.old.expected message.now ≡ Err why) }
+        ensures demux { (why : AnyDemuxFault) → (result ≡ Err (ReceiveFault.Demux why))
+            ↔ (accepting self.old.expected message.now ≡ Err why) }
         ensures not_accepted { (why : AnyDemuxFault) → result ≡ Err (ReceiveFault.Demux why) → self.new ≡ self.old }
         ensures refused { (programs : ℕ → Words) (harts : ℕ) (messages : List AnyMessage)
             → programs message.now.hart ≡ words_of program.now → HasReceived programs harts messages self.old
@@ -143,7 +157,8 @@ impl<A: Allocator + Copy> Receiver<A> {
             → IsNotDecoded (words_of program.now) (packets_of message.now.hart messages) packet why }
         // Whatever was received before: the demultiplexer's part, that a fault leaves all else as it was, and the others.
         ensures expected { self.new.expected ≡ harts_after self.old.expected message.now }
-        ensures kept { OnErr result (self.new ≡ record self.old { expected = harts_after self.old.expected message.now }) }
+        ensures kept { OnErr result
+            (self.new ≡ record self.old { expected = harts_after self.old.expected message.now }) }
         ensures others { (other : ℕ) → other ≢ message.now.hart → IsSameHart other self.old self.new }
     {
         let packet = match self.accept(message) {
@@ -174,7 +189,8 @@ impl<A: Allocator + Copy> Receiver<A> {
     pub fn into_parts(self) -> (Vec<Vec<Event, A>, A>, Vec<bool, A>)
         ensures lists { events_in result.0.items ≡ self.lists }
         ensures closed { result.1.items ≡ self.closed }
-        ensures decoded { (programs : ℕ → Words) (harts : ℕ) (messages : List AnyMessage) → Holds programs harts messages self
+        ensures decoded { (programs : ℕ → Words) (harts : ℕ) (messages : List AnyMessage)
+            → Holds programs harts messages self
             → AreDecoded programs harts messages (events_in result.0.items) result.1.items }
     {
         (self.lists, self.closed)

@@ -49,8 +49,8 @@ fn message(hart: u16, number: u64, payload: &[u8]) -> Result<Message, PackFault>
     })
 }
 
-/// Messages of three harts of whom one is not known, with what is answered to each and how many events each hart that is
-/// known has then.
+/// Messages of three harts of whom one is not known, with what is answered to each and how many events each hart
+/// that is known has then.
 #[test]
 fn messages_by_table(rt: HostRuntime) -> Result<(), Fail> {
     let table: [(u16, u64, &[u8], Option<ReceiveFault>, [usize; 2]); 14] = [

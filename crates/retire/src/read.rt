@@ -1,7 +1,8 @@
 //! Reading a log.
 
 ghost use Rattle.std.specs.Prelude.{◌≡◌, ◌⊎◌, ◌≤◌, ℕ, List, [], IfOk, OnOk, IfErr, IfSome, Some, vec_len};
-ghost use Rattle.csv.specs.Reading.{ReadRecord, Ready, default_config, reader_config, reader_state, reader_trim, source_of};
+ghost use Rattle.csv.specs.Reading.{ReadRecord, Ready, default_config, reader_config, reader_state, reader_trim};
+ghost use Rattle.csv.specs.Reading.{source_of};
 ghost use Rattle.csv.specs.Records.{fields_of};
 ghost use Rattle.csv.specs.declared.reader.Trim.TheVariants as trim;
 ghost use Rattle.retire.specs.Log.{IsDenied, events_from, limit, log_of, records_of};
@@ -110,8 +111,10 @@ pub(crate) fn read_from<A: Allocator, R: Read + Drop>(
 ) -> Result<Vec<Event, A>, LogFault>
     requires empty { events.items ≡ [] }
     requires none { vec_len events ≡ 0 }
-    ensures events { IfSome (R.remaining source) (λ text. IfOk result (λ events. log_of (records_of text) ≡ Ok events.items)) }
-    ensures faults { IfSome (R.remaining source) (λ text. IfErr result (λ fault. IsDenied fault ⊎ (log_of (records_of text) ≡ Err fault))) }
+    ensures events { IfSome (R.remaining source)
+        (λ text. IfOk result (λ events. log_of (records_of text) ≡ Ok events.items)) }
+    ensures faults { IfSome (R.remaining source)
+        (λ text. IfErr result (λ fault. IsDenied fault ⊎ (log_of (records_of text) ≡ Err fault))) }
     ensures short { IfOk result (λ events. vec_len events ≤ limit) }
 {
     let mut reader = ReaderBuilder::new()
@@ -144,8 +147,10 @@ pub fn read_log<A: Allocator, R: Read + Drop>(
     global: Global,
     source: R,
 ) -> Result<Vec<Event, A>, LogFault>
-    ensures events { IfSome (R.remaining source) (λ text. IfOk result (λ events. log_of (records_of text) ≡ Ok events.items)) }
-    ensures faults { IfSome (R.remaining source) (λ text. IfErr result (λ fault. IsDenied fault ⊎ (log_of (records_of text) ≡ Err fault))) }
+    ensures events { IfSome (R.remaining source)
+        (λ text. IfOk result (λ events. log_of (records_of text) ≡ Ok events.items)) }
+    ensures faults { IfSome (R.remaining source)
+        (λ text. IfErr result (λ fault. IsDenied fault ⊎ (log_of (records_of text) ≡ Err fault))) }
     ensures short { IfOk result (λ events. vec_len events ≤ limit) }
 {
     read_from(Vec::new(alloc), global, source)

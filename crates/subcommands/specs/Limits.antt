@@ -1,7 +1,7 @@
 -- Which numbers words may ask for.
 use Rattle.std.specs.Prelude.{ℕ, ◌≤◌}
 use Rattle.subcommands.specs.declared.words.Asked.{Asked}
-use Rattle.subcommands.specs.declared.words.Asked.TheVariants.{Decode, Encode, Replay}
+use Rattle.subcommands.specs.declared.words.Asked.TheVariants.{Bench, Decode, Encode, Replay}
 
 -- The most retirements from one periodic synchronisation to the next.
 abbrev pub longest_period : ℕ
@@ -20,5 +20,7 @@ abbrev pub IsWithinLimits : Asked → Type 0
 IsWithinLimits (Encode asked) = (1 ≤ asked.period) × (asked.period ≤ longest_period)
 IsWithinLimits (Decode asked) = (1 ≤ asked.harts) × (asked.harts ≤ most_harts)
 IsWithinLimits (Replay asked) =
+    (1 ≤ asked.period) × (asked.period ≤ longest_period) × (1 ≤ asked.capacity) × (asked.capacity ≤ largest_capacity)
+IsWithinLimits (Bench asked) =
     (1 ≤ asked.period) × (asked.period ≤ longest_period) × (1 ≤ asked.capacity) × (asked.capacity ≤ largest_capacity)
 IsWithinLimits _ = Unit {0}

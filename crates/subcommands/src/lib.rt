@@ -8,4 +8,4 @@ mod words;
 pub use limits::{
     LARGEST_CAPACITY, LONGEST_PERIOD, MOST_HARTS, SHORTEST_PERIOD, SMALLEST_CAPACITY,
 };
-pub use words::{Asked, Check, Decode, Dump, Encode, Replay};
+pub use words::{Asked, Bench, Check, Decode, Dump, Encode, Replay};

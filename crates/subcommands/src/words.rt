@@ -64,6 +64,22 @@ pub struct Replay<'a> {
     pub logs: Vec<&'a str>,
 }
 
+/// `bench --base B [--period N] [--capacity N] IMAGE LOG...`: what comes of the log of each hart that is sent through
+/// the funnel from a thread of its own.
+#[derive(Debug, PartialEq, Eq, Drop)]
+pub struct Bench<'a> {
+    /// The address of the image's first byte, not yet read as a number.
+    pub base: &'a str,
+    /// How many retirements there are from one periodic synchronisation to the next, 1 to 65535.
+    pub period: u16,
+    /// How many messages the funnel holds, 1 to 65536.
+    pub capacity: u32,
+    /// The path of the image.
+    pub image: &'a str,
+    /// The paths of the logs, at least one, in the order of the words.
+    pub logs: Vec<&'a str>,
+}
+
 /// A subcommand with its files and options, as texts of the words.
 #[derive(Debug, PartialEq, Eq, Drop)]
 pub enum Asked<'a> {
@@ -77,4 +93,6 @@ pub enum Asked<'a> {
     Decode(Decode<'a>),
     /// A run of `replay`.
     Replay(Replay<'a>),
+    /// A run of `bench`.
+    Bench(Bench<'a>),
 }

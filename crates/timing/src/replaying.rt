@@ -1,14 +1,18 @@
-//! The phase over a funnel's machine: logs through it by turns.
+//! The phases of logs through the funnel: by turns, and over threads.
 
 use crate::fault::Fault;
-use crate::least::Phase;
+use crate::least::{Phase, RUNS, tell};
 use crate::packets::PERIOD;
-use bench::{Config, Turn, replay};
+use bench::{Config, Open, Outcome, Turn, replay, run};
 use encoder::Source;
 use legalpath::LegalLog;
 use std::alloc::{AllocError, Global};
+use std::io::Write;
+use std::sync::Wait;
+use std::thread::Threads;
+use std::time::{Clock, Instant};
 
-/// How many messages the funnel holds.
+/// How many messages the funnel of a replay holds.
 const CAPACITY: u32 = 16;
 
 /// How many payloads a log has.
@@ -57,16 +61,53 @@ pub(crate) struct Replaying<'a, 'p> {
 
 impl Phase for Replaying<'_, '_> {
     fn run(&mut self) -> Result<u64, Fault> {
-        let config = Config {
-            period: PERIOD,
-            capacity: CAPACITY,
-            keep: false,
-        };
+        let config = config_of(CAPACITY);
         let outcome = replay(self.alloc, self.logs, config, self.turns).map_err(|_| Fault::Log)?;
-        let mut events = 0u64;
-        for hart in &outcome.harts {
-            events = events.wrapping_add(hart.decoded.len() as u64);
-        }
-        Ok(events)
+        Ok(decoded_in(&outcome))
     }
+}
+
+/// Runs logs through the funnel over threads several times, and writes a name, the least time for each event and how many
+/// were decoded.
+pub(crate) fn measure_runs<R: Clock + AllocGlobal + Threads + Wait + Sync, E: Write>(
+    rt: &R,
+    err: &mut E,
+    name: &str,
+    logs: &[LegalLog<'_>],
+    capacity: u32,
+) -> Result<(), Fault> {
+    let alloc = rt.alloc();
+    let mut least = u128::MAX;
+    let mut decoded = 0;
+    for _ in 0..RUNS {
+        let start = Instant::now(rt)?;
+        let outcome = run(alloc, alloc, logs, config_of(capacity), &Open, rt).map_err(
+            |_| Fault::Log,
+        )?;
+        decoded = decoded_in(&outcome);
+        least = least.min(start.elapsed(rt)?.as_nanos());
+    }
+    let mut count = 0usize;
+    for log in logs {
+        count = count.wrapping_add(log.events().len());
+    }
+    tell(err, name, count, least, decoded)
+}
+
+/// Logs go through a funnel that holds so many messages, and no packets are kept.
+fn config_of(capacity: u32) -> Config {
+    Config {
+        period: PERIOD,
+        capacity,
+        keep: false,
+    }
+}
+
+/// How many events were decoded of all harts.
+fn decoded_in(outcome: &Outcome) -> u64 {
+    let mut events = 0u64;
+    for hart in &outcome.harts {
+        events = events.wrapping_add(hart.decoded.len() as u64);
+    }
+    events
 }

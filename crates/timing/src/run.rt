@@ -6,7 +6,7 @@ use crate::input::Input;
 use crate::least::measure;
 use crate::logs::{self, Judging, Reading, Writing};
 use crate::packets::{PERIOD, Packing, Unpacking, packets_of, payloads_of};
-use crate::replaying::{Replaying, rounds};
+use crate::replaying::{Replaying, measure_runs, rounds};
 use crate::sending::{Bare, IN_ONE_THREAD, OneThread, Senders, measure_senders};
 use crate::whole_captures::{CaptureDecoding, CaptureWriting};
 use captures::encode_capture;
@@ -19,7 +19,7 @@ use std::sync::Wait;
 use std::thread::Threads;
 use std::time::Clock;
 
-/// Measures each phase over each log that the words name, then a replay of all of them, and then a funnel.
+/// Measures each phase over each log that the words name, then a replay and runs of all of them, and then a funnel.
 pub(crate) fn run<R: Env + Files + Clock + AllocGlobal + Threads + Wait + Sync, E: Write>(
     rt: &R,
     err: &mut E,
@@ -34,12 +34,12 @@ pub(crate) fn run<R: Env + Files + Clock + AllocGlobal + Threads + Wait + Sync, 
         measure_packets(rt, err, &logs[0])?;
         measure_captures(rt, err, &logs)?;
     }
-    measure_replay(rt, err, &input)?;
+    measure_harts(rt, err, &input)?;
     measure_funnel(rt, err)
 }
 
-/// Measures a replay of all logs, a hart each, by turns that go round the harts.
-fn measure_replay<R: Clock + AllocGlobal, E: Write>(
+/// Measures a replay of all logs, a hart each, by turns that go round the harts, and runs of them over threads.
+fn measure_harts<R: Clock + AllocGlobal + Threads + Wait + Sync, E: Write>(
     rt: &R,
     err: &mut E,
     input: &Input,
@@ -59,7 +59,11 @@ fn measure_replay<R: Clock + AllocGlobal, E: Write>(
         logs: logs.as_slice(),
         turns: turns.as_slice(),
     };
-    measure(rt, err, "replay", count, replaying)
+    measure(rt, err, "replay", count, replaying)?;
+    for (name, capacity) in [("bench 1", 1), ("bench 16", 16), ("bench 1024", 1024)] {
+        measure_runs(rt, err, name, logs.as_slice(), capacity)?;
+    }
+    Ok(())
 }
 
 /// How many messages go through a funnel with a capacity of 1, and with a greater one.

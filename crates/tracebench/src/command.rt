@@ -11,6 +11,8 @@ use cli::asked;
 use commands::{Fault, Files, Status, carry_out, tell};
 use std::alloc::Global;
 use std::io::Write;
+use std::sync::Wait;
+use std::thread::Threads;
 use subcommands::Asked;
 
 /// Does what the words ask for, the program's name first among them, and answers the exit status: 0
@@ -20,9 +22,11 @@ use subcommands::Asked;
 ///
 /// The first fault is told on `err`, in the order words, base, count of logs, image, each log in turn,
 /// schedule, capture: one line, or `clap`'s own text where the words are at fault. That `err` itself fails changes no
-/// status. Illegal logs are no fault of `check`, which has a line for each log on `out`.
-pub fn command<F: Files, O: Write, E: Write>(
+/// status. Illegal logs are no fault of `check`, which has a line for each log on `out`. `bench` alone starts threads,
+/// and waits for them.
+pub fn command<F: Files, O: Write, E: Write, R: Threads + Wait + Sync>(
     alloc: Global,
+    rt: &R,
     files: &mut F,
     words: &[String],
     out: &mut O,
@@ -42,15 +46,16 @@ pub fn command<F: Files, O: Write, E: Write>(
         (E.contents err.old) (E.contents err.new)) }
 {
     let status = match asked(alloc, words) {
-        Ok(asked) => run(alloc, files, &asked, out, err),
+        Ok(asked) => run(alloc, rt, files, &asked, out, err),
         Err(error) => tell_words(err, &error),
     };
     status.code()
 }
 
 /// Carries out what is asked, and tells the fault that ends it.
-fn run<F: Files, O: Write, E: Write>(
+fn run<F: Files, O: Write, E: Write, R: Threads + Wait + Sync>(
     alloc: Global,
+    rt: &R,
     files: &mut F,
     asked: &Asked<'_>,
     out: &mut O,
@@ -62,7 +67,7 @@ fn run<F: Files, O: Write, E: Write>(
     ensures done { IsDone (F.content files.old) asked.now result (O.contents out.old) (O.contents out.new)
         (E.contents err.old) (E.contents err.new) }
 {
-    match carry_out(alloc, files, asked, out) {
+    match carry_out(alloc, rt, files, asked, out) {
         Ok(status) => status,
         Err(fault) => tell(err, &fault),
     }

@@ -1,7 +1,8 @@
 //! Logs through the funnel over threads.
 
-use super::made::{kinds, logs, program};
-use crate::{Config, Gate, HartOutcome, Open, Turn, is_whole, replay, report, run};
+use super::made::{kinds, logs, program, text_of, turns};
+use crate::{Config, Gate, HartOutcome, Open, Setup, Stop, is_whole, replay, run};
+use linked_list_allocator::LocalHeap;
 use std::sync::Wait;
 use std::sync::atomic::{AtomicBool, AtomicU64, Ordering};
 use std::test::Fail;
@@ -30,14 +31,7 @@ fn what_comes_is_what_comes_by_turns(rt: HostRuntime) -> Result<(), Fail> {
     let alloc = rt.alloc();
     let program = program(alloc)?;
     let logs = logs(alloc, &program)?;
-    let mut turns = Vec::new(alloc);
-    for (hart, count) in [(0, 5), (1, 4)] {
-        for _ in 0..count {
-            turns.push(Turn::Hart(hart))?;
-            turns.push(Turn::Collect)?;
-        }
-    }
-    let by_turns = replay(alloc, &logs, CONFIG, &turns)?;
+    let by_turns = replay(alloc, &logs, CONFIG, &turns(alloc)?)?;
     let outcome = run(alloc, alloc, &logs, CONFIG, &Open, &rt)?;
     assert!(rt; outcome.stop.is_none());
     assert_eq!(rt; outcome.harts.len(), 2);
@@ -47,11 +41,7 @@ fn what_comes_is_what_comes_by_turns(rt: HostRuntime) -> Result<(), Fail> {
         };
         assert!(rt; is_same(one, other), "hart {hart}");
     }
-    if outcome.harts.len() != logs.len() {
-        return Err(Fail::new("another number of harts"));
-    }
-    let mut text = Vec::new(alloc);
-    report(&outcome, &logs, &mut text)?;
+    let text = text_of(alloc, &outcome, &logs)?;
     let want = "hart 0: 33 events, 5 packets, 9 payload bytes, decoded 33, whole\n\
         hart 1: 4 events, 4 packets, 9 payload bytes, decoded 4, whole\n\
         result: whole\n";
@@ -59,19 +49,31 @@ fn what_comes_is_what_comes_by_turns(rt: HostRuntime) -> Result<(), Fail> {
     Ok(())
 }
 
-/// Counts what two harts sent.
+/// Counts what two harts try to send and what they sent, and notes a number that is not the next of its hart.
 #[derive(Drop)]
 struct Counts {
-    zero: AtomicU64,
-    one: AtomicU64,
+    tried: [AtomicU64; 2],
+    sent: [AtomicU64; 2],
+    strange: AtomicBool,
+}
+
+impl Counts {
+    /// Counts a message of a hart.
+    fn count(&self, counts: &[AtomicU64; 2], hart: u16, number: u64) {
+        let count = if hart == 0 { &counts[0] } else { &counts[1] };
+        if count.fetch_add(1, Ordering::SeqCst) != number {
+            self.strange.store(true, Ordering::SeqCst);
+        }
+    }
 }
 
 impl Gate for Counts {
-    fn before_send<R: Wait>(&self, _rt: &R, _hart: u16, _number: u64) {}
+    fn before_send<R: Wait>(&self, _rt: &R, hart: u16, number: u64) {
+        self.count(&self.tried, hart, number);
+    }
 
-    fn after_send<R: Wait>(&self, _rt: &R, hart: u16, _number: u64) {
-        let count = if hart == 0 { &self.zero } else { &self.one };
-        count.fetch_add(1, Ordering::SeqCst);
+    fn after_send<R: Wait>(&self, _rt: &R, hart: u16, number: u64) {
+        self.count(&self.sent, hart, number);
     }
 }
 
@@ -81,13 +83,17 @@ fn each_send_passes_the_gate(rt: HostRuntime) -> Result<(), Fail> {
     let program = program(alloc)?;
     let logs = logs(alloc, &program)?;
     let gate = Counts {
-        zero: AtomicU64::new(0),
-        one: AtomicU64::new(0),
+        tried: [AtomicU64::new(0), AtomicU64::new(0)],
+        sent: [AtomicU64::new(0), AtomicU64::new(0)],
+        strange: AtomicBool::new(false),
     };
     let outcome = run(alloc, alloc, &logs, CONFIG, &gate, &rt)?;
     assert!(rt; outcome.stop.is_none());
-    assert_eq!(rt; gate.zero.load(Ordering::SeqCst), 5);
-    assert_eq!(rt; gate.one.load(Ordering::SeqCst), 4);
+    for counts in [&gate.tried, &gate.sent] {
+        assert_eq!(rt; counts[0].load(Ordering::SeqCst), 5);
+        assert_eq!(rt; counts[1].load(Ordering::SeqCst), 4);
+    }
+    assert!(rt; !gate.strange.load(Ordering::SeqCst));
     Ok(())
 }
 
@@ -162,5 +168,48 @@ fn sixty_four_harts(rt: HostRuntime) -> Result<(), Fail> {
         }
         assert!(rt; is_whole(&outcome, logs.as_slice()), "capacity {capacity}");
     }
+    Ok(())
+}
+
+#[test]
+fn memory_is_refused(rt: HostRuntime) -> Result<(), Fail> {
+    let alloc = rt.alloc();
+    let program = program(alloc)?;
+    let logs = logs(alloc, &program)?;
+    let mut setups = 0u32;
+    let mut stops = 0u32;
+    let mut whole = 0u32;
+    for step in 0..200usize {
+        let heap = LocalHeap::new(alloc, step * 32)?;
+        match run(&heap, alloc, &logs, CONFIG, &Open, &rt) {
+            Ok(outcome) => {
+                let stop = outcome.stop;
+                let (Some(zero), Some(one)) = (outcome.harts.get(0), outcome.harts.get(1)) else {
+                    return Err(Fail::new("another number of harts"));
+                };
+                assert!(rt; zero.closed != zero.refused && one.closed != one.refused);
+                match stop {
+                    None => {
+                        assert!(rt; zero.closed && one.closed);
+                        whole = whole.saturating_add(1);
+                    }
+                    Some(Stop::Memory(hart)) => {
+                        assert!(rt; if hart == 0 { zero.refused } else { one.refused });
+                        stops = stops.saturating_add(1);
+                    }
+                    Some(_) => assert!(rt; false),
+                }
+            }
+            Err(fault) => {
+                assert!(rt; fault == Setup::Memory);
+                setups = setups.saturating_add(1);
+            }
+        }
+        assert_eq!(rt; heap.used(), 0);
+    }
+    assert!(rt;
+        0 < setups && 0 < stops && 0 < whole,
+        "{setups} {stops} {whole}"
+    );
     Ok(())
 }

@@ -11,7 +11,7 @@ use std::alloc::Global;
 use std::test::Fail;
 
 /// Two words `nop`.
-const NOPS: [u32; 2] = [0x0000_0013; 2];
+pub(super) const NOPS: [u32; 2] = [0x0000_0013; 2];
 
 /// The capture of a hart that retires both.
 const WORKED: [u8; 52] = [
@@ -37,22 +37,22 @@ const BOTH: [Event; 2] = [
 
 // Its payloads.
 
-const OPEN: &[u8] = &[0x1f];
+pub(super) const OPEN: &[u8] = &[0x1f];
 
-const FIRST: &[u8] = &[0x73, 0, 0, 0, 0x20];
+pub(super) const FIRST: &[u8] = &[0x73, 0, 0, 0, 0x20];
 
-const SECOND: &[u8] = &[0x0a];
+pub(super) const SECOND: &[u8] = &[0x0a];
 
-const END: &[u8] = &[0x4f];
+pub(super) const END: &[u8] = &[0x4f];
 
 /// Where each of its messages begins, and where the last ends.
 const PLACES: [usize; 5] = [0, 12, 28, 40, 52];
 
 /// A message of a hart: its hart, its number and its payload.
-type Sent = (u16, u64, &'static [u8]);
+pub(super) type Sent = (u16, u64, &'static [u8]);
 
 /// The capture of these messages.
-fn capture_of(alloc: Global, messages: &[Sent]) -> Result<Vec<u8>, Fail> {
+pub(super) fn capture_of(alloc: Global, messages: &[Sent]) -> Result<Vec<u8>, Fail> {
     let mut bytes = Vec::new(alloc);
     for (hart, number, payload) in messages {
         let message = Message {

@@ -12,6 +12,7 @@ fn bases(rt: HostRuntime) -> Result<(), Fail> {
         (Request::Decode("zz", 1, "no.bin", "no.capture"), 2, told),
         (Request::Hex("zz", 1024, "no.bin", "no.csv"), 2, told),
         (Request::Hex("-1", 1024, "no.bin", "no.csv"), 2, told),
+        (Request::Bench("zz", 16, "no.bin", "no.csv"), 2, told),
     ];
     let mut files = Table::new(rt.alloc());
     tells(&rt, &mut files, cases.as_slice())?;
@@ -81,6 +82,21 @@ fn images(rt: HostRuntime) -> Result<(), Fail> {
             "tracebench: no.capture: cannot be read\n",
         ),
         (Request::Dump("full"), 3, "tracebench: out of memory\n"),
+        (
+            Request::Bench("80000001", 16, "image.bin", "no.csv"),
+            2,
+            "tracebench: base is odd\n",
+        ),
+        (
+            Request::Bench("80000000", 16, "image.bin", "no.csv"),
+            3,
+            "tracebench: no.csv: cannot be read\n",
+        ),
+        (
+            Request::Bench("80000000", 16, "image.bin", "full"),
+            3,
+            "tracebench: out of memory\n",
+        ),
     ];
     tells(&rt, &mut files, cases.as_slice())?;
     Ok(())

@@ -8,7 +8,9 @@ use crate::{FileFault, Files, carry_out, tell};
 use std::alloc::{AllocError, Global};
 use std::io::Write;
 use std::process::Abort;
-use subcommands::{Asked, Check, Decode, Dump, Encode};
+use std::sync::Wait;
+use std::thread::Threads;
+use subcommands::{Asked, Bench, Check, Decode, Dump, Encode, Replay};
 
 /// A table of paths and contents.
 #[derive(Drop)]
@@ -64,6 +66,10 @@ pub(super) enum Request<'a> {
     Dump(&'a str),
     /// `decode`.
     Decode(&'a str, u16, &'a str, &'a str),
+    /// `replay` at a period of 1024 and a capacity of 16, with the schedule before the logs.
+    Replay(&'a str, &'a str, &'a str, &'a str),
+    /// `bench` at a period of 1024 and this capacity.
+    Bench(&'a str, u32, &'a str, &'a str),
 }
 
 /// The texts that spaces part.
@@ -117,19 +123,34 @@ fn asked_of<'a>(alloc: Global, request: Request<'a>) -> Result<Asked<'a>, AllocE
             image,
             capture,
         })),
+        Request::Replay(base, image, schedule, logs) => Ok(Asked::Replay(Replay {
+            base,
+            period: 1024,
+            capacity: 16,
+            image,
+            schedule,
+            logs: parted(alloc, logs)?,
+        })),
+        Request::Bench(base, capacity, image, logs) => Ok(Asked::Bench(Bench {
+            base,
+            period: 1024,
+            capacity: capacity.clamp(1, 65_536),
+            image,
+            logs: parted(alloc, logs)?,
+        })),
     }
 }
 
 /// Does what is asked for over the files, tells the fault that ends it, and answers the exit status.
-pub(super) fn run<O: Write, E: Write>(
-    alloc: Global,
+pub(super) fn run<R: AllocGlobal + Threads + Wait + Sync, O: Write, E: Write>(
+    rt: &R,
     files: &mut Table,
     request: Request<'_>,
     out: &mut O,
     err: &mut E,
 ) -> Result<u8, AllocError> {
-    let asked = asked_of(alloc, request)?;
-    let status = match carry_out(alloc, files, &asked, out) {
+    let asked = asked_of(rt.alloc(), request)?;
+    let status = match carry_out(rt.alloc(), rt, files, &asked, out) {
         Ok(status) => status,
         Err(fault) => tell(err, &fault),
     };
@@ -137,7 +158,7 @@ pub(super) fn run<O: Write, E: Write>(
 }
 
 /// What is asked for ends with the status, writes the first text and tells the second.
-pub(super) fn ends<R: Abort + AllocGlobal>(
+pub(super) fn ends<R: Abort + AllocGlobal + Threads + Wait + Sync>(
     rt: &R,
     files: &mut Table,
     request: Request<'_>,
@@ -149,7 +170,7 @@ pub(super) fn ends<R: Abort + AllocGlobal>(
 }
 
 /// What is asked for ends with the status and tells the text. The answer is what it writes.
-pub(super) fn writes<R: Abort + AllocGlobal>(
+pub(super) fn writes<R: Abort + AllocGlobal + Threads + Wait + Sync>(
     rt: &R,
     files: &mut Table,
     request: Request<'_>,
@@ -158,14 +179,14 @@ pub(super) fn writes<R: Abort + AllocGlobal>(
 ) -> Result<Vec<u8>, AllocError> {
     let mut out = Vec::new(rt.alloc());
     let mut err = Vec::new(rt.alloc());
-    let ended = run(rt.alloc(), files, request, &mut out, &mut err)?;
+    let ended = run(rt, files, request, &mut out, &mut err)?;
     assert!(rt; err.as_slice() == told.as_bytes(), "{request:?}");
     assert_eq!(rt; ended, status, "{request:?}");
     Ok(out)
 }
 
 /// Each writes nothing, ends with the status and tells the text.
-pub(super) fn tells<R: Abort + AllocGlobal>(
+pub(super) fn tells<R: Abort + AllocGlobal + Threads + Wait + Sync>(
     rt: &R,
     files: &mut Table,
     cases: &[(Request<'_>, u8, &str)],

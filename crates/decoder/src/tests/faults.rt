@@ -1,9 +1,9 @@
 //! Each fault, by packets made by hand: the log and the decoder stay as they were.
 
 use super::{
-    BACK_JUMP, BASE, BEQ, BRANCH_LOOP, ECALL, ENDED_NTR, ENDED_REP, JUMP_LOOP, MRET, NOP, OPEN,
-    RET, SRET, address, fed, full_map, notify, plain, program_of, start, sync, trap_packet,
-    updiscon,
+    BACK_JUMP, BACK_JUMP_TWICE, BASE, BEQ, BRANCH_LOOP, ECALL, ENDED_NTR, ENDED_REP, JUMP_LOOP,
+    MRET, NOP, OPEN, RET, SRET, address, fed, full_map, notify, plain, program_of, start, sync,
+    trap_packet, updiscon,
 };
 use crate::DecodeFault::{
     AfterClose, Branches, MissedNotify, NotOpened, OffProgram, WrongPlace, WrongPrivilege,
@@ -54,7 +54,9 @@ fn not_opened(rt: HostRuntime) -> Result<(), Fail> {
 fn off_program(rt: HostRuntime) -> Result<(), Fail> {
     let alloc = rt.alloc();
     refuses(alloc, &[NOP], &[OPEN], sync(8, false, 3), OffProgram)?;
+    refuses(alloc, &[NOP, NOP], &[OPEN], sync(2, false, 3), OffProgram)?;
     refuses(alloc, &[ECALL], &[OPEN], start(), OffProgram)?;
+    refuses(alloc, &[NOP], &[OPEN, start()], full_map(), OffProgram)?;
     refuses(alloc, &[NOP], &[OPEN, start()], notify(4), OffProgram)?;
     refuses(
         alloc,
@@ -95,6 +97,21 @@ fn missed_notify(rt: HostRuntime) -> Result<(), Fail> {
         &[NOP, BACK_JUMP, RET],
         &[OPEN, start()],
         updiscon(0),
+        MissedNotify,
+    )?;
+    // The jump's target does not retire.
+    refuses(
+        alloc,
+        &[ECALL, BACK_JUMP, NOP],
+        &[OPEN, sync(4, false, 3)],
+        notify(0),
+        OffProgram,
+    )?;
+    refuses(
+        alloc,
+        &[ECALL, NOP, BACK_JUMP_TWICE],
+        &[OPEN, sync(4, false, 3)],
+        notify(0),
         MissedNotify,
     )
 }
@@ -143,6 +160,7 @@ fn wrong_place_by_the_kind(rt: HostRuntime) -> Result<(), Fail> {
         full_map(),
         WrongPlace,
     )?;
+    refuses(alloc, &[NOP, NOP], &[OPEN], plain(4), WrongPlace)?;
     refuses(alloc, &[NOP], &[OPEN], ENDED_REP, WrongPlace)?;
     refuses(alloc, &[NOP], &[OPEN, start()], ENDED_REP, WrongPlace)?;
     refuses(
@@ -216,6 +234,17 @@ fn wrong_privilege(rt: HostRuntime) -> Result<(), Fail> {
         trap_packet(4, false, 1, true),
         WrongPrivilege,
     )?;
+    let mut far = [0; 65];
+    far[0] = NOP;
+    far[1] = ECALL;
+    far[64] = NOP;
+    refuses(
+        alloc,
+        &far,
+        &[OPEN, start()],
+        trap_packet(0x100, false, 1, true),
+        WrongPrivilege,
+    )?;
     refuses(
         alloc,
         &[NOP],
@@ -253,6 +282,7 @@ fn after_close(rt: HostRuntime) -> Result<(), Fail> {
     let closed = [OPEN, start(), plain(4), ENDED_REP];
     refuses(alloc, &[NOP], &[OPEN, ENDED_NTR], OPEN, AfterClose)?;
     refuses(alloc, &[NOP], &[OPEN, ENDED_NTR], ENDED_NTR, AfterClose)?;
+    refuses(alloc, &[NOP, NOP], &closed, OPEN, AfterClose)?;
     refuses(alloc, &[NOP, NOP], &closed, sync(4, false, 3), AfterClose)
 }
 

@@ -2,8 +2,9 @@
 
 use super::{BASE, BEQ, BRANCH_LOOP, ECALL, JUMP_LOOP, MRET, NOP, RET, program_of, retired, trap};
 use crate::Decoder;
-use payload::unpack;
+use payload::{Outcomes, Packet, Report, unpack};
 use retire::Event;
+use rvclass::Program;
 use std::alloc::Global;
 use std::test::Fail;
 
@@ -242,4 +243,38 @@ fn first_event_is_a_taken_branch(rt: HostRuntime) -> Result<(), Fail> {
         &[OPEN, TAKEN_AT_BASE, &[0x12], ENDED_REP],
         &[retired(0, 5, 3), retired(8, 0, 3)],
     )
+}
+
+// An address packet at the last of 524,288 words C.NOP, before which no other is reported.
+#[test]
+fn longest_walk(rt: HostRuntime) -> Result<(), Fail> {
+    let alloc = rt.alloc();
+    let mut image = Vec::new(alloc);
+    for _ in 0..524_288u32 {
+        image.extend_from_slice(&[1, 0])?;
+    }
+    let program = Program::new(BASE, image)?;
+    let difference = Packet::Address {
+        outcomes: Outcomes::new(),
+        delta: 0xf_fffe,
+        report: Report::Plain,
+    };
+    let mut decoder = Decoder::new();
+    let mut log = Vec::new(alloc);
+    for packet in [super::OPEN, super::start(), difference, super::ENDED_REP] {
+        decoder.feed(&program, &packet, &mut log)?;
+    }
+    assert!(rt; decoder.is_closed());
+    assert_eq!(rt; log.len(), 524_288);
+    let mut addr = BASE;
+    for event in log.iter() {
+        let expected = Event::Retire {
+            addr,
+            itype: 0,
+            privilege: 3,
+        };
+        assert!(rt; *event == expected, "{addr:x}");
+        addr = addr.wrapping_add(2);
+    }
+    Ok(())
 }

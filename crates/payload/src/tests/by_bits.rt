@@ -195,3 +195,79 @@ fn reads_each_two_bytes(rt: HostRuntime) {
         }
     }
 }
+
+/// The captures of a hart that retires two words, of one that jumps to itself three times, and of one that takes an
+/// exception to its handler.
+const CAPTURES: [&[u8]; 3] = [
+    &[
+        0, 0, 0, 0, 0, 0, 0, 0, 0, 0, 1, 0x1f, //
+        0, 0, 1, 0, 0, 0, 0, 0, 0, 0, 5, 0x73, 0, 0, 0, 0x20, //
+        0, 0, 2, 0, 0, 0, 0, 0, 0, 0, 1, 0x0a, //
+        0, 0, 3, 0, 0, 0, 0, 0, 0, 0, 1, 0x4f,
+    ],
+    &[
+        0, 0, 0, 0, 0, 0, 0, 0, 0, 0, 1, 0x1f, //
+        0, 0, 1, 0, 0, 0, 0, 0, 0, 0, 5, 0x73, 0, 0, 0, 0x20, //
+        0, 0, 2, 0, 0, 0, 0, 0, 0, 0, 9, 0x02, 0, 0, 0, 0, 0, 0, 0, 0xfe, //
+        0, 0, 3, 0, 0, 0, 0, 0, 0, 0, 1, 0x02, //
+        0, 0, 4, 0, 0, 0, 0, 0, 0, 0, 1, 0x4f,
+    ],
+    &[
+        0, 0, 0, 0, 0, 0, 0, 0, 0, 0, 1, 0x1f, //
+        0, 0, 1, 0, 0, 0, 0, 0, 0, 0, 5, 0x73, 0, 0, 0, 0x20, //
+        0, 0, 2, 0, 0, 0, 0, 0, 0, 0, 6, 0xf7, 0x45, 0x40, 0, 0, 0x20, //
+        0, 0, 3, 0, 0, 0, 0, 0, 0, 0, 2, 0xcf, 0,
+    ],
+];
+
+/// Their payloads.
+const PAYLOADS: [&[u8]; 8] = [
+    &[0x1f],
+    &[0x73, 0, 0, 0, 0x20],
+    &[0x0a],
+    &[0x4f],
+    &[0x02, 0, 0, 0, 0, 0, 0, 0, 0xfe],
+    &[0x02],
+    &[0xf7, 0x45, 0x40, 0, 0, 0x20],
+    &[0xcf, 0],
+];
+
+/// Whether bytes that are a payload by their length are read alike.
+fn is_read_alike(bytes: &[u8]) -> bool {
+    bytes.is_empty() || 18 < bytes.len() || unpack(bytes) == read(bytes)
+}
+
+/// Where one byte of the captures is changed, outside the payloads, each payload is a stretch of them as they are.
+#[test]
+fn reads_each_stretch_of_captures(rt: HostRuntime) {
+    for capture in CAPTURES {
+        for from in 11..capture.len() {
+            for length in 1..19usize {
+                let end = from.saturating_add(length);
+                if let Some(bytes) = capture.get(from..end) {
+                    assert!(rt; is_read_alike(bytes), "{from} {length}");
+                }
+            }
+        }
+    }
+}
+
+/// The payload with the byte at a place set to each value.
+#[test]
+fn reads_each_changed_payload(rt: HostRuntime) {
+    for payload in PAYLOADS {
+        for place in 0..payload.len() {
+            for value in 0..=u8::MAX {
+                let mut bytes = [0; 18];
+                for (to, from) in bytes.iter_mut().zip(payload) {
+                    *to = *from;
+                }
+                if let Some(byte) = bytes.get_mut(place) {
+                    *byte = value;
+                }
+                let changed = bytes.get(..payload.len()).unwrap_or(&[]);
+                assert!(rt; is_read_alike(changed), "{place} {value:02x}");
+            }
+        }
+    }
+}

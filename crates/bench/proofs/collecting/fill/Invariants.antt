@@ -10,7 +10,8 @@ invariant-loop-list g l = record {
   few : length l.lists.items ≤ length l.fn.harts.items;
   taken : taken_in l.harts.items ≡ taken_in l.fn.harts.items;
   left : l.lists.items ≡ take (length l.lists.items) l.fn.lists.items;
-  decoded : drop (length l.lists.items) (decoded_in l.harts.items) ≡ drop (length l.lists.items) (events_in l.fn.lists.items);
+  decoded : drop (length l.lists.items) (decoded_in l.harts.items)
+      ≡ drop (length l.lists.items) (events_in l.fn.lists.items);
   closed : drop (length l.lists.items) (closed_in l.harts.items) ≡ drop (length l.lists.items) l.closed;
 }
 

@@ -19,10 +19,12 @@ loop-hart-preserved g c =
     let len = c.push_reserved.ensures.len in
     let capacity = c.push_reserved.ensures.capacity in
     record {
-      harts = nothing-next c.loop-hart.harts.items _ _ hart c.push_reserved.ensures.items c.loop-hart.invariant.harts c.new.ensures.items refl;
+      harts = nothing-next c.loop-hart.harts.items _ _ hart c.push_reserved.ensures.items c.loop-hart.invariant.harts
+          c.new.ensures.items refl;
       count = omega (arith, count, len);
       room = omega (arith, room, capacity);
-      legal = legal-next c.args.logs.now hart c.index-logs-hart.result c.loop-hart-test.true c.index-logs-hart.is c.know.ensures c.loop-hart.invariant.legal;
+      legal = legal-next c.args.logs.now hart c.index-logs-hart.result c.loop-hart-test.true c.index-logs-hart.is
+          c.know.ensures c.loop-hart.invariant.legal;
     }
 
 pub returns-clause-harts : goal.returns-clause-harts

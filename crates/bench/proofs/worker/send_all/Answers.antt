@@ -2,7 +2,8 @@
 use Rattle.std.proofs.Common.{◌≡◌, ◌+◌, Err, length, slice_get, arith, ◌∙◌, sym, ap, subst}
 use Rattle.std.proofs.lemmas.List.{length_push}
 use Rattle.encoder.specs.Payloads.{payloads}
-use Rattle.funnel.specs.Ends.{PortView, next_message}
+use Rattle.funnel.specs.Ends.{PortView}
+use Rattle.funnel.specs.Order.{next_message}
 use Rattle.funnel.specs.Refusals.{payload_of}
 use Rattle.funnel.specs.declared.fault.SendFault.{SendFault}
 use Rattle.funnel.specs.declared.fault.SendFault.TheVariants as fault
@@ -30,7 +31,7 @@ loop-number-preserved g c =
     let at = g.S.Payloads.at c.args.source in
     let now = c.loop-number in
     let next = sym (c.in-Some.ensures.given at.period now.number at.log now.invariant.source) in
-    let message = next_message now.port c.in-Some.payload in
+    let message = next_message now.port.hart now.port.sent c.in-Some.payload in
     record {
       source = c.in-Some.ensures.goes_on at.period now.number at.log now.invariant.source;
       funnel = c.send.ensures.funnel ∙ now.invariant.funnel;

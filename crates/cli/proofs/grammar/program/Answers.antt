@@ -12,6 +12,7 @@ returns c =
       ap (λ f. f.has_globals) c.subcommand_required.ensures ∙ ap (λ f. f.has_globals) c.about.ensures ∙ c.new.ensures.local,
     ) in
     adds_subcommand _ _ _ _ _ (adds_subcommand _ _ _ _ _ (adds_subcommand _ _ _ _ _ (adds_subcommand _ _ _ _ _
-    (adds_subcommand _ _ _ _ _ bare c.in_ok-check.ensures c.in_ok-subcommand.ensures)
+    (adds_subcommand _ _ _ _ _ (adds_subcommand _ _ _ _ _ bare c.in_ok-check.ensures c.in_ok-subcommand.ensures)
     c.in_ok-encode.ensures c.in_ok-subcommand-2.ensures) c.in_ok-dump.ensures c.in_ok-subcommand-3.ensures)
-    c.in_ok-decode.ensures c.in_ok-subcommand-4.ensures) c.in_ok-replay.ensures c.in_ok-command.ensures
+    c.in_ok-decode.ensures c.in_ok-subcommand-4.ensures) c.in_ok-replay.ensures c.in_ok-subcommand-5.ensures)
+    c.in_ok-bench.ensures c.in_ok-command.ensures

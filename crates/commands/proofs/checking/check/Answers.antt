@@ -1,44 +1,38 @@
 -- The prover tries no chain of steps by itself: what each step found is handed to it, in order.
-use Rattle.std.proofs.Common.{◌≡◌, inr, refl, subst, sym, arith, Ok, Err}
+use Rattle.std.proofs.Common.{◌≡◌, inr, subst, arith, Ok, Err}
 use Rattle.std.proofs.lemmas.Grind.{common_steps}
 use Rattle.std.specs.Prelude.{⊤}
 use Rattle.commands.specs.Begun.{AppendsFirstLines}
 use Rattle.commands.specs.Checking.{Checks, WritesLines}
-use Rattle.commands.specs.Found.{AreFew, IsProgram}
+use Rattle.commands.specs.Found.{AreFew}
 use Rattle.commands.specs.Inputs.{CanCheck}
 use Rattle.commands.specs.Printed.{PrintsUnlessDenied}
 use Rattle.commands.proofs.Beginnings.{lines_kept}
-use Rattle.commands.proofs.Runs.{ends_silently, goes_on}
+use Rattle.commands.proofs.FirstSteps.{count_ends, program_ends}
+use Rattle.commands.proofs.Runs.{goes_on}
 use Rattle.commands.proofs.checking.check.Goals as goal
 
 pub returns-in_err-counted-clause-printed : goal.returns-in_err-counted-clause-printed
 returns-in_err-counted-clause-printed g c =
-    let out = g.O.Write.contents c.args.out.now in
+    let content = g.F.Files.content c.args.files.now in
     let asked = c.args.asked.now in
-    let run = Checks (g.F.Files.content c.args.files.now) asked in
-    let can = CanCheck (g.F.Files.content c.args.files.now) asked in
-    let why = c.in_err-counted.field-0.0 in
-    let is : c.from_residual-in_err-counted.result ≡ Err why = grind (arith, common_steps) in
-    let many = subst (λ logs. AreFew logs (Err why)) c.as_slice.ensures.value c.in_err-counted.ensures.found in
-    subst (λ r. PrintsUnlessDenied run can r out out) (sym is)
-    (ends_silently run can (AreFew asked.logs.items (Err why)) why out (inr many)
-    (λ many. (Ok c.in_ok-base.base, c.in_ok-base.ensures.found, (Err why, many, refl))))
+    let is : c.from_residual-in_err-counted.result ≡ Err c.in_err-counted.field-0.0 = grind (arith, common_steps) in
+    count_ends content asked.base.now asked.image asked.logs.items c.as_slice.result.now (CanCheck content asked)
+    (g.O.Write.contents c.args.out.now) c.in_ok-base.base c.in_err-counted.field-0.0 c.from_residual-in_err-counted.result
+    c.in_ok-base.ensures.found c.as_slice.ensures.value is
+    (λ _ program. WritesLines content program asked.logs.items)
+    c.in_err-counted.ensures.found
 
 pub returns-in_err-program-clause-printed : goal.returns-in_err-program-clause-printed
 returns-in_err-program-clause-printed g c =
-    let out = g.O.Write.contents c.args.out.now in
-    let asked = c.args.asked.now in
     let content = g.F.Files.content c.args.files.now in
-    let run = Checks content asked in
-    let can = CanCheck content asked in
-    let base = c.in_ok-base.base in
-    let why = c.in_err-program.field-0.0 in
-    let is : c.from_residual-in_err-program.result ≡ Err why = grind (arith, common_steps) in
-    let counted = Ok c.in_ok-counted.field-0 in
-    let few = subst (λ logs. AreFew logs counted) c.as_slice.ensures.value c.in_ok-counted.ensures.found in
-    subst (λ r. PrintsUnlessDenied run can r out out) (sym is)
-    (ends_silently run can (IsProgram content base asked.image (Err why)) why out c.in_err-program.ensures.fault
-    (λ none. (Ok base, c.in_ok-base.ensures.found, (counted, few, (Err why, none, refl)))))
+    let asked = c.args.asked.now in
+    let is : c.from_residual-in_err-program.result ≡ Err c.in_err-program.field-0.0 = grind (arith, common_steps) in
+    program_ends content asked.base.now asked.image asked.logs.items c.as_slice.result.now (CanCheck content asked)
+    (g.O.Write.contents c.args.out.now) c.in_ok-base.base c.in_err-program.field-0.0 c.from_residual-in_err-program.result
+    c.in_ok-base.ensures.found c.as_slice.ensures.value is c.in_ok-counted.field-0 c.in_ok-counted.ensures.found
+    (λ _ program. WritesLines content program asked.logs.items)
+    c.in_err-program.ensures.fault
 
 pub returns-clause-printed : goal.returns-clause-printed
 returns-clause-printed g c =

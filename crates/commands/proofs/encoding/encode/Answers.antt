@@ -1,63 +1,49 @@
 -- The prover tries no chain of steps by itself: what each step found is handed to it, in order.
-use Rattle.std.proofs.Common.{◌≡◌, ◌⊎◌, inr, refl, subst, sym, arith, Ok, Err}
+use Rattle.std.proofs.Common.{◌≡◌, refl, subst, arith, Ok, Err}
 use Rattle.std.proofs.lemmas.Grind.{common_steps}
 use Rattle.std.specs.Io.KnownBytes.{Appends}
 use Rattle.captures.specs.Messages.{messages_of_harts}
-use Rattle.commands.specs.Encoding.{Encodes, written}
-use Rattle.commands.specs.Found.{AreFew, AreLegalLogs, IsProgram}
+use Rattle.commands.specs.Encoding.{WritesMessages, written}
+use Rattle.commands.specs.Found.{AreFew, AreLegalLogs}
 use Rattle.commands.specs.Inputs.{CanEncode}
-use Rattle.commands.specs.Printed.{PrintsUnlessDenied}
-use Rattle.commands.specs.declared.fault.Fault.TheVariants as fault
-use Rattle.commands.proofs.Runs.{appends-keeps, ends_silently}
+use Rattle.commands.specs.Printed.{First}
+use Rattle.commands.proofs.FirstSteps.{count_ends, logs_end, program_ends}
+use Rattle.commands.proofs.Runs.{appends-keeps}
 use Rattle.commands.proofs.encoding.encode.Goals as goal
 
 pub returns-in_err-counted-clause-printed : goal.returns-in_err-counted-clause-printed
 returns-in_err-counted-clause-printed g c =
-    let out = g.O.Write.contents c.args.out.now in
+    let content = g.F.Files.content c.args.files.now in
     let asked = c.args.asked.now in
-    let run = Encodes (g.F.Files.content c.args.files.now) asked in
-    let can = CanEncode (g.F.Files.content c.args.files.now) asked in
-    let why = c.in_err-counted.field-0.0 in
-    let is : c.from_residual-in_err-counted.result ≡ Err why = grind (arith, common_steps) in
-    let many = subst (λ logs. AreFew logs (Err why)) c.as_slice.ensures.value c.in_err-counted.ensures.found in
-    subst (λ r. PrintsUnlessDenied run can r out out) (sym is)
-    (ends_silently run can (AreFew asked.logs.items (Err why)) why out (inr many)
-    (λ many. (Ok c.in_ok-base.base, c.in_ok-base.ensures.found, (Err why, many, refl))))
+    let is : c.from_residual-in_err-counted.result ≡ Err c.in_err-counted.field-0.0 = grind (arith, common_steps) in
+    count_ends content asked.base.now asked.image asked.logs.items c.as_slice.result.now (CanEncode content asked)
+    (g.O.Write.contents c.args.out.now) c.in_ok-base.base c.in_err-counted.field-0.0 c.from_residual-in_err-counted.result
+    c.in_ok-base.ensures.found c.as_slice.ensures.value is
+    (λ _ program. First (AreLegalLogs content program asked.logs.items) (WritesMessages asked))
+    c.in_err-counted.ensures.found
 
 pub returns-in_err-program-clause-printed : goal.returns-in_err-program-clause-printed
 returns-in_err-program-clause-printed g c =
-    let out = g.O.Write.contents c.args.out.now in
-    let asked = c.args.asked.now in
     let content = g.F.Files.content c.args.files.now in
-    let run = Encodes content asked in
-    let can = CanEncode content asked in
-    let base = c.in_ok-base.base in
-    let why = c.in_err-program.field-0.0 in
-    let is : c.from_residual-in_err-program.result ≡ Err why = grind (arith, common_steps) in
-    let counted = Ok c.in_ok-counted.field-0 in
-    let few = subst (λ logs. AreFew logs counted) c.as_slice.ensures.value c.in_ok-counted.ensures.found in
-    subst (λ r. PrintsUnlessDenied run can r out out) (sym is)
-    (ends_silently run can (IsProgram content base asked.image (Err why)) why out c.in_err-program.ensures.fault
-    (λ none. (Ok base, c.in_ok-base.ensures.found, (counted, few, (Err why, none, refl)))))
+    let asked = c.args.asked.now in
+    let is : c.from_residual-in_err-program.result ≡ Err c.in_err-program.field-0.0 = grind (arith, common_steps) in
+    program_ends content asked.base.now asked.image asked.logs.items c.as_slice.result.now (CanEncode content asked)
+    (g.O.Write.contents c.args.out.now) c.in_ok-base.base c.in_err-program.field-0.0 c.from_residual-in_err-program.result
+    c.in_ok-base.ensures.found c.as_slice.ensures.value is c.in_ok-counted.field-0 c.in_ok-counted.ensures.found
+    (λ _ program. First (AreLegalLogs content program asked.logs.items) (WritesMessages asked))
+    c.in_err-program.ensures.fault
 
 pub returns-in_err-legal-clause-printed : goal.returns-in_err-legal-clause-printed
 returns-in_err-legal-clause-printed g c =
-    let out = g.O.Write.contents c.args.out.now in
-    let asked = c.args.asked.now in
     let content = g.F.Files.content c.args.files.now in
-    let run = Encodes content asked in
-    let can = CanEncode content asked in
-    let base = c.in_ok-base.base in
-    let program = c.in_ok-program.program in
-    let why = c.in_err-legal.field-0.0 in
-    let is : c.from_residual-in_err-legal.result ≡ Err why = grind (arith, common_steps) in
-    let counted = Ok c.in_ok-counted.field-0 in
-    let few = subst (λ logs. AreFew logs counted) c.as_slice.ensures.value c.in_ok-counted.ensures.found in
-    let told = subst (λ logs. (why ≡ fault.Memory) ⊎ AreLegalLogs content program logs (Err why)) c.as_slice-2.ensures.value
-    (subst (λ told. (why ≡ fault.Memory) ⊎ AreLegalLogs told program c.as_slice-2.result.now (Err why)) c.in_ok-program.ensures.kept c.in_err-legal.ensures.fault) in
-    subst (λ r. PrintsUnlessDenied run can r out out) (sym is)
-    (ends_silently run can (AreLegalLogs content program asked.logs.items (Err why)) why out told
-    (λ none. (Ok base, c.in_ok-base.ensures.found, (counted, few, (Ok program, c.in_ok-program.ensures.program, (Err why, none, refl))))))
+    let asked = c.args.asked.now in
+    let is : c.from_residual-in_err-legal.result ≡ Err c.in_err-legal.field-0.0 = grind (arith, common_steps) in
+    logs_end content asked.base.now asked.image asked.logs.items c.as_slice.result.now (CanEncode content asked)
+    (g.O.Write.contents c.args.out.now) c.in_ok-base.base c.in_err-legal.field-0.0 c.from_residual-in_err-legal.result
+    c.in_ok-base.ensures.found c.as_slice.ensures.value is c.in_ok-counted.field-0 c.in_ok-counted.ensures.found
+    (WritesMessages asked)
+    c.in_ok-program.program (g.F.Files.content c.program_of.new.files) c.as_slice-2.result.now c.in_ok-program.ensures.kept
+    c.as_slice-2.ensures.value c.in_ok-program.ensures.program c.in_err-legal.ensures.fault
 
 pub returns-clause-printed : goal.returns-clause-printed
 returns-clause-printed g c =

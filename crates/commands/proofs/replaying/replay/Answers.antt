@@ -1,67 +1,59 @@
 -- The prover tries no chain of steps by itself: what each step found is handed to it, in order.
-use Rattle.std.proofs.Common.{◌≡◌, ◌⊎◌, ◌∙◌, inr, refl, subst, sym, ap, arith, length, map, Ok, Err}
+use Rattle.std.proofs.Common.{◌≡◌, ◌⊎◌, ◌∙◌, refl, subst, sym, ap, arith, length, map, Ok, Err}
 use Rattle.std.proofs.lemmas.Grind.{common_steps}
 use Rattle.std.specs.Io.KnownBytes.{Appends}
 use Rattle.bench.specs.Got.{got_of}
 use Rattle.bench.specs.Replayed.{replayed}
 use Rattle.bench.specs.Report.{is_whole, report_text}
-use Rattle.commands.specs.Found.{AreFew, AreLegalLogs, IsProgram}
+use Rattle.commands.specs.Found.{AreFew, AreLegalLogs}
 use Rattle.commands.specs.Inputs.{CanReplay}
-use Rattle.commands.specs.Printed.{PrintsUnlessDenied}
-use Rattle.commands.specs.Replaying.{AreGot, IsSchedule, IsSetting, Replays, end_of_report}
+use Rattle.commands.specs.Printed.{First, PrintsUnlessDenied}
+use Rattle.commands.specs.Replaying.{AreGot, IsSchedule, Replays, WritesReport}
+use Rattle.commands.specs.Sending.{IsSetting, config_at, end_of_report}
 use Rattle.commands.specs.declared.fault.Fault.TheVariants as fault
+use Rattle.commands.proofs.FirstSteps.{count_ends, logs_end, program_ends}
 use Rattle.commands.proofs.Runs.{appends-keeps, ends_silently}
 use Rattle.commands.proofs.replaying.replay.Goals as goal
 
 pub returns-in_err-counted-clause-printed : goal.returns-in_err-counted-clause-printed
 returns-in_err-counted-clause-printed g c =
-    let out = g.O.Write.contents c.args.out.now in
+    let content = g.F.Files.content c.args.files.now in
     let asked = c.args.asked.now in
-    let run = Replays (g.F.Files.content c.args.files.now) asked in
-    let can = CanReplay (g.F.Files.content c.args.files.now) asked in
-    let why = c.in_err-counted.field-0.0 in
-    let is : c.from_residual-in_err-counted.result ≡ Err why = grind (arith, common_steps) in
-    let many = subst (λ logs. AreFew logs (Err why)) c.as_slice.ensures.value c.in_err-counted.ensures.found in
-    subst (λ r. PrintsUnlessDenied run can r out out) (sym is)
-    (ends_silently run can (AreFew asked.logs.items (Err why)) why out (inr many)
-    (λ many. (Ok c.in_ok-base.base, c.in_ok-base.ensures.found, (Err why, many, refl))))
+    let is : c.from_residual-in_err-counted.result ≡ Err c.in_err-counted.field-0.0 = grind (arith, common_steps) in
+    count_ends content asked.base.now asked.image asked.logs.items c.as_slice.result.now (CanReplay content asked)
+    (g.O.Write.contents c.args.out.now) c.in_ok-base.base c.in_err-counted.field-0.0 c.from_residual-in_err-counted.result
+    c.in_ok-base.ensures.found c.as_slice.ensures.value is
+    (λ _ program. First (AreLegalLogs content program asked.logs.items) (λ logs.
+    First (IsSchedule content (length asked.logs.items) asked.schedule) (λ turns.
+    First (IsSetting (length asked.logs.items) (config_at asked.period asked.capacity)) (λ _. WritesReport asked logs turns))))
+    c.in_err-counted.ensures.found
 
 pub returns-in_err-program-clause-printed : goal.returns-in_err-program-clause-printed
 returns-in_err-program-clause-printed g c =
-    let out = g.O.Write.contents c.args.out.now in
-    let asked = c.args.asked.now in
     let content = g.F.Files.content c.args.files.now in
-    let run = Replays content asked in
-    let can = CanReplay content asked in
-    let base = c.in_ok-base.base in
-    let why = c.in_err-program.field-0.0 in
-    let is : c.from_residual-in_err-program.result ≡ Err why = grind (arith, common_steps) in
-    let counted = Ok c.in_ok-counted.field-0 in
-    let few = subst (λ logs. AreFew logs counted) c.as_slice.ensures.value c.in_ok-counted.ensures.found in
-    subst (λ r. PrintsUnlessDenied run can r out out) (sym is)
-    (ends_silently run can (IsProgram content base asked.image (Err why)) why out c.in_err-program.ensures.fault
-    (λ none. (Ok base, c.in_ok-base.ensures.found, (counted, few, (Err why, none, refl)))))
+    let asked = c.args.asked.now in
+    let is : c.from_residual-in_err-program.result ≡ Err c.in_err-program.field-0.0 = grind (arith, common_steps) in
+    program_ends content asked.base.now asked.image asked.logs.items c.as_slice.result.now (CanReplay content asked)
+    (g.O.Write.contents c.args.out.now) c.in_ok-base.base c.in_err-program.field-0.0 c.from_residual-in_err-program.result
+    c.in_ok-base.ensures.found c.as_slice.ensures.value is c.in_ok-counted.field-0 c.in_ok-counted.ensures.found
+    (λ _ program. First (AreLegalLogs content program asked.logs.items) (λ logs.
+    First (IsSchedule content (length asked.logs.items) asked.schedule) (λ turns.
+    First (IsSetting (length asked.logs.items) (config_at asked.period asked.capacity)) (λ _. WritesReport asked logs turns))))
+    c.in_err-program.ensures.fault
 
 pub returns-in_err-legal-clause-printed : goal.returns-in_err-legal-clause-printed
 returns-in_err-legal-clause-printed g c =
-    let out = g.O.Write.contents c.args.out.now in
-    let asked = c.args.asked.now in
     let content = g.F.Files.content c.args.files.now in
-    let run = Replays content asked in
-    let can = CanReplay content asked in
-    let base = c.in_ok-base.base in
-    let program = c.in_ok-program.program in
-    let why = c.in_err-legal.field-0.0 in
-    let is : c.from_residual-in_err-legal.result ≡ Err why = grind (arith, common_steps) in
-    let counted = Ok c.in_ok-counted.field-0 in
-    let few = subst (λ logs. AreFew logs counted) c.as_slice.ensures.value c.in_ok-counted.ensures.found in
-    let told = subst (λ logs. (why ≡ fault.Memory) ⊎ AreLegalLogs content program logs (Err why)) c.as_slice-2.ensures.value
-    (subst (λ told. (why ≡ fault.Memory) ⊎ AreLegalLogs told program c.as_slice-2.result.now (Err why))
-    c.in_ok-program.ensures.kept c.in_err-legal.ensures.fault) in
-    let ready = c.in_ok-program.ensures.program in
-    subst (λ r. PrintsUnlessDenied run can r out out) (sym is)
-    (ends_silently run can (AreLegalLogs content program asked.logs.items (Err why)) why out told
-    (λ none. (Ok base, c.in_ok-base.ensures.found, (counted, few, (Ok program, ready, (Err why, none, refl))))))
+    let asked = c.args.asked.now in
+    let is : c.from_residual-in_err-legal.result ≡ Err c.in_err-legal.field-0.0 = grind (arith, common_steps) in
+    logs_end content asked.base.now asked.image asked.logs.items c.as_slice.result.now (CanReplay content asked)
+    (g.O.Write.contents c.args.out.now) c.in_ok-base.base c.in_err-legal.field-0.0 c.from_residual-in_err-legal.result
+    c.in_ok-base.ensures.found c.as_slice.ensures.value is c.in_ok-counted.field-0 c.in_ok-counted.ensures.found
+    (λ logs.
+    First (IsSchedule content (length asked.logs.items) asked.schedule) (λ turns.
+    First (IsSetting (length asked.logs.items) (config_at asked.period asked.capacity)) (λ _. WritesReport asked logs turns)))
+    c.in_ok-program.program (g.F.Files.content c.program_of.new.files) c.as_slice-2.result.now c.in_ok-program.ensures.kept
+    c.as_slice-2.ensures.value c.in_ok-program.ensures.program c.in_err-legal.ensures.fault
 
 pub returns-in_err-turns-clause-printed : goal.returns-in_err-turns-clause-printed
 returns-in_err-turns-clause-printed g c =
@@ -118,12 +110,13 @@ returns-in_err-outcome-clause-printed g c =
     let paths = ap length c.as_slice-2.ensures.value in
     let count : length logs ≡ length asked.logs.items =
     omega (arith, c.in_ok-legal.legal.ok.0, c.in_ok-legal.ensures.count, paths) in
-    let stands = subst (λ harts. (why ≡ fault.Memory) ⊎ IsSetting harts asked (Err why)) count
-    (subst (λ logs. (why ≡ fault.Memory) ⊎ IsSetting (length logs) asked (Err why)) c.as_slice-3.ensures.value
+    let config = config_at asked.period asked.capacity in
+    let stands = subst (λ harts. (why ≡ fault.Memory) ⊎ IsSetting harts config (Err why)) count
+    (subst (λ logs. (why ≡ fault.Memory) ⊎ IsSetting (length logs) config (Err why)) c.as_slice-3.ensures.value
     c.in_err-outcome.ensures.fault) in
     let ready = c.in_ok-program.ensures.program in
     subst (λ r. PrintsUnlessDenied run can r out out) (sym is)
-    (ends_silently run can (IsSetting (length asked.logs.items) asked (Err why)) why out stands
+    (ends_silently run can (IsSetting (length asked.logs.items) config (Err why)) why out stands
     (λ none. (
       Ok base,
       c.in_ok-base.ensures.found,
@@ -152,8 +145,9 @@ returns-clause-printed g c =
     let paths = ap length c.as_slice-2.ensures.value in
     let count : length logs ≡ length asked.logs.items =
     omega (arith, c.in_ok-legal.legal.ok.0, c.in_ok-legal.ensures.count, paths) in
-    let stands = subst (λ harts. IsSetting harts asked (Ok tt)) count
-    (subst (λ logs. IsSetting (length logs) asked (Ok tt)) c.as_slice-3.ensures.value c.in_ok-outcome.ensures.setting) in
+    let config = config_at asked.period asked.capacity in
+    let stands = subst (λ harts. IsSetting harts config (Ok tt)) count
+    (subst (λ logs. IsSetting (length logs) config (Ok tt)) c.as_slice-3.ensures.value c.in_ok-outcome.ensures.setting) in
     let came = subst (λ turns. AreGot asked.period logs (replayed asked.period asked.capacity logs turns).taken outcome.stop gots)
     c.as_slice-4.ensures.value
     (subst (λ logs. AreGot asked.period logs

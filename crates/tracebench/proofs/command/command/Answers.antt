@@ -6,7 +6,7 @@ use Rattle.tracebench.specs.Words.{Tells}
 use Rattle.tracebench.proofs.CarriedOut.{carried_out}
 use Rattle.tracebench.proofs.command.command.Goals as goal
 use Rattle.tracebench.proofs.command.command.Goals.{in-Ok+in-Check-1, in-Ok+in-Encode-1, in-Ok+in-Dump-1, in-Ok+in-Replay-1}
-use Rattle.tracebench.proofs.command.command.Goals.{in-Err+in-Some-1, in-Err+in-None-1}
+use Rattle.tracebench.proofs.command.command.Goals.{in-Ok+in-Bench-1, in-Err+in-Some-1, in-Err+in-None-1}
 
 pub returns-clause-printed : goal.returns-clause-printed
 returns-clause-printed g c =
@@ -24,6 +24,9 @@ returns-clause-printed g c =
           c.code.result c.args.out.now w.run-status.new.out c.match-asked.out c.args.err.now w.run-status.new.err c.match-asked.err
           w.in-Ok.ensures.found w.status-is c.code.ensures w.out-is w.err-is w.run-status.ensures.done))
       | in-Ok+in-Replay-1 w ↦ inr (inr (carried_out contents told content words w.in-Ok.asked w.run-status.result c.match-asked.status
+          c.code.result c.args.out.now w.run-status.new.out c.match-asked.out c.args.err.now w.run-status.new.err c.match-asked.err
+          w.in-Ok.ensures.found w.status-is c.code.ensures w.out-is w.err-is w.run-status.ensures.done))
+      | in-Ok+in-Bench-1 w ↦ inr (inr (carried_out contents told content words w.in-Ok.asked w.run-status.result c.match-asked.status
           c.code.result c.args.out.now w.run-status.new.out c.match-asked.out c.args.err.now w.run-status.new.err c.match-asked.err
           w.in-Ok.ensures.found w.status-is c.code.ensures w.out-is w.err-is w.run-status.ensures.done))
       | in-Err+in-Some-1 w ↦ elim w.in-Err.ensures.fault [

@@ -8,5 +8,7 @@ pub returns-clause-came : goal.returns-clause-came
 returns-clause-came g c = λ hart got refused.
     finished_came c.fill.new.harts.items hart got refused c.args.self
     (c.fill.ensures.taken ∙ ap (λ (r : Collected). r.harts) c.self.view_is)
-    (c.fill.ensures.decoded ∙ c.into_parts-lists.ensures.lists ∙ ap (λ (r : Collected). r.received.lists) c.self.view_is)
-    (c.fill.ensures.closed ∙ c.deref.ensures.value ∙ c.into_parts-lists.ensures.closed ∙ ap (λ (r : Collected). r.received.closed) c.self.view_is)
+    (c.fill.ensures.decoded ∙ c.into_parts-lists.ensures.lists
+    ∙ ap (λ (r : Collected). r.received.lists) c.self.view_is)
+    (c.fill.ensures.closed ∙ c.deref.ensures.value ∙ c.into_parts-lists.ensures.closed
+    ∙ ap (λ (r : Collected). r.received.closed) c.self.view_is)

@@ -1,5 +1,5 @@
--- A collector sees outcomes as what came of harts, so what was written of one has to be said of all: by laws on lists, which
--- no tactic finds.
+-- A collector sees outcomes as what came of harts, so what was written of one has to be said of all: by laws on lists,
+-- which no tactic finds.
 use Rattle.std.proofs.Common.{set, sym, ap, subst, ◌∙◌, arith}
 use Rattle.bench.proofs.TakesIn.{TakesIn, goes_on, not_refused, passes_over, takes_counts, takes_decoded, takes_expected, takes_in, takes_kept, takes_kept_received, takes_memory, takes_next, takes_none, takes_only_memory, takes_others, takes_reason, takes_undecoded}
 use Rattle.bench.specs.Collected.{Collected, IsRefusedHart}
@@ -11,7 +11,8 @@ use Rattle.bench.proofs.collecting.Collector.take_in.Goals as goal
 pub returns-in-Err-clause-only_memory : goal.returns-in-Err-clause-only_memory
 returns-in-Err-clause-only_memory g c = λ period count log has is.
     let all = subst IsCollected c.self.view_is c.self.invariant in
-    let answer = ap (λ (r : Collected). accepting r.received.expected c.args.message) (sym c.self.view_is) ∙ sym c.accept.ensures.value ∙ c.in-Err.is in
+    let answer = ap (λ (r : Collected). accepting r.received.expected c.args.message) (sym c.self.view_is)
+    ∙ sym c.accept.ensures.value ∙ c.in-Err.is in
     absurd (not_refused c.args.self.now all c.args.message c.in-Err.fault answer period count log has is)
 
 pub returns-in-Err-clause-passed_over : goal.returns-in-Err-clause-passed_over
@@ -23,7 +24,8 @@ returns-in-Err-clause-passed_over g c = λ given.
     absurd (elim c.else-hart-len.branch [
       | else-hart-len-via-then-hart-len+else-index w ↦
           goes_on items c.from-hart.result c.args.message.hart w.index.result.now c.from-hart.ensures
-          (let within = w.if-hart-len.true in omega (arith, within, length_is, count)) w.index.ensures w.if-index.false refused
+          (let within = w.if-hart-len.true in omega (arith, within, length_is, count)) w.index.ensures w.if-index.false
+          refused
       | else-hart-len-via-else-hart-len w ↦
           passes_over items c.from-hart.result c.args.message.hart c.from-hart.ensures
           (let past = w.if-hart-len.false in omega (arith, past, length_is, count)) refused
@@ -41,12 +43,16 @@ module _ (g : _) (c : goal.After-self-1 g) where
   step : TakesIn c.args.message c.in-Ok.packet c.take_packet.result c.args.self.now now
   step =
       subst (λ old. TakesIn c.args.message c.in-Ok.packet c.take_packet.result old now) c.self.view_is
-      (takes_in c.self.inside.logs.now c.self.inside.keep c.self.inside.receiver c.accept.new.self c.take_packet.new.receiver c.self.inside.harts.items
-      c.args.message c.in-Ok.packet c.from-hart.result c.log_at-log.result.now c.program.result.now c.index_mut.result.now c.take_packet.new.outcome
-      c.take_packet.result c.from-hart.ensures c.self.invariant (sym c.accept.ensures.value ∙ c.in-Ok.is) c.accept.ensures.state
+      (takes_in c.self.inside.logs.now c.self.inside.keep c.self.inside.receiver c.accept.new.self
+      c.take_packet.new.receiver c.self.inside.harts.items
+      c.args.message c.in-Ok.packet c.from-hart.result c.log_at-log.result.now c.program.result.now
+      c.index_mut.result.now c.take_packet.new.outcome
+      c.take_packet.result c.from-hart.ensures c.self.invariant (sym c.accept.ensures.value ∙ c.in-Ok.is)
+      c.accept.ensures.state
       c.in-Ok.ensures.known c.log_at-log.ensures c.index_mut.ensures.value c.program.ensures.program
       c.take_packet.ensures.taken c.take_packet.ensures.left c.take_packet.ensures.kept c.take_packet.ensures.hart
-      c.take_packet.ensures.others c.take_packet.ensures.none c.take_packet.ensures.reason c.take_packet.ensures.expected c.take_packet.ensures.complete)
+      c.take_packet.ensures.others c.take_packet.ensures.none c.take_packet.ensures.reason
+      c.take_packet.ensures.expected c.take_packet.ensures.complete)
 
   -- The hart is none whose memory was refused.
   goes : IsRefusedHart c.args.message.hart c.args.self.now → ⊥
@@ -58,29 +64,36 @@ module _ (g : _) (c : goal.After-self-1 g) where
       elim c.else-hart-len.branch [
         | else-hart-len-via-then-hart-len+else-index w ↦
             goes_on items c.from-hart.result c.args.message.hart w.index.result.now c.from-hart.ensures
-            (let within = w.if-hart-len.true in omega (arith, within, length_is, count)) w.index.ensures w.if-index.false refused
+            (let within = w.if-hart-len.true in omega (arith, within, length_is, count)) w.index.ensures
+            w.if-index.false refused
         | else-hart-len-via-else-hart-len w ↦
             passes_over items c.from-hart.result c.args.message.hart c.from-hart.ensures
             (let past = w.if-hart-len.false in omega (arith, past, length_is, count)) refused
       ]
 
 pub invariant_of-self-2 : goal.invariant_of-self-2
-invariant_of-self-2 g c = takes_kept c.args.message c.in-Ok.packet c.args.self.now (now g c) c.take_packet.result (step g c)
+invariant_of-self-2 g c =
+    takes_kept c.args.message c.in-Ok.packet c.args.self.now (now g c) c.take_packet.result (step g c)
 
 pub returns-clause-next : goal.returns-clause-next
-returns-clause-next g c = takes_next c.args.message c.in-Ok.packet c.args.self.now (now g c) c.take_packet.result (step g c)
+returns-clause-next g c =
+    takes_next c.args.message c.in-Ok.packet c.args.self.now (now g c) c.take_packet.result (step g c)
 
 pub returns-clause-only_memory : goal.returns-clause-only_memory
-returns-clause-only_memory g c = takes_only_memory c.args.message c.in-Ok.packet c.args.self.now (now g c) c.take_packet.result (step g c)
+returns-clause-only_memory g c =
+    takes_only_memory c.args.message c.in-Ok.packet c.args.self.now (now g c) c.take_packet.result (step g c)
 
 pub returns-clause-others : goal.returns-clause-others
-returns-clause-others g c = takes_others c.args.message c.in-Ok.packet c.args.self.now (now g c) c.take_packet.result (step g c)
+returns-clause-others g c =
+    takes_others c.args.message c.in-Ok.packet c.args.self.now (now g c) c.take_packet.result (step g c)
 
 pub returns-clause-memory : goal.returns-clause-memory
-returns-clause-memory g c = takes_memory c.args.message c.in-Ok.packet c.args.self.now (now g c) c.take_packet.result (step g c)
+returns-clause-memory g c =
+    takes_memory c.args.message c.in-Ok.packet c.args.self.now (now g c) c.take_packet.result (step g c)
 
 pub returns-clause-undecoded : goal.returns-clause-undecoded
-returns-clause-undecoded g c = takes_undecoded c.args.message c.in-Ok.packet c.args.self.now (now g c) c.take_packet.result (step g c)
+returns-clause-undecoded g c =
+    takes_undecoded c.args.message c.in-Ok.packet c.args.self.now (now g c) c.take_packet.result (step g c)
 
 pub returns-clause-passed_over : goal.returns-clause-passed_over
 returns-clause-passed_over g c = λ given. absurd (goes g c given)

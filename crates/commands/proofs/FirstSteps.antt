@@ -1,0 +1,52 @@
+-- What a run prints that looks at a base, a count of logs and an image first.
+use Rattle.std.proofs.Common.{◌≡◌, ◌⊎◌, inr, refl, ℕ, sym, subst, List, Option, Result, Ok, Err}
+use Rattle.legalpath.specs.ProgramLog.{ProgramLog}
+use Rattle.rvclass.specs.Image.{Image}
+use Rattle.commands.specs.Faults.{Path}
+use Rattle.commands.specs.Found.{AreFew, AreLegalLogs, IsBase, IsProgram}
+use Rattle.commands.specs.Known.{Content}
+use Rattle.commands.specs.Printed.{First, Printed, PrintsUnlessDenied}
+use Rattle.commands.specs.declared.fault.Fault.{Fault}
+use Rattle.commands.specs.declared.fault.Fault.TheVariants as fault
+use Rattle.commands.specs.declared.status.Status.{Status}
+use Rattle.commands.proofs.Runs.{ends_silently}
+
+module _ (content : Content) (text : List ℕ) (image : Path) (items paths : List Path) (CanWrite : Type 0) (out : Option (List ℕ))
+    (base : ℕ) (why : Fault) (ended : Result Status Fault) (based : IsBase text (Ok base)) (same : paths ≡ items)
+    (is : ended ≡ Err why) where
+  -- The base, the count of logs and the image are looked at in this order, and then it goes on.
+  abbrev Steps : (ℕ → Image → Printed → Type 0) → Printed → Type 0
+  Steps Next = First (IsBase text) (λ base. First (AreFew items) (λ _. First (IsProgram content base image) (Next base)))
+
+  -- There are too many logs.
+  pub count_ends : (Next : ℕ → Image → Printed → Type 0) → AreFew paths (Err why)
+      → PrintsUnlessDenied (Steps Next) CanWrite ended out out
+  count_ends Next many =
+      subst (λ r. PrintsUnlessDenied (Steps Next) CanWrite r out out) (sym is)
+      (ends_silently (Steps Next) CanWrite (AreFew items (Err why)) why out (inr (subst (λ logs. AreFew logs (Err why)) same many))
+      (λ many. (Ok base, based, (Err why, many, refl))))
+
+  module _ (one : Unit {0}) (few : AreFew paths (Ok one)) where
+    -- The image makes no program.
+    pub program_ends : (Next : ℕ → Image → Printed → Type 0) → (why ≡ fault.Memory) ⊎ IsProgram content base image (Err why)
+        → PrintsUnlessDenied (Steps Next) CanWrite ended out out
+    program_ends Next none =
+        subst (λ r. PrintsUnlessDenied (Steps Next) CanWrite r out out) (sym is)
+        (ends_silently (Steps Next) CanWrite (IsProgram content base image (Err why)) why out none
+        (λ none. (Ok base, based, (Ok one, subst (λ logs. AreFew logs (Ok one)) same few, (Err why, none, refl)))))
+
+    -- A log is not legal.
+    pub logs_end : (Next : List ProgramLog → Printed → Type 0) (program : Image) (told : Content) (those : List Path) → told ≡ content
+        → those ≡ items → IsProgram content base image (Ok program) → (why ≡ fault.Memory) ⊎ AreLegalLogs told program those (Err why)
+        → PrintsUnlessDenied (Steps (λ _ program. First (AreLegalLogs content program items) Next)) CanWrite ended out out
+    logs_end Next program told those kept alike found none =
+        let Run = Steps (λ _ program. First (AreLegalLogs content program items) Next) in
+        let first = subst (λ logs. (why ≡ fault.Memory) ⊎ AreLegalLogs content program logs (Err why)) alike
+        (subst (λ told. (why ≡ fault.Memory) ⊎ AreLegalLogs told program those (Err why)) kept none) in
+        subst (λ r. PrintsUnlessDenied Run CanWrite r out out) (sym is)
+        (ends_silently Run CanWrite (AreLegalLogs content program items (Err why)) why out first
+        (λ none. (
+          Ok base,
+          based,
+          (Ok one, subst (λ logs. AreFew logs (Ok one)) same few, (Ok program, found, (Err why, none, refl))),
+        )))

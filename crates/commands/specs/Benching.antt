@@ -1,0 +1,37 @@
+-- What `bench` prints, and how it ends.
+use Rattle.std.specs.Prelude.{◌≡◌, List, Option, Ok, length, map}
+use Rattle.std.specs.declared.alloc.Global.{Global}
+use Rattle.legalpath.specs.ProgramLog.{ProgramLog}
+use Rattle.bench.specs.Beginnings.{AreBeginnings}
+use Rattle.bench.specs.Got.{got_of}
+use Rattle.bench.specs.Report.{is_whole, report_text}
+use Rattle.bench.specs.Stopping.{NamesOpen}
+use Rattle.bench.specs.declared.config.Config.{Config}
+use Rattle.bench.specs.declared.outcome.HartOutcome.{HartOutcome}
+use Rattle.bench.specs.declared.stop.Stop.{Stop}
+use Rattle.subcommands.specs.declared.words.Bench.{Bench}
+use Rattle.commands.specs.Found.{AreFew, AreLegalLogs, IsBase, IsProgram}
+use Rattle.commands.specs.Known.{Content}
+use Rattle.commands.specs.Printed.{First, Printed}
+use Rattle.commands.specs.Sending.{IsSetting, config_at, end_of_report}
+
+-- The logs went through the funnel over threads, and the report of what came of them is written: of each hart what comes
+-- of a beginning of its packets, and no stop exactly where the closing packet of every hart came.
+pub record WritesOutcome (config : Config) (logs : List ProgramLog) (printed : Printed) : Type 0 where
+  pub stop : Option Stop
+  pub harts : List (HartOutcome Global)
+  pub came : AreBeginnings config logs harts
+  pub names : NamesOpen stop harts
+  pub text : printed.text ≡ report_text stop (map got_of harts) logs
+  pub ended : printed.ended ≡ Ok (end_of_report stop (is_whole stop (map got_of harts) logs))
+
+-- The base is looked at first, then the count of logs, the image and each log; where there is no fault, and nothing
+-- stands against sending, the report is written of what came through the funnel.
+abbrev pub Benches : Content → Bench → Printed → Type 0
+Benches content asked =
+    First (IsBase asked.base.now) (λ base.
+    First (AreFew asked.logs.items) (λ _.
+    First (IsProgram content base asked.image) (λ program.
+    First (AreLegalLogs content program asked.logs.items) (λ logs.
+    First (IsSetting (length asked.logs.items) (config_at asked.period asked.capacity)) (λ _.
+    WritesOutcome (config_at asked.period asked.capacity) logs)))))

@@ -1,0 +1,78 @@
+//! The subcommand `bench`.
+
+ghost use Rattle.std.specs.Prelude.{◌≡◌, ◌⊎◌, IfErr, IfOk, IfSome, Ok, Err, length};
+ghost use Rattle.retire.specs.Number.{number_of};
+ghost use Rattle.bench.specs.Beginnings.{AreBeginnings};
+ghost use Rattle.bench.specs.Stopping.{NamesOpen};
+ghost use Rattle.commands.specs.Benching.{Benches};
+ghost use Rattle.commands.specs.Faults.{end_of};
+ghost use Rattle.commands.specs.Inputs.{CanBench};
+ghost use Rattle.commands.specs.Order.{logs_fault};
+ghost use Rattle.commands.specs.Printed.{PrintsUnlessDenied};
+ghost use Rattle.commands.specs.Sending.{IsSetting, config_at};
+
+use crate::fault::Fault;
+use crate::files::Files;
+use crate::inputs::{base_of, counted, legal_logs_of, program_of};
+use crate::reporting::{status_of, write_report};
+use crate::status::Status;
+use bench::{Config, Open, Outcome, run};
+use legalpath::LegalLog;
+use std::alloc::Global;
+use std::io::Write;
+use std::sync::Wait;
+use std::thread::Threads;
+use subcommands::Bench;
+
+/// Sends each hart's log through the funnel from a thread of its own, once all logs are found legal, and writes the
+/// report of what comes of them. All is done where each log comes back whole. A stop, which is told in the report, ends
+/// it as a fault of the machine.
+pub fn bench<'a, F: Files, O: Write, R: Threads + Wait + Sync>(
+    alloc: Global,
+    rt: &R,
+    files: &mut F,
+    asked: &Bench<'a>,
+    out: &mut O,
+) -> Result<Status, Fault<'a>>
+    ensures early { IfSome (logs_fault (number_of asked.now.base.now) (length asked.now.logs.items))
+        (λ fault. result ≡ Err fault) }
+    ensures refused { end_of result ≡ Status.Refused → out.new ≡ out.old }
+    ensures untouched { result ≡ Err Fault.Memory → out.new ≡ out.old }
+    ensures printed { PrintsUnlessDenied (Benches (F.content files.old) asked.now) (CanBench (F.content files.old) asked.now) result
+        (O.contents out.old) (O.contents out.new) }
+{
+    let base = base_of(asked.base)?;
+    counted(asked.logs.as_slice())?;
+    let program = program_of(files, base, asked.image)?;
+    let legal = legal_logs_of(alloc, files, &program, asked.logs.as_slice())?;
+    let outcome = outcome_of(alloc, rt, legal.as_slice(), asked)?;
+    write_report(&outcome, legal.as_slice(), out)?;
+    out.flush().map_err(|_| Fault::Output)?;
+    Ok(status_of(&outcome, legal.as_slice()))
+}
+
+/// What comes of the logs, which keep no packets.
+fn outcome_of<'a, R: Threads + Wait + Sync>(
+    alloc: Global,
+    rt: &R,
+    logs: &[LegalLog<'_>],
+    asked: &Bench<'a>,
+) -> Result<Outcome, Fault<'a>>
+    ensures setting { IfOk result (λ _. IsSetting (length logs.now) (config_at asked.now.period asked.now.capacity) (Ok tt)) }
+    ensures count { IfOk result (λ outcome. length logs.now ≡ length outcome.harts.items) }
+    ensures came { IfOk result (λ outcome.
+        AreBeginnings (config_at asked.now.period asked.now.capacity) logs.now outcome.harts.items) }
+    ensures names { IfOk result (λ outcome. NamesOpen outcome.stop outcome.harts.items) }
+    ensures fault { IfErr result (λ why. (why ≡ Fault.Memory)
+        ⊎ IsSetting (length logs.now) (config_at asked.now.period asked.now.capacity) (Err why)) }
+{
+    let config = Config {
+        period: asked.period,
+        capacity: asked.capacity,
+        keep: false,
+    };
+    match run(alloc, alloc, logs, config, &Open, rt) {
+        Ok(outcome) => Ok(outcome),
+        Err(why) => Err(Fault::of_setup(why)),
+    }
+}

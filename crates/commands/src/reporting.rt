@@ -1,0 +1,42 @@
+//! The report of what came of logs.
+
+ghost use Rattle.std.specs.Prelude.{◌≡◌, IfErr, OnOk, length, map};
+ghost use Rattle.std.specs.Io.KnownBytes.{Appends};
+ghost use Rattle.bench.specs.Got.{got_of};
+ghost use Rattle.bench.specs.Report.{is_whole, report_text};
+ghost use Rattle.commands.specs.Sending.{end_of_report};
+
+use crate::fault::Fault;
+use crate::status::Status;
+use bench::{Outcome, is_whole, report};
+use legalpath::LegalLog;
+use std::io::Write;
+
+/// Writes the report of what came of the logs.
+pub(crate) fn write_report<'a, O: Write>(
+    outcome: &Outcome,
+    logs: &[LegalLog<'_>],
+    out: &mut O,
+) -> Result<(), Fault<'a>>
+    requires { length logs.now ≡ length outcome.now.harts.items }
+    ensures fault { IfErr result (λ fault. fault ≡ Fault.Output) }
+    ensures text { OnOk result (Appends (O.contents out.old) (O.contents out.new)
+        (report_text outcome.now.stop (map got_of outcome.now.harts.items) logs.now)) }
+{
+    report(outcome, logs, out).map_err(|_| Fault::Output)
+}
+
+/// How it ends.
+pub(crate) fn status_of(outcome: &Outcome, logs: &[LegalLog<'_>]) -> Status
+    requires { length logs.now ≡ length outcome.now.harts.items }
+    ensures { result ≡ end_of_report outcome.now.stop
+        (is_whole outcome.now.stop (map got_of outcome.now.harts.items) logs.now) }
+{
+    if outcome.stop.is_some() {
+        Status::Machine
+    } else if is_whole(outcome, logs) {
+        Status::Whole
+    } else {
+        Status::NotWhole
+    }
+}
