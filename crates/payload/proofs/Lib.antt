@@ -6,6 +6,7 @@ pub mod ByteCounts
 pub mod Differences
 pub mod Extending
 pub mod FirstFaults
+pub mod HeldBytes
 pub mod LongNumbers
 pub mod MapWidths
 pub mod NumbersOfBytes

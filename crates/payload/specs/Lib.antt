@@ -14,3 +14,4 @@ pub mod steps
 pub mod Closing
 pub mod Ended
 pub mod Difference
+pub mod Held

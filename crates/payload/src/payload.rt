@@ -1,10 +1,9 @@
 //! The bytes of one packet.
-ghost use Rattle.std.specs.Prelude.{◌≡◌, ◌+◌, ◌*◌, ◌^◌, ◌++◌, ◌<◌, ◌≤◌, ◌↔◌, ℕ, List, length, IsOk, IfOk};
-ghost use Rattle.arrayvec.specs.ArrayVec.{array_vec_len};
+ghost use Rattle.std.specs.Prelude.{◌≡◌, ◌+◌, ◌-◌, ◌*◌, ◌^◌, ◌++◌, ◌<◌, ◌≤◌, ◌↔◌, ℕ, List, length, take, replicate, IsOk, IfOk};
 ghost use Rattle.payload.specs.Bytes.{low_bytes};
+ghost use Rattle.payload.specs.Held.{IsHeld, held_bytes};
 
 use crate::{PackFault, unpack};
-use arrayvec::ArrayVec;
 use std::marker::Model;
 
 /// The most bytes of a payload.
@@ -13,17 +12,22 @@ const MOST: usize = 18;
 /// One to 18 bytes, held in place.
 #[derive(Debug, PartialEq, Eq, Drop)]
 pub struct Payload {
-    bytes: ArrayVec<u8, MOST>,
+    /// The bytes, and zeros behind them.
+    bytes: [u8; MOST],
+    /// How many bytes there are.
+    count: u8,
 }
 
 impl Model for Payload {
     ghost Value = { List ℕ };
 
-    ghost view = { λ p. p.bytes.items };
+    ghost view = { λ p. take p.count p.bytes };
 
-    ghost inverse = { λ bytes. record { bytes = record { items = bytes } } };
+    ghost inverse = { λ bytes. record { bytes = bytes ++ replicate (18 - length bytes) 0; count = length bytes } };
 
-    ghost invariant = { λ p. (1 ≤ length p.bytes.items) × (length p.bytes.items ≤ 18) };
+    ghost inverse_ok = { λ p h i. record { bytes = held_bytes p.bytes p.count h i; count = h.size i } };
+
+    ghost invariant = { λ p. IsHeld p.bytes p.count };
 }
 
 impl Payload {
@@ -39,11 +43,15 @@ impl Payload {
         if bytes.is_empty() {
             return Err(PackFault::Empty);
         }
-        let mut held = ArrayVec::new();
-        match held.try_extend_from_slice(bytes) {
-            Ok(()) => Ok(Payload { bytes: held }),
-            Err(_) => Err(PackFault::TooLong),
+        if bytes.len() > MOST {
+            return Err(PackFault::TooLong);
         }
+        let mut held = [0; MOST];
+        held[..bytes.len()].copy_from_slice(bytes);
+        Ok(Payload {
+            bytes: held,
+            count: bytes.len() as u8,
+        })
     }
 
     /// The bytes.
@@ -52,7 +60,7 @@ impl Payload {
         ensures some { 1 ≤ length result.now }
         ensures few { length result.now ≤ 18 }
     {
-        self.bytes.as_slice()
+        &self.bytes[..usize::from(self.count)]
     }
 
     /// Whether the bytes unpack to a packet that ends a trace, EndedRep or EndedNtr.
@@ -66,22 +74,17 @@ impl Payload {
     }
 
     /// The lowest `count` bytes of a number.
+    #[inline(always)]
     pub(crate) fn of_low_bytes(n: u128, count: usize) -> Payload
         requires some { 1 ≤ count }
         requires few { count ≤ 16 }
         ensures { result ≡ low_bytes count n }
     {
-        let mut bytes = ArrayVec::new();
-        let low = (n % (1 << 64)) as u64;
-        if count < 8 {
-            append_up_to_7(&mut bytes, low, count);
-        } else if count < 16 {
-            append(&mut bytes, &low.to_le_bytes());
-            append_up_to_7(&mut bytes, (n >> 64) as u64, count - 8);
+        if count < 16 {
+            Payload::holding(n % (1 << (8 * count)), 0, count)
         } else {
-            append_16(&mut bytes, n);
+            Payload::holding(n, 0, count)
         }
-        Payload { bytes }
     }
 
     /// The lowest `count` bytes of `low + 2^128 * high`.
@@ -91,55 +94,37 @@ impl Payload {
         ensures { result ≡ low_bytes count (low + 2 ^ 128 * high) }
     {
         if count <= 16 {
-            return Payload::of_low_bytes(low, count);
+            Payload::of_low_bytes(low, count)
+        } else if count == 17 {
+            Payload::holding(low, high % (1 << 8), count)
+        } else {
+            Payload::holding(low, high, count)
         }
-        let mut bytes = ArrayVec::new();
-        append_16(&mut bytes, low);
-        append_up_to_7(&mut bytes, u64::from(high), count - 16);
-        Payload { bytes }
+    }
+
+    /// The bytes of `low + 2^128 * high`, which has no more than `count`.
+    #[inline(always)]
+    fn holding(low: u128, high: u16, count: usize) -> Payload
+        requires some { 1 ≤ count }
+        requires few { count ≤ 18 }
+        requires fits { low + 2 ^ 128 * high < 2 ^ (8 * count) }
+        ensures { result ≡ low_bytes count (low + 2 ^ 128 * high) }
+    {
+        Payload {
+            bytes: bytes_of(low, high),
+            count: count as u8,
+        }
     }
 }
 
-/// Appends the lowest `count` bytes of a number, by copies of 4, 2 and 1 bytes: a copy of `count` bytes would be a
-/// call.
+/// The 18 bytes of `low + 2^128 * high`, in words that a machine stores at once.
 #[inline(always)]
-fn append_up_to_7(bytes: &mut ArrayVec<u8, MOST>, n: u64, count: usize)
-    requires room { array_vec_len bytes.old + count ≤ 18 }
-    requires few { count ≤ 7 }
-    ensures { bytes.new.items ≡ bytes.old.items ++ low_bytes count n }
+fn bytes_of(low: u128, high: u16) -> [u8; MOST]
+    ensures { result ≡ low_bytes 18 (low + 2 ^ 128 * high) }
 {
-    let mut rest = n;
-    if count >= 4 {
-        append(bytes, &((rest % (1 << 32)) as u32).to_le_bytes());
-        rest >>= 32;
-    }
-    if count % 4 >= 2 {
-        append(bytes, &((rest % (1 << 16)) as u16).to_le_bytes());
-        rest >>= 16;
-    }
-    if count % 2 == 1 {
-        bytes.push((rest % (1 << 8)) as u8);
-    }
-}
-
-/// Appends the 16 bytes of a number, the lowest first: two halves, each of which a machine stores at once.
-#[inline(always)]
-fn append_16(bytes: &mut ArrayVec<u8, MOST>, n: u128)
-    requires { array_vec_len bytes.old ≤ 2 }
-    ensures { bytes.new.items ≡ bytes.old.items ++ low_bytes 16 n }
-{
-    append(bytes, &((n % (1 << 64)) as u64).to_le_bytes());
-    append(bytes, &((n >> 64) as u64).to_le_bytes());
-}
-
-/// Appends bytes that fit.
-#[inline(always)]
-fn append(bytes: &mut ArrayVec<u8, MOST>, part: &[u8])
-    requires { array_vec_len bytes.old + length part.now ≤ 18 }
-    ensures { bytes.new.items ≡ bytes.old.items ++ part.now }
-{
-    match bytes.try_extend_from_slice(part) {
-        Ok(()) => {}
-        Err(_) => unreachable!(),
-    }
+    let mut bytes = [0; MOST];
+    bytes[..8].copy_from_slice(&((low % (1 << 64)) as u64).to_le_bytes());
+    bytes[8..16].copy_from_slice(&((low >> 64) as u64).to_le_bytes());
+    bytes[16..].copy_from_slice(&high.to_le_bytes());
+    bytes
 }
