@@ -1,5 +1,6 @@
 -- What a receiver accepted, with one message more.
-use Rattle.std.proofs.Common.{◌≡◌, ◌≢◌, ◌<◌, ℕ, Bool, List, [], ◌∷◌, ◌++◌, Option, Some, None, Result, Ok, Err, IfOk, OnOk, length, slice_get, refl, sym, ap, subst, ◌∙◌, arith}
+use Rattle.std.proofs.Common.{◌≡◌, ◌≢◌, ◌<◌, ℕ, Bool, List, [], ◌∷◌, ◌++◌, Option, Some, None, Result, Ok, Err, IfOk}
+use Rattle.std.proofs.Common.{OnOk, length, slice_get, refl, sym, ap, subst, ◌∙◌, arith}
 use Rattle.std.specs.Prelude.{IsFalse, IsSomeAnd, ◌↔◌, ◌⊎◌, ◌^◌, nat_lt, not, true, false}
 use Rattle.std.proofs.lemmas.Bool.{or_parts}
 use Rattle.std.proofs.lemmas.Option.{slice_get_within, same_Some}
@@ -35,14 +36,22 @@ abbrev refusal : DecodeFault → Result Unit DecodeFault
 refusal why = Err why
 
 -- After one that is accepted.
-pub accepts_more : (harts : ℕ) (messages : List Message) (message : Message) (old new : Harts) (decoders : List Decoder) (lists : List (List Event)) (closed : List Bool) (answer : Result Packet DemuxFault)
+pub accepts_more : (harts : ℕ) (messages : List Message) (message : Message) (old new : Harts) (decoders : List Decoder)
+    (lists : List (List Event)) (closed : List Bool) (answer : Result Packet DemuxFault)
     → HasAccepted harts messages (record { expected = old; decoders = decoders; lists = lists; closed = closed })
     → answer ≡ accepting old message → new ≡ harts_after old message
-    → OnOk answer (HasAccepted harts (messages ++ message ∷ []) (record { expected = new; decoders = decoders; lists = lists; closed = closed }))
+    → OnOk answer (HasAccepted harts (messages ++ message ∷ []) (record {
+      expected = new;
+      decoders = decoders;
+      lists = lists;
+      closed = closed;
+    }))
 accepts_more harts messages message old new decoders lists closed (Err why) has is moves = tt
 accepts_more harts messages message old new decoders lists closed (Ok packet) has is moves = record {
-  accepted = AreAccepted-next (newcomers harts) messages message packet has.accepted (ap (λ e. accepting e message) (sym has.expected) ∙ sym is);
-  expected = moves ∙ ap (λ e. harts_after e message) has.expected ∙ sym (expected_after-next (newcomers harts) messages message);
+  accepted = AreAccepted-next (newcomers harts) messages message packet has.accepted
+      (ap (λ e. accepting e message) (sym has.expected) ∙ sym is);
+  expected = moves ∙ ap (λ e. harts_after e message) has.expected
+      ∙ sym (expected_after-next (newcomers harts) messages message);
 }
 
 -- What is expected of the other harts stays.
@@ -65,13 +74,16 @@ accepts_others old new message other apart state = subst (IsSameHart other old) 
 })
 
 -- The packet that is answered is the one that the payload unpacks to.
-pub packet_read : (expected : Harts) (message : Message) (answer : Result Packet DemuxFault) → answer ≡ accepting expected message
+pub packet_read : (expected : Harts) (message : Message) (answer : Result Packet DemuxFault)
+    → answer ≡ accepting expected message
     → IfOk answer (λ packet. reading message.payload ≡ Ok packet)
 packet_read expected message (Err why) is = tt
-packet_read expected message (Ok packet) is = ((answer-unpacked (slice_get expected message.hart) message (Ok packet)).0 (sym is)).1
+packet_read expected message (Ok packet) is =
+    ((answer-unpacked (slice_get expected message.hart) message (Ok packet)).0 (sym is)).1
 
 -- What was accepted is what is expected, whatever else changes.
-pub accepts_kept : (harts : ℕ) (messages : List Message) (old new : Received) → HasAccepted harts messages old → new.expected ≡ old.expected
+pub accepts_kept : (harts : ℕ) (messages : List Message) (old new : Received) → HasAccepted harts messages old
+    → new.expected ≡ old.expected
     → HasAccepted harts messages new
 accepts_kept harts messages old new has same = record { accepted = has.accepted; expected = same ∙ has.expected }
 
@@ -79,24 +91,30 @@ accepts_kept harts messages old new has same = record { accepted = has.accepted;
 pub accepted_answer : (harts : ℕ) (messages : List Message) (received : Received) (message : Message) (packet : Packet)
     → HasAccepted harts messages received → accepting received.expected message ≡ Ok packet
     → accepting (expected_after (newcomers harts) messages) message ≡ Ok packet
-accepted_answer harts messages received message packet has answer = ap (λ e. accepting e message) (sym has.expected) ∙ answer
+accepted_answer harts messages received message packet has answer =
+    ap (λ e. accepting e message) (sym has.expected) ∙ answer
 
 -- The packets of a hart whose message is accepted have not ended.
-pub going : (harts : ℕ) (messages : List Message) (message : Message) (packet : Packet) → AreAccepted (newcomers harts) messages
-    → accepting (expected_after (newcomers harts) messages) message ≡ Ok packet → has_ended (packets_of message.hart messages) ≡ false
+pub going : (harts : ℕ) (messages : List Message) (message : Message) (packet : Packet)
+    → AreAccepted (newcomers harts) messages
+    → accepting (expected_after (newcomers harts) messages) message ≡ Ok packet
+    → has_ended (packets_of message.hart messages) ≡ false
 going harts messages message packet all answer =
-    open_at (slice_get expected message.hart) refl ((answer-unpacked (slice_get expected message.hart) message (Ok packet)).0 answer).0
+    open_at (slice_get expected message.hart) refl
+    ((answer-unpacked (slice_get expected message.hart) message (Ok packet)).0 answer).0
   where
     expected : Harts
     expected = expected_after (newcomers harts) messages
 
-    open_at : (o : Option Hart) → slice_get expected message.hart ≡ o → IsSomeAnd o (λ h. IsFalse (is_over h) × (h.expected ≡ message.number))
+    open_at : (o : Option Hart) → slice_get expected message.hart ≡ o
+        → IsSomeAnd o (λ h. IsFalse (is_over h) × (h.expected ≡ message.number))
         → has_ended (packets_of message.hart messages) ≡ false
     open_at None is never = absurd never
     open_at (Some h) is next =
         let counted = accepted_counted harts messages all in
         let within : message.hart < harts = omega (arith, slice_get_within expected message.hart h is, counted.count) in
-        let same : h ≡ expected_of message.hart messages = same_Some h (expected_of message.hart messages) (sym is ∙ counted.each message.hart within) in
+        let same : h ≡ expected_of message.hart messages =
+        same_Some h (expected_of message.hart messages) (sym is ∙ counted.each message.hart within) in
         let closed : h.closed ≡ has_ended (packets_of message.hart messages) = ap (λ (h : Hart). h.closed) same in
         sym closed ∙ (or_parts h.closed (not (nat_lt h.expected (2 ^ 63))) next.0).0
 
@@ -119,5 +137,6 @@ not_decoded words packets packet why not_opened ended either described = record 
 pub same_packet : (a b : Packet) → ◌≡◌ {A = Result Packet DemuxFault} (Ok a) (Ok b) → a ≡ b
 same_packet a b is = cc
 
-pub same_fault : (a b : DecodeFault) → ◌≡◌ {A = Result Unit ReceiveFault} (Err (fault.Decode a)) (Err (fault.Decode b)) → a ≡ b
+pub same_fault : (a b : DecodeFault) → ◌≡◌ {A = Result Unit ReceiveFault} (Err (fault.Decode a)) (Err (fault.Decode b))
+    → a ≡ b
 same_fault a b is = cc

@@ -1,11 +1,14 @@
 -- What a receiver holds at first, and with one message more.
-use Rattle.std.proofs.Common.{◌≡◌, ◌≢◌, ◌⊎◌, inl, inr, ⊎_elim, ◌<◌, ◌≤◌, ℕ, zero, suc, Bool, false, List, [], ◌∷◌, ◌++◌, Some, None, Ok, length, set, replicate, get_or, slice_get, sym, ap, subst, ◌∙◌, arith, refl}
+use Rattle.std.proofs.Common.{◌≡◌, ◌≢◌, ◌⊎◌, inl, inr, ⊎_elim, ◌<◌, ◌≤◌, ℕ, zero, suc, Bool, false, List, [], ◌∷◌, ◌++◌}
+use Rattle.std.proofs.Common.{Some, None, Ok, length, set, replicate, get_or, slice_get, sym, ap, subst, ◌∙◌, arith}
+use Rattle.std.proofs.Common.{refl}
 use Rattle.std.specs.Option.{option_map}
 use Rattle.std.specs.Vec.{vec_capacity}
 use Rattle.std.specs.declared.vec.Vec.{Vec}
 use Rattle.std.proofs.lemmas.Bool.{cases_eq}
 use Rattle.std.proofs.lemmas.List.{length-set, map-set, length-map, length-replicate, get_or-replicate, set-get_or}
-use Rattle.std.proofs.lemmas.Option.{slice_get-map, slice_get_cases, slice_get_within, slice_get-get_or, slice_get_read, same_Some}
+use Rattle.std.proofs.lemmas.Option.{slice_get-map, slice_get_cases, slice_get_within, slice_get-get_or, slice_get_read}
+use Rattle.std.proofs.lemmas.Option.{same_Some}
 use Rattle.retire.specs.declared.event.Event.{Event}
 use Rattle.rvclass.specs.Words.{Words}
 use Rattle.payload.specs.Closing.{is_closing_packet}
@@ -24,7 +27,8 @@ use Rattle.receiver.specs.Holds.{AreDecoded, HasReceived, Holds, HoldsHart}
 use Rattle.receiver.specs.Received.{IsReceived, IsSameHart, Received, events_in}
 
 -- The list at a place.
-pub events_in-at : {A : Type 0} (lists : List (Vec Event A)) (i : ℕ) (list : Vec Event A) → slice_get lists i ≡ Some list
+pub events_in-at : {A : Type 0} (lists : List (Vec Event A)) (i : ℕ) (list : Vec Event A)
+    → slice_get lists i ≡ Some list
     → slice_get (events_in lists) i ≡ Some list.items
 events_in-at lists i list is = slice_get-map (λ list. list.items) lists i ∙ ap (option_map (λ list. list.items)) is
 
@@ -33,11 +37,18 @@ replicate-at : {X : Type 0} (count : ℕ) (y : X) (i : ℕ) (x : X) → slice_ge
 replicate-at count y i x is =
     let inside = slice_get_within (replicate count y) i x is in
     let within : i < count = omega (arith, inside, length-replicate count y) in
-    same_Some x y (sym is ∙ slice_get-get_or (replicate count y) i y inside ∙ ap Some (get_or-replicate count i y y within))
+    same_Some x y
+    (sym is ∙ slice_get-get_or (replicate count y) i y inside ∙ ap Some (get_or-replicate count i y y within))
 
 -- A receiver that accepted nothing.
-pub received_none : (programs : ℕ → Words) (harts : ℕ) (decoder : Decoder) → ((words : Words) → Stands words [] [] decoder)
-    → HasReceived programs harts [] (record { expected = newcomers harts; decoders = replicate harts decoder; lists = replicate harts []; closed = replicate harts false })
+pub received_none : (programs : ℕ → Words) (harts : ℕ) (decoder : Decoder)
+    → ((words : Words) → Stands words [] [] decoder)
+    → HasReceived programs harts [] (record {
+      expected = newcomers harts;
+      decoders = replicate harts decoder;
+      lists = replicate harts [];
+      closed = replicate harts false;
+    })
 received_none programs harts decoder stands = record {
   accepts = record { accepted = tt; expected = refl };
   holds = record {
@@ -47,7 +58,8 @@ received_none programs harts decoder stands = record {
     each = λ hart. record {
       stands = λ d l is_d is_l.
           subst (λ d. Stands (programs hart) [] l d) (sym (replicate-at harts decoder hart d is_d))
-          (subst (λ l. Stands (programs hart) [] l decoder) (sym (replicate-at harts [] hart l is_l)) (stands (programs hart)));
+          (subst (λ l. Stands (programs hart) [] l decoder) (sym (replicate-at harts [] hart l is_l))
+          (stands (programs hart)));
       ended = λ flag is. replicate-at harts false hart flag is;
     };
   };
@@ -60,7 +72,8 @@ pub record HasSameCounts (old new : Received) : Type 0 where
   pub closed : length new.closed ≡ length old.closed
 
 -- What was written at a place, and what stands at the others.
-set-here : {X : Type 0} (xs : List X) (at : ℕ) (y : X) (i : ℕ) (x : X) → at ≡ i → slice_get (set xs at y) i ≡ Some x → x ≡ y
+set-here : {X : Type 0} (xs : List X) (at : ℕ) (y : X) (i : ℕ) (x : X) → at ≡ i → slice_get (set xs at y) i ≡ Some x
+    → x ≡ y
 set-here xs at y i x here is = ⊎_elim (λ it. it.1) (λ apart. absurd (apart.0 here)) (slice_get-set xs at y i x is)
 
 pub set-other : {X : Type 0} (xs : List X) (i : ℕ) (y : X) (j : ℕ) → j ≢ i → slice_get (set xs i y) j ≡ slice_get xs j
@@ -89,7 +102,8 @@ same_hart hart old new same = record {
 }
 
 -- Nor where each of two steps changed nothing of it.
-pub same_hart_twice : (hart : ℕ) (old between new : Received) → IsSameHart hart old between → IsSameHart hart between new
+pub same_hart_twice : (hart : ℕ) (old between new : Received) → IsSameHart hart old between
+    → IsSameHart hart between new
     → IsSameHart hart old new
 same_hart_twice hart old between new one two = record {
   expected = two.expected ∙ one.expected;
@@ -98,22 +112,30 @@ same_hart_twice hart old between new one two = record {
   closed = two.closed ∙ one.closed;
 }
 
-module _ {A : Type 0} (expected : Harts) (decoders : List Decoder) (lists : List (Vec Event A)) (closed : List Bool) (hart at : ℕ) (here : at ≡ hart) where
+module _ {A : Type 0} (expected : Harts) (decoders : List Decoder) (lists : List (Vec Event A)) (closed : List Bool)
+    (hart at : ℕ) (here : at ≡ hart) where
   -- What stands at the places of all harts, and what does where those of a hart were written.
   abbrev before : Received
   before = record { expected = expected; decoders = decoders; lists = events_in lists; closed = closed }
 
   abbrev after : Decoder → Vec Event A → Bool → Received
   after decoder list flag =
-      record { expected = expected; decoders = set decoders at decoder; lists = events_in (set lists at list); closed = set closed at flag }
+      record {
+        expected = expected;
+        decoders = set decoders at decoder;
+        lists = events_in (set lists at list);
+        closed = set closed at flag;
+      }
 
   -- The list at the hart's place.
   list_here : (list : Vec Event A) (events : List Event) → hart < length (events_in lists) → list ≡ get_or lists at list
       → slice_get (events_in lists) hart ≡ Some events → events ≡ list.items
   list_here list events known is_list is =
-      let within : at < length lists = omega (arith, known, here, length-map lists (λ (list : Vec Event A). list.items)) in
+      let within : at < length lists =
+      omega (arith, known, here, length-map lists (λ (list : Vec Event A). list.items)) in
       let found = events_in-at lists at list (slice_get_read lists (length lists) at list refl within is_list) in
-      same_Some events list.items (sym is ∙ subst (λ hart. slice_get (events_in lists) hart ≡ Some list.items) here found)
+      same_Some events list.items
+      (sym is ∙ subst (λ hart. slice_get (events_in lists) hart ≡ Some list.items) here found)
 
   -- Its room is no less than its length.
   pub longer_here : (list : Vec Event A) (events log : List Event) (received : Received) → before ≡ received
@@ -126,14 +148,16 @@ module _ {A : Type 0} (expected : Harts) (decoders : List Decoder) (lists : List
       omega (arith, same, room, list.ok.0, list.ok.1)
 
   -- The decoder and the list there stand for what is held of the hart.
-  pub stands_here : (words : Words) (packets : List Packet) (decoder : Decoder) (list : Vec Event A) (received : Received) → before ≡ received
+  pub stands_here : (words : Words) (packets : List Packet) (decoder : Decoder) (list : Vec Event A)
+      (received : Received) → before ≡ received
       → IsReceived before → HoldsHart words hart packets received → hart < length received.lists
       → decoder ≡ get_or decoders at decoder → list ≡ get_or lists at list → Stands words packets list.items decoder
   stands_here words packets decoder list received view all given inside is_decoder is_list =
       let holds = subst (HoldsHart words hart packets) (sym view) given in
       let known : hart < length (events_in lists) = subst (λ (r : Received). hart < length r.lists) (sym view) inside in
       let of_decoders : at < length decoders = omega (arith, known, here, all.decoders, all.lists) in
-      let of_lists : at < length lists = omega (arith, known, here, length-map lists (λ (list : Vec Event A). list.items)) in
+      let of_lists : at < length lists =
+      omega (arith, known, here, length-map lists (λ (list : Vec Event A). list.items)) in
       let one = slice_get_read decoders (length decoders) at decoder refl of_decoders is_decoder in
       let two = events_in-at lists at list (slice_get_read lists (length lists) at list refl of_lists is_list) in
       holds.stands decoder list.items (subst (λ hart. slice_get decoders hart ≡ Some decoder) here one)
@@ -144,13 +168,15 @@ module _ {A : Type 0} (expected : Harts) (decoders : List Decoder) (lists : List
   lists_after list = map-set (λ (list : Vec Event A). list.items) lists at list
 
   -- What is held of the hart then.
-  pub holds_after : (words : Words) (packets : List Packet) (packet : Packet) (decoder : Decoder) (list : Vec Event A) (flag : Bool)
+  pub holds_after : (words : Words) (packets : List Packet) (packet : Packet) (decoder : Decoder) (list : Vec Event A)
+      (flag : Bool)
       → flag ≡ is_closing_packet packet → Stands words (packets ++ packet ∷ []) list.items decoder
       → HoldsHart words hart (packets ++ packet ∷ []) (after decoder list flag)
   holds_after words packets packet decoder list flag ends fed = record {
     stands = λ d l is_d is_l.
         let same_d = set-here decoders at decoder hart d here is_d in
-        let same_l = set-here (events_in lists) at list.items hart l here (sym (ap (λ ls. slice_get ls hart) (lists_after list)) ∙ is_l) in
+        let same_l = set-here (events_in lists) at list.items hart l here
+        (sym (ap (λ ls. slice_get ls hart) (lists_after list)) ∙ is_l) in
         subst (λ d. Stands words (packets ++ packet ∷ []) l d) (sym same_d)
         (subst (λ l. Stands words (packets ++ packet ∷ []) l decoder) (sym same_l) fed);
     ended = λ f is. set-here closed at flag hart f here is ∙ ends ∙ sym (has_ended-next packets packet);
@@ -164,12 +190,14 @@ module _ {A : Type 0} (expected : Harts) (decoders : List Decoder) (lists : List
       subst (λ old. IsSameHart other old (after decoder list flag)) view (record {
         expected = refl;
         decoder = set-other decoders at decoder other apart_at;
-        list = ap (λ ls. slice_get ls other) (lists_after list) ∙ set-other (events_in lists) at list.items other apart_at;
+        list = ap (λ ls. slice_get ls other) (lists_after list)
+            ∙ set-other (events_in lists) at list.items other apart_at;
         closed = set-other closed at flag other apart_at;
       })
 
   -- There are as many of them.
-  pub count_after : (decoder : Decoder) (list : Vec Event A) (flag : Bool) → HasSameCounts before (after decoder list flag)
+  pub count_after : (decoder : Decoder) (list : Vec Event A) (flag : Bool)
+      → HasSameCounts before (after decoder list flag)
   count_after decoder list flag = record {
     decoders = length-set decoders at decoder;
     lists = ap length (lists_after list) ∙ length-set (events_in lists) at list.items;
@@ -181,11 +209,13 @@ pub written_same : {A : Type 0} (lists : List (Vec Event A)) (hart : ℕ) (befor
     → before ≡ get_or lists hart before → list.items ≡ before.items → events_in (set lists hart list) ≡ events_in lists
 written_same {A} lists hart before list is_before same =
     let items : Vec Event A → List Event = λ list. list.items in
-    let kept : events_in (set lists hart before) ≡ events_in lists = ap (λ v. events_in (set lists hart v)) is_before ∙ ap events_in (set-get_or lists hart before) in
+    let kept : events_in (set lists hart before) ≡ events_in lists =
+    ap (λ v. events_in (set lists hart v)) is_before ∙ ap events_in (set-get_or lists hart before) in
     map-set items lists hart list ∙ ap (set (events_in lists) hart) same ∙ sym (map-set items lists hart before) ∙ kept
 
 -- What is held with one message more, by what is held of its hart.
-pub holds_more : (programs : ℕ → Words) (harts : ℕ) (messages : List Message) (message : Message) (packet : Packet) (old new : Received)
+pub holds_more : (programs : ℕ → Words) (harts : ℕ) (messages : List Message) (message : Message) (packet : Packet)
+    (old new : Received)
     → Holds programs harts messages old → reading message.payload ≡ Ok packet → HasSameCounts old new
     → HoldsHart (programs message.hart) message.hart (packets_of message.hart messages ++ packet ∷ []) new
     → ((other : ℕ) → other ≢ message.hart → IsSameHart other old new)
@@ -205,7 +235,8 @@ holds_more programs harts messages message packet old new holds read counts more
         subst (λ packets. HoldsHart (programs message.hart) message.hart packets new)
         (sym (packets_of-next messages message packet read)) more
 
-    each : (hart : ℕ) → (hart ≡ message.hart) ⊎ (hart ≢ message.hart) → HoldsHart (programs hart) hart (packets_of hart all) new
+    each : (hart : ℕ) → (hart ≡ message.hart) ⊎ (hart ≢ message.hart)
+        → HoldsHart (programs hart) hart (packets_of hart all) new
     each hart (inl here) = subst (λ hart. HoldsHart (programs hart) hart (packets_of hart all) new) (sym here) own
     each hart (inr apart) =
         subst (λ packets. HoldsHart (programs hart) hart packets new)
@@ -213,9 +244,12 @@ holds_more programs harts messages message packet old new holds read counts more
         (holds_same (programs hart) hart (packets_of hart messages) old new (others hart apart) (holds.each hart))
 
 -- The same where the program is called by another name, and the hart.
-pub decoded_more : (programs : ℕ → Words) (harts : ℕ) (messages : List Message) (message : Message) (packet : Packet) (words : Words) (hart : ℕ) (old new : Received)
-    → programs hart ≡ words → message.hart ≡ hart → reading message.payload ≡ Ok packet → Holds programs harts messages old → HasSameCounts old new
-    → (HoldsHart words hart (packets_of hart messages) old → HoldsHart words hart (packets_of hart messages ++ packet ∷ []) new)
+pub decoded_more : (programs : ℕ → Words) (harts : ℕ) (messages : List Message) (message : Message) (packet : Packet)
+    (words : Words) (hart : ℕ) (old new : Received)
+    → programs hart ≡ words → message.hart ≡ hart → reading message.payload ≡ Ok packet
+    → Holds programs harts messages old → HasSameCounts old new
+    → (HoldsHart words hart (packets_of hart messages) old
+    → HoldsHart words hart (packets_of hart messages ++ packet ∷ []) new)
     → ((other : ℕ) → other ≢ hart → IsSameHart other old new)
     → Holds programs harts (messages ++ message ∷ []) new
 decoded_more programs harts messages message packet words hart old new program own read holds counts more others =
@@ -226,19 +260,23 @@ decoded_more programs harts messages message packet words hart old new program o
     (λ other apart. others other (λ same. apart (same ∙ sym own)))
 
 -- What is expected has no part in what is held.
-pub holds_kept : (programs : ℕ → Words) (harts : ℕ) (messages : List Message) (old new : Received) (expected : Harts) → Holds programs harts messages old
+pub holds_kept : (programs : ℕ → Words) (harts : ℕ) (messages : List Message) (old new : Received) (expected : Harts)
+    → Holds programs harts messages old
     → new ≡ record old { expected = expected } → Holds programs harts messages new
-holds_kept programs harts messages old new expected holds same = subst (Holds programs harts messages) (sym same) (record {
-  decoders_count = holds.decoders_count;
-  lists_count = holds.lists_count;
-  closed_count = holds.closed_count;
-  each = λ hart. record { stands = (holds.each hart).stands; ended = (holds.each hart).ended };
-})
+holds_kept programs harts messages old new expected holds same =
+    subst (Holds programs harts messages) (sym same) (record {
+      decoders_count = holds.decoders_count;
+      lists_count = holds.lists_count;
+      closed_count = holds.closed_count;
+      each = λ hart. record { stands = (holds.each hart).stands; ended = (holds.each hart).ended };
+    })
 
 -- The list of a hart that is known, which its packets describe.
-pub list_of : (programs : ℕ → Words) (harts : ℕ) (messages : List Message) (hart : ℕ) (received : Received) → Holds programs harts messages received
+pub list_of : (programs : ℕ → Words) (harts : ℕ) (messages : List Message) (hart : ℕ) (received : Received)
+    → Holds programs harts messages received
     → hart < length received.lists
-    → (list : List Event) × (slice_get received.lists hart ≡ Some list) × Describes (programs hart) (packets_of hart messages) list
+    → (list : List Event) × (slice_get received.lists hart ≡ Some list)
+    × Describes (programs hart) (packets_of hart messages) list
 list_of programs harts messages hart received holds known =
     let list = element received.lists hart known in
     let decoder = element received.decoders hart (omega (arith, known, holds.lists_count, holds.decoders_count)) in
@@ -246,10 +284,12 @@ list_of programs harts messages hart received holds known =
   where
     element : {X : Type 0} (xs : List X) (i : ℕ) → i < length xs → (x : X) × (slice_get xs i ≡ Some x)
     element xs i within =
-        ⊎_elim (λ found. (found.0, found.2)) (λ past. absurd (let beyond = past.0 in omega (arith, within, beyond))) (slice_get_cases xs i).1
+        ⊎_elim (λ found. (found.0, found.2))
+        (λ past. absurd (let beyond = past.0 in omega (arith, within, beyond))) (slice_get_cases xs i).1
 
 -- What a receiver holds is what its messages decode to.
-pub holds_decoded : (programs : ℕ → Words) (harts : ℕ) (messages : List Message) (received : Received) → Holds programs harts messages received
+pub holds_decoded : (programs : ℕ → Words) (harts : ℕ) (messages : List Message) (received : Received)
+    → Holds programs harts messages received
     → AreDecoded programs harts messages received.lists received.closed
 holds_decoded programs harts messages received holds = record {
   lists_count = holds.lists_count;
@@ -259,7 +299,9 @@ holds_decoded programs harts messages received holds = record {
 }
   where
     described : (hart : ℕ) (list : List Event) → slice_get received.lists hart ≡ Some list
-        → ((decoder : Decoder) × (hart < length received.decoders) × (slice_get received.decoders hart ≡ Some decoder) × (get_or received.decoders hart decoder ≡ decoder)) ⊎ ((length received.decoders ≤ hart) × (slice_get received.decoders hart ≡ None))
+        → ((decoder : Decoder) × (hart < length received.decoders)
+        × (slice_get received.decoders hart ≡ Some decoder) × (get_or received.decoders hart decoder ≡ decoder))
+        ⊎ ((length received.decoders ≤ hart) × (slice_get received.decoders hart ≡ None))
         → Describes (programs hart) (packets_of hart messages) list
     described hart list is (inl at) = ((holds.each hart).stands at.0 list at.2 is).described
     described hart list is (inr past) =

@@ -15,8 +15,8 @@ use Rattle.message.specs.declared.message.Message.{Message}
 use Rattle.receiver.specs.declared.fault.ReceiveFault.{ReceiveFault}
 use Rattle.receiver.specs.declared.fault.ReceiveFault.TheVariants as fault
 
--- Why a packet is not decoded after packets: it comes first and opens no trace, or they have ended, or no log is described
--- by them and it, or one is that is longer than the list that they describe, and memory was refused.
+-- Why a packet is not decoded after packets: it comes first and opens no trace, or they have ended, or no log is
+-- described by them and it, or one is that is longer than the list that they describe, and memory was refused.
 pub record IsNotDecoded (words : Words) (packets : List Packet) (packet : Packet) (why : DecodeFault) : Type 0 where
   pub not_opened : (why ≡ NotOpened) ↔ ((packets ≡ []) × ¬ IsOpen packet)
   pub ended : (why ≡ AfterClose) ↔ (has_ended packets ≡ true)
@@ -35,5 +35,6 @@ pub record IsUndecoded (words : Words) (harts : ℕ) (messages : List Message) (
 
 -- Why a message is not received after these messages, by the program of its hart.
 abbrev pub IsRefused : Words → ℕ → List Message → Message → ReceiveFault → Type 0
-IsRefused words harts messages message (fault.Demux why) = accepting (expected_after (newcomers harts) messages) message ≡ Err why
+IsRefused words harts messages message (fault.Demux why) =
+    accepting (expected_after (newcomers harts) messages) message ≡ Err why
 IsRefused words harts messages message (fault.Decode why) = IsUndecoded words harts messages message why

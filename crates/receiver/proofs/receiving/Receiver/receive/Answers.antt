@@ -11,15 +11,19 @@ use Rattle.receiver.proofs.receiving.Receiver.receive.Goals as goal
 
 pub returns-in-Ok-decode-clause-received : goal.returns-in-Ok-decode-clause-received
 returns-in-Ok-decode-clause-received g c = λ programs harts messages program given.
-    let holds = holds_kept programs harts messages c.args.self.now c.accept.new.self _ given.holds c.accept.ensures.state in
+    let holds = holds_kept programs harts messages c.args.self.now c.accept.new.self _ given.holds
+    c.accept.ensures.state in
     record {
-      accepts = accepts_kept harts _ c.accept.new.self c.decode.new.self (c.in-Ok.ensures.accepted harts messages given.accepts) c.decode.ensures.expected;
-      holds = c.in-Ok-decode.ensures.decoded programs harts messages c.args.message.now program refl c.in-Ok.ensures.packet holds;
+      accepts = accepts_kept harts _ c.accept.new.self c.decode.new.self
+          (c.in-Ok.ensures.accepted harts messages given.accepts) c.decode.ensures.expected;
+      holds = c.in-Ok-decode.ensures.decoded programs harts messages c.args.message.now program refl
+          c.in-Ok.ensures.packet holds;
     }
 
 pub returns-in-Err-decode-clause-held : goal.returns-in-Err-decode-clause-held
 returns-in-Err-decode-clause-held g c = λ programs harts messages given.
-    let holds = holds_kept programs harts messages c.args.self.now c.accept.new.self _ given.holds c.accept.ensures.state in
+    let holds = holds_kept programs harts messages c.args.self.now c.accept.new.self _ given.holds
+    c.accept.ensures.state in
     subst (Holds programs harts messages) (sym c.in-Err-decode.ensures.refused) holds
 
 pub returns-in-Ok-decode-clause-received_held : goal.returns-in-Ok-decode-clause-received_held
@@ -35,7 +39,8 @@ returns-in-Err-decode-clause-undecoded g c = λ programs harts messages packet w
     let words = words_of c.args.program.now in
     let holds = subst (λ words. HoldsHart words hart packets c.accept.new.self) program (all.each hart) in
     let list = list_of programs harts messages hart c.accept.new.self all c.in-Ok.ensures.known in
-    let same : packet ≡ c.in-Ok.packet = same_packet packet c.in-Ok.packet (sym answer ∙ sym c.accept.ensures.value ∙ c.in-Ok.is) in
+    let same : packet ≡ c.in-Ok.packet = same_packet packet c.in-Ok.packet
+    (sym answer ∙ sym c.accept.ensures.value ∙ c.in-Ok.is) in
     subst (λ packet. IsNotDecoded words packets packet why) (sym same)
     (subst (IsNotDecoded words packets c.in-Ok.packet) (same_fault c.in-Err-decode.fault why is)
     (not_decoded words packets c.in-Ok.packet c.in-Err-decode.fault
@@ -57,7 +62,8 @@ returns-in-Err-decode-clause-refused g c = λ programs harts messages program gi
       accepted = answer;
       not_ended = going harts messages message packet given.accepts.accepted answer;
       not_decoded =
-          returns-in-Err-decode-clause-undecoded g c programs harts messages packet c.in-Err-decode.fault program given.holds
+          returns-in-Err-decode-clause-undecoded g c programs harts messages packet c.in-Err-decode.fault program
+          given.holds
           own refl;
     }
 
