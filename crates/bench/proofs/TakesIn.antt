@@ -429,3 +429,12 @@ goes_on harts at hart outcome here within is going refused =
     (taken_at harts at hart outcome here within is) refused in
     let never : true ≡ false = sym found ∙ going in
     cc
+
+-- A hart whose outcome tells that memory was refused is one for which it was.
+pub stopped : {A : Type 0} (harts : List (HartOutcome A)) (at hart : ℕ) (outcome : HartOutcome A) → at ≡ hart
+    → at < length harts
+    → outcome ≡ get_or harts at outcome → outcome.refused ≡ true
+    → IsSomeAnd (slice_get (taken_in harts) hart) (λ (taken : Taken). IsTrue taken.refused)
+stopped harts at hart outcome here within is refused =
+    subst (λ o. IsSomeAnd o (λ (taken : Taken). IsTrue taken.refused))
+    (sym (taken_at harts at hart outcome here within is)) refused

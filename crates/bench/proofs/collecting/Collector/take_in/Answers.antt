@@ -1,12 +1,45 @@
 -- A collector sees outcomes as what came of harts, so what was written of one has to be said of all: by laws on lists,
 -- which no tactic finds.
 use Rattle.std.proofs.Common.{set, sym, ap, subst, ◌∙◌, arith}
-use Rattle.bench.proofs.TakesIn.{TakesIn, goes_on, not_refused, passes_over, takes_counts, takes_decoded, takes_expected, takes_in, takes_kept, takes_kept_received, takes_memory, takes_next, takes_none, takes_only_memory, takes_others, takes_reason, takes_undecoded}
+use Rattle.bench.proofs.TakesIn.{TakesIn, goes_on, not_refused, passes_over, stopped, takes_counts, takes_decoded, takes_expected, takes_in, takes_kept, takes_kept_received, takes_memory, takes_next, takes_none, takes_only_memory, takes_others, takes_reason, takes_undecoded}
 use Rattle.bench.specs.Collected.{Collected, IsRefusedHart}
 use Rattle.bench.specs.steps.Collecting.{IsCollected, taken_in}
 use Rattle.message.specs.Accepting.{accepting}
 use Rattle.bench.proofs.collecting.Collector.take_in.Goals.{else-hart-len-via-then-hart-len+else-index, else-hart-len-via-else-hart-len}
 use Rattle.bench.proofs.collecting.Collector.take_in.Goals as goal
+
+pub returns-then-index-clause-decoded : goal.returns-then-index-clause-decoded
+returns-then-index-clause-decoded g c =
+    let items = c.self.inside.harts.items in
+    let count = c.self.inside.harts.ok.0 in
+    let length_is = c.len.ensures in
+    let below = c.if-hart-len.true in
+    let refused = subst (IsRefusedHart c.args.message.hart) c.self.view_is
+    (stopped items c.from-hart.result c.args.message.hart c.index.result.now c.from-hart.ensures
+    (omega (arith, below, length_is, count)) c.index.ensures c.if-index.true) in
+    λ packet log packets accepts has. absurd (accepts.going refused)
+
+pub returns-then-index-clause-counts : goal.returns-then-index-clause-counts
+returns-then-index-clause-counts g c =
+    let items = c.self.inside.harts.items in
+    let count = c.self.inside.harts.ok.0 in
+    let length_is = c.len.ensures in
+    let below = c.if-hart-len.true in
+    let refused = subst (IsRefusedHart c.args.message.hart) c.self.view_is
+    (stopped items c.from-hart.result c.args.message.hart c.index.result.now c.from-hart.ensures
+    (omega (arith, below, length_is, count)) c.index.ensures c.if-index.true) in
+    λ packet taken accepts is. absurd (accepts.going refused)
+
+pub returns-then-index-clause-expected : goal.returns-then-index-clause-expected
+returns-then-index-clause-expected g c =
+    let items = c.self.inside.harts.items in
+    let count = c.self.inside.harts.ok.0 in
+    let length_is = c.len.ensures in
+    let below = c.if-hart-len.true in
+    let refused = subst (IsRefusedHart c.args.message.hart) c.self.view_is
+    (stopped items c.from-hart.result c.args.message.hart c.index.result.now c.from-hart.ensures
+    (omega (arith, below, length_is, count)) c.index.ensures c.if-index.true) in
+    λ going. absurd (going refused)
 
 pub returns-in-Err-clause-only_memory : goal.returns-in-Err-clause-only_memory
 returns-in-Err-clause-only_memory g c = λ period count log has is.
