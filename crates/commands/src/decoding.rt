@@ -22,7 +22,7 @@ use std::alloc::Global;
 use std::io::Write;
 use subcommands::Decode;
 
-//// Writes the log of each hart, as far as the messages of a capture tell it, and answers that all is
+/// Writes the log of each hart, as far as the messages of a capture tell it, and answers that all is
 /// done where each hart's closing packet came and no message is refused.
 pub fn decode<'a, F: Files, O: Write>(
     alloc: Global,

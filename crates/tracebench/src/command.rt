@@ -18,7 +18,7 @@ use subcommands::Asked;
 /// Does what the words ask for, the program's name first among them, and answers the exit status: 0
 /// where all is done, 1 where a capture is not good or a log does not come back whole, 2 where the words,
 /// the image, a log or the schedule is refused or a log is illegal, 3 where a file is not read, the output
-/// is not written or memory is refused.
+/// is not written, memory is refused or there is a stop of `replay` or `bench`.
 ///
 /// The first fault is told on `err`, in the order words, base, count of logs, image, each log in turn,
 /// schedule, capture: one line, or `clap`'s own text where the words are at fault. That `err` itself fails changes no
@@ -33,8 +33,9 @@ pub fn command<F: Files, O: Write, E: Write, R: Threads + Wait + Sync>(
     err: &mut E,
 ) -> u8
     ensures statuses { result ≤ 3 }
-    // Words that `clap` refuses end with status 2, or with 3 where memory is refused too.
-    ensures words { AreRefused (map string_bytes words.now) → (2 ≤ result) × (out.new ≡ out.old) }
+    // Words that `clap` refuses end with status 2, or with 3 as memory that is refused.
+    ensures words { AreRefused (map string_bytes words.now) → (out.new ≡ out.old) × ((result ≡ 2)
+        ⊎ ((result ≡ 3) × Tells (Err Fault.Memory) (E.contents err.old) (E.contents err.new))) }
     // Where the input is refused, nothing is written, but for the lines of `check`.
     ensures refused { AskNoCheck (map string_bytes words.now) → result ≡ 2 → out.new ≡ out.old }
     // Where all is done, nothing is told.
