@@ -11,8 +11,8 @@ use crate::grammar::program;
 use clap::{ArgMatches, Error};
 use std::alloc::{AllocError, Global};
 use subcommands::{
-    Asked, Bench, Check, Decode, Dump, Encode, LARGEST_CAPACITY, MOST_HARTS, Replay, SHORTEST_PERIOD,
-    SMALLEST_CAPACITY,
+    Asked, Bench, Check, Decode, Dump, Encode, LARGEST_CAPACITY, MOST_HARTS, Replay,
+    SHORTEST_PERIOD, SMALLEST_CAPACITY,
 };
 
 /// The period where the words give none.

@@ -70,7 +70,9 @@ fn bench<'a>(alloc: Global) -> Result<Command<'a>, AllocError>
     ensures { IfOk result (HasGrammar bench_app) }
 {
     let command = Command::new(alloc, "bench")
-        .about("Send logs through the funnel, each from a thread of its own, and report what comes of them")
+        .about(
+            "Send logs through the funnel, each from a thread of its own, and report what comes of them",
+        )
         .arg(base(alloc))?
         .arg(period(alloc))?
         .arg(capacity(alloc))?
