@@ -26,7 +26,7 @@ pub record WritesOutcome (config : Config) (logs : List ProgramLog) (printed : P
   pub ended : printed.ended ≡ Ok (end_of_report stop (is_whole stop (map got_of harts) logs))
 
 -- The base is looked at first, then the count of logs, the image and each log; where there is no fault, and nothing
--- stands against sending, the report is written of harts of each of which came what comes of a beginning of its packets.
+-- stands against sending, the report is of harts of each of which came what comes of a beginning of its packets.
 abbrev pub Benches : Content → Bench → Printed → Type 0
 Benches content asked =
     First (IsBase asked.base.now) (λ base.

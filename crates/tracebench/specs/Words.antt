@@ -20,8 +20,8 @@ Tells contents (Err why) old new = AppendsBeginning (error_line why) (contents o
 
 -- What is asked was carried out, and ended so: a fault that is seen before any file is the end, the text is that of what
 -- is asked, where memory was refused a beginning of it, and a fault is told.
-pub record IsDone {E : Type 0} (content : Content) (asked : Asked) (status : Status) (out_old out_new : Option (List ℕ))
-    (contents : E → Option (List ℕ)) (err_old err_new : E) : Type 0 where
+pub record IsDone {E : Type 0} (content : Content) (asked : Asked) (status : Status)
+    (out_old out_new : Option (List ℕ)) (contents : E → Option (List ℕ)) (err_old err_new : E) : Type 0 where
   pub ended : Result Status Fault
   pub ends : status ≡ end_of ended
   pub early : IfSome (early_fault asked) (λ why. ended ≡ Err why)
@@ -30,8 +30,8 @@ pub record IsDone {E : Type 0} (content : Content) (asked : Asked) (status : Sta
   pub told : Tells contents ended err_old err_new
 
 -- The words ask for something, and that was carried out, with this exit status.
-pub record AreCarriedOut {E : Type 0} (content : Content) (words : List (List ℕ)) (code : ℕ) (out_old out_new : Option (List ℕ))
-    (contents : E → Option (List ℕ)) (err_old err_new : E) : Type 0 where
+pub record AreCarriedOut {E : Type 0} (content : Content) (words : List (List ℕ)) (code : ℕ)
+    (out_old out_new : Option (List ℕ)) (contents : E → Option (List ℕ)) (err_old err_new : E) : Type 0 where
   pub asked : Asked
   pub status : Status
   pub asks : WordsAsk words asked
