@@ -50,3 +50,18 @@ module _ (content : Content) (text : List ℕ) (image : Path) (items paths : Lis
           based,
           (Ok one, subst (λ logs. AreFew logs (Ok one)) same few, (Ok program, found, (Err why, none, refl))),
         )))
+
+-- The steps up to the legal logs are gone, and it goes on from these.
+pub logs_found : (content told : Content) (text : List ℕ) (image : Path) (items paths those : List Path) (base : ℕ)
+    (program : Image) (one : Unit {0}) (logs : List ProgramLog)
+    → IsBase text (Ok base) → paths ≡ items → AreFew paths (Ok one) → IsProgram content base image (Ok program)
+    → told ≡ content → those ≡ items → AreLegalLogs told program those (Ok logs)
+    → (Next : List ProgramLog → Printed → Type 0) (printed : Printed) → Next logs printed
+    → First (IsBase text) (λ base. First (AreFew items) (λ _. First (IsProgram content base image) (λ program.
+    First (AreLegalLogs content program items) Next))) printed
+logs_found content told text image items paths those base program one logs based same few found kept alike legal
+    Next printed next =
+    let there = subst (λ paths. AreLegalLogs content program paths (Ok logs)) alike
+    (subst (λ told. AreLegalLogs told program those (Ok logs)) kept legal) in
+    let counted = subst (λ paths. AreFew paths (Ok one)) same few in
+    (Ok base, based, (Ok one, counted, (Ok program, found, (Ok logs, there, next))))

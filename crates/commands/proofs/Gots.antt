@@ -1,10 +1,10 @@
 -- What came of harts, each at its place, as a list.
-use Rattle.std.proofs.Common.{◌≡◌, ◌≤◌, ◌∙◌, ◌+◌, ℕ, zero, suc, Bool, true, false, List, [], ◌∷◌, Option, Some, None, length, map, slice_get, refl, ap, ap₂, subst, arith}
+use Rattle.std.proofs.Common.{◌≡◌, ◌<◌, ◌≤◌, ◌∙◌, ◌+◌, ℕ, zero, suc, Bool, true, false, List, [], ◌∷◌, Option, Some, None, length, map, slice_get, refl, ap, ap₂, subst, arith}
 use Rattle.std.specs.Prelude.{All, IsFalse, IsSomeAnd, IsTrue}
 use Rattle.legalpath.specs.ProgramLog.{ProgramLog}
 use Rattle.message.specs.OfHart.{of_hart}
 use Rattle.message.specs.declared.message.Message.{Message}
-use Rattle.bench.specs.Beginnings.{AreThoseTaken, CameOf, NamesRefused}
+use Rattle.bench.specs.Beginnings.{AreThoseTaken, CameOf, LackSome, NamesRefused}
 use Rattle.bench.specs.Got.{HasGot, got_after, got_of, kept}
 use Rattle.bench.specs.declared.config.Config.{Config}
 use Rattle.bench.specs.declared.outcome.HartOutcome.{HartOutcome}
@@ -87,23 +87,25 @@ each_taken config logs taken harts none those place log came at there =
       subst (λ h. CameOf came.refused (length (of_hart h taken)) count) here from,
     )
 
--- What came of a hart that is named as a stop is not closed.
-not_closed : {A : Type 0} (harts : List (HartOutcome A)) (hart : ℕ)
+-- What came of a hart that is named as a stop is not closed, and fewer packets than messages were taken of it.
+lacks_some : {A : Type 0} (taken : ℕ) (harts : List (HartOutcome A)) (hart : ℕ)
     → IsSomeAnd (slice_get harts hart) (λ came. IsTrue came.refused × IsFalse came.closed)
-    → IsSomeAnd (slice_get (map got_of harts) hart) (λ got. IsFalse got.closed)
-not_closed [] hart some = some
-not_closed (came ∷ harts) zero some = some.1
-not_closed (came ∷ harts) (suc hart) some = not_closed harts hart some
+    → ((came : HartOutcome A) → slice_get harts hart ≡ Some came → IsTrue came.refused → came.taken < taken)
+    → IsSomeAnd (slice_get (map got_of harts) hart) (λ got. IsFalse got.closed × (got.taken < taken))
+lacks_some taken [] hart some lacks = some
+lacks_some taken (came ∷ harts) zero some lacks = (some.1, lacks came refl some.0)
+lacks_some taken (came ∷ harts) (suc hart) some lacks = lacks_some taken harts hart some lacks
 
 -- What came of the harts, by the stop.
 pub are_got : {A : Type 0} (config : Config) (logs : List ProgramLog) (taken : List Message)
-    (harts : List (HartOutcome A)) (why : Option Stop) → config.keep ≡ false → length logs ≡ length harts → AreThoseTaken config logs taken harts
+    (harts : List (HartOutcome A)) (why : Option Stop) → config.keep ≡ false → length logs ≡ length harts
+    → AreThoseTaken config logs taken harts → LackSome taken harts
     → NamesRefused why harts → AreGot config.period logs taken why (map got_of harts)
-are_got config logs taken harts None keep count those names =
+are_got config logs taken harts None keep count those lacks names =
     gots_after-all 0 config.period logs taken harts count names (each_taken config logs taken harts keep those)
-are_got config logs taken harts (Some (stop.Memory hart)) keep count those names = (
-  not_closed harts hart names,
+are_got config logs taken harts (Some (stop.Memory hart)) keep count those lacks names = (
+  lacks_some (length (of_hart hart taken)) harts hart names (lacks hart),
   gots_of_some 0 config.period logs taken harts count (each_taken config logs taken harts keep those),
 )
-are_got config logs taken harts (Some (stop.HandedBack hart)) keep count those names = elim names [ ]
-are_got config logs taken harts (Some (stop.Ended hart)) keep count those names = elim names [ ]
+are_got config logs taken harts (Some (stop.HandedBack hart)) keep count those lacks names = elim names [ ]
+are_got config logs taken harts (Some (stop.Ended hart)) keep count those lacks names = elim names [ ]

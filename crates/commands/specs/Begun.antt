@@ -42,6 +42,12 @@ pub record BeginsPrinted (Prints : Printed → Type 0) (old new : Option (List �
   pub prints : Prints printed
   pub begun : AppendsBeginning printed.text old new
 
+-- Of what is asked a part may be written before memory is refused.
+abbrev pub WritesInParts : Asked → Type 0
+WritesInParts (Check asked) = Unit {0}
+WritesInParts (Decode asked) = Unit {0}
+WritesInParts _ = ⊥
+
 -- Nothing was written of what is asked, or a beginning: `check` has the lines of some first logs, `decode` a beginning of a
 -- text that it may print, and the others nothing.
 abbrev pub IsBegun : Content → Asked → Option (List ℕ) → Option (List ℕ) → Type 0

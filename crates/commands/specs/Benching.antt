@@ -15,8 +15,8 @@ use Rattle.commands.specs.Known.{Content}
 use Rattle.commands.specs.Printed.{First, Printed}
 use Rattle.commands.specs.Sending.{IsSetting, config_at, end_of_report}
 
--- The logs went through the funnel over threads, and the report of what came of them is written: of each hart what comes
--- of a beginning of its packets, and no stop exactly where the closing packet of every hart came.
+-- The report is of harts of each of which came what comes of a beginning of its packets, with no stop exactly where the
+-- closing packet of every hart came.
 pub record WritesOutcome (config : Config) (logs : List ProgramLog) (printed : Printed) : Type 0 where
   pub stop : Option Stop
   pub harts : List (HartOutcome Global)
@@ -26,7 +26,7 @@ pub record WritesOutcome (config : Config) (logs : List ProgramLog) (printed : P
   pub ended : printed.ended ≡ Ok (end_of_report stop (is_whole stop (map got_of harts) logs))
 
 -- The base is looked at first, then the count of logs, the image and each log; where there is no fault, and nothing
--- stands against sending, the report is written of what came through the funnel.
+-- stands against sending, the report is of harts of each of which came what comes of a beginning of its packets.
 abbrev pub Benches : Content → Bench → Printed → Type 0
 Benches content asked =
     First (IsBase asked.base.now) (λ base.

@@ -1,5 +1,5 @@
 -- What `replay` prints, and how it ends.
-use Rattle.std.specs.Prelude.{◌≡◌, ℕ, ◌+◌, ◌≤◌, ⊤, false, IsFalse, IsSomeAnd, List, [], ◌∷◌, Option, Some, None, Result, Ok, Err, length, slice_get}
+use Rattle.std.specs.Prelude.{◌≡◌, ℕ, ◌+◌, ◌<◌, ◌≤◌, ⊤, false, IsFalse, IsSomeAnd, List, [], ◌∷◌, Option, Some, None, Result, Ok, Err, length, slice_get}
 use Rattle.std.specs.Result.{result_map_both}
 use Rattle.legalpath.specs.ProgramLog.{ProgramLog}
 use Rattle.message.specs.OfHart.{of_hart}
@@ -49,12 +49,13 @@ AreGotOfSome hart period (log ∷ logs) taken [] = ⊥
 AreGotOfSome hart period (log ∷ logs) taken (got ∷ gots) =
     IsGotOfSome period log (length (of_hart hart taken)) got × AreGotOfSome (hart + 1) period logs taken gots
 
--- Where there is no stop, this came of all that was taken; the one stop is that memory for a hart was refused, whose
--- closing packet did not come, and then it came of some of what was taken.
+-- Where there is no stop, this came of all that was taken; the one stop is that memory for a hart was refused, of which
+-- fewer packets came than were taken, the closing one not among them, and then this came of some of what was taken.
 abbrev pub AreGot : ℕ → List ProgramLog → List Message → Option Stop → List Got → Type 0
 AreGot period logs taken None gots = gots ≡ gots_after 0 period logs taken
 AreGot period logs taken (Some (stop.Memory hart)) gots =
-    IsSomeAnd (slice_get gots hart) (λ got. IsFalse got.closed) × AreGotOfSome 0 period logs taken gots
+    IsSomeAnd (slice_get gots hart) (λ got. IsFalse got.closed × (got.taken < length (of_hart hart taken)))
+    × AreGotOfSome 0 period logs taken gots
 AreGot period logs taken (Some why) gots = ⊥
 
 -- The logs went through the funnel, whose machine made these turns, and the report of what came of them is written.

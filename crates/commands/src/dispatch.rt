@@ -1,7 +1,7 @@
 //! Whichever subcommand is asked for.
 
 ghost use Rattle.std.specs.Prelude.{◌≡◌, Err, IfSome};
-ghost use Rattle.commands.specs.Begun.{IsBegun};
+ghost use Rattle.commands.specs.Begun.{IsBegun, WritesInParts};
 ghost use Rattle.commands.specs.CarriedOut.{IsCarriedOut};
 ghost use Rattle.commands.specs.Faults.{end_of};
 ghost use Rattle.commands.specs.Order.{early_fault};
@@ -39,6 +39,8 @@ pub fn carry_out<'a, F: Files, O: Write, R: Threads + Wait + Sync>(
     ensures printed { IsCarriedOut (F.content files.old) asked.now result (O.contents out.old) (O.contents out.new) }
     // Where memory is refused, a beginning of the text was written.
     ensures begun { result ≡ Err Fault.Memory → IsBegun (F.content files.old) asked.now (O.contents out.old) (O.contents out.new) }
+    // Then nothing is written but by `check` and `decode`.
+    ensures untouched { ¬ WritesInParts asked.now → result ≡ Err Fault.Memory → out.new ≡ out.old }
     // Where the input is refused, nothing is written, but for the lines of `check`.
     ensures refused { ¬ IsCheck asked.now → end_of result ≡ Status.Refused → out.new ≡ out.old }
 {

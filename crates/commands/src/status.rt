@@ -12,7 +12,7 @@ pub enum Status {
     NotWhole,
     /// The words, the image, a log or the schedule is refused.
     Refused,
-    /// A file was not read or the output not written, or memory was refused, that for a hart of a replay too.
+    /// A file was not read or the output not written, memory was refused, or there was a stop of `replay` or `bench`.
     Machine,
 }
 

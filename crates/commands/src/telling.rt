@@ -15,7 +15,7 @@ use std::io::Write;
 /// Tells a fault on one line, and answers how the command ends. Where a write fails, the rest of the line stays untold.
 pub fn tell<E: Write>(err: &mut E, fault: &Fault<'_>) -> Status
     ensures status { result ≡ status_of fault.now }
-    // What is written is the line, or a beginning of it where a write failed.
+    // What is written is the line, or a beginning of it.
     ensures line { AppendsBeginning (error_line fault.now) (E.contents err.old) (E.contents err.new) }
 {
     let _ = write_line(err, fault);

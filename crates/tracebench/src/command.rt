@@ -35,16 +35,16 @@ pub fn command<F: Files, O: Write, E: Write, R: Threads + Wait + Sync>(
     ensures statuses { result ≤ 3 }
     // Words that `clap` refuses end with status 2, or with 3 as memory that is refused.
     ensures words { AreRefused (map string_bytes words.now) → (out.new ≡ out.old) × ((result ≡ 2)
-        ⊎ ((result ≡ 3) × Tells (Err Fault.Memory) (E.contents err.old) (E.contents err.new))) }
+        ⊎ ((result ≡ 3) × Tells E.contents (Err Fault.Memory) err.old err.new)) }
     // Where the input is refused, nothing is written, but for the lines of `check`.
     ensures refused { AskNoCheck (map string_bytes words.now) → result ≡ 2 → out.new ≡ out.old }
     // Where all is done, nothing is told.
     ensures quiet { result ≡ 0 → err.new ≡ err.old }
     // Else what the words ask for is carried out, of what files tell, unless memory for the words themselves is refused.
     ensures printed { AreRefused (map string_bytes words.now)
-        ⊎ (((result ≡ 3) × (out.new ≡ out.old) × Tells (Err Fault.Memory) (E.contents err.old) (E.contents err.new))
+        ⊎ (((result ≡ 3) × (out.new ≡ out.old) × Tells E.contents (Err Fault.Memory) err.old err.new)
         ⊎ AreCarriedOut (F.content files.old) (map string_bytes words.now) result (O.contents out.old) (O.contents out.new)
-        (E.contents err.old) (E.contents err.new)) }
+        E.contents err.old err.new) }
 {
     let status = match asked(alloc, words) {
         Ok(asked) => run(alloc, rt, files, &asked, out, err),
@@ -66,7 +66,7 @@ fn run<F: Files, O: Write, E: Write, R: Threads + Wait + Sync>(
     ensures quiet { result ≡ Status.Whole → err.new ≡ err.old }
     ensures refused { ¬ IsCheck asked.now → result ≡ Status.Refused → out.new ≡ out.old }
     ensures done { IsDone (F.content files.old) asked.now result (O.contents out.old) (O.contents out.new)
-        (E.contents err.old) (E.contents err.new) }
+        E.contents err.old err.new }
 {
     match carry_out(alloc, rt, files, asked, out) {
         Ok(status) => status,

@@ -12,7 +12,7 @@ use std::io::Write;
 pub(crate) fn tell_words<E: Write>(err: &mut E, error: &Error) -> Status
     ensures memory { kind_of error.now ≡ ErrorKind.OutOfMemory → result ≡ Status.Machine }
     ensures line { kind_of error.now ≡ ErrorKind.OutOfMemory
-        → Tells (Err Fault.Memory) (E.contents err.old) (E.contents err.new) }
+        → Tells E.contents (Err Fault.Memory) err.old err.new }
     ensures words { kind_of error.now ≢ ErrorKind.OutOfMemory → result ≡ Status.Refused }
 {
     if error.kind() == ErrorKind::OutOfMemory {

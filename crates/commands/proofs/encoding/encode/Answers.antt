@@ -4,10 +4,11 @@ use Rattle.std.proofs.lemmas.Grind.{common_steps}
 use Rattle.std.specs.Io.KnownBytes.{Appends}
 use Rattle.captures.specs.Messages.{messages_of_harts}
 use Rattle.commands.specs.Encoding.{WritesMessages, written}
-use Rattle.commands.specs.Found.{AreFew, AreLegalLogs}
+use Rattle.commands.specs.Found.{AreLegalLogs}
 use Rattle.commands.specs.Inputs.{CanEncode}
 use Rattle.commands.specs.Printed.{First}
-use Rattle.commands.proofs.FirstSteps.{count_ends, logs_end, program_ends}
+use Rattle.commands.specs.declared.status.Status.TheVariants.{Whole}
+use Rattle.commands.proofs.FirstSteps.{count_ends, logs_end, logs_found, program_ends}
 use Rattle.commands.proofs.Runs.{appends-keeps}
 use Rattle.commands.proofs.encoding.encode.Goals as goal
 
@@ -50,20 +51,16 @@ returns-clause-printed g c =
     let contents = g.O.Write.contents in
     let asked = c.args.asked.now in
     let content = g.F.Files.content c.args.files.now in
-    let program = c.in_ok-program.program in
     let logs = c.in_ok-legal.legal.items in
     let printed = written asked.hex (messages_of_harts asked.period 0 logs) in
-    let counted = Ok c.in_ok-counted.field-0 in
-    let few = subst (λ logs. AreFew logs counted) c.as_slice.ensures.value c.in_ok-counted.ensures.found in
-    let legal = subst (λ paths. AreLegalLogs content program paths (Ok logs)) c.as_slice-2.ensures.value
-    (subst (λ told. AreLegalLogs told program c.as_slice-2.result.now (Ok logs)) c.in_ok-program.ensures.kept c.in_ok-legal.ensures.logs) in
     let text = subst (λ logs. Appends (contents c.args.out.now) (contents c.write_messages.new.out) (written asked.hex (messages_of_harts asked.period 0 logs)))
     c.as_slice-3.ensures.value c.in_ok-write_messages.ensures.text in record {
       text = printed;
-      prints = (
-        Ok c.in_ok-base.base,
-        c.in_ok-base.ensures.found,
-        (counted, few, (Ok program, c.in_ok-program.ensures.program, (Ok logs, legal, refl))),
-      );
+      prints = logs_found content (g.F.Files.content c.program_of.new.files) asked.base.now asked.image
+          asked.logs.items c.as_slice.result.now c.as_slice-2.result.now c.in_ok-base.base c.in_ok-program.program
+          c.in_ok-counted.field-0 logs c.in_ok-base.ensures.found c.as_slice.ensures.value
+          c.in_ok-counted.ensures.found c.in_ok-program.ensures.program c.in_ok-program.ensures.kept
+          c.as_slice-2.ensures.value c.in_ok-legal.ensures.logs
+          (WritesMessages asked) (record { text = printed; ended = Ok Whole }) refl;
       appended = appends-keeps (contents c.args.out.now) (contents c.write_messages.new.out) (contents c.flush.new.self) printed text c.flush.ensures.bytes;
     }

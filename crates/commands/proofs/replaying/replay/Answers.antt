@@ -1,19 +1,29 @@
 -- The prover tries no chain of steps by itself: what each step found is handed to it, in order.
-use Rattle.std.proofs.Common.{◌≡◌, ◌⊎◌, ◌∙◌, refl, subst, sym, ap, arith, length, map, Ok, Err}
+use Rattle.std.proofs.Common.{◌≡◌, ◌⊎◌, ◌∙◌, refl, subst, sym, ap, arith, List, length, map, Ok, Err}
 use Rattle.std.proofs.lemmas.Grind.{common_steps}
 use Rattle.std.specs.Io.KnownBytes.{Appends}
+use Rattle.legalpath.specs.ProgramLog.{ProgramLog}
 use Rattle.bench.specs.Got.{got_of}
 use Rattle.bench.specs.Replayed.{replayed}
 use Rattle.bench.specs.Report.{is_whole, report_text}
-use Rattle.commands.specs.Found.{AreFew, AreLegalLogs}
+use Rattle.subcommands.specs.declared.words.Replay.{Replay}
+use Rattle.commands.specs.Found.{AreLegalLogs}
 use Rattle.commands.specs.Inputs.{CanReplay}
-use Rattle.commands.specs.Printed.{First, PrintsUnlessDenied}
+use Rattle.commands.specs.Known.{Content}
+use Rattle.commands.specs.Printed.{First, Printed, PrintsUnlessDenied, silent}
 use Rattle.commands.specs.Replaying.{AreGot, IsSchedule, Replays, WritesReport}
 use Rattle.commands.specs.Sending.{IsSetting, config_at, end_of_report}
 use Rattle.commands.specs.declared.fault.Fault.TheVariants as fault
-use Rattle.commands.proofs.FirstSteps.{count_ends, logs_end, program_ends}
+use Rattle.commands.proofs.FirstSteps.{count_ends, logs_end, logs_found, program_ends}
 use Rattle.commands.proofs.Runs.{appends-keeps, ends_silently}
 use Rattle.commands.proofs.replaying.replay.Goals as goal
+
+-- What is printed once the logs are found legal.
+abbrev Reports : Content → Replay → List ProgramLog → Printed → Type 0
+Reports content asked logs =
+    First (IsSchedule content (length asked.logs.items) asked.schedule) (λ turns.
+    First (IsSetting (length asked.logs.items) (config_at asked.period asked.capacity)) (λ _.
+    WritesReport asked logs turns))
 
 pub returns-in_err-counted-clause-printed : goal.returns-in_err-counted-clause-printed
 returns-in_err-counted-clause-printed g c =
@@ -23,9 +33,7 @@ returns-in_err-counted-clause-printed g c =
     count_ends content asked.base.now asked.image asked.logs.items c.as_slice.result.now (CanReplay content asked)
     (g.O.Write.contents c.args.out.now) c.in_ok-base.base c.in_err-counted.field-0.0 c.from_residual-in_err-counted.result
     c.in_ok-base.ensures.found c.as_slice.ensures.value is
-    (λ _ program. First (AreLegalLogs content program asked.logs.items) (λ logs.
-    First (IsSchedule content (length asked.logs.items) asked.schedule) (λ turns.
-    First (IsSetting (length asked.logs.items) (config_at asked.period asked.capacity)) (λ _. WritesReport asked logs turns))))
+    (λ _ program. First (AreLegalLogs content program asked.logs.items) (Reports content asked))
     c.in_err-counted.ensures.found
 
 pub returns-in_err-program-clause-printed : goal.returns-in_err-program-clause-printed
@@ -36,9 +44,7 @@ returns-in_err-program-clause-printed g c =
     program_ends content asked.base.now asked.image asked.logs.items c.as_slice.result.now (CanReplay content asked)
     (g.O.Write.contents c.args.out.now) c.in_ok-base.base c.in_err-program.field-0.0 c.from_residual-in_err-program.result
     c.in_ok-base.ensures.found c.as_slice.ensures.value is c.in_ok-counted.field-0 c.in_ok-counted.ensures.found
-    (λ _ program. First (AreLegalLogs content program asked.logs.items) (λ logs.
-    First (IsSchedule content (length asked.logs.items) asked.schedule) (λ turns.
-    First (IsSetting (length asked.logs.items) (config_at asked.period asked.capacity)) (λ _. WritesReport asked logs turns))))
+    (λ _ program. First (AreLegalLogs content program asked.logs.items) (Reports content asked))
     c.in_err-program.ensures.fault
 
 pub returns-in_err-legal-clause-printed : goal.returns-in_err-legal-clause-printed
@@ -49,9 +55,7 @@ returns-in_err-legal-clause-printed g c =
     logs_end content asked.base.now asked.image asked.logs.items c.as_slice.result.now (CanReplay content asked)
     (g.O.Write.contents c.args.out.now) c.in_ok-base.base c.in_err-legal.field-0.0 c.from_residual-in_err-legal.result
     c.in_ok-base.ensures.found c.as_slice.ensures.value is c.in_ok-counted.field-0 c.in_ok-counted.ensures.found
-    (λ logs.
-    First (IsSchedule content (length asked.logs.items) asked.schedule) (λ turns.
-    First (IsSetting (length asked.logs.items) (config_at asked.period asked.capacity)) (λ _. WritesReport asked logs turns)))
+    (Reports content asked)
     c.in_ok-program.program (g.F.Files.content c.program_of.new.files) c.as_slice-2.result.now c.in_ok-program.ensures.kept
     c.as_slice-2.ensures.value c.in_ok-program.ensures.program c.in_err-legal.ensures.fault
 
@@ -62,28 +66,21 @@ returns-in_err-turns-clause-printed g c =
     let content = g.F.Files.content c.args.files.now in
     let run = Replays content asked in
     let can = CanReplay content asked in
-    let base = c.in_ok-base.base in
-    let program = c.in_ok-program.program in
     let logs = c.in_ok-legal.legal.items in
     let why = c.in_err-turns.field-0.0 in
     let is : c.from_residual-in_err-turns.result ≡ Err why = grind (arith, common_steps) in
-    let counted = Ok c.in_ok-counted.field-0 in
-    let few = subst (λ logs. AreFew logs counted) c.as_slice.ensures.value c.in_ok-counted.ensures.found in
-    let legal = subst (λ paths. AreLegalLogs content program paths (Ok logs)) c.as_slice-2.ensures.value
-    (subst (λ told. AreLegalLogs told program c.as_slice-2.result.now (Ok logs)) c.in_ok-program.ensures.kept
-    c.in_ok-legal.ensures.logs) in
+    let goes_on = logs_found content (g.F.Files.content c.program_of.new.files) asked.base.now asked.image
+    asked.logs.items c.as_slice.result.now c.as_slice-2.result.now c.in_ok-base.base c.in_ok-program.program
+    c.in_ok-counted.field-0 logs c.in_ok-base.ensures.found c.as_slice.ensures.value c.in_ok-counted.ensures.found
+    c.in_ok-program.ensures.program c.in_ok-program.ensures.kept c.as_slice-2.ensures.value
+    c.in_ok-legal.ensures.logs in
     let harts : c.len.result ≡ length asked.logs.items = omega (arith, c.len.ensures, asked.logs.ok.0) in
     let told = subst (λ harts. (why ≡ fault.Memory) ⊎ IsSchedule content harts asked.schedule (Err why)) harts
     (subst (λ told. (why ≡ fault.Memory) ⊎ IsSchedule told c.len.result asked.schedule (Err why))
     (c.in_ok-legal.ensures.kept ∙ c.in_ok-program.ensures.kept) c.in_err-turns.ensures.fault) in
-    let ready = c.in_ok-program.ensures.program in
     subst (λ r. PrintsUnlessDenied run can r out out) (sym is)
     (ends_silently run can (IsSchedule content (length asked.logs.items) asked.schedule (Err why)) why out told
-    (λ none. (
-      Ok base,
-      c.in_ok-base.ensures.found,
-      (counted, few, (Ok program, ready, (Ok logs, legal, (Err why, none, refl)))),
-    )))
+    (λ none. goes_on (Reports content asked) (silent why) (Err why, none, refl)))
 
 pub returns-in_err-outcome-clause-printed : goal.returns-in_err-outcome-clause-printed
 returns-in_err-outcome-clause-printed g c =
@@ -92,17 +89,15 @@ returns-in_err-outcome-clause-printed g c =
     let content = g.F.Files.content c.args.files.now in
     let run = Replays content asked in
     let can = CanReplay content asked in
-    let base = c.in_ok-base.base in
-    let program = c.in_ok-program.program in
     let logs = c.in_ok-legal.legal.items in
     let turns = c.in_ok-turns.turns.items in
     let why = c.in_err-outcome.field-0.0 in
     let is : c.from_residual-in_err-outcome.result ≡ Err why = grind (arith, common_steps) in
-    let counted = Ok c.in_ok-counted.field-0 in
-    let few = subst (λ logs. AreFew logs counted) c.as_slice.ensures.value c.in_ok-counted.ensures.found in
-    let legal = subst (λ paths. AreLegalLogs content program paths (Ok logs)) c.as_slice-2.ensures.value
-    (subst (λ told. AreLegalLogs told program c.as_slice-2.result.now (Ok logs)) c.in_ok-program.ensures.kept
-    c.in_ok-legal.ensures.logs) in
+    let goes_on = logs_found content (g.F.Files.content c.program_of.new.files) asked.base.now asked.image
+    asked.logs.items c.as_slice.result.now c.as_slice-2.result.now c.in_ok-base.base c.in_ok-program.program
+    c.in_ok-counted.field-0 logs c.in_ok-base.ensures.found c.as_slice.ensures.value c.in_ok-counted.ensures.found
+    c.in_ok-program.ensures.program c.in_ok-program.ensures.kept c.as_slice-2.ensures.value
+    c.in_ok-legal.ensures.logs in
     let harts : c.len.result ≡ length asked.logs.items = omega (arith, c.len.ensures, asked.logs.ok.0) in
     let told = subst (λ harts. IsSchedule content harts asked.schedule (Ok turns)) harts
     (subst (λ told. IsSchedule told c.len.result asked.schedule (Ok turns))
@@ -114,30 +109,24 @@ returns-in_err-outcome-clause-printed g c =
     let stands = subst (λ harts. (why ≡ fault.Memory) ⊎ IsSetting harts config (Err why)) count
     (subst (λ logs. (why ≡ fault.Memory) ⊎ IsSetting (length logs) config (Err why)) c.as_slice-3.ensures.value
     c.in_err-outcome.ensures.fault) in
-    let ready = c.in_ok-program.ensures.program in
     subst (λ r. PrintsUnlessDenied run can r out out) (sym is)
     (ends_silently run can (IsSetting (length asked.logs.items) config (Err why)) why out stands
-    (λ none. (
-      Ok base,
-      c.in_ok-base.ensures.found,
-      (counted, few, (Ok program, ready, (Ok logs, legal, (Ok turns, told, (Err why, none, refl))))),
-    )))
+    (λ none. goes_on (Reports content asked) (silent why) (Ok turns, told, (Err why, none, refl))))
 
 pub returns-clause-printed : goal.returns-clause-printed
 returns-clause-printed g c =
     let contents = g.O.Write.contents in
     let asked = c.args.asked.now in
     let content = g.F.Files.content c.args.files.now in
-    let program = c.in_ok-program.program in
     let logs = c.in_ok-legal.legal.items in
     let turns = c.in_ok-turns.turns.items in
     let outcome = c.in_ok-outcome.outcome in
     let gots = map got_of outcome.harts.items in
-    let counted = Ok c.in_ok-counted.field-0 in
-    let few = subst (λ logs. AreFew logs counted) c.as_slice.ensures.value c.in_ok-counted.ensures.found in
-    let legal = subst (λ paths. AreLegalLogs content program paths (Ok logs)) c.as_slice-2.ensures.value
-    (subst (λ told. AreLegalLogs told program c.as_slice-2.result.now (Ok logs)) c.in_ok-program.ensures.kept
-    c.in_ok-legal.ensures.logs) in
+    let goes_on = logs_found content (g.F.Files.content c.program_of.new.files) asked.base.now asked.image
+    asked.logs.items c.as_slice.result.now c.as_slice-2.result.now c.in_ok-base.base c.in_ok-program.program
+    c.in_ok-counted.field-0 logs c.in_ok-base.ensures.found c.as_slice.ensures.value c.in_ok-counted.ensures.found
+    c.in_ok-program.ensures.program c.in_ok-program.ensures.kept c.as_slice-2.ensures.value
+    c.in_ok-legal.ensures.logs in
     let harts : c.len.result ≡ length asked.logs.items = omega (arith, c.len.ensures, asked.logs.ok.0) in
     let told = subst (λ harts. IsSchedule content harts asked.schedule (Ok turns)) harts
     (subst (λ told. IsSchedule told c.len.result asked.schedule (Ok turns))
@@ -158,31 +147,22 @@ returns-clause-printed g c =
     let ended = ap (λ status. Ok status) (c.status_of.ensures
     ∙ ap (λ logs. end_of_report outcome.stop (is_whole outcome.stop gots logs)) c.as_slice-6.ensures.value) in record {
       text = report_text outcome.stop gots logs;
-      prints = (
-        Ok c.in_ok-base.base,
-        c.in_ok-base.ensures.found,
-        (
-          counted,
-          few,
-          (
-            Ok program,
-            c.in_ok-program.ensures.program,
+      prints = goes_on (Reports content asked)
+          (record { text = report_text outcome.stop gots logs; ended = Ok c.status_of.result }) (
+            Ok turns,
+            told,
             (
-              Ok logs,
-              legal,
-              (
-                Ok turns,
-                told,
-                (
-                  Ok tt,
-                  stands,
-                  record { stop = outcome.stop; gots = gots; came = came; text = refl; ended = ended },
-                ),
-              ),
+              Ok tt,
+              stands,
+              record {
+                stop = outcome.stop;
+                gots = gots;
+                came = came;
+                text = refl;
+                ended = ended;
+              },
             ),
-          ),
-        ),
-      );
+          );
       appended = appends-keeps (contents c.args.out.now) (contents c.write_report.new.out) (contents c.flush.new.self)
           (report_text outcome.stop gots logs) text c.flush.ensures.bytes;
     }

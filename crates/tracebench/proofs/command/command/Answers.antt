@@ -33,7 +33,7 @@ returns-clause-printed g c =
         | inl memory ↦ inr (inl (
           c.code.ensures ∙ ap code_of (w.status-is ∙ w.tell_words-status.ensures.memory memory),
           w.out-is,
-          subst (λ e. Tells (Err fault.Memory) (told c.args.err.now) (told e)) (sym w.err-is) (w.tell_words-status.ensures.line memory),
+          subst (λ e. Tells told (Err fault.Memory) c.args.err.now e) (sym w.err-is) (w.tell_words-status.ensures.line memory),
         ))
         | inr refused ↦ inl refused
       ]
@@ -41,7 +41,7 @@ returns-clause-printed g c =
         | inl memory ↦ inr (inl (
           c.code.ensures ∙ ap code_of (w.status-is ∙ w.tell_words-status.ensures.memory memory),
           w.out-is,
-          subst (λ e. Tells (Err fault.Memory) (told c.args.err.now) (told e)) (sym w.err-is) (w.tell_words-status.ensures.line memory),
+          subst (λ e. Tells told (Err fault.Memory) c.args.err.now e) (sym w.err-is) (w.tell_words-status.ensures.line memory),
         ))
         | inr refused ↦ inl refused
       ]
