@@ -17,13 +17,14 @@ abbrev pub IsOpenHart : {A : Type 0} → List (HartOutcome A) → ℕ → Type 0
 IsOpenHart harts hart = IsSomeAnd (slice_get harts hart) (λ came. IsFalse came.closed)
 
 -- A hart that is not closed is named: for want of memory only one for which memory was refused, where every hart for
--- which it was not is closed.
+-- which it was not is closed, and as one whose channel ended only one for which it was not.
 abbrev pub IsStopOf : {A : Type 0} → Stop → List (HartOutcome A) → Type 0
 IsStopOf (stop.Memory hart) harts =
     IsOpenHart harts hart × IsSomeAnd (slice_get harts hart) (λ came. IsTrue came.refused)
     × All (λ came. came.refused ≡ false → came.closed ≡ true) harts
 IsStopOf (stop.HandedBack hart) harts = IsOpenHart harts hart
-IsStopOf (stop.Ended hart) harts = IsOpenHart harts hart
+IsStopOf (stop.Ended hart) harts =
+    IsOpenHart harts hart × IsSomeAnd (slice_get harts hart) (λ came. IsFalse came.refused)
 
 -- There is no stop exactly where every hart is closed, and else one tells of a hart that is not.
 abbrev pub NamesOpen : {A : Type 0} → Option Stop → List (HartOutcome A) → Type 0

@@ -1,6 +1,6 @@
 //! What stopped a run.
 
-ghost use Rattle.std.specs.Prelude.{◌≡◌, ◌≤◌, All, IfNone, IfSome, false, length, true};
+ghost use Rattle.std.specs.Prelude.{◌≡◌, ◌≤◌, All, IfNone, IfSome, IsFalse, IsSomeAnd, false, length, slice_get, true};
 ghost use Rattle.bench.specs.Stopping.{AreClosed, IsOpenHart, NamesOpen};
 
 use crate::outcome::HartOutcome;
@@ -41,6 +41,7 @@ fn first_handed_back<A: Allocator>(harts: &[HartOutcome<A>], handed_back: &[bool
 /// The first hart that is not closed although memory for it was not refused.
 fn first_ended<A: Allocator>(harts: &[HartOutcome<A>]) -> Option<usize>
     ensures some { IfSome result (IsOpenHart harts.now) }
+    ensures going { IfSome result (λ hart. IsSomeAnd (slice_get harts.now hart) (λ came. IsFalse came.refused)) }
     ensures none { IfNone result (All (λ came. came.refused ≡ false → came.closed ≡ true) harts.now) }
 {
     for hart in 0..harts.len() {
