@@ -22,7 +22,7 @@ use Rattle.bench.proofs.ListElements.{All-at, All-from_places}
 use Rattle.bench.proofs.TakingIn.{came_not_refused, came_refused}
 use Rattle.bench.proofs.WholeLog.{has_got}
 
-differ : true ≡ false → ⊥
+pub differ : true ≡ false → ⊥
 differ is = cc
 
 -- The outcome of a hart says this.

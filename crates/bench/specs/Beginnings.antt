@@ -4,6 +4,7 @@ use Rattle.legalpath.specs.ProgramLog.{ProgramLog}
 use Rattle.message.specs.OfHart.{of_hart}
 use Rattle.message.specs.declared.message.Message.{Message}
 use Rattle.bench.specs.Got.{HasGot, got_of}
+use Rattle.bench.specs.Working.{CarryFirst}
 use Rattle.bench.specs.declared.config.Config.{Config}
 use Rattle.bench.specs.declared.outcome.HartOutcome.{HartOutcome}
 use Rattle.bench.specs.declared.stop.Stop.{Stop}
@@ -30,6 +31,14 @@ AreThoseTaken {A} config logs taken harts =
     → slice_get harts hart ≡ Some came
     → (count : ℕ) × HasGot config.period config.keep log count (got_of came)
     × CameOf came.refused (length (of_hart hart taken)) count
+
+-- The messages of each hart among these carry the first payloads of its log, in order, but where memory for it was
+-- refused.
+abbrev pub AreCarried : {A : Type 0} → Config → List ProgramLog → List Message → List (HartOutcome A) → Type 0
+AreCarried {A} config logs taken harts =
+    (hart : ℕ) (log : ProgramLog) (came : HartOutcome A) → slice_get logs hart ≡ Some log
+    → slice_get harts hart ≡ Some came → IsFalse came.refused
+    → CarryFirst config.period log (of_hart hart taken)
 
 -- Of each hart for which memory was refused fewer packets came than messages of it are among these.
 abbrev pub LackSome : {A : Type 0} → List Message → List (HartOutcome A) → Type 0

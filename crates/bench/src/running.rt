@@ -2,7 +2,7 @@
 
 ghost use Rattle.std.specs.Prelude.{ℕ, ◌≡◌, ◌≤◌, [], IfErr, IfOk, None, Some, Err, OnErr, length};
 ghost use Rattle.funnel.specs.Ends.{AreNewPorts};
-ghost use Rattle.bench.specs.Beginnings.{AreBeginnings, AreThoseTaken};
+ghost use Rattle.bench.specs.Beginnings.{AreBeginnings, AreCarried, AreThoseTaken};
 ghost use Rattle.bench.specs.Setting.{setup_fault};
 ghost use Rattle.bench.specs.Stopping.{NamesOpen, NoRefusedIsClosed};
 ghost use Rattle.bench.specs.declared.setup.Setup.{Setup as AnySetup};
@@ -65,7 +65,7 @@ pub fn run<A: Allocator + Copy, G: Gate, R: Threads + Wait + Sync>(
 /// The same over the ends of a funnel that was opened for as many harts, through which nothing was sent. The period is 1 or
 /// more; the configuration's capacity is not looked at.
 ///
-/// Where memory is refused that is for no single hart nothing is sent, and the ports are dropped.
+/// Where memory is refused that is for no single hart nothing is taken, and the ports are dropped.
 pub fn run_on<A: Allocator + Copy, G: Gate, R: Threads + Wait + Sync>(
     alloc: A,
     logs: &[LegalLog<'_>],
@@ -82,6 +82,8 @@ pub fn run_on<A: Allocator + Copy, G: Gate, R: Threads + Wait + Sync>(
     ensures beginnings { IfOk result (λ outcome. AreBeginnings config logs.now outcome.harts.items) }
     // As many messages came of each hart as were taken of it, but where memory for it was refused.
     ensures taken { IfOk result (λ outcome. AreThoseTaken config logs.now outlet.new.taken outcome.harts.items) }
+    // They carry the first payloads of the hart's log, but where memory for it was refused.
+    ensures carried { IfOk result (λ outcome. AreCarried config logs.now outlet.new.taken outcome.harts.items) }
     ensures stop { IfOk result (λ outcome. NamesOpen outcome.stop outcome.harts.items) }
     ensures refused_harts { IfOk result (λ outcome. NoRefusedIsClosed outcome.harts.items) }
     ensures untouched { OnErr result (outlet.new ≡ outlet.old) }
@@ -96,6 +98,7 @@ pub fn run_on<A: Allocator + Copy, G: Gate, R: Threads + Wait + Sync>(
             ensures same { result.1.ghost_name ≡ outlet.entry.ghost_name }
             ensures beginnings { IfOk result.0 (λ outcome. AreBeginnings config logs.entry.now outcome.harts.items) }
             ensures taken { IfOk result.0 (λ outcome. AreThoseTaken config logs.entry.now result.1.now.taken outcome.harts.items) }
+            ensures carried { IfOk result.0 (λ outcome. AreCarried config logs.entry.now result.1.now.taken outcome.harts.items) }
             ensures stop { IfOk result.0 (λ outcome. NamesOpen outcome.stop outcome.harts.items) }
             ensures refused_harts { IfOk result.0 (λ outcome. NoRefusedIsClosed outcome.harts.items) }
             ensures untouched { OnErr result.0 (result.1.now ≡ outlet.entry.now) }
@@ -126,6 +129,7 @@ fn conduct<'s, 'p, E, A: Allocator + Copy, G: Gate, R: Threads + Wait + Sync>(
     requires count { length logs.now ≤ 64 }
     ensures beginnings { IfOk result (λ outcome. AreBeginnings config logs.now outcome.harts.items) }
     ensures taken { IfOk result (λ outcome. AreThoseTaken config logs.now outlet.new.taken outcome.harts.items) }
+    ensures carried { IfOk result (λ outcome. AreCarried config logs.now outlet.new.taken outcome.harts.items) }
     ensures stop { IfOk result (λ outcome. NamesOpen outcome.stop outcome.harts.items) }
     ensures refused_harts { IfOk result (λ outcome. NoRefusedIsClosed outcome.harts.items) }
     ensures untouched { OnErr result (outlet.new ≡ outlet.old) }
