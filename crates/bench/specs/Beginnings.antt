@@ -46,6 +46,12 @@ LackSome {A} taken harts =
     (hart : ℕ) (came : HartOutcome A) → slice_get harts hart ≡ Some came → IsTrue came.refused
     → came.taken < length (of_hart hart taken)
 
+-- Of each hart for which memory was refused fewer packets came than messages of it are among these, where any are.
+abbrev pub LackSomeTaken : {A : Type 0} → List Message → List (HartOutcome A) → Type 0
+LackSomeTaken {A} taken harts =
+    (hart : ℕ) (came : HartOutcome A) → slice_get harts hart ≡ Some came → IsTrue came.refused
+    → 0 < length (of_hart hart taken) → came.taken < length (of_hart hart taken)
+
 -- There is no stop exactly where memory for no hart was refused, and else one of those harts is named, whose closing
 -- packet did not come.
 abbrev pub NamesRefused : {A : Type 0} → Option Stop → List (HartOutcome A) → Type 0

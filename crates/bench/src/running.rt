@@ -2,7 +2,7 @@
 
 ghost use Rattle.std.specs.Prelude.{ℕ, ◌≡◌, ◌≤◌, [], IfErr, IfOk, None, Some, Err, OnErr, length};
 ghost use Rattle.funnel.specs.Ends.{AreNewPorts};
-ghost use Rattle.bench.specs.Beginnings.{AreBeginnings, AreCarried, AreThoseTaken};
+ghost use Rattle.bench.specs.Beginnings.{AreBeginnings, AreCarried, AreThoseTaken, LackSomeTaken};
 ghost use Rattle.bench.specs.Setting.{setup_fault};
 ghost use Rattle.bench.specs.Stopping.{NamesOpen, NoRefusedIsClosed};
 ghost use Rattle.bench.specs.declared.setup.Setup.{Setup as AnySetup};
@@ -84,6 +84,8 @@ pub fn run_on<A: Allocator + Copy, G: Gate, R: Threads + Wait + Sync>(
     ensures taken { IfOk result (λ outcome. AreThoseTaken config logs.now outlet.new.taken outcome.harts.items) }
     // They carry the first payloads of the hart's log, but where memory for it was refused.
     ensures carried { IfOk result (λ outcome. AreCarried config logs.now outlet.new.taken outcome.harts.items) }
+    // Of a hart that is refused fewer came than were taken, where any were.
+    ensures lacks { IfOk result (λ outcome. LackSomeTaken outlet.new.taken outcome.harts.items) }
     ensures stop { IfOk result (λ outcome. NamesOpen outcome.stop outcome.harts.items) }
     ensures refused_harts { IfOk result (λ outcome. NoRefusedIsClosed outcome.harts.items) }
     ensures untouched { OnErr result (outlet.new ≡ outlet.old) }
@@ -99,6 +101,7 @@ pub fn run_on<A: Allocator + Copy, G: Gate, R: Threads + Wait + Sync>(
             ensures beginnings { IfOk result.0 (λ outcome. AreBeginnings config logs.entry.now outcome.harts.items) }
             ensures taken { IfOk result.0 (λ outcome. AreThoseTaken config logs.entry.now result.1.now.taken outcome.harts.items) }
             ensures carried { IfOk result.0 (λ outcome. AreCarried config logs.entry.now result.1.now.taken outcome.harts.items) }
+            ensures lacks { IfOk result.0 (λ outcome. LackSomeTaken result.1.now.taken outcome.harts.items) }
             ensures stop { IfOk result.0 (λ outcome. NamesOpen outcome.stop outcome.harts.items) }
             ensures refused_harts { IfOk result.0 (λ outcome. NoRefusedIsClosed outcome.harts.items) }
             ensures untouched { OnErr result.0 (result.1.now ≡ outlet.entry.now) }
@@ -130,6 +133,7 @@ fn conduct<'s, 'p, E, A: Allocator + Copy, G: Gate, R: Threads + Wait + Sync>(
     ensures beginnings { IfOk result (λ outcome. AreBeginnings config logs.now outcome.harts.items) }
     ensures taken { IfOk result (λ outcome. AreThoseTaken config logs.now outlet.new.taken outcome.harts.items) }
     ensures carried { IfOk result (λ outcome. AreCarried config logs.now outlet.new.taken outcome.harts.items) }
+    ensures lacks { IfOk result (λ outcome. LackSomeTaken outlet.new.taken outcome.harts.items) }
     ensures stop { IfOk result (λ outcome. NamesOpen outcome.stop outcome.harts.items) }
     ensures refused_harts { IfOk result (λ outcome. NoRefusedIsClosed outcome.harts.items) }
     ensures untouched { OnErr result (outlet.new ≡ outlet.old) }

@@ -1,10 +1,10 @@
 -- What came of harts, by lemmas on collectors, which no tactic finds.
 use Rattle.std.proofs.Common.{◌≡◌, ◌∙◌, length, sym, ap, subst, arith}
 use Rattle.funnel.specs.Ends.{OutletView}
-use Rattle.bench.specs.Beginnings.{AreCarried, AreThoseTaken}
+use Rattle.bench.specs.Beginnings.{AreCarried, AreThoseTaken, LackSomeTaken}
 use Rattle.bench.specs.steps.Gathering.{AreGathered}
 use Rattle.bench.specs.steps.Taking.{AreTaken}
-use Rattle.bench.proofs.ReplayEnds.{are_beginnings, are_those_taken, none_is_closed}
+use Rattle.bench.proofs.ReplayEnds.{are_beginnings, are_those_taken, lack_some_taken, none_is_closed}
 use Rattle.bench.proofs.SettledHarts.{are_carried, gathered_taken}
 use Rattle.bench.proofs.running.conduct.Goals as goal
 
@@ -93,3 +93,12 @@ returns-clause-carried g c =
     c.collect.new.collector c.finish-outcome.result.harts.items (flags g c) (gathered g c)
     (record { count = ends.count; came = ends.came })
     (λ hart log at on. c.settle_all.ensures.carried hart log at (c.start_all-workers.ensures.started hart on)))
+
+pub returns-clause-lacks : goal.returns-clause-lacks
+returns-clause-lacks g c =
+    let ends = c.finish-outcome.ensures in
+    subst (λ (outlet : OutletView). LackSomeTaken outlet.taken c.finish-outcome.result.harts.items)
+    (sym c.settle_all.ensures.outlet)
+    (lack_some_taken c.args.config c.args.logs.now c.collect.new.outlet.taken c.collect.new.collector
+    c.finish-outcome.result.harts.items c.in_ok-collector.ensures.legal (keep g c) (taken g c)
+    (record { count = ends.count; came = ends.came }))
