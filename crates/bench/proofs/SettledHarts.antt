@@ -1,5 +1,5 @@
 -- What came of harts whose workers are settled.
-use Rattle.std.proofs.Common.{◌≡◌, ◌∙◌, inr, ℕ, Bool, true, false, List, Some, length, slice_get, sym, subst, arith}
+use Rattle.std.proofs.Common.{◌≡◌, ◌∙◌, inr, ℕ, Bool, true, false, List, Option, Some, None, length, slice_get, sym, subst, arith}
 use Rattle.std.specs.Prelude.{IsSomeAnd}
 use Rattle.std.proofs.lemmas.Option.{slice_get_within}
 use Rattle.legalpath.specs.ProgramLog.{ProgramLog}
@@ -9,9 +9,12 @@ use Rattle.funnel.proofs.Places.{slice_get-some}
 use Rattle.bench.specs.Beginnings.{AreCarried}
 use Rattle.bench.specs.Collected.{Collected}
 use Rattle.bench.specs.Got.{got_after, got_of, kept}
+use Rattle.bench.specs.Stopping.{IfHandedBack}
 use Rattle.bench.specs.Working.{CarryFirst}
 use Rattle.bench.specs.declared.config.Config.{Config}
 use Rattle.bench.specs.declared.outcome.HartOutcome.{HartOutcome}
+use Rattle.bench.specs.declared.stop.Stop.{Stop}
+use Rattle.bench.specs.declared.stop.Stop.TheVariants as stop
 use Rattle.bench.specs.steps.Gathering.{AreGathered}
 use Rattle.bench.specs.steps.Taking.{AreTaken, IsTakenOf}
 use Rattle.bench.proofs.ReplayEnds.{Finishes, differ}
@@ -58,3 +61,11 @@ are_carried config logs started taken collected harts flags gathered ends carrie
         let told = subst (λ some. IsSomeAnd some (λ one. (got_of one ≡ got) × (one.refused ≡ true))) at
         (ends.came hart got true cut.came) in
         absurd (differ (sym told.1 ∙ going))
+
+-- What follows of the hart of which a payload was handed back, by what is known of it.
+pub handed_back_as : (P Q : ℕ → Type 0) (why : Option Stop) → ((hart : ℕ) → P hart → Q hart) → IfHandedBack P why
+    → IfHandedBack Q why
+handed_back_as P Q None holds has = tt
+handed_back_as P Q (Some (stop.HandedBack hart)) holds has = holds hart has
+handed_back_as P Q (Some (stop.Memory hart)) holds has = tt
+handed_back_as P Q (Some (stop.Ended hart)) holds has = tt

@@ -4,7 +4,7 @@ ghost use Rattle.std.specs.Prelude.{ℕ, ◌≡◌, ◌≤◌, [], IfErr, IfOk, 
 ghost use Rattle.funnel.specs.Ends.{AreNewPorts};
 ghost use Rattle.bench.specs.Beginnings.{AreBeginnings, AreCarried, AreThoseTaken, LackSomeTaken};
 ghost use Rattle.bench.specs.Setting.{setup_fault};
-ghost use Rattle.bench.specs.Stopping.{NamesOpen, NoRefusedIsClosed};
+ghost use Rattle.bench.specs.Stopping.{IfHandedBack, LacksPayloads, NamesOpen, NoRefusedIsClosed};
 ghost use Rattle.bench.specs.declared.setup.Setup.{Setup as AnySetup};
 
 use crate::collecting::Collector;
@@ -88,6 +88,9 @@ pub fn run_on<A: Allocator + Copy, G: Gate, R: Threads + Wait + Sync>(
     ensures lacks { IfOk result (λ outcome. LackSomeTaken outlet.new.taken outcome.harts.items) }
     ensures stop { IfOk result (λ outcome. NamesOpen outcome.stop outcome.harts.items) }
     ensures refused_harts { IfOk result (λ outcome. NoRefusedIsClosed outcome.harts.items) }
+    // Where a payload of a hart was handed back, as the stop tells, not all payloads of its log were taken.
+    ensures handed_back { IfOk result (λ outcome.
+        IfHandedBack (LacksPayloads config.period logs.now outlet.new.taken) outcome.stop) }
     ensures untouched { OnErr result (outlet.new ≡ outlet.old) }
     ensures funnel { outlet.new ≡ record outlet.old { taken = outlet.new.taken } }
 {
@@ -104,6 +107,8 @@ pub fn run_on<A: Allocator + Copy, G: Gate, R: Threads + Wait + Sync>(
             ensures lacks { IfOk result.0 (λ outcome. LackSomeTaken result.1.now.taken outcome.harts.items) }
             ensures stop { IfOk result.0 (λ outcome. NamesOpen outcome.stop outcome.harts.items) }
             ensures refused_harts { IfOk result.0 (λ outcome. NoRefusedIsClosed outcome.harts.items) }
+            ensures handed_back { IfOk result.0 (λ outcome.
+                IfHandedBack (LacksPayloads config.period logs.entry.now result.1.now.taken) outcome.stop) }
             ensures untouched { OnErr result.0 (result.1.now ≡ outlet.entry.now) }
             ensures funnel { result.1.now ≡ record outlet.entry.now { taken = result.1.now.taken } }
         {
@@ -136,6 +141,8 @@ fn conduct<'s, 'p, E, A: Allocator + Copy, G: Gate, R: Threads + Wait + Sync>(
     ensures lacks { IfOk result (λ outcome. LackSomeTaken outlet.new.taken outcome.harts.items) }
     ensures stop { IfOk result (λ outcome. NamesOpen outcome.stop outcome.harts.items) }
     ensures refused_harts { IfOk result (λ outcome. NoRefusedIsClosed outcome.harts.items) }
+    ensures handed_back { IfOk result (λ outcome.
+        IfHandedBack (LacksPayloads config.period logs.now outlet.new.taken) outcome.stop) }
     ensures untouched { OnErr result (outlet.new ≡ outlet.old) }
     ensures funnel { outlet.new ≡ record outlet.old { taken = outlet.new.taken } }
 {
