@@ -35,6 +35,7 @@ pub cut_off_same : (period taken hart : ℕ) (log : ProgramLog) (old new : Colle
 cut_off_same period taken hart log old new same keep cut = record {
   count = cut.count;
   within = cut.within;
+  lacks = cut.lacks;
   few = cut.few;
   came =
       subst (λ flag. Came hart (kept flag (got_after period log cut.count)) true new) (sym keep)

@@ -8,7 +8,7 @@ use Rattle.legalpath.specs.ProgramLog.{IsLegalLog, ProgramLog}
 use Rattle.encoder.specs.Packets.{packets}
 use Rattle.message.specs.OfHart.{of_hart}
 use Rattle.message.specs.declared.message.Message.{Message}
-use Rattle.bench.specs.Beginnings.{AreBeginnings, AreThoseTaken, CameOf, LackSome, NamesRefused}
+use Rattle.bench.specs.Beginnings.{AreBeginnings, AreThoseTaken, CameOf, LackSome, LackSomeTaken, NamesRefused}
 use Rattle.bench.specs.Collected.{Came, Collected, IsRefusedHart}
 use Rattle.bench.specs.Got.{Got, HasGot, got_after, got_of, kept}
 use Rattle.bench.specs.declared.config.Config.{Config}
@@ -22,7 +22,7 @@ use Rattle.bench.proofs.ListElements.{All-at, All-from_places}
 use Rattle.bench.proofs.TakingIn.{came_not_refused, came_refused}
 use Rattle.bench.proofs.WholeLog.{has_got}
 
-differ : true ≡ false → ⊥
+pub differ : true ≡ false → ⊥
 differ is = cc
 
 -- The outcome of a hart says this.
@@ -119,6 +119,24 @@ module _ {A : Type 0} (config : Config) (logs : List ProgramLog) (taken : List M
           let told = says hart came got true at cut.came in
           let less = lacks hart log (taken_by got true) known cut.came.taken refl in
           subst (λ n. n < length (of_hart hart taken)) (sym (ap (λ (some : Got). some.taken) told.0)) less
+
+  -- And of one that is refused, of which any was taken, by what was cut off.
+  pub lack_some_taken : LackSomeTaken taken harts
+  lack_some_taken = λ hart came at refused some.
+      let within = slice_get_within harts hart came at in
+      let its = element logs hart (omega (arith, within, as_many)) in
+      by_case hart its.0 came at refused some (are.each hart its.0 its.1)
+    where
+      by_case : (hart : ℕ) (log : ProgramLog) (came : HartOutcome A) → slice_get harts hart ≡ Some came
+          → came.refused ≡ true → 0 < length (of_hart hart taken)
+          → IsTakenOf config.period log (length (of_hart hart taken)) hart collected
+          → came.taken < length (of_hart hart taken)
+      by_case hart log came at refused some (inl has) =
+          let got = kept collected.keep (got_after config.period log (length (of_hart hart taken))) in
+          absurd (differ (sym refused ∙ (says hart came got false at has.came).1))
+      by_case hart log came at refused some (inr cut) =
+          let told = says hart came (kept collected.keep (got_after config.period log cut.count)) true at cut.came in
+          subst (λ n. n < length (of_hart hart taken)) (sym (ap (λ (got : Got). got.taken) told.0)) (cut.lacks some)
 
   -- Of a hart that is not refused all came.
   not_refused : (hart : ℕ) (log : ProgramLog) (came : HartOutcome A) → slice_get harts hart ≡ Some came

@@ -145,6 +145,7 @@ module _ {W : Type 0} (hart_of : W → ℕ) (period : ℕ) (logs : List ProgramL
         cut log has = record {
           count = 0;
           within = omega arith;
+          lacks = λ some. omega (arith, some);
           few = omega arith;
           came =
               subst (λ flag. Came place (kept flag (got_after period log 0)) true new) (sym keep)

@@ -71,7 +71,13 @@ module _ (message : Message) (result : Result (Unit {0}) CollectFault) (old new 
   cut_off_stays count log cut =
       subst (λ (c : Collected). IsCutOff period log (count + 1) message.hart c)
       (sym (takes.passed_over (cut_off_refused count log cut)).1)
-      (record { count = cut.count; within = omega (arith, cut.within); few = cut.few; came = cut.came })
+      (record {
+        count = cut.count;
+        within = omega (arith, cut.within);
+        lacks = λ some. omega (arith, cut.within);
+        few = cut.few;
+        came = cut.came;
+      })
 
   -- A message of a log is below all of them.
   below_all : (count : ℕ) (log : ProgramLog) → IsMessageOf period log count message
@@ -94,6 +100,7 @@ module _ (message : Message) (result : Result (Unit {0}) CollectFault) (old new 
       by_result (Err why) is more memory = inr (record {
         count = count;
         within = omega arith;
+        lacks = λ some. omega arith;
         few = below_all count log own;
         came =
             subst (λ flag. Came message.hart (kept flag (got_after period log count)) true new)

@@ -1,9 +1,9 @@
 -- Messages that carry the first payloads of a log.
-use Rattle.std.proofs.Common.{◌≡◌, ◌⊎◌, ◌≤◌, ◌+◌, ◌^◌, ℕ, zero, suc, true, List, [], ◌∷◌, ◌++◌, Some, length, take, slice_get, nat_le, refl, sym, ap, subst, inl, inr, ⊎_elim, ◌∙◌, arith}
+use Rattle.std.proofs.Common.{◌≡◌, ◌⊎◌, ◌≤◌, ◌+◌, ◌^◌, ℕ, zero, suc, Bool, true, List, [], ◌∷◌, ◌++◌, Some, length, set, take, slice_get, nat_le, refl, sym, ap, subst, inl, inr, ⊎_elim, ◌∙◌, arith}
 use Rattle.std.specs.Option.{option_map}
-use Rattle.std.proofs.lemmas.Bool.{or_cases}
+use Rattle.std.proofs.lemmas.Bool.{cases_eq, or_cases}
 use Rattle.std.proofs.lemmas.Bool.Decides.{nat_tests}
-use Rattle.std.proofs.lemmas.List.{length-map, length_push, map-append}
+use Rattle.std.proofs.lemmas.List.{length-append, length-map, length-set, length_push, map-append}
 use Rattle.std.proofs.lemmas.List.Elements.{All-cons, All-head, All-nil}
 use Rattle.std.proofs.lemmas.Option.{same_Some, slice_get-map, slice_get_within}
 use Rattle.legalpath.specs.ProgramLog.{IsLegalLog, ProgramLog}
@@ -13,12 +13,14 @@ use Rattle.message.specs.OfHart.{of_hart}
 use Rattle.message.specs.declared.message.Message.{Message}
 use Rattle.funnel.specs.Ends.{IsBeginning, PortView, has_closing, is_finished}
 use Rattle.funnel.specs.Payloads.{ClosesOnlyLast, payloads_in}
-use Rattle.bench.specs.Working.{CarryFirst, IsWork}
+use Rattle.bench.specs.Stopping.{LacksPayloads}
+use Rattle.bench.specs.Working.{AreNotAll, CarryFirst, IsWork}
 use Rattle.bench.specs.steps.Gathering.{Among}
 use Rattle.bench.proofs.AmongLemmas.{among-fewer}
-use Rattle.bench.proofs.CollectedLemmas.{take-next}
+use Rattle.bench.proofs.CollectedLemmas.{set-at, take-next}
 use Rattle.bench.proofs.FirstItems.{take-at, take-front, take-last}
 use Rattle.bench.proofs.GotLemmas.{close_last}
+use Rattle.bench.proofs.ListElements.{slice_get-unwritten}
 
 payloads_joined : (front rest : List Message) → payloads_in (front ++ rest) ≡ payloads_in front ++ payloads_in rest
 payloads_joined front rest = map-append (λ (message : Message). message.payload) front rest
@@ -95,12 +97,46 @@ module _ (period : ℕ) (log : ProgramLog) where
 
 -- What was taken of a worker's hart carries the first payloads of its log.
 pub settled_first : (period : ℕ) (log : ProgramLog) (port receipt : PortView) (taken : List Message)
-    → IsWork period port log receipt → IsBeginning (of_hart receipt.hart taken) receipt.sent
-    → CarryFirst period log (of_hart port.hart taken)
-settled_first period log port receipt taken work begins =
+    (handed_back : Bool) → IsWork period port log receipt handed_back
+    → IsBeginning (of_hart receipt.hart taken) receipt.sent → CarryFirst period log (of_hart port.hart taken)
+settled_first period log port receipt taken handed_back work begins =
     carry_front period log (of_hart port.hart taken) begins.0
     (subst (CarryFirst period log)
     (begins.1 ∙ ap (λ hart. of_hart hart taken ++ begins.0) work.1) work.2)
+
+-- And it is not all of the log's where a payload was handed back.
+pub settled_lacks : (period : ℕ) (log : ProgramLog) (port receipt : PortView) (taken : List Message)
+    (handed_back : Bool) → IsWork period port log receipt handed_back
+    → IsBeginning (of_hart receipt.hart taken) receipt.sent → handed_back ≡ true
+    → AreNotAll period log (of_hart port.hart taken)
+settled_lacks period log port receipt taken handed_back work begins back =
+    let few = work.3 back in
+    let all = ap length begins.1 ∙ length-append (of_hart receipt.hart taken) begins.0 in
+    subst (λ hart. AreNotAll period log (of_hart hart taken)) work.1 (omega (arith, few, all))
+
+-- With one flag more each hart that is noted as one of which a payload was handed back lacks payloads.
+pub lacks_noted : (period own_period : ℕ) (logs : List ProgramLog) (taken : List Message) (flags : List Bool)
+    (place : ℕ) (flag : Bool) (own : ProgramLog) → slice_get logs place ≡ Some own → own_period ≡ period
+    → (flag ≡ true → AreNotAll own_period own (of_hart place taken))
+    → ((hart : ℕ) → slice_get flags hart ≡ Some true → LacksPayloads period logs taken hart)
+    → (hart : ℕ) → slice_get (set flags place flag) hart ≡ Some true → LacksPayloads period logs taken hart
+lacks_noted period own_period logs taken flags place flag own owned same_period lacks before hart at = λ log known.
+    by_case (cases_eq hart place) log known
+  where
+    by_case : (hart ≡ place) ⊎ (hart ≡ place → ⊥) → (log : ProgramLog) → slice_get logs hart ≡ Some log
+        → AreNotAll period log (of_hart hart taken)
+    by_case (inl same) log known =
+        let within = slice_get_within (set flags place flag) hart true at in
+        let size = length-set flags place flag in
+        let written = set-at flags place flag (omega (arith, within, size, same)) in
+        let on : flag ≡ true =
+        same_Some flag true (sym written ∙ ap (slice_get (set flags place flag)) (sym same) ∙ at) in
+        let its : own ≡ log = same_Some own log (sym owned ∙ ap (slice_get logs) (sym same) ∙ known) in
+        subst (λ h. AreNotAll period log (of_hart h taken)) (sym same)
+        (subst (λ (l : ProgramLog). AreNotAll period l (of_hart place taken)) its
+        (subst (λ p. AreNotAll p own (of_hart place taken)) same_period (lacks on)))
+    by_case (inr other) log known =
+        before hart (sym (slice_get-unwritten flags place hart flag other) ∙ at) log known
 
 -- What was taken of the harts of workers carries the first payloads of their logs, with one worker more settled.
 pub carried_fewer : {W : Type 0} (hart_of : W → ℕ) (period own_period : ℕ) (logs : List ProgramLog)

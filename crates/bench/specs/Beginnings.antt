@@ -4,6 +4,7 @@ use Rattle.legalpath.specs.ProgramLog.{ProgramLog}
 use Rattle.message.specs.OfHart.{of_hart}
 use Rattle.message.specs.declared.message.Message.{Message}
 use Rattle.bench.specs.Got.{HasGot, got_of}
+use Rattle.bench.specs.Working.{CarryFirst}
 use Rattle.bench.specs.declared.config.Config.{Config}
 use Rattle.bench.specs.declared.outcome.HartOutcome.{HartOutcome}
 use Rattle.bench.specs.declared.stop.Stop.{Stop}
@@ -31,11 +32,25 @@ AreThoseTaken {A} config logs taken harts =
     → (count : ℕ) × HasGot config.period config.keep log count (got_of came)
     × CameOf came.refused (length (of_hart hart taken)) count
 
+-- The messages of each hart among these carry the first payloads of its log, in order, but where memory for it was
+-- refused.
+abbrev pub AreCarried : {A : Type 0} → Config → List ProgramLog → List Message → List (HartOutcome A) → Type 0
+AreCarried {A} config logs taken harts =
+    (hart : ℕ) (log : ProgramLog) (came : HartOutcome A) → slice_get logs hart ≡ Some log
+    → slice_get harts hart ≡ Some came → IsFalse came.refused
+    → CarryFirst config.period log (of_hart hart taken)
+
 -- Of each hart for which memory was refused fewer packets came than messages of it are among these.
 abbrev pub LackSome : {A : Type 0} → List Message → List (HartOutcome A) → Type 0
 LackSome {A} taken harts =
     (hart : ℕ) (came : HartOutcome A) → slice_get harts hart ≡ Some came → IsTrue came.refused
     → came.taken < length (of_hart hart taken)
+
+-- Of each hart for which memory was refused fewer packets came than messages of it are among these, where any are.
+abbrev pub LackSomeTaken : {A : Type 0} → List Message → List (HartOutcome A) → Type 0
+LackSomeTaken {A} taken harts =
+    (hart : ℕ) (came : HartOutcome A) → slice_get harts hart ≡ Some came → IsTrue came.refused
+    → 0 < length (of_hart hart taken) → came.taken < length (of_hart hart taken)
 
 -- There is no stop exactly where memory for no hart was refused, and else one of those harts is named, whose closing
 -- packet did not come.

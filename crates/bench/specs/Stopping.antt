@@ -1,5 +1,9 @@
 -- What a stop of a run tells.
 use Rattle.std.specs.Prelude.{ℕ, ◌≡◌, All, true, false, IsFalse, IsSomeAnd, IsTrue, List, Option, Some, None, slice_get}
+use Rattle.legalpath.specs.ProgramLog.{ProgramLog}
+use Rattle.message.specs.OfHart.{of_hart}
+use Rattle.message.specs.declared.message.Message.{Message}
+use Rattle.bench.specs.Working.{AreNotAll}
 use Rattle.bench.specs.declared.outcome.HartOutcome.{HartOutcome}
 use Rattle.bench.specs.declared.stop.Stop.{Stop}
 use Rattle.bench.specs.declared.stop.Stop.TheVariants as stop
@@ -17,15 +21,26 @@ abbrev pub IsOpenHart : {A : Type 0} → List (HartOutcome A) → ℕ → Type 0
 IsOpenHart harts hart = IsSomeAnd (slice_get harts hart) (λ came. IsFalse came.closed)
 
 -- A hart that is not closed is named: for want of memory only one for which memory was refused, where every hart for
--- which it was not is closed.
+-- which it was not is closed, and as one whose channel ended only one for which it was not.
 abbrev pub IsStopOf : {A : Type 0} → Stop → List (HartOutcome A) → Type 0
 IsStopOf (stop.Memory hart) harts =
     IsOpenHart harts hart × IsSomeAnd (slice_get harts hart) (λ came. IsTrue came.refused)
     × All (λ came. came.refused ≡ false → came.closed ≡ true) harts
 IsStopOf (stop.HandedBack hart) harts = IsOpenHart harts hart
-IsStopOf (stop.Ended hart) harts = IsOpenHart harts hart
+IsStopOf (stop.Ended hart) harts =
+    IsOpenHart harts hart × IsSomeAnd (slice_get harts hart) (λ came. IsFalse came.refused)
 
 -- There is no stop exactly where every hart is closed, and else one tells of a hart that is not.
 abbrev pub NamesOpen : {A : Type 0} → Option Stop → List (HartOutcome A) → Type 0
 NamesOpen None harts = AreClosed harts
 NamesOpen (Some why) harts = IsStopOf why harts
+
+-- Of the hart fewer messages are among these than its log has payloads.
+abbrev pub LacksPayloads : ℕ → List ProgramLog → List Message → ℕ → Type 0
+LacksPayloads period logs taken hart =
+    (log : ProgramLog) → slice_get logs hart ≡ Some log → AreNotAll period log (of_hart hart taken)
+
+-- Where a stop tells of a payload that was handed back, this holds of the hart that it names.
+abbrev pub IfHandedBack : (ℕ → Type 0) → Option Stop → Type 0
+IfHandedBack P (Some (stop.HandedBack hart)) = P hart
+IfHandedBack P why = Unit {0}

@@ -1,9 +1,10 @@
 //! What workers sent, collected and settled.
 
-ghost use Rattle.std.specs.Prelude.{ℕ, ◌≡◌, ◌≤◌, All, Bool, List, length, slice_get, Some};
+ghost use Rattle.std.specs.Prelude.{ℕ, ◌≡◌, ◌≤◌, All, Bool, List, length, slice_get, Some, true};
 ghost use Rattle.legalpath.specs.ProgramLog.{ProgramLog};
 ghost use Rattle.message.specs.OfHart.{of_hart};
-ghost use Rattle.bench.specs.Working.{CarryFirst};
+ghost use Rattle.bench.specs.Stopping.{LacksPayloads};
+ghost use Rattle.bench.specs.Working.{AreNotAll, CarryFirst};
 ghost use Rattle.bench.specs.steps.Gathering.{Among, AreGathered};
 
 use crate::collecting::Collector;
@@ -72,11 +73,14 @@ pub(crate) fn settle_all<S: Payloads, A: Allocator, R: Threads>(
         × (slice_get logs.now w.promise.port.value.hart ≡ Some (S.at w.promise.source.value).log)
         × ((S.at w.promise.source.value).period ≡ period)) workers.items }
     requires count { length logs.now ≤ length handed_back.old }
+    requires none { (hart : ℕ) → ¬ (slice_get handed_back.old hart ≡ Some true) }
     ensures outlet { outlet.new ≡ outlet.old }
     ensures carried { (hart : ℕ) (log : ProgramLog) → slice_get logs.now hart ≡ Some log
         → Among (λ w. w.promise.port.value.hart ≡ hart) workers.items
         → CarryFirst period log (of_hart hart outlet.old.taken) }
     ensures count { length handed_back.new ≡ length handed_back.old }
+    ensures lacks { (hart : ℕ) → slice_get handed_back.new hart ≡ Some true
+        → LacksPayloads period logs.now outlet.old.taken hart }
 {
     let mut workers = workers;
     while let Some(worker) = workers.pop() {
@@ -92,6 +96,8 @@ fn settle<S: Payloads, R: Threads>(rt: &R, worker: Worker<S>, outlet: &mut Outle
     ensures hart { result.0 ≡ worker.promise.port.value.hart }
     ensures carried { CarryFirst (S.at worker.promise.source.value).period (S.at worker.promise.source.value).log
         (of_hart worker.promise.port.value.hart outlet.old.taken) }
+    ensures lacks { result.1 ≡ true → AreNotAll (S.at worker.promise.source.value).period
+        (S.at worker.promise.source.value).log (of_hart worker.promise.port.value.hart outlet.old.taken) }
 {
     let Work {
         receipt,

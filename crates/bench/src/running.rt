@@ -2,9 +2,9 @@
 
 ghost use Rattle.std.specs.Prelude.{ℕ, ◌≡◌, ◌≤◌, [], IfErr, IfOk, None, Some, Err, OnErr, length};
 ghost use Rattle.funnel.specs.Ends.{AreNewPorts};
-ghost use Rattle.bench.specs.Beginnings.{AreBeginnings, AreThoseTaken};
+ghost use Rattle.bench.specs.Beginnings.{AreBeginnings, AreCarried, AreThoseTaken, LackSomeTaken};
 ghost use Rattle.bench.specs.Setting.{setup_fault};
-ghost use Rattle.bench.specs.Stopping.{NamesOpen, NoRefusedIsClosed};
+ghost use Rattle.bench.specs.Stopping.{IfHandedBack, LacksPayloads, NamesOpen, NoRefusedIsClosed};
 ghost use Rattle.bench.specs.declared.setup.Setup.{Setup as AnySetup};
 
 use crate::collecting::Collector;
@@ -65,7 +65,7 @@ pub fn run<A: Allocator + Copy, G: Gate, R: Threads + Wait + Sync>(
 /// The same over the ends of a funnel that was opened for as many harts, through which nothing was sent. The period is 1 or
 /// more; the configuration's capacity is not looked at.
 ///
-/// Where memory is refused that is for no single hart nothing is sent, and the ports are dropped.
+/// Where memory is refused that is for no single hart nothing is taken, and the ports are dropped.
 pub fn run_on<A: Allocator + Copy, G: Gate, R: Threads + Wait + Sync>(
     alloc: A,
     logs: &[LegalLog<'_>],
@@ -82,8 +82,15 @@ pub fn run_on<A: Allocator + Copy, G: Gate, R: Threads + Wait + Sync>(
     ensures beginnings { IfOk result (λ outcome. AreBeginnings config logs.now outcome.harts.items) }
     // As many messages came of each hart as were taken of it, but where memory for it was refused.
     ensures taken { IfOk result (λ outcome. AreThoseTaken config logs.now outlet.new.taken outcome.harts.items) }
+    // They carry the first payloads of the hart's log, but where memory for it was refused.
+    ensures carried { IfOk result (λ outcome. AreCarried config logs.now outlet.new.taken outcome.harts.items) }
+    // Of a hart that is refused fewer came than were taken, where any were.
+    ensures lacks { IfOk result (λ outcome. LackSomeTaken outlet.new.taken outcome.harts.items) }
     ensures stop { IfOk result (λ outcome. NamesOpen outcome.stop outcome.harts.items) }
     ensures refused_harts { IfOk result (λ outcome. NoRefusedIsClosed outcome.harts.items) }
+    // Where a payload of a hart was handed back, as the stop tells, not all payloads of its log were taken.
+    ensures handed_back { IfOk result (λ outcome.
+        IfHandedBack (LacksPayloads config.period logs.now outlet.new.taken) outcome.stop) }
     ensures untouched { OnErr result (outlet.new ≡ outlet.old) }
     ensures funnel { outlet.new ≡ record outlet.old { taken = outlet.new.taken } }
 {
@@ -96,8 +103,12 @@ pub fn run_on<A: Allocator + Copy, G: Gate, R: Threads + Wait + Sync>(
             ensures same { result.1.ghost_name ≡ outlet.entry.ghost_name }
             ensures beginnings { IfOk result.0 (λ outcome. AreBeginnings config logs.entry.now outcome.harts.items) }
             ensures taken { IfOk result.0 (λ outcome. AreThoseTaken config logs.entry.now result.1.now.taken outcome.harts.items) }
+            ensures carried { IfOk result.0 (λ outcome. AreCarried config logs.entry.now result.1.now.taken outcome.harts.items) }
+            ensures lacks { IfOk result.0 (λ outcome. LackSomeTaken result.1.now.taken outcome.harts.items) }
             ensures stop { IfOk result.0 (λ outcome. NamesOpen outcome.stop outcome.harts.items) }
             ensures refused_harts { IfOk result.0 (λ outcome. NoRefusedIsClosed outcome.harts.items) }
+            ensures handed_back { IfOk result.0 (λ outcome.
+                IfHandedBack (LacksPayloads config.period logs.entry.now result.1.now.taken) outcome.stop) }
             ensures untouched { OnErr result.0 (result.1.now ≡ outlet.entry.now) }
             ensures funnel { result.1.now ≡ record outlet.entry.now { taken = result.1.now.taken } }
         {
@@ -126,8 +137,12 @@ fn conduct<'s, 'p, E, A: Allocator + Copy, G: Gate, R: Threads + Wait + Sync>(
     requires count { length logs.now ≤ 64 }
     ensures beginnings { IfOk result (λ outcome. AreBeginnings config logs.now outcome.harts.items) }
     ensures taken { IfOk result (λ outcome. AreThoseTaken config logs.now outlet.new.taken outcome.harts.items) }
+    ensures carried { IfOk result (λ outcome. AreCarried config logs.now outlet.new.taken outcome.harts.items) }
+    ensures lacks { IfOk result (λ outcome. LackSomeTaken outlet.new.taken outcome.harts.items) }
     ensures stop { IfOk result (λ outcome. NamesOpen outcome.stop outcome.harts.items) }
     ensures refused_harts { IfOk result (λ outcome. NoRefusedIsClosed outcome.harts.items) }
+    ensures handed_back { IfOk result (λ outcome.
+        IfHandedBack (LacksPayloads config.period logs.now outlet.new.taken) outcome.stop) }
     ensures untouched { OnErr result (outlet.new ≡ outlet.old) }
     ensures funnel { outlet.new ≡ record outlet.old { taken = outlet.new.taken } }
 {

@@ -1,7 +1,7 @@
 //! What stopped a run.
 
-ghost use Rattle.std.specs.Prelude.{◌≡◌, ◌≤◌, All, IfNone, IfSome, false, length, true};
-ghost use Rattle.bench.specs.Stopping.{AreClosed, IsOpenHart, NamesOpen};
+ghost use Rattle.std.specs.Prelude.{◌≡◌, ◌≤◌, All, IfNone, IfSome, IsFalse, IsSomeAnd, Some, false, length, slice_get, true};
+ghost use Rattle.bench.specs.Stopping.{AreClosed, IfHandedBack, IsOpenHart, NamesOpen};
 
 use crate::outcome::HartOutcome;
 use crate::stop::Stop;
@@ -11,7 +11,8 @@ use std::alloc::Allocator;
 /// memory that was refused.
 pub(crate) fn stop_of<A: Allocator>(harts: &[HartOutcome<A>], handed_back: &[bool]) -> Option<Stop>
     requires { (length harts.now ≡ length handed_back.now) × (length harts.now ≤ 64) }
-    ensures { NamesOpen result harts.now }
+    ensures names { NamesOpen result harts.now }
+    ensures back { IfHandedBack (λ hart. slice_get handed_back.now hart ≡ Some true) result }
 {
     if let Some(hart) = first_handed_back(harts, handed_back) {
         return Some(Stop::HandedBack(hart as u16));
@@ -28,7 +29,8 @@ pub(crate) fn stop_of<A: Allocator>(harts: &[HartOutcome<A>], handed_back: &[boo
 /// The first hart that is not closed and of which a payload was handed back.
 fn first_handed_back<A: Allocator>(harts: &[HartOutcome<A>], handed_back: &[bool]) -> Option<usize>
     requires { length harts.now ≡ length handed_back.now }
-    ensures { IfSome result (IsOpenHart harts.now) }
+    ensures some { IfSome result (IsOpenHart harts.now) }
+    ensures back { IfSome result (λ hart. slice_get handed_back.now hart ≡ Some true) }
 {
     for hart in 0..harts.len() {
         if !harts[hart].closed && handed_back[hart] {
@@ -41,6 +43,7 @@ fn first_handed_back<A: Allocator>(harts: &[HartOutcome<A>], handed_back: &[bool
 /// The first hart that is not closed although memory for it was not refused.
 fn first_ended<A: Allocator>(harts: &[HartOutcome<A>]) -> Option<usize>
     ensures some { IfSome result (IsOpenHart harts.now) }
+    ensures going { IfSome result (λ hart. IsSomeAnd (slice_get harts.now hart) (λ came. IsFalse came.refused)) }
     ensures none { IfNone result (All (λ came. came.refused ≡ false → came.closed ≡ true) harts.now) }
 {
     for hart in 0..harts.len() {

@@ -8,3 +8,4 @@ mod plain;
 mod replays;
 mod report;
 mod runs;
+mod stops;

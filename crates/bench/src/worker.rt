@@ -45,7 +45,8 @@ impl<'l, 'p> Payloads for Source<'l, 'p> {
     }
 }
 
-/// What a worker promises: the receipt of its port, through which the first payloads of its log went.
+/// What a worker promises: the receipt of its port, through which the first payloads of its log went, and where one was
+/// handed back not all of them.
 #[derive(Drop)]
 pub(crate) struct Sending<S> {
     pub(crate) port: Snapshot<Port>,
@@ -55,7 +56,7 @@ pub(crate) struct Sending<S> {
 impl<S: Payloads> Promise<Work> for Sending<S> {
     ghost use Rattle.bench.specs.Working.{IsWork};
 
-    ghost kept_by = { λ p w. IsWork (S.at p.source.value).period p.port.value (S.at p.source.value).log w.receipt };
+    ghost kept_by = { λ p w. IsWork (S.at p.source.value).period p.port.value (S.at p.source.value).log w.receipt w.handed_back };
 }
 
 /// A worker that was started.
@@ -84,7 +85,7 @@ pub(crate) fn start<'s, E, S: Payloads + 's, G: Gate, R: Wait + Sync>(
             move || -> Work
                 requires { ((S.at source).number ≡ 0) × (port.sent ≡ []) × IsLegalLog (S.at source).log
                     × (most ≤ 2 ^ 24 + 2) }
-                ensures { IsWork (S.at source).period port (S.at source).log result.receipt }
+                ensures { IsWork (S.at source).period port (S.at source).log result.receipt result.handed_back }
             { send_all(rt, gate, hart, port, source, most) },
         )
         .ok()
@@ -100,7 +101,7 @@ fn send_all<S: Payloads, G: Gate, R: Wait>(
     most: usize,
 ) -> Work
     requires { ((S.at source).number ≡ 0) × (port.sent ≡ []) × IsLegalLog (S.at source).log × (most ≤ 2 ^ 24 + 2) }
-    ensures { IsWork (S.at source).period port (S.at source).log result.receipt }
+    ensures { IsWork (S.at source).period port (S.at source).log result.receipt result.handed_back }
 {
     let mut port = port;
     let mut source = source;

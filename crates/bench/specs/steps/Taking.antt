@@ -10,10 +10,12 @@ use Rattle.bench.specs.Got.{got_after, kept}
 use Rattle.bench.specs.declared.stop.Stop.{Stop}
 use Rattle.bench.specs.declared.stop.Stop.TheVariants as stop
 
--- Memory for the hart was refused, when no more of its messages had come than were taken, and not all of its log's.
+-- Memory for the hart was refused, when fewer of its messages had come than were taken, or none was taken, and not all
+-- of its log's.
 pub record IsCutOff (period : ℕ) (log : ProgramLog) (taken hart : ℕ) (collected : Collected) : Type 0 where
   pub count : ℕ
   pub within : count ≤ taken
+  pub lacks : 0 < taken → count < taken
   pub few : count < length (packets (words_of log.program) period log.events)
   pub came : Came hart (kept collected.keep (got_after period log count)) true collected
 

@@ -1,15 +1,15 @@
 -- One worker more is settled: by a lemma on lists, which no tactic finds.
-use Rattle.std.proofs.Common.{◌≡◌, ◌⊎◌, IfSome, Some, slice_get, subst, ◌∙◌}
+use Rattle.std.proofs.Common.{◌≡◌, ◌⊎◌, true, IfSome, Some, slice_get, sym, ap, subst, ◌∙◌}
 use Rattle.std.specs.declared.thread.PromisedHandle.{PromisedHandle}
 use Rattle.std.proofs.lemmas.List.{length-set}
 use Rattle.std.proofs.lemmas.List.Elements.{All-pop}
 use Rattle.message.specs.OfHart.{of_hart}
 use Rattle.funnel.specs.Ends.{OutletView}
-use Rattle.bench.specs.Working.{CarryFirst}
+use Rattle.bench.specs.Working.{AreNotAll, CarryFirst}
 use Rattle.bench.specs.declared.worker.Sending.{Sending}
 use Rattle.bench.specs.declared.worker.Work.{Work}
 use Rattle.bench.specs.steps.Gathering.{Among}
-use Rattle.bench.proofs.WorkLemmas.{carried_fewer}
+use Rattle.bench.proofs.WorkLemmas.{carried_fewer, lacks_noted}
 use Rattle.bench.proofs.gathering.settle_all.Goals as goal
 
 pub loop-worker-preserved : goal.loop-worker-preserved
@@ -28,10 +28,20 @@ loop-worker-preserved g c =
     let first =
     subst (λ (o : OutletView). CarryFirst source.period source.log (of_hart worker.promise.port.value.hart o.taken))
     now.invariant.outlet c.settle-hart.ensures.carried in
+    let here = c.from.ensures ∙ c.settle-hart.ensures.hart in
+    let lacks : c.settle-hart.result.1 ≡ true
+    → AreNotAll source.period source.log (of_hart c.from.result c.args.outlet.now.taken) =
+    λ back. subst (λ (o : OutletView). AreNotAll source.period source.log (of_hart c.from.result o.taken))
+    now.invariant.outlet (subst (λ h. AreNotAll source.period source.log (of_hart h now.outlet.taken)) (sym here)
+    (c.settle-hart.ensures.lacks back)) in
     record {
       outlet = c.settle-hart.ensures.outlet ∙ now.invariant.outlet;
       workers = popped.0;
       count = length-set now.handed_back c.from.result c.settle-hart.result.1 ∙ now.invariant.count;
+      lacks =
+          lacks_noted c.args.period source.period c.args.logs.now c.args.outlet.now.taken now.handed_back c.from.result
+          c.settle-hart.result.1 source.log (ap (slice_get c.args.logs.now) here ∙ own.1) own.2 lacks
+          now.invariant.lacks;
       carried = λ hart log at_log among.
           carried_fewer (λ w. w.promise.port.value.hart) c.args.period source.period c.args.logs.now
           c.args.outlet.now.taken c.pop.new.self.items worker source.log own.1 own.2 first hart log at_log

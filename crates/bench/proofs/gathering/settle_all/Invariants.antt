@@ -1,6 +1,7 @@
-use Rattle.std.proofs.Common.{◌≡◌, ◌⊎◌, ℕ, All, Some, length, slice_get, vec_len}
+use Rattle.std.proofs.Common.{◌≡◌, ◌⊎◌, ℕ, All, Some, true, length, slice_get, vec_len}
 use Rattle.legalpath.specs.ProgramLog.{ProgramLog}
 use Rattle.message.specs.OfHart.{of_hart}
+use Rattle.bench.specs.Stopping.{LacksPayloads}
 use Rattle.bench.specs.Working.{CarryFirst}
 use Rattle.bench.specs.steps.Gathering.{Among}
 use Rattle.bench.proofs.gathering.settle_all.Given as goal
@@ -13,6 +14,8 @@ invariant-loop-worker g l = record {
       × ((g.S.Payloads.at w.promise.source.value).period ≡ l.period))
       l.workers.items;
   count : length l.handed_back ≡ length l.fn.handed_back;
+  lacks : (hart : ℕ) → slice_get l.handed_back hart ≡ Some true
+      → LacksPayloads l.period l.logs l.fn.outlet.taken hart;
   carried : (hart : ℕ) (log : ProgramLog) → slice_get l.logs hart ≡ Some log
       → Among (λ w. w.promise.port.value.hart ≡ hart) l.fn.workers.items
       → CarryFirst l.period log (of_hart hart l.fn.outlet.taken)

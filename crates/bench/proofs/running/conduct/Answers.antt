@@ -1,11 +1,13 @@
 -- What came of harts, by lemmas on collectors, which no tactic finds.
-use Rattle.std.proofs.Common.{◌≡◌, ◌∙◌, length, sym, ap, subst, arith}
+use Rattle.std.proofs.Common.{◌≡◌, ◌∙◌, Some, true, length, slice_get, sym, ap, subst, arith}
+use Rattle.std.proofs.lemmas.Grind.{common_steps}
 use Rattle.funnel.specs.Ends.{OutletView}
-use Rattle.bench.specs.Beginnings.{AreThoseTaken}
+use Rattle.bench.specs.Beginnings.{AreCarried, AreThoseTaken, LackSomeTaken}
+use Rattle.bench.specs.Stopping.{LacksPayloads}
 use Rattle.bench.specs.steps.Gathering.{AreGathered}
 use Rattle.bench.specs.steps.Taking.{AreTaken}
-use Rattle.bench.proofs.ReplayEnds.{are_beginnings, are_those_taken, none_is_closed}
-use Rattle.bench.proofs.SettledHarts.{gathered_taken}
+use Rattle.bench.proofs.ReplayEnds.{are_beginnings, are_those_taken, lack_some_taken, none_is_closed}
+use Rattle.bench.proofs.SettledHarts.{are_carried, gathered_taken, handed_back_as}
 use Rattle.bench.proofs.running.conduct.Goals as goal
 
 pub start_all-workers-requires-clause-begun : goal.start_all-workers-requires-clause-begun
@@ -82,3 +84,33 @@ returns-clause-taken g c =
     (are_those_taken c.args.config c.args.logs.now c.collect.new.outlet.taken c.collect.new.collector
     c.finish-outcome.result.harts.items c.in_ok-collector.ensures.legal (keep g c) (taken g c)
     (record { count = ends.count; came = ends.came }))
+
+pub returns-clause-carried : goal.returns-clause-carried
+returns-clause-carried g c =
+    let ends = c.finish-outcome.ensures in
+    subst (λ (outlet : OutletView).
+    AreCarried c.args.config c.args.logs.now outlet.taken c.finish-outcome.result.harts.items)
+    (sym c.settle_all.ensures.outlet)
+    (are_carried c.args.config c.args.logs.now c.start_all-workers.new.started c.collect.new.outlet.taken
+    c.collect.new.collector c.finish-outcome.result.harts.items (flags g c) (gathered g c)
+    (record { count = ends.count; came = ends.came })
+    (λ hart log at on. c.settle_all.ensures.carried hart log at (c.start_all-workers.ensures.started hart on)))
+
+pub returns-clause-lacks : goal.returns-clause-lacks
+returns-clause-lacks g c =
+    let ends = c.finish-outcome.ensures in
+    subst (λ (outlet : OutletView). LackSomeTaken outlet.taken c.finish-outcome.result.harts.items)
+    (sym c.settle_all.ensures.outlet)
+    (lack_some_taken c.args.config c.args.logs.now c.collect.new.outlet.taken c.collect.new.collector
+    c.finish-outcome.result.harts.items c.in_ok-collector.ensures.legal (keep g c) (taken g c)
+    (record { count = ends.count; came = ends.came }))
+
+pub returns-clause-handed_back : goal.returns-clause-handed_back
+returns-clause-handed_back g c =
+    let logs = c.args.logs.now in
+    let flags : c.as_slice-2.result.now ≡ c.settle_all.new.handed_back = grind (arith, common_steps) in
+    handed_back_as _ (LacksPayloads c.args.config.period logs c.settle_all.new.outlet.taken) c.stop_of-outcome.result
+    (λ hart at. subst (λ (outlet : OutletView). LacksPayloads c.args.config.period logs outlet.taken hart)
+    (sym c.settle_all.ensures.outlet)
+    (c.settle_all.ensures.lacks hart (subst (λ some. slice_get some hart ≡ Some true) flags at)))
+    c.stop_of-outcome.ensures.back

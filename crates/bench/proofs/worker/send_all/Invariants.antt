@@ -1,4 +1,4 @@
-use Rattle.std.proofs.Common.{◌≡◌, length}
+use Rattle.std.proofs.Common.{◌≡◌, false, length}
 use Rattle.encoder.specs.SourceAt.{IsAt}
 use Rattle.bench.specs.Working.{CarryFirst}
 use Rattle.bench.proofs.worker.send_all.Given as goal
@@ -10,6 +10,7 @@ invariant-loop-number g l =
       source : IsAt (at l.fn.source).period (at l.fn.source).log l.number (at l.source);
       funnel : l.port.funnel ≡ l.fn.port.funnel;
       hart : l.port.hart ≡ l.fn.port.hart;
+      going : l.handed_back ≡ false;
       count : length l.port.sent ≡ l.number;
       sent : CarryFirst (at l.fn.source).period (at l.fn.source).log l.port.sent;
     }
