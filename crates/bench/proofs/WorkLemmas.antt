@@ -12,6 +12,7 @@ use Rattle.encoder.specs.Payloads.{payloads}
 use Rattle.message.specs.OfHart.{of_hart}
 use Rattle.message.specs.declared.message.Message.{Message}
 use Rattle.funnel.specs.Ends.{IsBeginning, PortView, has_closing, is_finished}
+use Rattle.funnel.specs.Limits.{most_messages}
 use Rattle.funnel.specs.Payloads.{ClosesOnlyLast, payloads_in}
 use Rattle.bench.specs.Stopping.{LacksPayloads}
 use Rattle.bench.specs.Working.{AreNotAll, CarryFirst, IsWork}
@@ -72,7 +73,7 @@ module _ (period : ℕ) (log : ProgramLog) where
       → slice_get (payloads period log) (length sent) ≡ Some payload → length sent ≤ 2 ^ 24 + 2
       → is_finished sent ≡ true → ⊥
   not_finished sent payload legal first at few finished =
-      ⊎_elim closed many (or_cases (has_closing sent) (nat_le (2 ^ 32) (length sent)) finished)
+      ⊎_elim closed many (or_cases (has_closing sent) (nat_le most_messages (length sent)) finished)
     where
       closes_last : ClosesOnlyLast all
       closes_last =
@@ -92,8 +93,8 @@ module _ (period : ℕ) (log : ProgramLog) where
           let more = slice_get_within all (length sent) payload at in
           omega (arith, last, within, more)
 
-      many : nat_le (2 ^ 32) (length sent) ≡ true → ⊥
-      many most = let over : 2 ^ 32 ≤ length sent = grind (arith, nat_tests) in omega (arith, over, few)
+      many : nat_le most_messages (length sent) ≡ true → ⊥
+      many most = let over : most_messages ≤ length sent = grind (arith, nat_tests) in omega (arith, over, few)
 
 -- What was taken of a worker's hart carries the first payloads of its log.
 pub settled_first : (period : ℕ) (log : ProgramLog) (port receipt : PortView) (taken : List Message)

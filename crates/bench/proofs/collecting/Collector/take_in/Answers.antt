@@ -8,38 +8,25 @@ use Rattle.message.specs.Accepting.{accepting}
 use Rattle.bench.proofs.collecting.Collector.take_in.Goals.{else-hart-len-via-then-hart-len+else-index, else-hart-len-via-else-hart-len}
 use Rattle.bench.proofs.collecting.Collector.take_in.Goals as goal
 
-pub returns-then-index-clause-decoded : goal.returns-then-index-clause-decoded
-returns-then-index-clause-decoded g c =
+-- The hart is one whose memory was refused.
+refused_here : (g : _) (c : goal.Then-index g) → IsRefusedHart c.args.message.hart c.args.self.now
+refused_here g c =
     let items = c.self.inside.harts.items in
     let count = c.self.inside.harts.ok.0 in
     let length_is = c.len.ensures in
     let below = c.if-hart-len.true in
-    let refused = subst (IsRefusedHart c.args.message.hart) c.self.view_is
+    subst (IsRefusedHart c.args.message.hart) c.self.view_is
     (stopped items c.from-hart.result c.args.message.hart c.index.result.now c.from-hart.ensures
-    (omega (arith, below, length_is, count)) c.index.ensures c.if-index.true) in
-    λ packet log packets accepts has. absurd (accepts.going refused)
+    (omega (arith, below, length_is, count)) c.index.ensures c.if-index.true)
+
+pub returns-then-index-clause-decoded : goal.returns-then-index-clause-decoded
+returns-then-index-clause-decoded g c = λ packet log packets accepts has. absurd (accepts.going (refused_here g c))
 
 pub returns-then-index-clause-counts : goal.returns-then-index-clause-counts
-returns-then-index-clause-counts g c =
-    let items = c.self.inside.harts.items in
-    let count = c.self.inside.harts.ok.0 in
-    let length_is = c.len.ensures in
-    let below = c.if-hart-len.true in
-    let refused = subst (IsRefusedHart c.args.message.hart) c.self.view_is
-    (stopped items c.from-hart.result c.args.message.hart c.index.result.now c.from-hart.ensures
-    (omega (arith, below, length_is, count)) c.index.ensures c.if-index.true) in
-    λ packet taken accepts is. absurd (accepts.going refused)
+returns-then-index-clause-counts g c = λ packet taken accepts is. absurd (accepts.going (refused_here g c))
 
 pub returns-then-index-clause-expected : goal.returns-then-index-clause-expected
-returns-then-index-clause-expected g c =
-    let items = c.self.inside.harts.items in
-    let count = c.self.inside.harts.ok.0 in
-    let length_is = c.len.ensures in
-    let below = c.if-hart-len.true in
-    let refused = subst (IsRefusedHart c.args.message.hart) c.self.view_is
-    (stopped items c.from-hart.result c.args.message.hart c.index.result.now c.from-hart.ensures
-    (omega (arith, below, length_is, count)) c.index.ensures c.if-index.true) in
-    λ going. absurd (going refused)
+returns-then-index-clause-expected g c = λ going. absurd (going (refused_here g c))
 
 pub returns-in-Err-clause-only_memory : goal.returns-in-Err-clause-only_memory
 returns-in-Err-clause-only_memory g c = λ period count log has is.
