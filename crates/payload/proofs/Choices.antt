@@ -12,7 +12,7 @@ chosen_of_3 false true c x y z w q e = inr (inl (refl, e))
 chosen_of_3 false false true x y z w q e = inr (inr (inl (refl, e)))
 chosen_of_3 false false false x y z w q e = inr (inr (inr e))
 
-chosen_of_4 : {X : Type 0} (a b c d : Bool) (x y z w v q : X) → cond a x (cond b y (cond c z (cond d w v))) ≡ q
+pub chosen_of_4 : {X : Type 0} (a b c d : Bool) (x y z w v q : X) → cond a x (cond b y (cond c z (cond d w v))) ≡ q
     → ((a ≡ true) × (x ≡ q)) ⊎ (((b ≡ true) × (y ≡ q)) ⊎ (((c ≡ true) × (z ≡ q)) ⊎ (((d ≡ true) × (w ≡ q)) ⊎ (v ≡ q))))
 chosen_of_4 true b c d x y z w v q e = inl (refl, e)
 chosen_of_4 false b c d x y z w v q e = inr (chosen_of_3 b c d y z w v q e)

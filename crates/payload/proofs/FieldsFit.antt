@@ -6,6 +6,7 @@ use Rattle.payload.specs.Outcomes.{map_width, map_of}
 use Rattle.payload.specs.PacketFields.{branch_of, flag_of, trap_fields, unused_bits, branches_fields, fields_with}
 use Rattle.payload.specs.PacketFields.{address_fields, report_fields}
 use Rattle.payload.specs.Profile.{IsAddress, AreOutcomes, InProfile}
+use Rattle.payload.specs.declared.mode.Mode.TheVariants as mode
 use Rattle.payload.specs.declared.packet.Packet.{Packet}
 use Rattle.payload.specs.declared.packet.Packet.TheVariants as packet
 use Rattle.payload.specs.declared.packet.Support.TheVariants as support
@@ -76,7 +77,9 @@ fields_fit spare (packet.Trap taken privilege cause true handler address tval) h
     trap_fit taken privilege cause true handler address [] h.0.0 h.1 h.2 tt
 fields_fit spare (packet.Trap taken privilege cause false handler address tval) h unused =
     trap_fit taken privilege cause false handler address (field 64 tval ∷ []) h.0.0 h.1 h.2 (h.3, tt)
-fields_fit spare (packet.Support support.Open) h unused =
+fields_fit spare (packet.Support (support.Open mode.Differential)) h unused =
+    (omega arith, (omega arith, (omega arith, (omega arith, (omega arith, (omega arith, tt))))))
+fields_fit spare (packet.Support (support.Open mode.Full)) h unused =
     (omega arith, (omega arith, (omega arith, (omega arith, (omega arith, (omega arith, tt))))))
 fields_fit spare (packet.Support support.EndedRep) h unused =
     (omega arith, (omega arith, (omega arith, (omega arith, (omega arith, (omega arith, tt))))))
@@ -98,7 +101,7 @@ fields_held spare (packet.Trap taken privilege cause true handler address tval) 
     record { some = omega arith; few = omega arith }
 fields_held spare (packet.Trap taken privilege cause false handler address tval) h =
     record { some = omega arith; few = omega arith }
-fields_held spare (packet.Support support.Open) h = record { some = omega arith; few = omega arith }
+fields_held spare (packet.Support (support.Open mode)) h = record { some = omega arith; few = omega arith }
 fields_held spare (packet.Support support.EndedRep) h = record { some = omega arith; few = omega arith }
 fields_held spare (packet.Support support.EndedNtr) h = record { some = omega arith; few = omega arith }
 fields_held spare (packet.Address [] delta r) h =

@@ -1,19 +1,20 @@
 -- Reading one kind after the other names the first fault, or else the packet.
 use Rattle.std.proofs.Common.{◌≡◌, ℕ, zero, suc, ◌+◌, ◌-◌, ◌*◌, ◌%◌, ◌^◌, ◌<◌, ◌≤◌, inl, inr, Bool, true, false, cond}
-use Rattle.std.proofs.Common.{ltb, ◌==◌, ◌&&◌, not, List, [], length, Some, None, Ok, Err, refl, sym, ap, ◌∙◌, arith}
+use Rattle.std.proofs.Common.{ltb, ◌==◌, ◌&&◌, ◌||◌, not, List, [], length, Some, None, Ok, Err, refl, sym, ap, ◌∙◌, arith}
 use Rattle.std.proofs.Common.{eq-eqb, ne_eqb, eqb-true, lt-ltb, le-ltb, ltb-false}
 use Rattle.std.proofs.lemmas.Bool.{cases_lt, eqb-false, and_parts}
 use Rattle.std.proofs.lemmas.Nat.{mod_below, pow_pos}
 use Rattle.payload.specs.Bytes.{number, IsBytes}
 use Rattle.payload.specs.Extension.{extended, magnitude}
 use Rattle.payload.specs.Faults.{bits_of, part, is_sync, is_trap, is_interrupt, is_support, is_address_alone}
-use Rattle.payload.specs.Faults.{trap_width, is_status, is_bad_tail, is_bad_report_at, address_behind_map}
+use Rattle.payload.specs.Faults.{trap_width, is_bad_tail, is_bad_report_at, address_behind_map}
 use Rattle.payload.specs.Faults.{first_fault_of_bits}
-use Rattle.payload.specs.Reading.{support_from, report_from, trap_from, address_from, outcomes_from, packet_in}
+use Rattle.payload.specs.Reading.{report_from, trap_from, address_from, outcomes_from, packet_in}
 use Rattle.payload.specs.Reading.{fault_or, reading}
 use Rattle.payload.specs.steps.ReadingByKind.{sync_reading, trap_reading, support_reading, report_in, reported}
 use Rattle.payload.specs.steps.ReadingByKind.{address_reading, map_reading, branches_reading, reading_of_bits}
 use Rattle.payload.specs.steps.ReadingByKind.{reading_by_kind, address_place, reading_at_place, reading_by_place}
+use Rattle.payload.specs.declared.mode.Mode.TheVariants as mode
 use Rattle.payload.specs.declared.packet.Packet.{Packet}
 use Rattle.payload.specs.declared.packet.Packet.TheVariants as packet
 use Rattle.payload.specs.declared.packet.Support.TheVariants as support
@@ -70,41 +71,52 @@ trap_first n bound format subformat =
     (extended (trap_width n) (n % 2 ^ trap_width n) == n) (trap_from n)
     (pad_test (trap_width n) n size.0 size.1 bound))
 
-support_order : (ienable mode status : ℕ) (o b c : Bool) → ienable < 2 → mode < 2 → status < 4 → c ≡ b
-    → cond (not o) (Err Unsupported)
-    (cond ((ienable + 2 * mode == 1) && (status == 0)) (cond b (Ok (packet.Support support.Open)) (Err BadPad))
-    (cond ((ienable + 2 * mode == 0) && (status == 1)) (cond b (Ok (packet.Support support.EndedRep)) (Err BadPad))
-    (cond ((ienable + 2 * mode == 0) && (status == 3)) (cond b (Ok (packet.Support support.EndedNtr)) (Err BadPad))
+support_order : (ienable encoder_mode status : ℕ) (differential full b c : Bool) → ienable < 2 → encoder_mode < 2
+    → status < 4 → (differential ≡ true → full ≡ false) → c ≡ b
+    → cond ((ienable + 2 * encoder_mode == 1) && ((status == 0) && differential))
+    (cond b (Ok (packet.Support (support.Open mode.Differential))) (Err BadPad))
+    (cond ((ienable + 2 * encoder_mode == 1) && ((status == 0) && full))
+    (cond b (Ok (packet.Support (support.Open mode.Full))) (Err BadPad))
+    (cond ((ienable + 2 * encoder_mode == 0) && ((status == 1) && differential))
+    (cond b (Ok (packet.Support support.EndedRep)) (Err BadPad))
+    (cond ((ienable + 2 * encoder_mode == 0) && ((status == 3) && differential))
+    (cond b (Ok (packet.Support support.EndedNtr)) (Err BadPad))
     (Err Unsupported))))
-    ≡ fault_or (cond (not ((mode == 0) && (o && is_status ienable status))) (Some Unsupported)
+    ≡ fault_or (cond (not ((encoder_mode == 0) && (((ienable == 1) && ((status == 0) && (differential || full)))
+    || ((ienable == 0) && (((status == 1) || (status == 3)) && differential))))) (Some Unsupported)
     (cond (not c) (Some BadPad) None))
-    (packet.Support (support_from ienable status))
-support_order (suc (suc i)) m s o b c hi hm hs e = absurd (omega arith)
-support_order i (suc (suc m)) s o b c hi hm hs e = absurd (omega arith)
-support_order i m (suc (suc (suc (suc s)))) o b c hi hm hs e = absurd (omega arith)
-support_order zero zero s false b c hi hm hs e = refl
-support_order (suc zero) zero s false b c hi hm hs e = refl
-support_order zero (suc zero) s false b c hi hm hs e = refl
-support_order (suc zero) (suc zero) s false b c hi hm hs e = refl
-support_order zero (suc zero) s true b c hi hm hs e = refl
-support_order (suc zero) (suc zero) s true b c hi hm hs e = refl
-support_order zero zero zero true b c hi hm hs e = refl
-support_order zero zero (suc zero) true b c hi hm hs e = pad_order b c (packet.Support support.EndedRep) e
-support_order zero zero (suc (suc zero)) true b c hi hm hs e = refl
-support_order zero zero (suc (suc (suc zero))) true b c hi hm hs e = pad_order b c (packet.Support support.EndedNtr) e
-support_order (suc zero) zero zero true b c hi hm hs e = pad_order b c (packet.Support support.Open) e
-support_order (suc zero) zero (suc zero) true b c hi hm hs e = refl
-support_order (suc zero) zero (suc (suc zero)) true b c hi hm hs e = refl
-support_order (suc zero) zero (suc (suc (suc zero))) true b c hi hm hs e = refl
+    (packet.Support (cond (ienable == 1) (support.Open (cond full mode.Full mode.Differential))
+    (cond (status == 1) support.EndedRep support.EndedNtr)))
+support_order (suc (suc i)) m s d f b c hi hm hs one e = absurd (omega arith)
+support_order i (suc (suc m)) s d f b c hi hm hs one e = absurd (omega arith)
+support_order i m (suc (suc (suc (suc s)))) d f b c hi hm hs one e = absurd (omega arith)
+support_order zero (suc zero) s d f b c hi hm hs one e = refl
+support_order (suc zero) (suc zero) s d f b c hi hm hs one e = refl
+support_order zero zero zero d f b c hi hm hs one e = refl
+support_order zero zero (suc zero) true f b c hi hm hs one e = pad_order b c (packet.Support support.EndedRep) e
+support_order zero zero (suc zero) false f b c hi hm hs one e = refl
+support_order zero zero (suc (suc zero)) d f b c hi hm hs one e = refl
+support_order zero zero (suc (suc (suc zero))) true f b c hi hm hs one e = pad_order b c (packet.Support support.EndedNtr) e
+support_order zero zero (suc (suc (suc zero))) false f b c hi hm hs one e = refl
+support_order (suc zero) zero zero true true b c hi hm hs one e = let no = one refl in absurd (cc)
+support_order (suc zero) zero zero true false b c hi hm hs one e =
+    pad_order b c (packet.Support (support.Open mode.Differential)) e
+support_order (suc zero) zero zero false true b c hi hm hs one e = pad_order b c (packet.Support (support.Open mode.Full)) e
+support_order (suc zero) zero zero false false b c hi hm hs one e = refl
+support_order (suc zero) zero (suc s) d f b c hi hm hs one e = refl
+
+-- A number is not two at once.
+not_both : (n : ℕ) → (n == 0) ≡ true → (n == 1) ≡ false
+not_both n e = ne_eqb n 1 (λ same. let zero_is = eqb-true n 0 e in absurd (omega arith))
 
 support_first : (n : ℕ) → n < 2 ^ 144 → part n 0 2 ≡ 3 → part n 2 2 ≡ 3
     → support_reading n ≡ fault_or (first_fault_of_bits n) (packet_in n)
 unfolding support_reading
 support_first n bound format subformat =
-    let mode : part n 4 2 ≡ part n 4 1 + 2 * part n 5 1 = omega arith in
-    rw (format, subformat, mode) (support_order (part n 4 1) (part n 5 1) (part n 6 2) (part n 8 5 == 0)
-    (ltb (magnitude 144 n) (2 ^ 12)) (extended 13 (n % 2 ^ 13) == n)
-    (omega arith) (omega arith) (omega arith) (pad_test 13 n (omega arith) (omega arith) bound))
+    let enable : part n 4 2 ≡ part n 4 1 + 2 * part n 5 1 = omega arith in
+    rw (format, subformat, enable) (support_order (part n 4 1) (part n 5 1) (part n 6 2) (part n 8 5 == 0)
+    (part n 8 5 == 1) (ltb (magnitude 144 n) (2 ^ 12)) (extended 13 (n % 2 ^ 13) == n)
+    (omega arith) (omega arith) (omega arith) (not_both (part n 8 5)) (pad_test 13 n (omega arith) (omega arith) bound))
 
 report_order : (n : ℕ) (taken : List Bool) (from top notify updiscon irreport : ℕ) (c : Bool) → top < 2 → notify < 2
     → updiscon < 2 → irreport < 2

@@ -3,7 +3,7 @@ pub mod BranchBits
 pub mod ByteLists
 pub mod Choices
 pub mod ByteCounts
-pub mod Differences
+pub mod AddressFields
 pub mod Extending
 pub mod FirstFaults
 pub mod HeldBytes

@@ -52,7 +52,8 @@ bits_read n (packet.Sync taken privilege address) h =
     rw (h.spells.holds.0, h.spells.holds.1.0) (sync_read n taken privilege address h)
 bits_read n (packet.Trap taken privilege cause interrupt handler address tval) h =
     rw (h.spells.holds.0, h.spells.holds.1.0) (trap_read n taken privilege cause interrupt handler address tval h)
-bits_read n (packet.Support support.Open) h = rw (h.spells.holds.0, h.spells.holds.1.0) (support_read n support.Open h)
+bits_read n (packet.Support (support.Open mode)) h =
+    rw (h.spells.holds.0, h.spells.holds.1.0) (support_read n (support.Open mode) h)
 bits_read n (packet.Support support.EndedRep) h =
     rw (h.spells.holds.0, h.spells.holds.1.0) (support_read n support.EndedRep h)
 bits_read n (packet.Support support.EndedNtr) h =

@@ -50,24 +50,31 @@ is_map_alone n = (field_at n layout.format_at == 1) && (field_at n layout.branch
 abbrev pub is_map_with_address : ℕ → Bool
 is_map_with_address n = (field_at n layout.format_at == 1) && not (field_at n layout.branches_at == 0)
 
--- A pair of `ienable` and `qual_status` that a support packet may have.
-abbrev pub is_status : ℕ → ℕ → Bool
-is_status ienable status =
-    ((ienable == 1) && (status == layout.no_change))
-    || (((ienable == 0) && (status == layout.ended_rep)) || ((ienable == 0) && (status == layout.ended_ntr)))
+-- `ienable`, `qual_status` and `ioptions` of a support packet that opens a trace, in one of the two modes.
+abbrev pub is_opening : ℕ → ℕ → ℕ → Bool
+is_opening ienable status options =
+    (ienable == 1)
+    && ((status == layout.no_change) && ((options == layout.differential) || (options == layout.full)))
 
--- `encoder_mode` and `ioptions` are 0, and the status is a support packet's.
-abbrev pub is_plain_support : ℕ → Bool
-is_plain_support n =
-    (field_at n layout.mode_at == 0)
-    && ((field_at n layout.options_at == 0) && is_status (field_at n layout.ienable_at) (field_at n layout.status_at))
+-- Those of a support packet that closes a trace.
+abbrev pub is_ending : ℕ → ℕ → ℕ → Bool
+is_ending ienable status options =
+    (ienable == 0)
+    && (((status == layout.ended_rep) || (status == layout.ended_ntr)) && (options == layout.no_options))
+
+-- `encoder_mode` is 0, and the other fields are those of a support packet that opens or closes a trace.
+abbrev pub is_known_support : ℕ → Bool
+is_known_support n =
+    (field_at n layout.encoder_mode_at == 0)
+    && (is_opening (field_at n layout.ienable_at) (field_at n layout.status_at) (field_at n layout.options_at)
+    || is_ending (field_at n layout.ienable_at) (field_at n layout.status_at) (field_at n layout.options_at))
 
 -- The bits begin a packet of a kind that the profile has.
 abbrev pub is_supported : ℕ → Bool
 is_supported n =
     is_sync n
     || (is_trap n
-    || (is_address_alone n || (is_map_alone n || (is_map_with_address n || (is_support n && is_plain_support n)))))
+    || (is_address_alone n || (is_map_alone n || (is_map_with_address n || (is_support n && is_known_support n)))))
 
 -- The privilege is the reserved level.
 abbrev pub is_bad_privilege : ℕ → Bool

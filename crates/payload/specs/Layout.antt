@@ -63,8 +63,8 @@ tval_at = place 78 64
 abbrev pub ienable_at : Place
 ienable_at = place 4 1
 
-abbrev pub mode_at : Place
-mode_at = place 5 1
+abbrev pub encoder_mode_at : Place
+encoder_mode_at = place 5 1
 
 abbrev pub status_at : Place
 status_at = place 6 2
@@ -81,6 +81,17 @@ ended_rep = 1
 
 abbrev pub ended_ntr : ℕ
 ended_ntr = 3
+
+-- The `ioptions` of a trace whose address fields hold differences, and of one whose address fields hold addresses, which
+-- is this project's profile; and of a support packet that closes a trace.
+abbrev pub differential : ℕ
+differential = 0
+
+abbrev pub full : ℕ
+full = 1
+
+abbrev pub no_options : ℕ
+no_options = 0
 
 -- `branches` of format 1, and `branch_map` where no address follows.
 abbrev pub branches_at : Place

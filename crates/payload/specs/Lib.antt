@@ -13,5 +13,5 @@ pub mod Reading
 pub mod steps
 pub mod Closing
 pub mod Ended
-pub mod Difference
+pub mod AddressField
 pub mod Held

@@ -5,6 +5,8 @@ use Rattle.payload.specs.Fields.{Field, field}
 use Rattle.payload.specs.Layout as layout
 use Rattle.payload.specs.Layout.{Place}
 use Rattle.payload.specs.Outcomes.{map_width, map_of}
+use Rattle.payload.specs.declared.mode.Mode.{Mode}
+use Rattle.payload.specs.declared.mode.Mode.TheVariants as mode
 use Rattle.payload.specs.declared.packet.Packet.{Packet}
 use Rattle.payload.specs.declared.packet.Packet.TheVariants as packet
 use Rattle.payload.specs.declared.packet.Support.TheVariants as support
@@ -47,11 +49,16 @@ trap_fields taken privilege cause interrupt handler address behind =
     ∷ at layout.privilege_at privilege ∷ at layout.ecause_at cause ∷ at layout.interrupt_at (flag_of interrupt)
     ∷ at layout.thaddr_at (flag_of handler) ∷ at layout.trap_address_at (address / 2) ∷ behind
 
+-- `ioptions` of the packet that opens a trace of this mode.
+abbrev pub options_of : Mode → ℕ
+options_of mode.Differential = layout.differential
+options_of mode.Full = layout.full
+
 -- `format`, `subformat`, `ienable`, `encoder_mode`, `qual_status` and `ioptions`.
-abbrev pub support_fields : ℕ → ℕ → List Field
-support_fields ienable status =
-    at layout.format_at 3 ∷ at layout.subformat_at layout.support ∷ at layout.ienable_at ienable ∷ at layout.mode_at 0
-    ∷ at layout.status_at status ∷ at layout.options_at 0 ∷ []
+abbrev pub support_fields : ℕ → ℕ → ℕ → List Field
+support_fields ienable status options =
+    at layout.format_at 3 ∷ at layout.subformat_at layout.support ∷ at layout.ienable_at ienable
+    ∷ at layout.encoder_mode_at 0 ∷ at layout.status_at status ∷ at layout.options_at options ∷ []
 
 -- `format`, `branches`, `branch_map` and the address fields, with this number in the unused bits of `branch_map`.
 abbrev pub branches_fields : ℕ → List Bool → ℕ → Report → List Field
@@ -73,9 +80,9 @@ fields_with spare (packet.Sync taken privilege address) =
     ∷ at layout.privilege_at privilege ∷ at layout.sync_address_at (address / 2) ∷ []
 fields_with spare (packet.Trap taken privilege cause interrupt handler address tval) =
     trap_fields taken privilege cause interrupt handler address (value_fields interrupt tval)
-fields_with spare (packet.Support support.Open) = support_fields 1 layout.no_change
-fields_with spare (packet.Support support.EndedRep) = support_fields 0 layout.ended_rep
-fields_with spare (packet.Support support.EndedNtr) = support_fields 0 layout.ended_ntr
+fields_with spare (packet.Support (support.Open mode)) = support_fields 1 layout.no_change (options_of mode)
+fields_with spare (packet.Support support.EndedRep) = support_fields 0 layout.ended_rep layout.no_options
+fields_with spare (packet.Support support.EndedNtr) = support_fields 0 layout.ended_ntr layout.no_options
 fields_with spare (packet.Address [] delta report) = at layout.format_at 2 ∷ address_fields delta report
 fields_with spare (packet.Address (oldest ∷ outcomes) delta report) =
     branches_fields spare (oldest ∷ outcomes) delta report

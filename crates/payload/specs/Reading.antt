@@ -5,6 +5,8 @@ use Rattle.payload.specs.Faults.{bits_of, part, field_at, is_sync, is_trap, is_i
 use Rattle.payload.specs.Faults.{is_map_alone, address_behind_map, first_fault}
 use Rattle.payload.specs.Layout as layout
 use Rattle.payload.specs.Outcomes.{outcomes}
+use Rattle.payload.specs.declared.mode.Mode.{Mode}
+use Rattle.payload.specs.declared.mode.Mode.TheVariants as mode
 use Rattle.payload.specs.declared.packet.Packet.{Packet}
 use Rattle.payload.specs.declared.packet.Packet.TheVariants as packet
 use Rattle.payload.specs.declared.packet.Support.{Support}
@@ -13,10 +15,15 @@ use Rattle.payload.specs.declared.packet.Report.{Report}
 use Rattle.payload.specs.declared.packet.Report.TheVariants as report
 use Rattle.payload.specs.declared.fault.PackFault.{PackFault}
 
--- The support packet of ienable and qual_status.
-abbrev pub support_from : ℕ → ℕ → Support
-support_from ienable status =
-    if ienable == 1 then support.Open else if status == layout.ended_rep then support.EndedRep else support.EndedNtr
+-- The mode of `ioptions`.
+abbrev pub mode_from : ℕ → Mode
+mode_from options = if options == layout.full then mode.Full else mode.Differential
+
+-- The support packet of `ienable`, `qual_status` and `ioptions`.
+abbrev pub support_from : ℕ → ℕ → ℕ → Support
+support_from ienable status options =
+    if ienable == 1 then support.Open (mode_from options) else
+    if status == layout.ended_rep then support.EndedRep else support.EndedNtr
 
 -- The report of the address field's top bit, notify and updiscon.
 abbrev pub report_from : ℕ → ℕ → ℕ → Report
@@ -53,7 +60,8 @@ packet_in n =
     if is_sync n then sync_from n else
     if is_trap n then trap_from n else
     if is_support n then
-    packet.Support (support_from (field_at n layout.ienable_at) (field_at n layout.status_at)) else
+    packet.Support
+    (support_from (field_at n layout.ienable_at) (field_at n layout.status_at) (field_at n layout.options_at)) else
     if is_address_alone n then address_from n [] layout.address_from else
     if is_map_alone n then packet.Map (outcomes_from n layout.full_map_at.width) else
     address_from n (outcomes_from n (field_at n layout.branches_at)) (address_behind_map n)

@@ -73,6 +73,15 @@ pub(crate) const ENDED_REP: u8 = 1;
 /// The `qual_status` ended_ntr.
 pub(crate) const ENDED_NTR: u8 = 3;
 
+/// The `ioptions` of a trace whose address fields hold differences.
+pub(crate) const DIFFERENTIAL: u8 = 0;
+
+/// The `ioptions` of a trace whose address fields hold addresses: this project's profile.
+pub(crate) const FULL: u8 = 1;
+
+/// The `ioptions` of a support packet that closes a trace.
+pub(crate) const NO_OPTIONS: u8 = 0;
+
 /// `branches` of format 1.
 pub(crate) const BRANCHES: Place = Place { from: 2, width: 5 };
 

@@ -8,6 +8,7 @@
 mod bits;
 mod fault;
 mod layout;
+mod mode;
 mod outcomes;
 mod packet;
 mod packing;
@@ -18,6 +19,7 @@ mod tests;
 mod unpacking;
 
 pub use fault::PackFault;
+pub use mode::Mode;
 pub use outcomes::Outcomes;
 pub use packet::{Packet, Report, Support};
 pub use packing::pack;

@@ -1,7 +1,7 @@
 //! The packets of an instruction trace.
 ghost use Rattle.std.specs.Prelude.{◌≡◌, ◌↔◌, IsTrue, false};
 
-use crate::Outcomes;
+use crate::{Mode, Outcomes};
 
 /// A packet of an instruction trace: of the E-Trace specification's packet formats, those of this project's profile.
 #[derive(Clone, Copy, Debug, PartialEq, Eq)]
@@ -38,7 +38,8 @@ pub enum Packet {
     Address {
         /// The outcomes of the branches since the last packet that told of them, the oldest first.
         outcomes: Outcomes,
-        /// The difference from the last reported address, modulo 2^64, even.
+        /// What names the address, even: its difference from the last reported one, modulo 2^64, or in full-address mode the
+        /// address itself.
         delta: u64,
         /// Why the address is reported.
         report: Report,
@@ -50,8 +51,8 @@ pub enum Packet {
 /// What a support packet tells.
 #[derive(Clone, Copy, Debug, PartialEq, Eq)]
 pub enum Support {
-    /// Tracing begins.
-    Open,
+    /// Tracing begins, with address fields of this mode (`ioptions`).
+    Open(Mode),
     /// Tracing ended, and the last packet's address was reported because of it (`ended_rep`).
     EndedRep,
     /// Tracing ended, and the last packet's address would have been reported anyway (`ended_ntr`).

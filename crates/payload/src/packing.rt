@@ -9,7 +9,7 @@ ghost use Rattle.payload.specs.Spelling.{IsShortest, payload_of};
 use crate::layout::*;
 use crate::outcomes::map_width;
 use crate::spelling::{spell, spell_long};
-use crate::{Outcomes, Packet, Payload, Report, Support};
+use crate::{Mode, Outcomes, Packet, Payload, Report, Support};
 
 /// The payload of a packet: the shortest bytes of its fields.
 ///
@@ -109,17 +109,21 @@ fn trap_bits(
         + (u128::from(address >> 1) << TRAP_ADDRESS.from)
 }
 
-/// The bits of a support packet: format 3, subformat 3, then ienable and qual_status.
+/// The bits of a support packet: format 3, subformat 3, then ienable, qual_status and ioptions.
 fn support_bits(support: Support) -> u128
     ensures value { result ≡ joined (fields (Packet.Support support)) }
     ensures below { result < 2 ^ 13 }
 {
-    let (ienable, status) = match support {
-        Support::Open => (1, NO_CHANGE),
-        Support::EndedRep => (0, ENDED_REP),
-        Support::EndedNtr => (0, ENDED_NTR),
+    let (ienable, status, options) = match support {
+        Support::Open(Mode::Differential) => (1, NO_CHANGE, DIFFERENTIAL),
+        Support::Open(Mode::Full) => (1, NO_CHANGE, FULL),
+        Support::EndedRep => (0, ENDED_REP, NO_OPTIONS),
+        Support::EndedNtr => (0, ENDED_NTR, NO_OPTIONS),
     };
-    format_3(SUPPORT) + (ienable << ENABLE.from) + (u128::from(status) << STATUS.from)
+    format_3(SUPPORT)
+        + (ienable << ENABLE.from)
+        + (u128::from(status) << STATUS.from)
+        + (u128::from(options) << OPTIONS.from)
 }
 
 /// The payload of an address packet.

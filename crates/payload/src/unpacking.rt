@@ -12,7 +12,7 @@ ghost use Rattle.payload.specs.declared.packet.Packet.{Packet as AnyPacket};
 use crate::bits::Bits;
 use crate::layout::*;
 use crate::outcomes::map_width;
-use crate::{Outcomes, PackFault, Packet, Report, Support};
+use crate::{Mode, Outcomes, PackFault, Packet, Report, Support};
 
 /// The packet that bytes stand for, be they the shortest or longer, or else the first fault.
 #[inline(always)]
@@ -148,13 +148,15 @@ fn trap_of(bits: &Bits) -> Result<Packet, PackFault>
 fn support_of(bits: &Bits) -> Result<Packet, PackFault>
     ensures { result ≡ support_reading bits.now }
 {
-    if bits.field(OPTIONS) != 0 {
-        return Err(PackFault::Unsupported);
-    }
-    let support = match (bits.field(ENABLE) as u8, bits.field(STATUS) as u8) {
-        (1, NO_CHANGE) => Support::Open,
-        (0, ENDED_REP) => Support::EndedRep,
-        (0, ENDED_NTR) => Support::EndedNtr,
+    let support = match (
+        bits.field(ENABLE) as u8,
+        bits.field(STATUS) as u8,
+        bits.field(OPTIONS) as u8,
+    ) {
+        (1, NO_CHANGE, DIFFERENTIAL) => Support::Open(Mode::Differential),
+        (1, NO_CHANGE, FULL) => Support::Open(Mode::Full),
+        (0, ENDED_REP, NO_OPTIONS) => Support::EndedRep,
+        (0, ENDED_NTR, NO_OPTIONS) => Support::EndedNtr,
         _ => return Err(PackFault::Unsupported),
     };
     if !bits.has_width(SUPPORT_WIDTH) {

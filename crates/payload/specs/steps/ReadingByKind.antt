@@ -6,6 +6,7 @@ use Rattle.payload.specs.Faults.{bits_of, part, field_at, is_sync, is_trap, trap
 use Rattle.payload.specs.Faults.{is_map_with_address, address_behind_map}
 use Rattle.payload.specs.Layout as layout
 use Rattle.payload.specs.Reading.{sync_from, trap_from, outcomes_from}
+use Rattle.payload.specs.declared.mode.Mode.TheVariants as mode
 use Rattle.payload.specs.declared.packet.Packet.{Packet}
 use Rattle.payload.specs.declared.packet.Packet.TheVariants as packet
 use Rattle.payload.specs.declared.packet.Support.TheVariants as support
@@ -35,15 +36,21 @@ trap_reading n =
 abbrev pub enable_of : ℕ → ℕ
 enable_of n = part n layout.ienable_at.from 2
 
+-- `ienable` with `encoder_mode`, `qual_status` and `ioptions` are these.
+abbrev pub has_fields : ℕ → ℕ → ℕ → ℕ → Bool
+has_fields n enable status options =
+    (enable_of n == enable) && ((field_at n layout.status_at == status) && (field_at n layout.options_at == options))
+
 -- Bits of format 3, subformat 3.
 unfoldable pub support_reading : ℕ → Result Packet PackFault
 support_reading n =
-    if not (field_at n layout.options_at == 0) then Err Unsupported else
-    if (enable_of n == 1) && (field_at n layout.status_at == layout.no_change) then
-    padded layout.support_width n (packet.Support support.Open) else
-    if (enable_of n == 0) && (field_at n layout.status_at == layout.ended_rep) then
+    if has_fields n 1 layout.no_change layout.differential then
+    padded layout.support_width n (packet.Support (support.Open mode.Differential)) else
+    if has_fields n 1 layout.no_change layout.full then
+    padded layout.support_width n (packet.Support (support.Open mode.Full)) else
+    if has_fields n 0 layout.ended_rep layout.no_options then
     padded layout.support_width n (packet.Support support.EndedRep) else
-    if (enable_of n == 0) && (field_at n layout.status_at == layout.ended_ntr) then
+    if has_fields n 0 layout.ended_ntr layout.no_options then
     padded layout.support_width n (packet.Support support.EndedNtr) else
     Err Unsupported
 

@@ -1,7 +1,7 @@
 //! Each payload of one and of two bytes, against a reading of the packet table bit by bit.
 ghost use Rattle.std.specs.Prelude.{◌+◌, ◌<◌, ◌≤◌, length};
 
-use crate::{Outcomes, PackFault, Packet, Report, Support, unpack};
+use crate::{Mode, Outcomes, PackFault, Packet, Report, Support, unpack};
 
 /// Bit `i` of bytes that go on with copies of the last byte's top bit.
 fn bit(bytes: &[u8], i: usize) -> u64
@@ -113,7 +113,8 @@ fn read_support(bytes: &[u8]) -> Result<Packet, PackFault>
     let qual_status = field(bytes, 6, 2);
     let ioptions = field(bytes, 8, 5);
     let support = match (encoder_mode, ioptions, ienable, qual_status) {
-        (0, 0, 1, 0) => Support::Open,
+        (0, 0, 1, 0) => Support::Open(Mode::Differential),
+        (0, 1, 1, 0) => Support::Open(Mode::Full),
         (0, 0, 0, 1) => Support::EndedRep,
         (0, 0, 0, 3) => Support::EndedNtr,
         _ => return Err(PackFault::Unsupported),

@@ -1,8 +1,10 @@
 //! Packets for the tables.
 
-use crate::{Outcomes, Packet, Report, Support};
+use crate::{Mode, Outcomes, Packet, Report, Support};
 
-pub(crate) const OPEN: Packet = Packet::Support(Support::Open);
+pub(crate) const OPEN: Packet = Packet::Support(Support::Open(Mode::Differential));
+
+pub(crate) const OPEN_FULL: Packet = Packet::Support(Support::Open(Mode::Full));
 
 pub(crate) const ENDED_REP: Packet = Packet::Support(Support::EndedRep);
 

@@ -6,11 +6,14 @@ use std::test::Fail;
 
 #[test]
 fn refuses(rt: HostRuntime) {
-    let table: [(&[u8], PackFault); 16] = [
+    let table: [(&[u8], PackFault); 19] = [
         (&[], PackFault::Empty),
         (&[0; 19], PackFault::TooLong),
         (&[0x1f, 0x80], PackFault::BadPad),
         (&[0xcf], PackFault::Unsupported),
+        (&[0x1f, 0x02], PackFault::Unsupported),
+        (&[0x1f, 0x03], PackFault::Unsupported),
+        (&[0x4f, 0x01], PackFault::Unsupported),
         (&[0x00], PackFault::Unsupported),
         (&[0x0b], PackFault::Unsupported),
         (&[0x5f], PackFault::Unsupported),

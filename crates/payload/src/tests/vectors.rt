@@ -1,14 +1,15 @@
 //! Worked payloads.
 
 use super::packets::{
-    ENDED_NTR, ENDED_REP, OPEN, address, branches, exception, interrupt, outcomes, sync,
+    ENDED_NTR, ENDED_REP, OPEN, OPEN_FULL, address, branches, exception, interrupt, outcomes, sync,
 };
 use crate::{Packet, Report, pack, unpack};
 
 #[test]
 fn packs_and_unpacks(rt: HostRuntime) {
-    let table: [(Packet, &[u8]); 33] = [
+    let table: [(Packet, &[u8]); 38] = [
         (OPEN, &[0x1f]),
+        (OPEN_FULL, &[0x1f, 0x01]),
         (ENDED_REP, &[0x4f]),
         (ENDED_NTR, &[0xcf, 0]),
         (sync(false, 3, 0x8000_0000), &[0x73, 0, 0, 0, 0x20]),
@@ -27,6 +28,17 @@ fn packs_and_unpacks(rt: HostRuntime) {
         (
             address(4, Report::Updiscon),
             &[0x0a, 0, 0, 0, 0, 0, 0, 0, 0xfc],
+        ),
+        // The address itself, in full-address mode.
+        (address(0x8000_0004, Report::Plain), &[0x0a, 0, 0, 0, 0x01]),
+        (address(0x8000_0000, Report::Plain), &[0x02, 0, 0, 0, 0x01]),
+        (
+            address(0x8000_0000, Report::Notify),
+            &[0x02, 0, 0, 0, 0x01, 0, 0, 0, 0xfe],
+        ),
+        (
+            branches(&[false], 0x8000_0008, Report::Plain),
+            &[0x85, 0x04, 0, 0, 0x40],
         ),
         (branches(&[true], 0, Report::Plain), &[0x05]),
         (branches(&[false], 8, Report::Plain), &[0x85, 0x04]),
@@ -101,6 +113,7 @@ fn packs_and_unpacks(rt: HostRuntime) {
 fn takes_longer_spellings(rt: HostRuntime) {
     let table = [
         (OPEN, 0x00),
+        (OPEN_FULL, 0x00),
         (ENDED_NTR, 0x00),
         (sync(false, 3, 0x8000_0000), 0x00),
         (interrupt(7, 0x8000_0008), 0x00),
