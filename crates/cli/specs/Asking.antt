@@ -4,6 +4,8 @@ use Rattle.std.specs.Str.Parse.{IsNumeral, digits_value, without_leading_plus}
 use Rattle.std.specs.Prelude.{Some, None, unwrap_or}
 use Rattle.clap.specs.Words.{Row, Text, all_of, fault_of, first_of, one_of, subcommand_of}
 use Rattle.cli.specs.Grammar.{program_app}
+use Rattle.payload.specs.declared.mode.Mode.{Mode}
+use Rattle.payload.specs.declared.mode.Mode.TheVariants.{Differential, Full}
 use Rattle.subcommands.specs.Kind.{IsCheck}
 use Rattle.subcommands.specs.Limits.{largest_capacity, longest_period, most_harts}
 use Rattle.subcommands.specs.declared.words.Asked.{Asked}
@@ -21,6 +23,15 @@ texts_of id rows = unwrap_or (all_of id rows) []
 abbrev pub IsFlag : Option Text → Bool → Type 0
 IsFlag value is_set = (value ≡ Some (codes "true") → is_set ≡ true)
     × (value ≡ Some (codes "false") → is_set ≡ false) × (value ≡ None → is_set ≡ false)
+
+-- Addresses are named in full.
+abbrev pub is_full : Mode → Bool
+is_full Differential = false
+is_full Full = true
+
+-- The mode is the full one exactly where the flag is set.
+abbrev pub IsMode : Option Text → Mode → Type 0
+IsMode value mode = IsFlag value (is_full mode)
 
 -- The number that a decimal text is.
 abbrev pub decimal : Text → ℕ
@@ -54,6 +65,7 @@ Asks name rows (Check asked) = (name ≡ codes "check")
     × (map (λ log. log.now) asked.logs.items ≡ texts_of (codes "LOG") rows)
 Asks name rows (Encode asked) = (name ≡ codes "encode")
     × (asked.base.now ≡ text_of (codes "base") rows) × IsPeriod (one_of (codes "period") rows) asked.period
+    × IsMode (one_of (codes "full") rows) asked.mode
     × IsFlag (one_of (codes "hex") rows) asked.hex × (asked.image.now ≡ text_of (codes "IMAGE") rows)
     × (map (λ log. log.now) asked.logs.items ≡ texts_of (codes "LOG") rows)
 Asks name rows (Dump asked) = (name ≡ codes "dump") × (asked.capture.now ≡ text_of (codes "CAPTURE") rows)
@@ -62,11 +74,13 @@ Asks name rows (Decode asked) = (name ≡ codes "decode")
     × (asked.image.now ≡ text_of (codes "IMAGE") rows) × (asked.capture.now ≡ text_of (codes "CAPTURE") rows)
 Asks name rows (Replay asked) = (name ≡ codes "replay")
     × (asked.base.now ≡ text_of (codes "base") rows) × IsPeriod (one_of (codes "period") rows) asked.period
+    × IsMode (one_of (codes "full") rows) asked.mode
     × IsCapacity (one_of (codes "capacity") rows) asked.capacity
     × (asked.image.now ≡ text_of (codes "IMAGE") rows) × (asked.schedule.now ≡ text_of (codes "SCHEDULE") rows)
     × (map (λ log. log.now) asked.logs.items ≡ texts_of (codes "LOG") rows)
 Asks name rows (Bench asked) = (name ≡ codes "bench")
     × (asked.base.now ≡ text_of (codes "base") rows) × IsPeriod (one_of (codes "period") rows) asked.period
+    × IsMode (one_of (codes "full") rows) asked.mode
     × IsCapacity (one_of (codes "capacity") rows) asked.capacity
     × (asked.image.now ≡ text_of (codes "IMAGE") rows)
     × (map (λ log. log.now) asked.logs.items ≡ texts_of (codes "LOG") rows)

@@ -27,6 +27,11 @@ abbrev pub hex_rule : Rule
 hex_rule =
     record (new_rule (codes "hex")) { long = Some (codes "hex"); action = Some SetTrue }
 
+-- `--full`.
+abbrev pub full_rule : Rule
+full_rule =
+    record (new_rule (codes "full")) { long = Some (codes "full"); action = Some SetTrue }
+
 -- IMAGE, a word of its own that has to be there.
 abbrev pub image_rule : Rule
 image_rule = record (new_rule (codes "IMAGE")) { action = Some Set; required = true }
@@ -97,10 +102,10 @@ capture_rule = record (new_rule (codes "CAPTURE")) { action = Some Set; required
 abbrev pub check_app : App
 check_app = with_rule (with_rule (with_rule (new_app (codes "check")) base_rule) image_rule) logs_rule
 
--- `encode --base B [--period N] [--hex] IMAGE LOG...`.
+-- `encode --base B [--period N] [--full] [--hex] IMAGE LOG...`.
 abbrev pub encode_app : App
-encode_app = with_rule (with_rule (with_rule (with_rule (with_rule (new_app (codes "encode")) base_rule)
-    period_rule) hex_rule) image_rule) logs_rule
+encode_app = with_rule (with_rule (with_rule (with_rule (with_rule (with_rule (new_app (codes "encode")) base_rule)
+    period_rule) full_rule) hex_rule) image_rule) logs_rule
 
 -- `dump CAPTURE`.
 abbrev pub dump_app : App
@@ -111,15 +116,15 @@ abbrev pub decode_app : App
 decode_app = with_rule (with_rule (with_rule (with_rule (new_app (codes "decode")) base_rule) harts_rule)
     image_rule) capture_rule
 
--- `replay --base B [--period N] [--capacity N] IMAGE SCHEDULE LOG...`.
+-- `replay --base B [--period N] [--full] [--capacity N] IMAGE SCHEDULE LOG...`.
 abbrev pub replay_app : App
-replay_app = with_rule (with_rule (with_rule (with_rule (with_rule (with_rule (new_app (codes "replay")) base_rule)
-    period_rule) capacity_rule) image_rule) schedule_rule) logs_rule
+replay_app = with_rule (with_rule (with_rule (with_rule (with_rule (with_rule (with_rule (new_app (codes "replay"))
+    base_rule) period_rule) full_rule) capacity_rule) image_rule) schedule_rule) logs_rule
 
--- `bench --base B [--period N] [--capacity N] IMAGE LOG...`.
+-- `bench --base B [--period N] [--full] [--capacity N] IMAGE LOG...`.
 abbrev pub bench_app : App
-bench_app = with_rule (with_rule (with_rule (with_rule (with_rule (new_app (codes "bench")) base_rule)
-    period_rule) capacity_rule) image_rule) logs_rule
+bench_app = with_rule (with_rule (with_rule (with_rule (with_rule (with_rule (new_app (codes "bench")) base_rule)
+    period_rule) full_rule) capacity_rule) image_rule) logs_rule
 
 -- The program by itself, which wants a subcommand.
 abbrev pub bare_program : App

@@ -1,7 +1,7 @@
 //! The arguments that subcommands take, one function each.
 
-ghost use Rattle.cli.specs.Grammar.{IsReadBy, base_rule, capacity_rule, capture_rule, harts_rule, hex_rule};
-ghost use Rattle.cli.specs.Grammar.{image_rule, logs_rule, period_rule, schedule_rule};
+ghost use Rattle.cli.specs.Grammar.{IsReadBy, base_rule, capacity_rule, capture_rule, full_rule, harts_rule};
+ghost use Rattle.cli.specs.Grammar.{hex_rule, image_rule, logs_rule, period_rule, schedule_rule};
 
 use clap::{Arg, ArgAction, value_parser};
 use std::alloc::Global;
@@ -41,6 +41,15 @@ pub(crate) fn capture<'a>(alloc: Global) -> Arg<'a>
         .required(true)
         .action(ArgAction::Set)
         .help("File of trace messages")
+}
+
+pub(crate) fn full<'a>(alloc: Global) -> Arg<'a>
+    ensures { IsReadBy full_rule result }
+{
+    Arg::new(alloc, "full")
+        .long("full")
+        .action(ArgAction::SetTrue)
+        .help("Name addresses in full, not by differences")
 }
 
 pub(crate) fn harts<'a>(alloc: Global) -> Arg<'a>

@@ -3,12 +3,13 @@
 ghost use Rattle.std.specs.Prelude.{◌≡◌, ◌⊎◌, IfErr, IfOk, [], codes, map, string_bytes, unwrap_or};
 ghost use Rattle.clap.specs.Words.{FailsBy, fault_of, first_value, found_of, kind_of, one_of, rows_of};
 ghost use Rattle.clap.specs.declared.error.kind.ErrorKind.TheVariants as kind;
-ghost use Rattle.cli.specs.Asking.{AreRefused, Asks, IsCapacity, IsHarts, IsPeriod, WordsAsk, texts_of};
+ghost use Rattle.cli.specs.Asking.{AreRefused, Asks, IsCapacity, IsFlag, IsHarts, IsMode, IsPeriod, WordsAsk, texts_of};
 ghost use Rattle.cli.specs.Grammar.{IsSubcommand, program_app};
 ghost use Rattle.subcommands.specs.Limits.{IsWithinLimits};
 
 use crate::grammar::program;
 use clap::{ArgMatches, Error};
+use payload::Mode;
 use std::alloc::{AllocError, Global};
 use subcommands::{
     Asked, Bench, Check, Decode, Dump, Encode, LARGEST_CAPACITY, MOST_HARTS, Replay,
@@ -62,13 +63,32 @@ fn period<'a>(given: &ArgMatches<'a>) -> u16
         .max(SHORTEST_PERIOD)
 }
 
+// Whether a flag is set.
+fn flag<'a>(given: &ArgMatches<'a>, id: &str) -> bool
+    ensures { IsFlag (one_of id.now (rows_of (found_of given.now))) result }
+{
+    given.get_flag(id)
+}
+
+// The mode, which is differential where the words do not ask for full addresses.
+fn mode<'a>(given: &ArgMatches<'a>) -> Mode
+    ensures { IsMode (one_of (codes "full") (rows_of (found_of given.now))) result }
+{
+    if flag(given, "full") {
+        Mode::Full
+    } else {
+        Mode::Differential
+    }
+}
+
 fn encode_asked<'a>(alloc: Global, given: &ArgMatches<'a>) -> Result<Asked<'a>, AllocError>
     ensures { IfOk result (Asks (codes "encode") (rows_of (found_of given.now))) }
 {
     Ok(Asked::Encode(Encode {
         base: text(given, "base"),
         period: period(given),
-        hex: given.get_flag("hex"),
+        mode: mode(given),
+        hex: flag(given, "hex"),
         image: text(given, "IMAGE"),
         logs: texts(alloc, given, "LOG")?,
     }))
@@ -119,6 +139,7 @@ fn replay_asked<'a>(alloc: Global, given: &ArgMatches<'a>) -> Result<Asked<'a>, 
     Ok(Asked::Replay(Replay {
         base: text(given, "base"),
         period: period(given),
+        mode: mode(given),
         capacity: capacity(given),
         image: text(given, "IMAGE"),
         schedule: text(given, "SCHEDULE"),
@@ -132,6 +153,7 @@ fn bench_asked<'a>(alloc: Global, given: &ArgMatches<'a>) -> Result<Asked<'a>, A
     Ok(Asked::Bench(Bench {
         base: text(given, "base"),
         period: period(given),
+        mode: mode(given),
         capacity: capacity(given),
         image: text(given, "IMAGE"),
         logs: texts(alloc, given, "LOG")?,

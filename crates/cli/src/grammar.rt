@@ -3,7 +3,7 @@
 ghost use Rattle.std.specs.Prelude.{IfOk};
 ghost use Rattle.cli.specs.Grammar.{HasGrammar, bench_app, check_app, decode_app, dump_app, encode_app, program_app, replay_app};
 
-use crate::arguments::{base, capacity, capture, harts, hex, image, logs, period, schedule};
+use crate::arguments::{base, capacity, capture, full, harts, hex, image, logs, period, schedule};
 use clap::Command;
 use std::alloc::{AllocError, Global};
 
@@ -25,6 +25,7 @@ fn encode<'a>(alloc: Global) -> Result<Command<'a>, AllocError>
         .about("Write the trace messages of logs")
         .arg(base(alloc))?
         .arg(period(alloc))?
+        .arg(full(alloc))?
         .arg(hex(alloc))?
         .arg(image(alloc))?
         .arg(logs(alloc))?;
@@ -59,6 +60,7 @@ fn replay<'a>(alloc: Global) -> Result<Command<'a>, AllocError>
         .about("Send logs through the funnel as a schedule says, and report what comes of them")
         .arg(base(alloc))?
         .arg(period(alloc))?
+        .arg(full(alloc))?
         .arg(capacity(alloc))?
         .arg(image(alloc))?
         .arg(schedule(alloc))?
@@ -75,6 +77,7 @@ fn bench<'a>(alloc: Global) -> Result<Command<'a>, AllocError>
         )
         .arg(base(alloc))?
         .arg(period(alloc))?
+        .arg(full(alloc))?
         .arg(capacity(alloc))?
         .arg(image(alloc))?
         .arg(logs(alloc))?;

@@ -25,16 +25,34 @@ fn reads_words(rt: HostRuntime) -> Result<(), Fail> {
     let cases = [
         (
             "tracebench encode --base 80000000 --hex image.bin log.csv",
-            "Encode(Encode { base: \"80000000\", period: 1024, hex: true, image: \"image.bin\", logs: [\"log.csv\"] })",
+            "Encode(Encode { base: \"80000000\", period: 1024, mode: Differential, hex: true, \
+             image: \"image.bin\", logs: [\"log.csv\"] })",
         ),
         (
             "tracebench encode image.bin --base=-1 --period 65535 a.csv b.csv",
-            "Encode(Encode { base: \"-1\", period: 65535, hex: false, image: \"image.bin\", \
-             logs: [\"a.csv\", \"b.csv\"] })",
+            "Encode(Encode { base: \"-1\", period: 65535, mode: Differential, hex: false, \
+             image: \"image.bin\", logs: [\"a.csv\", \"b.csv\"] })",
         ),
         (
             "tracebench encode --base 0 --period 1 image.bin log.csv",
-            "Encode(Encode { base: \"0\", period: 1, hex: false, image: \"image.bin\", logs: [\"log.csv\"] })",
+            "Encode(Encode { base: \"0\", period: 1, mode: Differential, hex: false, image: \"image.bin\", \
+             logs: [\"log.csv\"] })",
+        ),
+        (
+            "tracebench encode --base 0 --full image.bin log.csv",
+            "Encode(Encode { base: \"0\", period: 1024, mode: Full, hex: false, image: \"image.bin\", \
+             logs: [\"log.csv\"] })",
+        ),
+        (
+            "tracebench encode --hex --full image.bin --base 0 log.csv",
+            "Encode(Encode { base: \"0\", period: 1024, mode: Full, hex: true, image: \"image.bin\", \
+             logs: [\"log.csv\"] })",
+        ),
+        (
+            "tracebench encode --full --base 0 --full image.bin log.csv",
+            "error: the argument '--full' cannot be used multiple times\n\n\
+             Usage: tracebench encode [OPTIONS] --base <B> <IMAGE> <LOG>...\n\n\
+             For more information, try '--help'.\n",
         ),
         (
             "tracebench encode --base 0 --period 0 image.bin log.csv",
@@ -49,6 +67,13 @@ fn reads_words(rt: HostRuntime) -> Result<(), Fail> {
         (
             "tracebench check --base 80000000 image.bin a.csv b.csv",
             "Check(Check { base: \"80000000\", image: \"image.bin\", logs: [\"a.csv\", \"b.csv\"] })",
+        ),
+        (
+            "tracebench check --base 80000000 --full image.bin log.csv",
+            "error: unexpected argument '--full' found\n\n  \
+             tip: to pass '--full' as a value, use '-- --full'\n\n\
+             Usage: tracebench check --base <B> <IMAGE> <LOG>...\n\n\
+             For more information, try '--help'.\n",
         ),
         (
             "tracebench check --base 80000000 image.bin",
@@ -86,12 +111,20 @@ fn reads_words(rt: HostRuntime) -> Result<(), Fail> {
              --base <B>    Address of the image's first byte, in hexadecimal\n      \
              --period <N>  Retirements from one periodic synchronisation to the next, 1 to 65535 \
              [default: 1024]\n      \
+             --full        Name addresses in full, not by differences\n      \
              --hex         Write a line of hexadecimal for each message\n  \
              -h, --help        Print help\n",
         ),
         (
             "tracebench dump run.capture",
             "Dump(Dump { capture: \"run.capture\" })",
+        ),
+        (
+            "tracebench dump --full run.capture",
+            "error: unexpected argument '--full' found\n\n  \
+             tip: to pass '--full' as a value, use '-- --full'\n\n\
+             Usage: tracebench dump <CAPTURE>\n\n\
+             For more information, try '--help'.\n",
         ),
         (
             "tracebench dump",
@@ -128,6 +161,13 @@ fn reads_words(rt: HostRuntime) -> Result<(), Fail> {
              For more information, try '--help'.\n",
         ),
         (
+            "tracebench decode --base 0 --full image.bin run.capture",
+            "error: unexpected argument '--full' found\n\n  \
+             tip: to pass '--full' as a value, use '-- --full'\n\n\
+             Usage: tracebench decode --base <B> <IMAGE> <CAPTURE>\n\n\
+             For more information, try '--help'.\n",
+        ),
+        (
             "tracebench decode --base 80000000 image.bin",
             "error: the following required arguments were not provided:\n  <CAPTURE>\n\n\
              Usage: tracebench decode --base <B> <IMAGE> <CAPTURE>\n\n\
@@ -135,13 +175,13 @@ fn reads_words(rt: HostRuntime) -> Result<(), Fail> {
         ),
         (
             "tracebench replay --base 80000000 image.bin turns.txt a.csv b.csv",
-            "Replay(Replay { base: \"80000000\", period: 1024, capacity: 16, image: \"image.bin\", \
-             schedule: \"turns.txt\", logs: [\"a.csv\", \"b.csv\"] })",
+            "Replay(Replay { base: \"80000000\", period: 1024, mode: Differential, capacity: 16, \
+             image: \"image.bin\", schedule: \"turns.txt\", logs: [\"a.csv\", \"b.csv\"] })",
         ),
         (
-            "tracebench replay --capacity 65536 --base 0 --period 7 image.bin turns.txt log.csv",
-            "Replay(Replay { base: \"0\", period: 7, capacity: 65536, image: \"image.bin\", \
-             schedule: \"turns.txt\", logs: [\"log.csv\"] })",
+            "tracebench replay --capacity 65536 --base 0 --full --period 7 image.bin turns.txt log.csv",
+            "Replay(Replay { base: \"0\", period: 7, mode: Full, capacity: 65536, \
+             image: \"image.bin\", schedule: \"turns.txt\", logs: [\"log.csv\"] })",
         ),
         (
             "tracebench replay --base 0 --capacity 0 image.bin turns.txt log.csv",
@@ -161,12 +201,13 @@ fn reads_words(rt: HostRuntime) -> Result<(), Fail> {
         ),
         (
             "tracebench bench --base 80000000 image.bin a.csv b.csv",
-            "Bench(Bench { base: \"80000000\", period: 1024, capacity: 16, image: \"image.bin\", \
-             logs: [\"a.csv\", \"b.csv\"] })",
+            "Bench(Bench { base: \"80000000\", period: 1024, mode: Differential, capacity: 16, \
+             image: \"image.bin\", logs: [\"a.csv\", \"b.csv\"] })",
         ),
         (
-            "tracebench bench --base 0 --capacity 1 --period 65535 image.bin log.csv",
-            "Bench(Bench { base: \"0\", period: 65535, capacity: 1, image: \"image.bin\", logs: [\"log.csv\"] })",
+            "tracebench bench --base 0 --capacity 1 --period 65535 image.bin log.csv --full",
+            "Bench(Bench { base: \"0\", period: 65535, mode: Full, capacity: 1, image: \"image.bin\", \
+             logs: [\"log.csv\"] })",
         ),
         (
             "tracebench bench --base 0 --capacity 65537 image.bin log.csv",

@@ -1,5 +1,7 @@
 //! What a command line may ask for.
 
+use payload::Mode;
+
 /// `check --base B IMAGE LOG...`: whether the log of each hart is legal.
 #[derive(Debug, PartialEq, Eq, Drop)]
 pub struct Check<'a> {
@@ -11,13 +13,15 @@ pub struct Check<'a> {
     pub logs: Vec<&'a str>,
 }
 
-/// `encode --base B [--period N] [--hex] IMAGE LOG...`: the messages of the log of each hart.
+/// `encode --base B [--period N] [--full] [--hex] IMAGE LOG...`: the messages of the log of each hart.
 #[derive(Debug, PartialEq, Eq, Drop)]
 pub struct Encode<'a> {
     /// The address of the image's first byte, not yet read as a number.
     pub base: &'a str,
     /// How many retirements there are from one periodic synchronisation to the next, 1 to 65535.
     pub period: u16,
+    /// Whether packets name addresses by differences or in full.
+    pub mode: Mode,
     /// Whether the messages are wanted as lines of hexadecimal.
     pub hex: bool,
     /// The path of the image.
@@ -46,14 +50,16 @@ pub struct Decode<'a> {
     pub capture: &'a str,
 }
 
-/// `replay --base B [--period N] [--capacity N] IMAGE SCHEDULE LOG...`: what comes of the log of each hart that is sent
-/// through the funnel.
+/// `replay --base B [--period N] [--full] [--capacity N] IMAGE SCHEDULE LOG...`: what comes of the log of each hart that
+/// is sent through the funnel.
 #[derive(Debug, PartialEq, Eq, Drop)]
 pub struct Replay<'a> {
     /// The address of the image's first byte, not yet read as a number.
     pub base: &'a str,
     /// How many retirements there are from one periodic synchronisation to the next, 1 to 65535.
     pub period: u16,
+    /// Whether packets name addresses by differences or in full.
+    pub mode: Mode,
     /// How many messages the funnel holds, 1 to 65536.
     pub capacity: u32,
     /// The path of the image.
@@ -64,14 +70,16 @@ pub struct Replay<'a> {
     pub logs: Vec<&'a str>,
 }
 
-/// `bench --base B [--period N] [--capacity N] IMAGE LOG...`: what comes of the log of each hart that is sent through
-/// the funnel from a thread of its own.
+/// `bench --base B [--period N] [--full] [--capacity N] IMAGE LOG...`: what comes of the log of each hart that is sent
+/// through the funnel from a thread of its own.
 #[derive(Debug, PartialEq, Eq, Drop)]
 pub struct Bench<'a> {
     /// The address of the image's first byte, not yet read as a number.
     pub base: &'a str,
     /// How many retirements there are from one periodic synchronisation to the next, 1 to 65535.
     pub period: u16,
+    /// Whether packets name addresses by differences or in full.
+    pub mode: Mode,
     /// How many messages the funnel holds, 1 to 65536.
     pub capacity: u32,
     /// The path of the image.

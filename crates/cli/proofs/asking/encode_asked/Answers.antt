@@ -1,5 +1,5 @@
 use Rattle.std.proofs.Common.{◌∙◌, ap, refl, codes, unwrap_or, [], Option, List, ℕ}
-use Rattle.clap.proofs.WalkLemmas.{first_value-rows, one_text-rows}
+use Rattle.clap.proofs.WalkLemmas.{first_value-rows}
 use Rattle.clap.specs.Words.{found_of}
 use Rattle.cli.proofs.asking.encode_asked.Goals as goal
 
@@ -10,11 +10,8 @@ returns c =
       refl,
       c.text.ensures ∙ ap none_or (first_value-rows given (codes "base")),
       c.period.ensures,
-      (
-        (λ is. c.get_flag.ensures.value (one_text-rows given (codes "hex") ∙ is)),
-        (λ is. c.get_flag.ensures.other (one_text-rows given (codes "hex") ∙ is)),
-        (λ is. c.get_flag.ensures.none (one_text-rows given (codes "hex") ∙ is)),
-      ),
+      c.mode.ensures,
+      c.flag.ensures,
       c.text-2.ensures ∙ ap none_or (first_value-rows given (codes "IMAGE")),
       c.in_ok-texts.ensures,
     )

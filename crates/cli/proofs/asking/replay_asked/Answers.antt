@@ -10,6 +10,7 @@ returns c =
       refl,
       c.text.ensures ∙ ap none_or (first_value-rows given (codes "base")),
       c.period.ensures,
+      c.mode.ensures,
       c.capacity.ensures,
       c.text-2.ensures ∙ ap none_or (first_value-rows given (codes "IMAGE")),
       c.text-3.ensures ∙ ap none_or (first_value-rows given (codes "SCHEDULE")),
