@@ -4,6 +4,7 @@ use Rattle.retire.specs.declared.event.Event.{Event}
 use Rattle.rvclass.specs.Words.{Words}
 use Rattle.payload.specs.Closing.{is_closing_packet}
 use Rattle.payload.specs.Ended.{closes, has_ended}
+use Rattle.payload.specs.declared.mode.Mode.{Mode}
 use Rattle.payload.specs.declared.packet.Packet.TheVariants as packet
 use Rattle.payload.specs.declared.packet.Support.TheVariants.{Open}
 use Rattle.encoder.specs.Packets.{closing, closing_packet, last_rule, packets, reports}
@@ -21,8 +22,9 @@ closing_closes by.Explicit = refl
 closing_closes by.Notify = refl
 closing_closes by.Unreported = refl
 
-pub packets_end : (words : Words) (period : ℕ) (log : List Event) → has_ended (packets words period log) ≡ true
-packets_end words period log =
+pub packets_end : (words : Words) (period : ℕ) (mode : Mode) (log : List Event)
+    → has_ended (packets words period mode log) ≡ true
+packets_end words period mode log =
     let ps = pieces_of words period log in
-    ap closes (last_or-snoc (Some (packet.Support Open)) (reports 0 ps) (closing_packet words period log))
+    ap closes (last_or-snoc (Some (packet.Support (Open mode))) (reports mode 0 ps) (closing_packet words period log))
     ∙ closing_closes (last_rule by.Unreported ps)

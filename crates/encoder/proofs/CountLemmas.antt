@@ -12,6 +12,7 @@ use Rattle.retire.specs.Events.{is_retirement, is_branch, outcomes}
 use Rattle.retire.specs.declared.event.Event.{Event}
 use Rattle.retire.specs.declared.event.Event.TheVariants.{Retire, Trap}
 use Rattle.rvclass.specs.Words.{Words}
+use Rattle.payload.specs.declared.mode.Mode.{Mode}
 use Rattle.encoder.specs.Packets.{reported_by, reports, closing_packet, packets}
 use Rattle.encoder.specs.Piece.{Piece, is_cut, cut_or_go_on, pieces, pieces_of}
 use Rattle.encoder.specs.Rule.{rule}
@@ -173,15 +174,16 @@ few_pieces words period front (s ∷ ss) =
     go true fresh on = omega (arith, fresh)
     go false fresh on = omega (arith, on)
 
-length_reports : (reported : ℕ) (ps : List Piece) → length (reports reported ps) ≡ length ps
-length_reports reported [] = refl
-length_reports reported (p ∷ ps) = let rest = length_reports (reported_by p.by reported p.last) ps in
+length_reports : (mode : Mode) (reported : ℕ) (ps : List Piece) → length (reports mode reported ps) ≡ length ps
+length_reports mode reported [] = refl
+length_reports mode reported (p ∷ ps) = let rest = length_reports mode (reported_by p.by reported p.last) ps in
     omega (arith, rest)
 
-pub few_packets : (words : Words) (period : ℕ) (log : List Event) → length (packets words period log) ≤ length log + 2
-few_packets words period log =
-    let joined = length-append (reports 0 (pieces_of words period log)) (closing_packet words period log ∷ []) in
-    let count = length_reports 0 (pieces_of words period log) in
+pub few_packets : (words : Words) (period : ℕ) (mode : Mode) (log : List Event)
+    → length (packets words period mode log) ≤ length log + 2
+few_packets words period mode log =
+    let joined = length-append (reports mode 0 (pieces_of words period log)) (closing_packet words period log ∷ []) in
+    let count = length_reports mode 0 (pieces_of words period log) in
     let few = few_pieces words period [] (spots_of log) in
     let events = length_spots 0 None None log None in
     omega (arith, joined, count, few, events)

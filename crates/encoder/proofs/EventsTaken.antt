@@ -6,6 +6,7 @@ use Rattle.retire.proofs.OutcomesLemmas.{outcomes-append, outcomes-branch, outco
 use Rattle.retire.specs.Events.{place, is_branch, is_taken, outcomes}
 use Rattle.retire.specs.declared.event.Event.{Event}
 use Rattle.rvclass.specs.Words.{Words}
+use Rattle.payload.specs.declared.mode.Mode.{Mode}
 use Rattle.payload.specs.declared.packet.Packet.{Packet}
 use Rattle.encoder.specs.Packets.{packet_by, reported_by}
 use Rattle.encoder.specs.Piece.{is_cut}
@@ -82,16 +83,16 @@ quiet_is front held by.Unreported few own =
     twice false = refl
 
 -- Its packet is that of its piece.
-pub packets_by-own : (front : List Event) (held : Event) (r : Rule) (reported : ℕ) → IsOwn r
-    → packets_by r held (outcomes (front ++ held ∷ [])) reported ≡ packet_by reported front held r ∷ []
-packets_by-own front held (by.Trap true) reported own = absurd own
-packets_by-own front held (by.Trap false) reported own = refl
-packets_by-own front held by.Handler reported own = absurd own
-packets_by-own front held by.Sync reported own = refl
-packets_by-own front held (by.Target cut_off) reported own = refl
-packets_by-own front held by.Explicit reported own = refl
-packets_by-own front held by.Notify reported own = refl
-packets_by-own front held by.Unreported reported own = refl
+pub packets_by-own : (front : List Event) (held : Event) (r : Rule) (mode : Mode) (reported : ℕ) → IsOwn r
+    → packets_by r held (outcomes (front ++ held ∷ [])) mode reported ≡ packet_by mode reported front held r ∷ []
+packets_by-own front held (by.Trap true) mode reported own = absurd own
+packets_by-own front held (by.Trap false) mode reported own = refl
+packets_by-own front held by.Handler mode reported own = absurd own
+packets_by-own front held by.Sync mode reported own = refl
+packets_by-own front held (by.Target cut_off) mode reported own = refl
+packets_by-own front held by.Explicit mode reported own = refl
+packets_by-own front held by.Notify mode reported own = refl
+packets_by-own front held by.Unreported mode reported own = refl
 
 pub rule_before-handler : (words : Words) (held : Event) (d : Due) (next : Event) (d' : Due) → is_handler_due d ≡ true
     → rule_before words held d next d' ≡ by.Handler
@@ -107,20 +108,22 @@ pub record Does (words : Words) (e : Encoder) (next : Event) (packets : List Pac
     (reported : ℕ) (d : Due) : Type 0 where
   pub gives : given words e next ≡ packets
   pub between : (after words e next).between ≡ e.between
+  pub in_mode : (after words e next).mode ≡ e.mode
   pub left : (after words e next).left ≡ left_after e.between e.left next
   pub held : (after words e next).held ≡ Some next
   pub asked : (after words e next).due ≡ d
   pub pending_is : (after words e next).pending ≡ pending
   pub reported_is : (after words e next).reported ≡ reported
 
-module _ (words : Words) (e : Encoder) (held next : Event) (pending : List Bool) (reported : ℕ) (d d' : Due)
-    (h : e.held ≡ Some held) (a : e.due ≡ d) (p : e.pending ≡ pending) (r : e.reported ≡ reported)
-    (n : next_due (Some held) d e.left next ≡ d') where
+module _ (words : Words) (e : Encoder) (held next : Event) (pending : List Bool) (mode : Mode) (reported : ℕ)
+    (d d' : Due) (h : e.held ≡ Some held) (a : e.due ≡ d) (p : e.pending ≡ pending) (m : e.mode ≡ mode)
+    (r : e.reported ≡ reported) (n : next_due (Some held) d e.left next ≡ d') where
   pub does_quiet : (is_unreported (rule_before words held d next d') && nat_lt (length pending) 31) ≡ true
       → Does words e next [] (pending_with d' next pending) reported d'
   does_quiet q = record {
     gives = rw (h, a, n, p, q) refl;
     between = rw (h, a, n, p, q) refl;
+    in_mode = rw (h, a, n, p, q) refl;
     left = rw (h, a, n, p, q) refl;
     held = rw (h, a, n, p, q) refl;
     asked = rw (h, a, n, p, q) refl;
@@ -134,6 +137,7 @@ module _ (words : Words) (e : Encoder) (held next : Event) (pending : List Bool)
   does_handler q f = record {
     gives = rw (h, a, n, p, q, f) refl;
     between = rw (h, a, n, p, q) refl;
+    in_mode = rw (h, a, n, p, q) refl;
     left = rw (h, a, n, p, q) refl;
     held = rw (h, a, n, p, q) refl;
     asked = rw (h, a, n, p, q) refl;
@@ -143,10 +147,11 @@ module _ (words : Words) (e : Encoder) (held next : Event) (pending : List Bool)
 
   pub does_loud : (is_unreported (rule_before words held d next d') && nat_lt (length pending) 31) ≡ false
       → is_handler_due d' ≡ false → Does words e next (packets_by (rule_before words held d next d') held pending
-      reported) (pending_with d' next []) (reported_by (rule_before words held d next d') reported held) d'
+      mode reported) (pending_with d' next []) (reported_by (rule_before words held d next d') reported held) d'
   does_loud q f = record {
-    gives = rw (h, a, n, p, q, f, r) refl;
+    gives = rw (h, a, n, p, q, f, m, r) refl;
     between = rw (h, a, n, p, q) refl;
+    in_mode = rw (h, a, n, p, q) refl;
     left = rw (h, a, n, p, q) refl;
     held = rw (h, a, n, p, q) refl;
     asked = rw (h, a, n, p, q) refl;

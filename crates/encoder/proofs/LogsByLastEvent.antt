@@ -11,6 +11,7 @@ use Rattle.retire.specs.declared.event.Event.TheVariants.{Retire, Trap}
 use Rattle.rvclass.specs.Words.{Words}
 use Rattle.legalpath.specs.Backward.{is_backward}
 use Rattle.legalpath.specs.Discontinuity.{is_discontinuity}
+use Rattle.payload.specs.declared.mode.Mode.{Mode}
 use Rattle.payload.specs.declared.packet.Packet.{Packet}
 use Rattle.payload.specs.declared.packet.Packet.TheVariants as packet
 use Rattle.payload.specs.declared.packet.Support.TheVariants.{Open}
@@ -47,29 +48,6 @@ spot_after-following log held next a after =
     ∙ ap (λ b. record (following (spot_after log held a) next after) { before = b }) (last_or-snoc None log held)
 
 module _ (words : Words) (period : ℕ) where
-  -- What a log's packets so far are, what they report last and leave untold, and what is due of its last event.
-  pub record Views (log : List Event) (packets : List Packet) (reported : ℕ) (left : List Event) (due : Due) : Type 0
-    where
-      pub so_far : packets_so_far words period log ≡ packet.Support Open ∷ packets
-      pub told : reported_so_far words period log ≡ reported
-      pub rest : untold words period log ≡ left
-      pub asked : due_of_last words period log ≡ due
-
-  view : (log : List Event) (held : Event) (ss : List Spot) (us : List Event) (packets : List Packet) (reported : ℕ)
-      (front : List Event) → decided words (spots_of (log ++ held ∷ [])) ≡ ss
-      → undecided words (spots_of (log ++ held ∷ [])) ≡ us → Reaches words period ss packets reported front
-      → Views (log ++ held ∷ []) packets reported (front ++ us) (due_at words period (spot_after log held None))
-  view log held ss us packets reported front d u h = record {
-    so_far = ap (λ x. packet.Support Open ∷ reports 0 (pieces words period [] x)) d
-        ∙ ap (λ x. packet.Support Open ∷ x) h.given;
-    told = ap (λ x. reported_after 0 (pieces words period [] x)) d ∙ h.told;
-    rest = ap (λ x. since_cut words period [] x ++ undecided words (spots_of (log ++ held ∷ []))) d
-        ∙ ap (λ x. x ++ undecided words (spots_of (log ++ held ∷ []))) h.open_ ∙ ap (λ x. front ++ x) u;
-    asked = ap (λ x. due_at_last words period (last_or None x)) (spots-snoc log held None)
-        ∙ ap (due_at_last words period) (last_or-snoc None (spots 0 None None log (Some held))
-        (spot_after log held None));
-  }
-
   pub decided_is : (log : List Event) (held : Event) (k : Bool) → is_known words (spot_after log held None) ≡ k
       → decided words (spots_of (log ++ held ∷ [])) ≡ spots 0 None None log (Some held)
       ++ cond k (spot_after log held None ∷ []) []
@@ -84,23 +62,6 @@ module _ (words : Words) (period : ℕ) where
       ap (undecided words) (spots-snoc log held None) ∙ undecided-snoc words (spots 0 None None log (Some held))
       (spot_after log held None)
       ∙ ap (λ b. cond b [] (held ∷ [])) e
-
-  pub view_open : (log : List Event) (held : Event) (packets : List Packet) (reported : ℕ) (front : List Event)
-      → is_known words (spot_after log held None) ≡ false → Reaches words period (spots 0 None None log (Some held))
-      packets reported front → Views (log ++ held ∷ []) packets reported (front ++ held ∷ [])
-      (due_at words period (spot_after log held None))
-  view_open log held packets reported front k h =
-      view log held (spots 0 None None log (Some held)) (held ∷ []) packets reported front
-      (decided_is log held false k ∙ append-nil (spots 0 None None log (Some held))) (undecided_is log held false k)
-      h
-
-  pub view_known : (log : List Event) (held : Event) (packets : List Packet) (reported : ℕ)
-      → is_known words (spot_after log held None) ≡ true → Reaches words period
-      (spots 0 None None log (Some held) ++ spot_after log held None ∷ []) packets reported []
-      → Views (log ++ held ∷ []) packets reported [] (due_at words period (spot_after log held None))
-  view_known log held packets reported k h =
-      view log held (spots 0 None None log (Some held) ++ spot_after log held None ∷ []) [] packets reported []
-      (decided_is log held true k) (undecided_is log held true k) h
 
   -- A handler's rule does not hang on what follows.
   pub rule_known : (s : Spot) → is_known words s ≡ true → rule words period s ≡ by.Handler
@@ -157,3 +118,45 @@ module _ (words : Words) (period : ℕ) where
         ∙ ap (λ b. cond b [] (since_cut words period [] (spots 0 None None r.0 (Some r.1)) ++ r.1 ∷ []))
         (cut_before_trap r.0 r.1 trap (since_cut words period [] (spots 0 None None r.0 (Some r.1))) t)
   ]
+
+module _ (words : Words) (period : ℕ) (mode : Mode) where
+  -- What a log's packets so far are, what they report last and leave untold, and what is due of its last event.
+  pub record Views (log : List Event) (packets : List Packet) (reported : ℕ) (left : List Event) (due : Due) : Type 0
+    where
+      pub so_far : packets_so_far words period mode log ≡ packet.Support (Open mode) ∷ packets
+      pub told : reported_so_far words period log ≡ reported
+      pub rest : untold words period log ≡ left
+      pub asked : due_of_last words period log ≡ due
+
+  view : (log : List Event) (held : Event) (ss : List Spot) (us : List Event) (packets : List Packet) (reported : ℕ)
+      (front : List Event) → decided words (spots_of (log ++ held ∷ [])) ≡ ss
+      → undecided words (spots_of (log ++ held ∷ [])) ≡ us → Reaches words period mode ss packets reported front
+      → Views (log ++ held ∷ []) packets reported (front ++ us) (due_at words period (spot_after log held None))
+  view log held ss us packets reported front d u h = record {
+    so_far = ap (λ x. packet.Support (Open mode) ∷ reports mode 0 (pieces words period [] x)) d
+        ∙ ap (λ x. packet.Support (Open mode) ∷ x) h.given;
+    told = ap (λ x. reported_after 0 (pieces words period [] x)) d ∙ h.told;
+    rest = ap (λ x. since_cut words period [] x ++ undecided words (spots_of (log ++ held ∷ []))) d
+        ∙ ap (λ x. x ++ undecided words (spots_of (log ++ held ∷ []))) h.open_ ∙ ap (λ x. front ++ x) u;
+    asked = ap (λ x. due_at_last words period (last_or None x)) (spots-snoc log held None)
+        ∙ ap (due_at_last words period) (last_or-snoc None (spots 0 None None log (Some held))
+        (spot_after log held None));
+  }
+
+  pub view_open : (log : List Event) (held : Event) (packets : List Packet) (reported : ℕ) (front : List Event)
+      → is_known words (spot_after log held None) ≡ false
+      → Reaches words period mode (spots 0 None None log (Some held)) packets reported front
+      → Views (log ++ held ∷ []) packets reported (front ++ held ∷ [])
+      (due_at words period (spot_after log held None))
+  view_open log held packets reported front k h =
+      view log held (spots 0 None None log (Some held)) (held ∷ []) packets reported front
+      (decided_is words period log held false k ∙ append-nil (spots 0 None None log (Some held)))
+      (undecided_is words period log held false k) h
+
+  pub view_known : (log : List Event) (held : Event) (packets : List Packet) (reported : ℕ)
+      → is_known words (spot_after log held None) ≡ true → Reaches words period mode
+      (spots 0 None None log (Some held) ++ spot_after log held None ∷ []) packets reported []
+      → Views (log ++ held ∷ []) packets reported [] (due_at words period (spot_after log held None))
+  view_known log held packets reported k h =
+      view log held (spots 0 None None log (Some held) ++ spot_after log held None ∷ []) [] packets reported []
+      (decided_is words period log held true k) (undecided_is words period log held true k) h

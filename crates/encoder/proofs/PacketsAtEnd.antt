@@ -7,6 +7,7 @@ use Rattle.retire.specs.declared.event.Event.{Event}
 use Rattle.retire.specs.declared.event.Event.TheVariants.{Retire, Trap}
 use Rattle.rvclass.specs.Words.{Words}
 use Rattle.legalpath.specs.Discontinuity.{is_discontinuity}
+use Rattle.payload.specs.declared.mode.Mode.{Mode}
 use Rattle.payload.specs.declared.packet.Packet.{Packet}
 use Rattle.payload.specs.declared.packet.Packet.TheVariants as packet
 use Rattle.payload.specs.declared.packet.Support.TheVariants.{Open}
@@ -81,14 +82,15 @@ handler_at_end due.Sync h = cc
 handler_at_end due.Target h = cc
 handler_at_end due.Nothing h = cc
 
-gives_at_end : (e : Encoder) (held : Event) (pending : List Bool) (reported : ℕ) (d : Due) → e.held ≡ Some held
-    → e.due ≡ d → e.pending ≡ pending → e.reported ≡ reported
-    → given_at_end e e.held ≡ packets_by (rule_at_end d) held pending reported
+gives_at_end : (e : Encoder) (held : Event) (pending : List Bool) (mode : Mode) (reported : ℕ) (d : Due)
+    → e.held ≡ Some held → e.due ≡ d → e.pending ≡ pending → e.mode ≡ mode → e.reported ≡ reported
+    → given_at_end e e.held ≡ packets_by (rule_at_end d) held pending mode reported
     ++ packet.Support (closing (rule_at_end d)) ∷ []
-gives_at_end e held pending reported d h a p r = rw (h, a, p, r) refl
+gives_at_end e held pending mode reported d h a p m r = rw (h, a, p, m, r) refl
 
-module _ (words : Words) (period : ℕ) where
-  module _ (front : List Event) (held : Event) (e : Encoder) (stands : Stands words period (front ++ held ∷ []) e) where
+module _ (words : Words) (period : ℕ) (mode : Mode) where
+  module _ (front : List Event) (held : Event) (e : Encoder)
+      (stands : Stands words period mode (front ++ held ∷ []) e) where
     abbrev ss : List Spot
     ss = spots 0 None None front (Some held)
 
@@ -102,13 +104,13 @@ module _ (words : Words) (period : ℕ) where
     since = since_cut words period [] ss
 
     abbrev ps : List Packet
-    ps = reports 0 (pieces words period [] ss)
+    ps = reports mode 0 (pieces words period [] ss)
 
     abbrev r : ℕ
     r = reported_after 0 (pieces words period [] ss)
 
     abbrev last_packet : Packet
-    last_packet = packet_by r since held (rule_at_end d)
+    last_packet = packet_by mode r since held (rule_at_end d)
 
     is_held : e.held ≡ Some held
     is_held = stands.held ∙ last_or-snoc None front held
@@ -116,8 +118,8 @@ module _ (words : Words) (period : ℕ) where
     rule_is : rule words period here ≡ rule_at_end d
     rule_is = rule-at_end words period _ _ _ held
 
-    ends : Reaches words period (ss ++ here ∷ []) (ps ++ last_packet ∷ []) (reported_by (rule_at_end d) r held) []
-    ends = reaches_cut words period ss here ps r since (rule_at_end d) (reaches words period ss) rule_is
+    ends : Reaches words period mode (ss ++ here ∷ []) (ps ++ last_packet ∷ []) (reported_by (rule_at_end d) r held) []
+    ends = reaches_cut words period mode ss here ps r since (rule_at_end d) (reaches words period mode ss) rule_is
         (cut_at_end d since held)
 
     closing_is : closing_packet words period (front ++ held ∷ []) ≡ packet.Support (closing (rule_at_end d))
@@ -131,70 +133,70 @@ module _ (words : Words) (period : ℕ) where
         ∙ ap (λ b. before ++ cut_or_go_on b p (λ w. [])) (cut_at_end d since held))
         ∙ ap (λ x. packet.Support (closing x)) (last_rule-snoc by.Unreported before p)
 
-    packets_are : packets words period (front ++ held ∷ []) ≡ packet.Support Open
+    packets_are : packets words period mode (front ++ held ∷ []) ≡ packet.Support (Open mode)
         ∷ (ps ++ last_packet ∷ []) ++ packet.Support (closing (rule_at_end d)) ∷ []
     packets_are =
-        ap (λ x. packet.Support Open ∷ reports 0 (pieces words period [] x)
+        ap (λ x. packet.Support (Open mode) ∷ reports mode 0 (pieces words period [] x)
         ++ closing_packet words period (front ++ held ∷ []) ∷ []) (spots-snoc front held None)
-        ∙ ap (λ x. packet.Support Open ∷ x ++ closing_packet words period (front ++ held ∷ []) ∷ []) ends.given
-        ∙ ap (λ x. packet.Support Open ∷ (ps ++ last_packet ∷ []) ++ x ∷ []) closing_is
+        ∙ ap (λ x. packet.Support (Open mode) ∷ x ++ closing_packet words period (front ++ held ∷ []) ∷ []) ends.given
+        ∙ ap (λ x. packet.Support (Open mode) ∷ (ps ++ last_packet ∷ []) ++ x ∷ []) closing_is
 
-    open_at_end : is_known words here ≡ false → packets words period (front ++ held ∷ [])
-        ≡ packets_so_far words period (front ++ held ∷ []) ++ given_at_end e e.held
+    open_at_end : is_known words here ≡ false → packets words period mode (front ++ held ∷ [])
+        ≡ packets_so_far words period mode (front ++ held ∷ []) ++ given_at_end e e.held
     open_at_end k =
-        let old = view_open words period front held ps r since k (reaches words period ss) in
+        let old = view_open words period mode front held ps r since k (reaches words period mode ss) in
         let is : is_handler_due d ≡ false = sym (is_known-due words period here) ∙ k in
         let gives =
-        gives_at_end e held (outcomes (since ++ held ∷ [])) r d is_held (stands.due ∙ old.asked)
-        (stands.pending ∙ ap outcomes old.rest) (stands.reported ∙ old.told) in
-        let own = packets_by-own since held (rule_at_end d) r (own_at_end d is) in
+        gives_at_end e held (outcomes (since ++ held ∷ [])) mode r d is_held (stands.due ∙ old.asked)
+        (stands.pending ∙ ap outcomes old.rest) stands.in_mode (stands.reported ∙ old.told) in
+        let own = packets_by-own since held (rule_at_end d) mode r (own_at_end d is) in
         packets_are
-        ∙ ap (λ x. packet.Support Open ∷ x) (append_assoc ps (last_packet ∷ [])
+        ∙ ap (λ x. packet.Support (Open mode) ∷ x) (append_assoc ps (last_packet ∷ [])
         (packet.Support (closing (rule_at_end d)) ∷ []))
-        ∙ ap (λ x. packet.Support Open ∷ ps ++ (x ++ packet.Support (closing (rule_at_end d)) ∷ [])) (sym own)
-        ∙ ap (λ x. packet.Support Open ∷ ps ++ x) (sym gives)
+        ∙ ap (λ x. packet.Support (Open mode) ∷ ps ++ (x ++ packet.Support (closing (rule_at_end d)) ∷ [])) (sym own)
+        ∙ ap (λ x. packet.Support (Open mode) ∷ ps ++ x) (sym gives)
         ∙ ap (λ x. x ++ given_at_end e e.held) (sym old.so_far)
 
-    known_at_end : is_known words here ≡ true → packets words period (front ++ held ∷ [])
-        ≡ packets_so_far words period (front ++ held ∷ []) ++ given_at_end e e.held
+    known_at_end : is_known words here ≡ true → packets words period mode (front ++ held ∷ [])
+        ≡ packets_so_far words period mode (front ++ held ∷ []) ++ given_at_end e e.held
     known_at_end k =
         let is : is_handler_due d ≡ true = sym (is_known-due words period here) ∙ k in
         let r_is : rule_at_end d ≡ by.Handler = handler_at_end d is in
         let old =
-        view_known words period front held (ps ++ last_packet ∷ []) (place held) k
-        (subst (λ x. Reaches words period (ss ++ here ∷ []) (ps ++ last_packet ∷ []) x [])
+        view_known words period mode front held (ps ++ last_packet ∷ []) (place held) k
+        (subst (λ x. Reaches words period mode (ss ++ here ∷ []) (ps ++ last_packet ∷ []) x [])
         (ap (λ x. reported_by x r held) r_is) ends) in
         let gives =
-        gives_at_end e held [] (place held) d is_held (stands.due ∙ old.asked)
-        (stands.pending ∙ ap outcomes old.rest) (stands.reported ∙ old.told) in
+        gives_at_end e held [] mode (place held) d is_held (stands.due ∙ old.asked)
+        (stands.pending ∙ ap outcomes old.rest) stands.in_mode (stands.reported ∙ old.told) in
         packets_are
-        ∙ ap (λ x. packet.Support Open ∷ (ps ++ last_packet ∷ [])
+        ∙ ap (λ x. packet.Support (Open mode) ∷ (ps ++ last_packet ∷ [])
         ++ (x ++ packet.Support (closing (rule_at_end d)) ∷ []))
-        (sym (ap (λ x. packets_by x held [] (place held)) r_is))
-        ∙ ap (λ x. packet.Support Open ∷ (ps ++ last_packet ∷ []) ++ x) (sym gives)
+        (sym (ap (λ x. packets_by x held [] mode (place held)) r_is))
+        ∙ ap (λ x. packet.Support (Open mode) ∷ (ps ++ last_packet ∷ []) ++ x) (sym gives)
         ∙ ap (λ x. x ++ given_at_end e e.held) (sym old.so_far)
 
-    pub ends_with : packets words period (front ++ held ∷ []) ≡ packets_so_far words period (front ++ held ∷ [])
-        ++ given_at_end e e.held
+    pub ends_with : packets words period mode (front ++ held ∷ [])
+        ≡ packets_so_far words period mode (front ++ held ∷ []) ++ given_at_end e e.held
     ends_with = go (is_known words here) refl
       where
-        go : (k : Bool) → is_known words here ≡ k → packets words period (front ++ held ∷ [])
-            ≡ packets_so_far words period (front ++ held ∷ []) ++ given_at_end e e.held
+        go : (k : Bool) → is_known words here ≡ k → packets words period mode (front ++ held ∷ [])
+            ≡ packets_so_far words period mode (front ++ held ∷ []) ++ given_at_end e e.held
         go true k = known_at_end k
         go false k = open_at_end k
 
-  empty_ends : (e : Encoder) → e.held ≡ None → packets words period [] ≡ packets_so_far words period []
+  empty_ends : (e : Encoder) → e.held ≡ None → packets words period mode [] ≡ packets_so_far words period mode []
       ++ given_at_end e e.held
   empty_ends e h = rw h refl
 
   -- What an encoder gives at the end completes the packets of its log.
-  pub ends_any : (log : List Event) (e : Encoder) → Stands words period log e
-      → packets words period log ≡ packets_so_far words period log ++ given_at_end e e.held
+  pub ends_any : (log : List Event) (e : Encoder) → Stands words period mode log e
+      → packets words period mode log ≡ packets_so_far words period mode log ++ given_at_end e e.held
   ends_any log e stands = elim (by_last log) [
     | inl is ↦
-        subst (λ l. packets words period l ≡ packets_so_far words period l ++ given_at_end e e.held) (sym is)
+        subst (λ l. packets words period mode l ≡ packets_so_far words period mode l ++ given_at_end e e.held) (sym is)
         (empty_ends e (stands.held ∙ ap (last_or None) is))
     | inr q ↦
-        subst (λ l. packets words period l ≡ packets_so_far words period l ++ given_at_end e e.held) (sym q.2)
-        (ends_with q.0 q.1 e (subst (λ l. Stands words period l e) q.2 stands))
+        subst (λ l. packets words period mode l ≡ packets_so_far words period mode l ++ given_at_end e e.held) (sym q.2)
+        (ends_with q.0 q.1 e (subst (λ l. Stands words period mode l e) q.2 stands))
   ]

@@ -18,6 +18,7 @@ use Rattle.legalpath.specs.Legal.{Legal}
 use Rattle.legalpath.specs.ProgramLog.{ProgramLog}
 use Rattle.legalpath.proofs.FollowOnLemmas.{follow_on_split}
 use Rattle.payload.specs.Profile.{InProfile}
+use Rattle.payload.specs.declared.mode.Mode.{Mode}
 use Rattle.payload.specs.declared.packet.Packet.{Packet}
 use Rattle.payload.specs.declared.packet.Packet.TheVariants as packet
 use Rattle.payload.specs.declared.packet.Support.{Support}
@@ -47,70 +48,80 @@ legal-take words count log legal =
     (subst (Legal words) (sym (take-append-drop count log)) legal)).0
 
 -- An encoder that stands for the first events stands for one more by a step, which gives the packets that are more.
-pub record Steps (words : Words) (period at : ℕ) (log : List Event) (e : Encoder) (packets : List Packet) : Type 0 where
-  pub stands : Stands words period (take (at + 1) log) e
-  pub more : packets_so_far words period (take (at + 1) log) ≡ packets_so_far words period (take at log) ++ packets
+pub record Steps (words : Words) (period : ℕ) (mode : Mode) (at : ℕ) (log : List Event) (e : Encoder)
+    (packets : List Packet) : Type 0 where
+  pub stands : Stands words period mode (take (at + 1) log) e
+  pub more : packets_so_far words period mode (take (at + 1) log)
+      ≡ packets_so_far words period mode (take at log) ++ packets
 
-pub steps : (words : Words) (period at : ℕ) (log : List Event) (event : Event) (e e' : Encoder) (packets : List Packet)
-    → take (at + 1) log ≡ take at log ++ event ∷ [] → Legal words log → Stands words period (take at log) e
-    → Is64Bit event → e' ≡ after words e event → packets ≡ given words e event → Steps words period at log e' packets
-steps words period at log event e e' packets more legal stands fits is gives =
+pub steps : (words : Words) (period : ℕ) (mode : Mode) (at : ℕ) (log : List Event) (event : Event) (e e' : Encoder)
+    (packets : List Packet) → take (at + 1) log ≡ take at log ++ event ∷ [] → Legal words log
+    → Stands words period mode (take at log) e → Is64Bit event → e' ≡ after words e event
+    → packets ≡ given words e event → Steps words period mode at log e' packets
+steps words period mode at log event e e' packets more legal stands fits is gives =
     let pushed =
-    pushes_any words period (take at log) e event stands
+    pushes_any words period mode (take at log) e event stands
     (subst (Legal words) more (legal-take words (at + 1) log legal)) in
-    let grown = stands_after words period (take at log) e event fits stands pushed in
+    let grown = stands_after words period mode (take at log) e event fits stands pushed in
     record {
-      stands = subst (λ l. Stands words period l e') (sym more)
-          (subst (Stands words period (take at log ++ event ∷ [])) (sym is) grown);
-      more = ap (packets_so_far words period) more ∙ pushed.more
-          ∙ ap (λ p. packets_so_far words period (take at log) ++ p) (sym gives);
+      stands = subst (λ l. Stands words period mode l e') (sym more)
+          (subst (Stands words period mode (take at log ++ event ∷ [])) (sym is) grown);
+      more = ap (packets_so_far words period mode) more ∙ pushed.more
+          ∙ ap (λ p. packets_so_far words period mode (take at log) ++ p) (sym gives);
     }
 
 -- The same behind events that gave nothing.
-pub steps_on : (words : Words) (log : List Event) (between from taken at : ℕ) (event : Event) (e e' e'' : Encoder)
-    (packets : List Packet) → take (at + 1) log ≡ take at log ++ event ∷ [] → Legal words log → e.between ≡ between
-    → packets_so_far words (between + 1) (take taken log) ≡ packets_so_far words (between + 1) (take from log)
-    → Stands words (e.between + 1) (take at log) e' → packets_so_far words (e.between + 1) (take at log)
-    ≡ packets_so_far words (e.between + 1) (take taken log) → Is64Bit event → e'' ≡ after words e' event
-    → packets ≡ given words e' event → Stands words (between + 1) (take (at + 1) log) e''
-    × (packets_so_far words (between + 1) (take (at + 1) log) ≡ packets_so_far words (between + 1) (take from log)
-    ++ packets)
-steps_on words log between from taken at event e e' e'' packets more legal same before stands none fits is gives =
+pub steps_on : (words : Words) (log : List Event) (between : ℕ) (mode : Mode) (from taken at : ℕ) (event : Event)
+    (e e' e'' : Encoder) (packets : List Packet) → take (at + 1) log ≡ take at log ++ event ∷ [] → Legal words log
+    → e.between ≡ between → e.mode ≡ mode
+    → packets_so_far words (between + 1) mode (take taken log) ≡ packets_so_far words (between + 1) mode (take from log)
+    → Stands words (e.between + 1) e.mode (take at log) e' → packets_so_far words (e.between + 1) e.mode (take at log)
+    ≡ packets_so_far words (e.between + 1) e.mode (take taken log) → Is64Bit event → e'' ≡ after words e' event
+    → packets ≡ given words e' event → Stands words (between + 1) mode (take (at + 1) log) e''
+    × (packets_so_far words (between + 1) mode (take (at + 1) log)
+    ≡ packets_so_far words (between + 1) mode (take from log) ++ packets)
+steps_on words log between mode from taken at event e e' e'' packets more legal same same_mode before stands none fits
+    is gives =
     let step =
-    steps words (between + 1) at log event e' e'' packets more legal
-    (subst (λ b. Stands words (b + 1) (take at log) e') same stands) fits is gives in
+    steps words (between + 1) mode at log event e' e'' packets more legal
+    (subst (λ m. Stands words (between + 1) m (take at log) e') same_mode
+    (subst (λ b. Stands words (b + 1) e.mode (take at log) e') same stands)) fits is gives in
     let passed =
-    subst (λ b. packets_so_far words (b + 1) (take at log) ≡ packets_so_far words (b + 1) (take taken log)) same
-    none in
+    subst (λ m. packets_so_far words (between + 1) m (take at log) ≡ packets_so_far words (between + 1) m
+    (take taken log)) same_mode
+    (subst (λ b. packets_so_far words (b + 1) e.mode (take at log) ≡ packets_so_far words (b + 1) e.mode
+    (take taken log)) same none) in
     (step.stands, step.more ∙ ap (λ p. p ++ packets) (passed ∙ before))
 
-module _ (words : Words) (period : ℕ) where
-  front_reports : (ss ts : List Spot) → reports 0 (pieces words period [] (ss ++ ts))
-      ≡ reports 0 (pieces words period [] ss) ++ reports (reported_after 0 (pieces words period [] ss))
+module _ (words : Words) (period : ℕ) (mode : Mode) where
+  front_reports : (ss ts : List Spot) → reports mode 0 (pieces words period [] (ss ++ ts))
+      ≡ reports mode 0 (pieces words period [] ss) ++ reports mode (reported_after 0 (pieces words period [] ss))
       (pieces words period (since_cut words period [] ss) ts)
   front_reports ss ts =
-      ap (reports 0) (pieces-append words period [] ss ts)
-      ∙ reports-append 0 (pieces words period [] ss) (pieces words period (since_cut words period [] ss) ts)
+      ap (reports mode 0) (pieces-append words period [] ss ts)
+      ∙ reports-append mode 0 (pieces words period [] ss) (pieces words period (since_cut words period [] ss) ts)
 
   -- The packets of a log so far are the first of them, whatever follows.
   abbrev Begins : List Event → List Event → Type 0
   Begins front rest =
-      (more : List Packet) × (packets words period (front ++ rest) ≡ packets_so_far words period front ++ more)
+      (more : List Packet)
+      × (packets words period mode (front ++ rest) ≡ packets_so_far words period mode front ++ more)
 
   begins_by : (front rest : List Event) (ss ts : List Spot) → spots_of (front ++ rest) ≡ ss ++ ts
-      → reports 0 (pieces words period [] (decided words (spots_of front))) ≡ reports 0 (pieces words period [] ss)
+      → reports mode 0 (pieces words period [] (decided words (spots_of front)))
+      ≡ reports mode 0 (pieces words period [] ss)
       → Begins front rest
   begins_by front rest ss ts all same =
-      let first = reports 0 (pieces words period [] ss) in
+      let first = reports mode 0 (pieces words period [] ss) in
       let other =
-      reports (reported_after 0 (pieces words period [] ss))
+      reports mode (reported_after 0 (pieces words period [] ss))
       (pieces words period (since_cut words period [] ss) ts) in
       let end = closing_packet words period (front ++ rest) ∷ [] in (
         other ++ end,
-        ap (λ x. packet.Support Open ∷ x ++ end) (ap (λ x. reports 0 (pieces words period [] x)) all
+        ap (λ x. packet.Support (Open mode) ∷ x ++ end) (ap (λ x. reports mode 0 (pieces words period [] x)) all
             ∙ front_reports ss ts)
-            ∙ ap (λ x. packet.Support Open ∷ x) (append_assoc first other end)
-            ∙ ap (λ x. packet.Support Open ∷ x ++ (other ++ end)) (sym same),
+            ∙ ap (λ x. packet.Support (Open mode) ∷ x) (append_assoc first other end)
+            ∙ ap (λ x. packet.Support (Open mode) ∷ x ++ (other ++ end)) (sym same),
       )
 
   module _ (front : List Event) (held : Event) (rest : List Event) where
@@ -136,15 +147,17 @@ module _ (words : Words) (period : ℕ) where
       where
         go : (k : Bool) → is_known words here ≡ k → Begins (front ++ held ∷ []) rest
         go true k =
-            let base = reaches words period ss in
-            let mine = reaches_cut words period ss here _ _ _ by.Handler base (rule_known words period here k) refl in
-            let full = reaches_cut words period ss there _ _ _ by.Handler base (rule_known words period there k) refl in
+            let base = reaches words period mode ss in
+            let mine =
+            reaches_cut words period mode ss here _ _ _ by.Handler base (rule_known words period here k) refl in
+            let full =
+            reaches_cut words period mode ss there _ _ _ by.Handler base (rule_known words period there k) refl in
             begins_by (front ++ held ∷ []) rest (ss ++ there ∷ []) behind all
-            (ap (λ x. reports 0 (pieces words period [] x)) (decided_is words period front held true k) ∙ mine.given
-            ∙ sym full.given)
+            (ap (λ x. reports mode 0 (pieces words period [] x)) (decided_is words period front held true k)
+            ∙ mine.given ∙ sym full.given)
         go false k =
             begins_by (front ++ held ∷ []) rest ss (there ∷ behind) (all ∙ append_assoc ss (there ∷ []) behind)
-            (ap (λ x. reports 0 (pieces words period [] x)) (decided_is words period front held false k
+            (ap (λ x. reports mode 0 (pieces words period [] x)) (decided_is words period front held false k
             ∙ append-nil ss))
 
   pub so_far_begins : (front rest : List Event) → Begins front rest
@@ -154,10 +167,12 @@ module _ (words : Words) (period : ℕ) where
   ]
 
   pub so_far_begins-take : (taken : ℕ) (log : List Event)
-      → (more : List Packet) × (packets words period log ≡ packets_so_far words period (take taken log) ++ more)
+      → (more : List Packet)
+      × (packets words period mode log ≡ packets_so_far words period mode (take taken log) ++ more)
   so_far_begins-take taken log =
-      subst (λ l. (more : List Packet) × (packets words period l ≡ packets_so_far words period (take taken log)
-      ++ more)) (take-append-drop taken log) (so_far_begins (take taken log) (drop taken log))
+      subst (λ l. (more : List Packet)
+      × (packets words period mode l ≡ packets_so_far words period mode (take taken log) ++ more))
+      (take-append-drop taken log) (so_far_begins (take taken log) (drop taken log))
 
 -- A packet stands behind the packets before it.
 pub seam : (all front : List Packet) (p : Packet) (rest : List Packet) (number : ℕ) → all ≡ front ++ p ∷ rest
@@ -175,9 +190,9 @@ behind_seam all front p rest is = ap length is ∙ (let l = length-append front 
 -- The events that were taken, when an encoder was given more of them until one gave a packet.
 pub record Ran (image : Image) (events : List Event) (e : Encoder) (taken : ℕ) (e' : Encoder) (taken' : ℕ)
     (given : Option Packet) : Type 0 where
-  pub stands : Stands (words_of image) (e.between + 1) (take taken' events) e'
-  pub more : packets_so_far (words_of image) (e.between + 1) (take taken' events)
-      ≡ packets_so_far (words_of image) (e.between + 1) (take taken events) ++ option_to_list given
+  pub stands : Stands (words_of image) (e.between + 1) e.mode (take taken' events) e'
+  pub more : packets_so_far (words_of image) (e.between + 1) e.mode (take taken' events)
+      ≡ packets_so_far (words_of image) (e.between + 1) e.mode (take taken events) ++ option_to_list given
   pub all : given ≡ None → taken' ≡ length events
 
 pub ran_by : (image program : Image) (events log : List Event) (e : Encoder) (taken : ℕ) (e' : Encoder) (taken' : ℕ)
@@ -195,11 +210,14 @@ module _ (image : Image) (log : List Event) (e : Encoder) (taken : ℕ) (e' : En
   abbrev period : ℕ
   period = e.between + 1
 
+  abbrev mode : Mode
+  mode = e.mode
+
   abbrev before : List Packet
-  before = packets_so_far words period (take taken log)
+  before = packets_so_far words period mode (take taken log)
 
   abbrev full : List Packet
-  full = packets words period log
+  full = packets words period mode log
 
   even : IsEven words
   even addr word is = (words_stand image addr word is).even
@@ -207,28 +225,29 @@ module _ (image : Image) (log : List Event) (e : Encoder) (taken : ℕ) (e' : En
   -- A packet of the events before the last.
   pub given_running : (p : Packet) → Ran image log e taken e' taken' (Some p) → Some p ≡ slice_get full (length before)
   given_running p ran =
-      let begins = so_far_begins-take words period taken' log in
+      let begins = so_far_begins-take words period mode taken' log in
       seam full before p begins.0 (length before) (begins.1 ∙ ap (λ l. l ++ begins.0) ran.more
       ∙ append_assoc before (p ∷ []) begins.0) refl
 
   pub profile_running : (p : Packet) → Ran image log e taken e' taken' (Some p) → All InProfile (p ∷ [])
   profile_running p ran =
-      profile_behind before (p ∷ []) (packets_so_far words period (take taken' log)) ran.more
-      (so_far_in_profile words even period (take taken' log) ran.stands.numbers (legal-take words taken' log legal))
+      profile_behind before (p ∷ []) (packets_so_far words period mode (take taken' log)) ran.more
+      (so_far_in_profile words even period mode (take taken' log) ran.stands.numbers
+      (legal-take words taken' log legal))
 
   -- What is left when all events were taken.
   pub at_end : Ran image log e taken e' taken' None → full ≡ before ++ given_at_end e' e'.held
   at_end ran =
       let whole : take taken' log ≡ log = take_all taken' log (omega (arith, ran.all refl)) in
-      ends_any words period log e' (subst (λ l. Stands words period l e') whole ran.stands)
-      ∙ ap (λ l. packets_so_far words period l ++ given_at_end e' e'.held) (sym whole)
+      ends_any words period mode log e' (subst (λ l. Stands words period mode l e') whole ran.stands)
+      ∙ ap (λ l. packets_so_far words period mode l ++ given_at_end e' e'.held) (sym whole)
       ∙ ap (λ l. l ++ given_at_end e' e'.held) (ran.more ∙ append-nil before)
 
   pub profile_at_end : Ran image log e taken e' taken' None → All InProfile (given_at_end e' e'.held)
   profile_at_end ran =
       let whole : take taken' log ≡ log = take_all taken' log (omega (arith, ran.all refl)) in
       profile_behind before (given_at_end e' e'.held) full (at_end ran)
-      (packets_in_profile words even period log (subst (All Is64Bit) whole ran.stands.numbers) legal)
+      (packets_in_profile words even period mode log (subst (All Is64Bit) whole ran.stands.numbers) legal)
 
   pub end_some : (p : Packet) → Ran image log e taken e' taken' None → p ∷ [] ≡ last_given e' e'.held
       → (Some p ≡ slice_get full (length before)) × (length before + 1 ≡ length full - 1) × All InProfile (p ∷ [])
@@ -254,29 +273,31 @@ module _ (image : Image) (log : List Event) (e : Encoder) (taken : ℕ) (e' : En
       (seam full before (packet.Support s) [] (length before) joined refl, omega (arith, counted))
 
 -- The closing packet is the last.
-pub given_closing : (image : Image) (period : ℕ) (log : List Event) (e : Encoder) (taken : ℕ) (s : Support)
-    → Stands (words_of image) period (take taken log) e → taken ≡ length log → s ≡ ends_by e e.held
-    → Some (packet.Support s) ≡ slice_get (packets (words_of image) period log)
-    (length (packets (words_of image) period log) - 1)
-given_closing image period log e taken s stands whole is =
+pub given_closing : (image : Image) (period : ℕ) (mode : Mode) (log : List Event) (e : Encoder) (taken : ℕ)
+    (s : Support) → Stands (words_of image) period mode (take taken log) e → taken ≡ length log → s ≡ ends_by e e.held
+    → Some (packet.Support s) ≡ slice_get (packets (words_of image) period mode log)
+    (length (packets (words_of image) period mode log) - 1)
+given_closing image period mode log e taken s stands whole is =
     let words = words_of image in
-    let front = packets_so_far words period log ++ last_given e e.held in
+    let front = packets_so_far words period mode log ++ last_given e e.held in
     let done : take taken log ≡ log = take_all taken log (omega (arith, whole)) in
-    let joined : packets words period log ≡ front ++ packet.Support s ∷ [] =
-    ends_any words period log e (subst (λ l. Stands words period l e) done stands)
-    ∙ sym (append_assoc (packets_so_far words period log) (last_given e e.held)
+    let joined : packets words period mode log ≡ front ++ packet.Support s ∷ [] =
+    ends_any words period mode log e (subst (λ l. Stands words period mode l e) done stands)
+    ∙ sym (append_assoc (packets_so_far words period mode log) (last_given e e.held)
     (packet.Support (ends_by e e.held) ∷ []))
     ∙ ap (λ x. front ++ packet.Support x ∷ []) (sym is) in
-    let counted = behind_seam (packets words period log) front (packet.Support s) [] joined in
-    seam (packets words period log) front (packet.Support s) [] _ joined (omega (arith, counted))
+    let counted = behind_seam (packets words period mode log) front (packet.Support s) [] joined in
+    seam (packets words period mode log) front (packet.Support s) [] _ joined (omega (arith, counted))
 
 -- A source stands one payload further.
 pub further : (log : ProgramLog) (e e' : Encoder) (stage : Stage) (taken number : ℕ) (old : SourceAt)
-    → e'.between + 1 ≡ e.between + 1 → number + 1 ≡ number_at (e.between + 1) log stage taken
-    → record { log = log; period = e.between + 1; number = number } ≡ old
-    → stands_at log e' stage taken ≡ record { log = old.log; period = old.period; number = old.number + 1 }
-further log e e' stage taken number old between counted is =
-    let at : ℕ → ℕ → SourceAt = λ p n. record { log = log; period = p; number = n } in
-    ap (λ p. at p (number_at p log stage taken)) between
-    ∙ ap (at (e.between + 1)) (sym counted)
-    ∙ ap (λ (s : SourceAt). record { log = s.log; period = s.period; number = s.number + 1 }) is
+    → e'.between + 1 ≡ e.between + 1 → e'.mode ≡ e.mode
+    → number + 1 ≡ number_at (e.between + 1) e.mode log stage taken
+    → record { log = log; period = e.between + 1; mode = e.mode; number = number } ≡ old
+    → stands_at log e' stage taken ≡ record old { number = old.number + 1 }
+further log e e' stage taken number old between in_mode counted is =
+    let at : ℕ → Mode → ℕ → SourceAt = λ p m n. record { log = log; period = p; mode = m; number = n } in
+    ap (λ p. at p e'.mode (number_at p e'.mode log stage taken)) between
+    ∙ ap (λ m. at (e.between + 1) m (number_at (e.between + 1) m log stage taken)) in_mode
+    ∙ ap (at (e.between + 1) e.mode) (sym counted)
+    ∙ ap (λ (s : SourceAt). record s { number = s.number + 1 }) is

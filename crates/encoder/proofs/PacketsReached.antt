@@ -4,6 +4,7 @@ use Rattle.std.proofs.lemmas.List.{append-nil}
 use Rattle.std.specs.List.{last_or}
 use Rattle.retire.specs.declared.event.Event.{Event}
 use Rattle.rvclass.specs.Words.{Words}
+use Rattle.payload.specs.declared.mode.Mode.{Mode}
 use Rattle.payload.specs.declared.packet.Packet.{Packet}
 use Rattle.encoder.specs.Packets.{packet_by, reported_by, reports}
 use Rattle.encoder.specs.Piece.{Piece, is_cut, cut_or_go_on, pieces}
@@ -29,17 +30,6 @@ pub spots-snoc : (log : List Event) (event : Event) (next : Option Event)
 spots-snoc log event next = spots-append 0 None None log (event ∷ []) next
 
 module _ (words : Words) (period : ℕ) where
-  -- The events at these spots give these packets, of which the last reported address is this one; and these come since
-  -- the last cut.
-  pub record Reaches (ss : List Spot) (packets : List Packet) (reported : ℕ) (front : List Event) : Type 0 where
-    pub given : reports 0 (pieces words period [] ss) ≡ packets
-    pub told : reported_after 0 (pieces words period [] ss) ≡ reported
-    pub open_ : since_cut words period [] ss ≡ front
-
-  pub reaches : (ss : List Spot) → Reaches ss (reports 0 (pieces words period [] ss))
-      (reported_after 0 (pieces words period [] ss)) (since_cut words period [] ss)
-  reaches ss = record { given = refl; told = refl; open_ = refl }
-
   -- The pieces of one spot more.
   pub one_more : (ss : List Spot) (s : Spot) (front : List Event) (by : Rule) → since_cut words period [] ss ≡ front
       → rule words period s ≡ by → pieces words period [] (ss ++ s ∷ []) ≡ pieces words period [] ss
@@ -51,6 +41,7 @@ module _ (words : Words) (period : ℕ) where
       ∙ ap (λ x. pieces words period [] ss ++ cut_or_go_on (is_cut front s.event x)
       (record { front = front; last = s.event; by = x }) (λ w. [])) r
 
+  -- The events since the last cut with one spot more.
   front_more : (ss : List Spot) (s : Spot) (front : List Event) (by : Rule) → since_cut words period [] ss ≡ front
       → rule words period s ≡ by → since_cut words period [] (ss ++ s ∷ [])
       ≡ cond (is_cut front s.event by) [] (front ++ s.event ∷ [])
@@ -59,22 +50,34 @@ module _ (words : Words) (period : ℕ) where
       ∙ ap (λ x. cond (is_cut x s.event (rule words period s)) [] (x ++ s.event ∷ [])) f
       ∙ ap (λ x. cond (is_cut front s.event x) [] (front ++ s.event ∷ [])) r
 
+module _ (words : Words) (period : ℕ) (mode : Mode) where
+  -- The events at these spots give these packets, of which the last reported address is this one; and these come since
+  -- the last cut.
+  pub record Reaches (ss : List Spot) (packets : List Packet) (reported : ℕ) (front : List Event) : Type 0 where
+    pub given : reports mode 0 (pieces words period [] ss) ≡ packets
+    pub told : reported_after 0 (pieces words period [] ss) ≡ reported
+    pub open_ : since_cut words period [] ss ≡ front
+
+  pub reaches : (ss : List Spot) → Reaches ss (reports mode 0 (pieces words period [] ss))
+      (reported_after 0 (pieces words period [] ss)) (since_cut words period [] ss)
+  reaches ss = record { given = refl; told = refl; open_ = refl }
+
   pub reaches_cut : (ss : List Spot) (s : Spot) (packets : List Packet) (reported : ℕ) (front : List Event) (by : Rule)
       → Reaches ss packets reported front → rule words period s ≡ by → is_cut front s.event by ≡ true
-      → Reaches (ss ++ s ∷ []) (packets ++ packet_by reported front s.event by ∷ []) (reported_by by reported s.event)
-      []
+      → Reaches (ss ++ s ∷ []) (packets ++ packet_by mode reported front s.event by ∷ [])
+      (reported_by by reported s.event) []
   reaches_cut ss s packets reported front by h r c =
       let p : Piece = record { front = front; last = s.event; by = by } in
       let before = pieces words period [] ss in
       let more : pieces words period [] (ss ++ s ∷ []) ≡ before ++ p ∷ [] =
-      one_more ss s front by h.open_ r ∙ ap (λ b. before ++ cut_or_go_on b p (λ w. [])) c in
+      one_more words period ss s front by h.open_ r ∙ ap (λ b. before ++ cut_or_go_on b p (λ w. [])) c in
       record {
-        given = ap (reports 0) more ∙ reports-append 0 before (p ∷ [])
-            ∙ ap (λ x. x ++ packet_by (reported_after 0 before) front s.event by ∷ []) h.given
-            ∙ ap (λ x. packets ++ packet_by x front s.event by ∷ []) h.told;
+        given = ap (reports mode 0) more ∙ reports-append mode 0 before (p ∷ [])
+            ∙ ap (λ x. x ++ packet_by mode (reported_after 0 before) front s.event by ∷ []) h.given
+            ∙ ap (λ x. packets ++ packet_by mode x front s.event by ∷ []) h.told;
         told = ap (reported_after 0) more ∙ reported_after-append 0 before (p ∷ [])
             ∙ ap (λ x. reported_by by x s.event) h.told;
-        open_ = front_more ss s front by h.open_ r ∙ ap (λ b. cond b [] (front ++ s.event ∷ [])) c;
+        open_ = front_more words period ss s front by h.open_ r ∙ ap (λ b. cond b [] (front ++ s.event ∷ [])) c;
       }
 
   pub reaches_on : (ss : List Spot) (s : Spot) (packets : List Packet) (reported : ℕ) (front : List Event) (by : Rule)
@@ -84,9 +87,10 @@ module _ (words : Words) (period : ℕ) where
       let p : Piece = record { front = front; last = s.event; by = by } in
       let before = pieces words period [] ss in
       let more : pieces words period [] (ss ++ s ∷ []) ≡ before ++ [] =
-      one_more ss s front by h.open_ r ∙ ap (λ b. before ++ cut_or_go_on b p (λ w. [])) c in
+      one_more words period ss s front by h.open_ r ∙ ap (λ b. before ++ cut_or_go_on b p (λ w. [])) c in
       record {
-        given = ap (reports 0) more ∙ reports-append 0 before [] ∙ append-nil (reports 0 before) ∙ h.given;
+        given = ap (reports mode 0) more ∙ reports-append mode 0 before [] ∙ append-nil (reports mode 0 before)
+            ∙ h.given;
         told = ap (reported_after 0) more ∙ reported_after-append 0 before [] ∙ h.told;
-        open_ = front_more ss s front by h.open_ r ∙ ap (λ b. cond b [] (front ++ s.event ∷ [])) c;
+        open_ = front_more words period ss s front by h.open_ r ∙ ap (λ b. cond b [] (front ++ s.event ∷ [])) c;
       }

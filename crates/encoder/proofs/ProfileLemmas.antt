@@ -13,8 +13,10 @@ use Rattle.retire.specs.declared.event.Event.TheVariants.{Retire, Trap}
 use Rattle.rvclass.specs.Words.{Words, Word}
 use Rattle.legalpath.specs.Legal.{FollowOn, Legal}
 use Rattle.legalpath.specs.Right.{RetiresOn, Right}
-use Rattle.payload.specs.Difference.{difference}
+use Rattle.payload.specs.AddressField.{delta}
 use Rattle.payload.specs.Profile.{IsAddress, IsPrivilege, IsTrapValue, InProfile}
+use Rattle.payload.specs.declared.mode.Mode.{Mode}
+use Rattle.payload.specs.declared.mode.Mode.TheVariants.{Differential, Full}
 use Rattle.payload.specs.declared.packet.Packet.{Packet}
 use Rattle.payload.specs.declared.packet.Packet.TheVariants as packet
 use Rattle.payload.specs.declared.packet.Support.TheVariants.{Open}
@@ -31,9 +33,10 @@ use Rattle.encoder.proofs.CountLemmas.{IsTrapRule, trap_rule, room_left, one_at_
 abbrev pub IsEven : Words → Type 0
 IsEven words = (addr : ℕ) (word : Word) → words addr ≡ Some word → addr % 2 ≡ 0
 
-difference-IsAddress : (reported address : ℕ) → IsAddress reported → IsAddress address
-    → IsAddress (difference reported address)
-difference-IsAddress reported address r a = (omega arith, omega arith)
+delta-IsAddress : (mode : Mode) (reported address : ℕ) → IsAddress reported → IsAddress address
+    → IsAddress (delta mode reported address)
+delta-IsAddress Differential reported address r a = (omega arith, omega arith)
+delta-IsAddress Full reported address r a = a
 
 retires_on : (word : Option Word) (itype priv : ℕ) → RetiresOn word itype priv → (w : Word) × (word ≡ Some w)
 retires_on None itype priv r = absurd r
@@ -79,30 +82,30 @@ module _ (words : Words) (even : IsEven words) where
   full_map front event c = let n = (and_parts (is_branch event) (length (outcomes (front ++ event ∷ [])) == 31) c).1 in
       grind (arith, nat_tests, n)
 
-  packet_in_profile : (reported : ℕ) (front : List Event) (last : Event) (r : Rule) → IsAddress reported
+  packet_in_profile : (mode : Mode) (reported : ℕ) (front : List Event) (last : Event) (r : Rule) → IsAddress reported
       → AllByRecursion IsGood front → IsGood last → length (outcomes front) ≤ 30 → is_cut front last r ≡ true
-      → InProfile (packet_by reported front last r)
-  packet_in_profile reported front last (by.Trap handler) a all good few c =
+      → InProfile (packet_by mode reported front last r)
+  packet_in_profile mode reported front last (by.Trap handler) a all good few c =
       trap_in_profile last false false (privilege last) (place last) good (privilege-IsPrivilege last good)
       (place-IsAddress last good)
-  packet_in_profile reported front last by.Handler a all good few c =
+  packet_in_profile mode reported front last by.Handler a all good few c =
       trap_in_profile (first_or last front) (is_taken last) true (privilege last) (place last)
       (first_or-IsGood last front good all) (privilege-IsPrivilege last good) (place-IsAddress last good)
-  packet_in_profile reported front last by.Sync a all good few c =
+  packet_in_profile mode reported front last by.Sync a all good few c =
       (privilege-IsPrivilege last good, place-IsAddress last good)
-  packet_in_profile reported front last (by.Target cut_off) a all good few c = (
+  packet_in_profile mode reported front last (by.Target cut_off) a all good few c = (
     omega (arith, length_outcomes-snoc front last, one_at_most last),
-    difference-IsAddress reported (place last) a (place-IsAddress last good),
+    delta-IsAddress mode reported (place last) a (place-IsAddress last good),
   )
-  packet_in_profile reported front last by.Explicit a all good few c = (
+  packet_in_profile mode reported front last by.Explicit a all good few c = (
     omega (arith, length_outcomes-snoc front last, one_at_most last),
-    difference-IsAddress reported (place last) a (place-IsAddress last good),
+    delta-IsAddress mode reported (place last) a (place-IsAddress last good),
   )
-  packet_in_profile reported front last by.Notify a all good few c = (
+  packet_in_profile mode reported front last by.Notify a all good few c = (
     omega (arith, length_outcomes-snoc front last, one_at_most last),
-    difference-IsAddress reported (place last) a (place-IsAddress last good),
+    delta-IsAddress mode reported (place last) a (place-IsAddress last good),
   )
-  packet_in_profile reported front last by.Unreported a all good few c = full_map front last c
+  packet_in_profile mode reported front last by.Unreported a all good few c = full_map front last c
 
   reported_by-IsAddress : (r : Rule) (reported : ℕ) (last : Event) → IsAddress reported → IsGood last
       → IsAddress (reported_by r reported last)
@@ -114,24 +117,25 @@ module _ (words : Words) (even : IsEven words) where
   reported_by-IsAddress by.Notify reported last a good = place-IsAddress last good
   reported_by-IsAddress by.Unreported reported last a good = a
 
-  reports_in_profile : (period : ℕ) (reported : ℕ) (front : List Event) (ss : List Spot) → IsAddress reported
-      → AllByRecursion IsGood front → length (outcomes front) ≤ 30 → AllByRecursion (λ s. IsGood s.event) ss
-      → AllByRecursion InProfile (reports reported (pieces words period front ss))
-  reports_in_profile period reported front [] a all few good = tt
-  reports_in_profile period reported front (s ∷ ss) a all few good =
+  reports_in_profile : (period : ℕ) (mode : Mode) (reported : ℕ) (front : List Event) (ss : List Spot)
+      → IsAddress reported → AllByRecursion IsGood front → length (outcomes front) ≤ 30
+      → AllByRecursion (λ s. IsGood s.event) ss
+      → AllByRecursion InProfile (reports mode reported (pieces words period front ss))
+  reports_in_profile period mode reported front [] a all few good = tt
+  reports_in_profile period mode reported front (s ∷ ss) a all few good =
       go (rule words period s) (trap_rule words period s) (is_cut front s.event (rule words period s)) refl
-      (λ r. reports_in_profile period (reported_by r reported s.event) [] ss
+      (λ r. reports_in_profile period mode (reported_by r reported s.event) [] ss
       (reported_by-IsAddress r reported s.event a good.0) tt (omega arith) good.1)
-      (λ k. reports_in_profile period reported (front ++ s.event ∷ []) ss a (good-snoc front s.event all good.0) k
+      (λ k. reports_in_profile period mode reported (front ++ s.event ∷ []) ss a (good-snoc front s.event all good.0) k
       good.1)
     where
       go : (r : Rule) → IsTrapRule s.event r → (c : Bool) → is_cut front s.event r ≡ c
-          → ((q : Rule) → AllByRecursion InProfile (reports (reported_by q reported s.event)
+          → ((q : Rule) → AllByRecursion InProfile (reports mode (reported_by q reported s.event)
           (pieces words period [] ss))) → (length (outcomes (front ++ s.event ∷ [])) ≤ 30
-          → AllByRecursion InProfile (reports reported (pieces words period (front ++ s.event ∷ []) ss)))
-          → AllByRecursion InProfile (reports reported (cut_or_go_on c
+          → AllByRecursion InProfile (reports mode reported (pieces words period (front ++ s.event ∷ []) ss)))
+          → AllByRecursion InProfile (reports mode reported (cut_or_go_on c
           (record { front = front; last = s.event; by = r }) (λ w. pieces words period w ss)))
-      go r t true e fresh on = (packet_in_profile reported front s.event r a all good.0 few e, fresh r)
+      go r t true e fresh on = (packet_in_profile mode reported front s.event r a all good.0 few e, fresh r)
       go r t false e fresh on = on (room_left front s.event r few t e)
 
   good_spots : (n : ℕ) (b2 b : Option Event) (log : List Event) (next : Option Event) → All Is64Bit log
@@ -153,24 +157,24 @@ module _ (words : Words) (even : IsEven words) where
       by_known false = tt
   good_decided (s ∷ t ∷ ss) all = (all.0, good_decided (t ∷ ss) all.1)
 
-  all_reports : (period : ℕ) (ss : List Spot) → AllByRecursion (λ s. IsGood s.event) ss
-      → All InProfile (reports 0 (pieces words period [] ss))
-  all_reports period ss good =
-      All-from_recursion InProfile (reports 0 (pieces words period [] ss))
-      (reports_in_profile period 0 [] ss (omega arith, omega arith) tt (omega arith) good)
+  all_reports : (period : ℕ) (mode : Mode) (ss : List Spot) → AllByRecursion (λ s. IsGood s.event) ss
+      → All InProfile (reports mode 0 (pieces words period [] ss))
+  all_reports period mode ss good =
+      All-from_recursion InProfile (reports mode 0 (pieces words period [] ss))
+      (reports_in_profile period mode 0 [] ss (omega arith, omega arith) tt (omega arith) good)
 
-  pub packets_in_profile : (period : ℕ) (log : List Event) → All Is64Bit log → Legal words log
-      → All InProfile (packets words period log)
-  packets_in_profile period log wide legal =
-      All-cons InProfile (packet.Support Open) _ tt (All-append InProfile
-      (reports 0 (pieces words period [] (spots_of log))) (closing_packet words period log ∷ [])
-      (all_reports period (spots_of log) (good_spots 0 None None log None wide legal))
+  pub packets_in_profile : (period : ℕ) (mode : Mode) (log : List Event) → All Is64Bit log → Legal words log
+      → All InProfile (packets words period mode log)
+  packets_in_profile period mode log wide legal =
+      All-cons InProfile (packet.Support (Open mode)) _ tt (All-append InProfile
+      (reports mode 0 (pieces words period [] (spots_of log))) (closing_packet words period log ∷ [])
+      (all_reports period mode (spots_of log) (good_spots 0 None None log None wide legal))
       (All-cons InProfile (closing_packet words period log) [] tt (All-nil InProfile)))
 
-  pub so_far_in_profile : (period : ℕ) (log : List Event) → All Is64Bit log → Legal words log
-      → All InProfile (packets_so_far words period log)
-  so_far_in_profile period log wide legal =
-      All-cons InProfile (packet.Support Open) _ tt (all_reports period (decided words (spots_of log))
+  pub so_far_in_profile : (period : ℕ) (mode : Mode) (log : List Event) → All Is64Bit log → Legal words log
+      → All InProfile (packets_so_far words period mode log)
+  so_far_in_profile period mode log wide legal =
+      All-cons InProfile (packet.Support (Open mode)) _ tt (all_reports period mode (decided words (spots_of log))
       (good_decided (spots_of log) (good_spots 0 None None log None wide legal)))
 
 -- What is behind a list of packets of the profile is too.

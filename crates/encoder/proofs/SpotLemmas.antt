@@ -3,6 +3,7 @@ use Rattle.std.proofs.Common.{◌≡◌, ℕ, Bool, true, false, cond, List, [],
 use Rattle.std.specs.List.{last_or}
 use Rattle.retire.specs.declared.event.Event.{Event}
 use Rattle.rvclass.specs.Words.{Words}
+use Rattle.payload.specs.declared.mode.Mode.{Mode}
 use Rattle.encoder.specs.Packets.{packet_by, reported_by, reports, last_rule}
 use Rattle.encoder.specs.PacketsSoFar.{known, decided, is_known}
 use Rattle.encoder.specs.Piece.{Piece, is_cut, cut_or_go_on, pieces}
@@ -75,11 +76,12 @@ module _ (words : Words) (period : ℕ) where
       go true a b = ap (λ l. record { front = front; last = s.event; by = rule words period s } ∷ l) a
       go false a b = b
 
-pub reports-append : (reported : ℕ) (ps qs : List Piece)
-    → reports reported (ps ++ qs) ≡ reports reported ps ++ reports (reported_after reported ps) qs
-reports-append reported [] qs = refl
-reports-append reported (p ∷ ps) qs =
-    ap (λ l. packet_by reported p.front p.last p.by ∷ l) (reports-append (reported_by p.by reported p.last) ps qs)
+pub reports-append : (mode : Mode) (reported : ℕ) (ps qs : List Piece)
+    → reports mode reported (ps ++ qs) ≡ reports mode reported ps ++ reports mode (reported_after reported ps) qs
+reports-append mode reported [] qs = refl
+reports-append mode reported (p ∷ ps) qs =
+    ap (λ l. packet_by mode reported p.front p.last p.by ∷ l)
+    (reports-append mode (reported_by p.by reported p.last) ps qs)
 
 pub reported_after-append : (reported : ℕ) (ps qs : List Piece)
     → reported_after reported (ps ++ qs) ≡ reported_after (reported_after reported ps) qs

@@ -8,6 +8,7 @@ use Rattle.rvclass.specs.Words.{Words}
 use Rattle.legalpath.proofs.FollowOnLemmas.{follow_on_split}
 use Rattle.legalpath.specs.Legal.{Legal}
 use Rattle.legalpath.specs.Step.{Step, StepFrom}
+use Rattle.payload.specs.declared.mode.Mode.{Mode}
 use Rattle.encoder.specs.Due.{due_at, due_of_last}
 use Rattle.encoder.specs.PacketsSoFar.{is_known}
 use Rattle.encoder.specs.Spot.{count_with}
@@ -29,6 +30,7 @@ does_first : (words : Words) (e : Encoder) (next : Event) (d' : Due) → e.held 
 does_first words e next d' h n = record {
   gives = rw h refl;
   between = rw h refl;
+  in_mode = rw h refl;
   left = rw h refl;
   held = rw h refl;
   asked = rw (h, n) refl;
@@ -46,50 +48,52 @@ first_unknown : (words : Words) (event : Event) → is_known words (spot_after [
 first_unknown words (Retire addr itype priv) = refl
 first_unknown words (Trap epc priv interrupt cause tval) = refl
 
-module _ (words : Words) (period : ℕ) where
-  first_pushes : (e : Encoder) (event : Event) → Stands words period [] e → Pushes words period [] e event
+module _ (words : Words) (period : ℕ) (mode : Mode) where
+  first_pushes : (e : Encoder) (event : Event) → Stands words period mode [] e → Pushes words period mode [] e event
   first_pushes e event stands =
-      let base : Reaches words period [] [] 0 [] = record { given = refl; told = refl; open_ = refl } in
+      let base : Reaches words period mode [] [] 0 [] = record { given = refl; told = refl; open_ = refl } in
       let d' = due_at words period (spot_after [] event None) in
       let k = first_unknown words event in
-      let old : Views words period [] [] 0 [] (due_of_last words period []) =
+      let old : Views words period mode [] [] 0 [] (due_of_last words period []) =
       record { so_far = refl; told = refl; rest = refl; asked = refl } in
-      let new : Views words period (event ∷ []) [] 0 (event ∷ []) d' = view_open words period [] event [] 0 [] k base in
+      let new : Views words period mode (event ∷ []) [] 0 (event ∷ []) d' =
+      view_open words period mode [] event [] 0 [] k base in
       let not_handler : is_handler_due d' ≡ false = sym (is_known-due words period (spot_after [] event None)) ∙ k in
       let does = does_first words e event d' stands.held (first_due words period e.due e.left event) in
       let does' : Does words e event [] (pending_with d' event []) 0 d' =
       subst (λ r. Does words e event [] (pending_with d' event []) r d') stands.reported does in
-      joined words period [] e event [] 0 [] (due_of_last words period []) [] 0 (event ∷ []) d' []
+      joined words period mode [] e event [] 0 [] (due_of_last words period []) [] 0 (event ∷ []) d' []
       (pending_with d' event []) old new does' refl (pending_with-outcomes d' [] event not_handler)
 
   -- An event that may follow the log is pushed as its packets ask for.
-  pub pushes_any : (log : List Event) (e : Encoder) (event : Event) → Stands words period log e
-      → Legal words (log ++ event ∷ []) → Pushes words period log e event
+  pub pushes_any : (log : List Event) (e : Encoder) (event : Event) → Stands words period mode log e
+      → Legal words (log ++ event ∷ []) → Pushes words period mode log e event
   pushes_any log e event stands legal = elim (by_last log) [
     | inl is ↦
-        subst (λ l. Pushes words period l e event) (sym is)
-        (first_pushes e event (subst (λ l. Stands words period l e) is stands))
+        subst (λ l. Pushes words period mode l e event) (sym is)
+        (first_pushes e event (subst (λ l. Stands words period mode l e) is stands))
     | inr r ↦
-        subst (λ l. Pushes words period l e event) (sym r.2)
-        (behind r.0 r.1 (subst (λ l. Stands words period l e) r.2 stands)
+        subst (λ l. Pushes words period mode l e event) (sym r.2)
+        (behind r.0 r.1 (subst (λ l. Stands words period mode l e) r.2 stands)
         (subst (λ l. Legal words (l ++ event ∷ [])) r.2 legal))
   ]
     where
-      behind : (front : List Event) (held : Event) → Stands words period (front ++ held ∷ []) e
-          → Legal words ((front ++ held ∷ []) ++ event ∷ []) → Pushes words period (front ++ held ∷ []) e event
+      behind : (front : List Event) (held : Event) → Stands words period mode (front ++ held ∷ []) e
+          → Legal words ((front ++ held ∷ []) ++ event ∷ []) → Pushes words period mode (front ++ held ∷ []) e event
       behind front held stands legal =
           let parts = follow_on_split words None (front ++ held ∷ []) (event ∷ []) legal in
           let mine = follow_on_split words None front (held ∷ []) parts.0 in
           let step : Step words held event =
           subst (λ b. StepFrom words b event) (last_or-snoc None front held) parts.1.1 in
-          pushes words period front held event e stands mine.1.0 step
+          pushes words period mode front held event e stands mine.1.0 step
 
   -- The encoder then stands for the log with it.
-  pub stands_after : (log : List Event) (e : Encoder) (event : Event) → Is64Bit event → Stands words period log e
-      → Pushes words period log e event → Stands words period (log ++ event ∷ []) (after words e event)
+  pub stands_after : (log : List Event) (e : Encoder) (event : Event) → Is64Bit event → Stands words period mode log e
+      → Pushes words period mode log e event → Stands words period mode (log ++ event ∷ []) (after words e event)
   stands_after log e event fits stands p = record {
     numbers = All-append Is64Bit log (event ∷ []) stands.numbers (All-cons Is64Bit event [] fits (All-nil Is64Bit));
     between = ap (λ n. n + 1) p.between ∙ stands.between;
+    in_mode = p.in_mode ∙ stands.in_mode;
     left = subst (λ n. AreLeft period n (after words e event).left) (sym (count_all-append 0 log (event ∷ [])))
         (subst (AreLeft period (count_with (count_all 0 log) event)) (sym p.left)
         (left-next period e.between (count_all 0 log) e.left event stands.between stands.left));

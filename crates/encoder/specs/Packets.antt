@@ -4,7 +4,8 @@ use Rattle.retire.specs.Events.{place, privilege, is_taken, outcomes}
 use Rattle.retire.specs.declared.event.Event.{Event}
 use Rattle.retire.specs.declared.event.Event.TheVariants.{Retire, Trap}
 use Rattle.rvclass.specs.Words.{Words}
-use Rattle.payload.specs.Difference.{difference}
+use Rattle.payload.specs.AddressField.{delta}
+use Rattle.payload.specs.declared.mode.Mode.{Mode}
 use Rattle.payload.specs.declared.packet.Packet.{Packet}
 use Rattle.payload.specs.declared.packet.Packet.TheVariants as packet
 use Rattle.payload.specs.declared.packet.Report.TheVariants.{Plain, Updiscon, Notify}
@@ -27,33 +28,34 @@ abbrev pub first_or : Event → List Event → Event
 first_or event [] = event
 first_or event (first ∷ events) = first
 
--- The packet of these events and the last, by its rule, after the last reported address: a sync packet, a trap
--- packet, an address packet with the outcomes of the branches and the difference of the addresses, or a branch map
--- alone.
-abbrev pub packet_by : ℕ → List Event → Event → Rule → Packet
-packet_by reported front last (by.Trap handler) = trap_packet last false (privilege last) false (place last)
-packet_by reported front last by.Handler =
+-- The packet of these events and the last, by its rule, in this mode and after this last reported address: a sync
+-- packet, a trap packet, an address packet with the outcomes of the branches and what its field holds for the address,
+-- or a branch map alone.
+abbrev pub packet_by : Mode → ℕ → List Event → Event → Rule → Packet
+packet_by mode reported front last (by.Trap handler) = trap_packet last false (privilege last) false (place last)
+packet_by mode reported front last by.Handler =
     trap_packet (first_or last front) (is_taken last) (privilege last) true (place last)
-packet_by reported front last by.Sync = packet.Sync (is_taken last) (privilege last) (place last)
-packet_by reported front last (by.Target cut_off) =
-    packet.Address (outcomes (front ++ last ∷ [])) (difference reported (place last))
+packet_by mode reported front last by.Sync = packet.Sync (is_taken last) (privilege last) (place last)
+packet_by mode reported front last (by.Target cut_off) =
+    packet.Address (outcomes (front ++ last ∷ [])) (delta mode reported (place last))
     (if cut_off then Updiscon else Plain)
-packet_by reported front last by.Explicit =
-    packet.Address (outcomes (front ++ last ∷ [])) (difference reported (place last)) Plain
-packet_by reported front last by.Notify =
-    packet.Address (outcomes (front ++ last ∷ [])) (difference reported (place last)) Notify
-packet_by reported front last by.Unreported = packet.Map (outcomes (front ++ last ∷ []))
+packet_by mode reported front last by.Explicit =
+    packet.Address (outcomes (front ++ last ∷ [])) (delta mode reported (place last)) Plain
+packet_by mode reported front last by.Notify =
+    packet.Address (outcomes (front ++ last ∷ [])) (delta mode reported (place last)) Notify
+packet_by mode reported front last by.Unreported = packet.Map (outcomes (front ++ last ∷ []))
 
 -- The last reported address after a packet: a branch map leaves it.
 abbrev pub reported_by : Rule → ℕ → Event → ℕ
 reported_by by.Unreported reported last = reported
 reported_by other reported last = place last
 
--- The packets of pieces, after this last reported address.
-abbrev pub reports : ℕ → List Piece → List Packet
-reports reported [] = []
-reports reported (piece ∷ pieces) =
-    packet_by reported piece.front piece.last piece.by ∷ reports (reported_by piece.by reported piece.last) pieces
+-- The packets of pieces, in this mode and after this last reported address.
+abbrev pub reports : Mode → ℕ → List Piece → List Packet
+reports mode reported [] = []
+reports mode reported (piece ∷ pieces) =
+    packet_by mode reported piece.front piece.last piece.by
+    ∷ reports mode (reported_by piece.by reported piece.last) pieces
 
 -- The rule of the last of these pieces, or this one where there is none.
 abbrev pub last_rule : Rule → List Piece → Rule
@@ -69,7 +71,7 @@ closing other = EndedNtr
 abbrev pub closing_packet : Words → ℕ → List Event → Packet
 closing_packet words period log = packet.Support (closing (last_rule by.Unreported (pieces_of words period log)))
 
--- The packets of a log: Open, one for each piece, and the closing one.
-abbrev pub packets : Words → ℕ → List Event → List Packet
-packets words period log =
-    packet.Support Open ∷ reports 0 (pieces_of words period log) ++ closing_packet words period log ∷ []
+-- The packets of a log: Open, which tells the mode, one for each piece, and the closing one.
+abbrev pub packets : Words → ℕ → Mode → List Event → List Packet
+packets words period mode log =
+    packet.Support (Open mode) ∷ reports mode 0 (pieces_of words period log) ++ closing_packet words period log ∷ []

@@ -3,6 +3,7 @@ use Rattle.std.specs.Prelude.{ℕ, ◌&&◌, Bool, List, [], ◌∷◌, if◌the
 use Rattle.retire.specs.Events.{is_retirement}
 use Rattle.retire.specs.declared.event.Event.{Event}
 use Rattle.rvclass.specs.Words.{Words}
+use Rattle.payload.specs.declared.mode.Mode.{Mode}
 use Rattle.payload.specs.declared.packet.Packet.{Packet}
 use Rattle.payload.specs.declared.packet.Packet.TheVariants as packet
 use Rattle.payload.specs.declared.packet.Support.TheVariants.{Open}
@@ -27,6 +28,6 @@ decided words (spot ∷ next ∷ rest) = spot ∷ decided words (next ∷ rest)
 
 -- The packets of a log before it is known what follows: Open, and those of every event before the
 -- last; the packet of a trap that is reported with its handler is there once the handler is.
-abbrev pub packets_so_far : Words → ℕ → List Event → List Packet
-packets_so_far words period log =
-    packet.Support Open ∷ reports 0 (pieces words period [] (decided words (spots_of log)))
+abbrev pub packets_so_far : Words → ℕ → Mode → List Event → List Packet
+packets_so_far words period mode log =
+    packet.Support (Open mode) ∷ reports mode 0 (pieces words period [] (decided words (spots_of log)))

@@ -5,6 +5,7 @@ use Rattle.retire.specs.Events.{outcomes}
 use Rattle.retire.specs.Is64Bit.{Is64Bit}
 use Rattle.retire.specs.declared.event.Event.{Event}
 use Rattle.rvclass.specs.Words.{Words}
+use Rattle.payload.specs.declared.mode.Mode.{Mode}
 use Rattle.encoder.specs.Due.{due_of_last}
 use Rattle.encoder.specs.Packets.{reported_by}
 use Rattle.encoder.specs.PacketsSoFar.{is_known, decided}
@@ -53,9 +54,10 @@ pub record AreLeft (period number left : ℕ) : Type 0 where
   pub whole : number + left ≡ rounds * period
 
 -- An encoder stands for a log: its fields are those of the events that were pushed.
-pub record Stands (words : Words) (period : ℕ) (log : List Event) (encoder : Encoder) : Type 0 where
+pub record Stands (words : Words) (period : ℕ) (mode : Mode) (log : List Event) (encoder : Encoder) : Type 0 where
   pub numbers : All Is64Bit log
   pub between : encoder.between + 1 ≡ period
+  pub in_mode : encoder.mode ≡ mode
   pub left : AreLeft period (count_all 0 log) encoder.left
   pub held : encoder.held ≡ last_or None log
   pub due : encoder.due ≡ due_of_last words period log

@@ -8,6 +8,7 @@ ghost use Rattle.rvclass.specs.Fetch.{words_of};
 ghost use Rattle.rvclass.specs.Words.{Words};
 ghost use Rattle.legalpath.specs.Legal.{Legal};
 ghost use Rattle.payload.specs.Profile.{InProfile};
+ghost use Rattle.payload.specs.declared.mode.Mode.{Mode};
 ghost use Rattle.encoder.specs.Packets.{packets, closing};
 ghost use Rattle.encoder.specs.PacketsSoFar.{packets_so_far};
 ghost use Rattle.encoder.specs.Stands.{Stands};
@@ -18,7 +19,7 @@ use crate::packet::{handler_packet, packet_by, reported_by};
 use crate::passing::passes;
 use crate::rule::{Rule, rule_at_end, rule_before};
 use arrayvec::ArrayVec;
-use payload::{Outcomes, Packet, Support};
+use payload::{Mode, Outcomes, Packet, Support};
 use retire::Event;
 use rvclass::Program;
 
@@ -38,16 +39,18 @@ pub struct Encoder {
     due: Due,
     /// The outcomes of the branches that no packet told of yet.
     pending: Outcomes,
+    /// What the address fields hold.
+    mode: Mode,
     /// The last reported address.
     reported: u64,
 }
 
 impl Encoder {
-    /// An encoder that no event was pushed to. It syncs at each retirement whose number, from 0, the
-    /// period divides.
-    pub fn new(period: u16) -> Encoder
+    /// An encoder that no event was pushed to. It syncs at each retirement whose number, from 0, the period divides,
+    /// and tells addresses in this mode.
+    pub fn new(period: u16, mode: Mode) -> Encoder
         requires { 1 ≤ period }
-        ensures { (words : Words) → Stands words period [] result }
+        ensures { (words : Words) → Stands words period mode [] result }
     {
         Encoder {
             between: period - 1,
@@ -55,33 +58,38 @@ impl Encoder {
             held: None,
             due: Due::Nothing,
             pending: Outcomes::new(),
+            mode,
             reported: 0,
         }
     }
 
-    /// The packet with which every log begins. It is asked for once, before the first push.
+    /// The packet with which every log begins, which tells the mode. It is asked for once, before the first push.
     pub fn open(&mut self) -> Packet
-        ensures open { result ≡ Packet.Support Support.Open }
-        ensures packets { (words : Words) (period : ℕ) → packets_so_far words period [] ≡ result ∷ [] }
+        ensures open { (words : Words) (period : ℕ) (mode : Mode) (log : List Event) →
+            Stands words period mode log self.old →
+            result ≡ Packet.Support (Support.Open mode) }
+        ensures packets { (words : Words) (period : ℕ) (mode : Mode) (log : List Event) →
+            Stands words period mode log self.old →
+            packets_so_far words period mode [] ≡ result ∷ [] }
         ensures same { self.new ≡ self.old }
     {
-        Packet::Support(Support::Open)
+        Packet::Support(self.opening())
     }
 
     /// Takes the next event, and gives the packets that are due by it.
     #[inline]
     pub fn push(&mut self, program: &Program, event: Event) -> Burst
-        ensures stands { (period : ℕ) (log : List Event) →
-            Stands (words_of program.now) period log self.old →
+        ensures stands { (period : ℕ) (mode : Mode) (log : List Event) →
+            Stands (words_of program.now) period mode log self.old →
             Legal (words_of program.now) (log ++ event ∷ []) →
-            Stands (words_of program.now) period (log ++ event ∷ []) self.new }
-        ensures packets { (period : ℕ) (log : List Event) →
-            Stands (words_of program.now) period log self.old →
+            Stands (words_of program.now) period mode (log ++ event ∷ []) self.new }
+        ensures packets { (period : ℕ) (mode : Mode) (log : List Event) →
+            Stands (words_of program.now) period mode log self.old →
             Legal (words_of program.now) (log ++ event ∷ []) →
-            packets_so_far (words_of program.now) period (log ++ event ∷ [])
-            ≡ packets_so_far (words_of program.now) period log ++ result.items }
-        ensures profile { (period : ℕ) (log : List Event) →
-            Stands (words_of program.now) period log self.old →
+            packets_so_far (words_of program.now) period mode (log ++ event ∷ [])
+            ≡ packets_so_far (words_of program.now) period mode log ++ result.items }
+        ensures profile { (period : ℕ) (mode : Mode) (log : List Event) →
+            Stands (words_of program.now) period mode log self.old →
             Legal (words_of program.now) (log ++ event ∷ []) →
             All InProfile result.items }
     {
@@ -90,12 +98,12 @@ impl Encoder {
 
     /// Ends the log, and gives the packets that are left.
     pub fn finish(self, program: &Program) -> Burst
-        ensures packets { (period : ℕ) (log : List Event) →
-            Stands (words_of program.now) period log self →
-            packets (words_of program.now) period log
-            ≡ packets_so_far (words_of program.now) period log ++ result.items }
-        ensures profile { (period : ℕ) (log : List Event) →
-            Stands (words_of program.now) period log self →
+        ensures packets { (period : ℕ) (mode : Mode) (log : List Event) →
+            Stands (words_of program.now) period mode log self →
+            packets (words_of program.now) period mode log
+            ≡ packets_so_far (words_of program.now) period mode log ++ result.items }
+        ensures profile { (period : ℕ) (mode : Mode) (log : List Event) →
+            Stands (words_of program.now) period mode log self →
             Legal (words_of program.now) log →
             All InProfile result.items }
     {
@@ -124,12 +132,15 @@ impl Encoder {
     pub(crate) fn pass(&mut self, program: &Program, events: &[Event], taken: usize) -> usize
         requires within { taken ≤ length events.now }
         requires legal { Legal (words_of program.now) events.now }
-        requires stands { Stands (words_of program.now) (self.old.between + 1) (take taken events.now) self.old }
+        requires stands { Stands (words_of program.now) (self.old.between + 1) self.old.mode (take taken events.now)
+            self.old }
         ensures from { taken ≤ result }
         ensures within { result ≤ length events.now }
-        ensures stands { Stands (words_of program.now) (self.old.between + 1) (take result events.now) self.new }
-        ensures packets { packets_so_far (words_of program.now) (self.old.between + 1) (take result events.now)
-            ≡ packets_so_far (words_of program.now) (self.old.between + 1) (take taken events.now) }
+        ensures stands { Stands (words_of program.now) (self.old.between + 1) self.old.mode (take result events.now)
+            self.new }
+        ensures packets { packets_so_far (words_of program.now) (self.old.between + 1) self.old.mode
+            (take result events.now)
+            ≡ packets_so_far (words_of program.now) (self.old.between + 1) self.old.mode (take taken events.now) }
     {
         if taken == 0 || !matches!(self.due, Due::Nothing) {
             return taken;
@@ -151,12 +162,25 @@ impl Encoder {
         next
     }
 
+    /// How tracing begins: it tells what the address fields hold.
+    pub(crate) fn opening(&self) -> Support
+        ensures { result ≡ Support.Open self.now.mode }
+    {
+        Support::Open(self.mode)
+    }
+
     /// The packet of the last event, where none told of it yet.
     pub(crate) fn last(&self) -> Option<Packet>
         ensures { option_to_list result ≡ stepping.last_given self.now self.now.held }
     {
         match &self.held {
-            Some(held) => packet_by(rule_at_end(self.due), held, &self.pending, self.reported),
+            Some(held) => packet_by(
+                rule_at_end(self.due),
+                held,
+                &self.pending,
+                self.mode,
+                self.reported,
+            ),
             None => None,
         }
     }
@@ -204,7 +228,7 @@ impl Encoder {
                 self.reported = event.place();
             } else {
                 let rule = rule_before(program, &held, self.due, event, due);
-                packet = packet_by(rule, &held, &self.pending, self.reported);
+                packet = packet_by(rule, &held, &self.pending, self.mode, self.reported);
                 self.reported = reported_by(rule, self.reported, &held);
             }
         }

@@ -3,18 +3,24 @@
 ghost use Rattle.std.specs.Prelude.{◌≡◌, [], ◌∷◌, ◌<◌, Bool, List};
 ghost use Rattle.std.specs.Option.{option_to_list};
 ghost use Rattle.retire.specs.Events.{place};
-ghost use Rattle.payload.specs.Difference.{difference};
+ghost use Rattle.payload.specs.AddressField.{delta};
 ghost use Rattle.encoder.specs.Packets.{reported_by, trap_packet};
 ghost use Rattle.encoder.specs.steps.Stepping.{packets_by, handler_packet};
 
 use crate::rule::Rule;
-use payload::{Outcomes, Packet, Report};
+use payload::{Mode, Outcomes, Packet, Report};
 use retire::Event;
 
-/// The packet of an event by its rule, with these outcomes, after this last reported address; none
+/// The packet of an event by its rule, with these outcomes, in this mode and after this last reported address; none
 /// where it was given already.
-pub fn packet_by(rule: Rule, held: &Event, outcomes: &Outcomes, reported: u64) -> Option<Packet>
-    ensures { option_to_list result ≡ packets_by rule held.now outcomes.now reported }
+pub fn packet_by(
+    rule: Rule,
+    held: &Event,
+    outcomes: &Outcomes,
+    mode: Mode,
+    reported: u64,
+) -> Option<Packet>
+    ensures { option_to_list result ≡ packets_by rule held.now outcomes.now mode reported }
 {
     match rule {
         Rule::Trap { .. } => Some(trap_packet(held, false, held.privilege(), false, held.place())),
@@ -24,11 +30,13 @@ pub fn packet_by(rule: Rule, held: &Event, outcomes: &Outcomes, reported: u64) -
             privilege: held.privilege(),
             address: held.place(),
         }),
-        Rule::Target { cut_off: true } => Some(address(held, outcomes, reported, Report::Updiscon)),
-        Rule::Target { cut_off: false } | Rule::Explicit => {
-            Some(address(held, outcomes, reported, Report::Plain))
+        Rule::Target { cut_off: true } => {
+            Some(address(held, outcomes, mode, reported, Report::Updiscon))
         }
-        Rule::Notify => Some(address(held, outcomes, reported, Report::Notify)),
+        Rule::Target { cut_off: false } | Rule::Explicit => {
+            Some(address(held, outcomes, mode, reported, Report::Plain))
+        }
+        Rule::Notify => Some(address(held, outcomes, mode, reported, Report::Notify)),
         Rule::Unreported => Some(Packet::Map(*outcomes)),
     }
 }
@@ -57,12 +65,12 @@ pub fn reported_by(rule: Rule, reported: u64, held: &Event) -> u64
 }
 
 /// An address packet.
-fn address(held: &Event, outcomes: &Outcomes, reported: u64, report: Report) -> Packet
-    ensures { result ≡ Packet.Address outcomes.now (difference reported (place held.now)) report }
+fn address(held: &Event, outcomes: &Outcomes, mode: Mode, reported: u64, report: Report) -> Packet
+    ensures { result ≡ Packet.Address outcomes.now (delta mode reported (place held.now)) report }
 {
     Packet::Address {
         outcomes: *outcomes,
-        delta: held.place().wrapping_sub(reported),
+        delta: mode.delta(reported, held.place()),
         report,
     }
 }

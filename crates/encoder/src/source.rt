@@ -6,6 +6,7 @@ ghost use Rattle.rvclass.specs.Fetch.{words_of};
 ghost use Rattle.legalpath.specs.Legal.{Legal};
 ghost use Rattle.legalpath.specs.ProgramLog.{ProgramLog};
 ghost use Rattle.payload.specs.Profile.{InProfile};
+ghost use Rattle.payload.specs.declared.mode.Mode.{Mode};
 ghost use Rattle.encoder.specs.PacketsSoFar.{packets_so_far};
 ghost use Rattle.encoder.specs.Payloads.{payloads};
 ghost use Rattle.encoder.specs.SourceAt.{SourceAt, IsAt, number_behind};
@@ -14,7 +15,7 @@ ghost use Rattle.encoder.specs.Stands.{Stands};
 
 use crate::encoder::Encoder;
 use legalpath::LegalLog;
-use payload::{Packet, Payload, Support, pack};
+use payload::{Mode, Packet, Payload, pack};
 use retire::Event;
 use rvclass::Program;
 use std::alloc::{Allocator, Global};
@@ -55,14 +56,14 @@ impl<'l, 'p, A: Allocator> Model for Source<'l, 'p, A> {
 
 impl<'l, 'p, A: Allocator> Source<'l, 'p, A> {
     /// A source that stands before the first payload of this log, with a sync at each retirement whose number, from 0,
-    /// the period divides.
-    pub fn new(log: &'l LegalLog<'p, A>, period: u16) -> Source<'l, 'p, A>
+    /// the period divides, and with addresses told in this mode.
+    pub fn new(log: &'l LegalLog<'p, A>, period: u16, mode: Mode) -> Source<'l, 'p, A>
         requires { 1 ≤ period }
-        ensures { IsAt period log.now 0 result }
+        ensures { IsAt period mode log.now 0 result }
     {
         Source {
             log,
-            encoder: Encoder::new(period),
+            encoder: Encoder::new(period, mode),
             stage: Stage::Opening,
             taken: 0,
         }
@@ -70,12 +71,12 @@ impl<'l, 'p, A: Allocator> Source<'l, 'p, A> {
 
     /// The payload that comes next; `None` behind the closing one, and from then on.
     pub fn next(&mut self) -> Option<Payload>
-        ensures given { (period number : ℕ) (log : ProgramLog) →
-            IsAt period log number self.old →
-            result ≡ slice_get (payloads period log) number }
-        ensures goes_on { (period number : ℕ) (log : ProgramLog) →
-            IsAt period log number self.old →
-            IsAt period log (number_behind number result) self.new }
+        ensures given { (period number : ℕ) (mode : Mode) (log : ProgramLog) →
+            IsAt period mode log number self.old →
+            result ≡ slice_get (payloads period mode log) number }
+        ensures goes_on { (period number : ℕ) (mode : Mode) (log : ProgramLog) →
+            IsAt period mode log number self.old →
+            IsAt period mode log (number_behind number result) self.new }
     {
         match self.packet() {
             Some(packet) => Some(pack(&packet)),
@@ -85,14 +86,14 @@ impl<'l, 'p, A: Allocator> Source<'l, 'p, A> {
 
     /// The packet that comes next.
     fn packet(&mut self) -> Option<Packet>
-        ensures given { result ≡ slice_get (packets_of_log self.old.period self.old.log) self.old.number }
+        ensures given { result ≡ slice_get (packets_of_log self.old.period self.old.mode self.old.log) self.old.number }
         ensures goes_on { self.new ≡ record self.old { number = number_behind self.old.number result } }
         ensures profile { All InProfile (option_to_list result) }
     {
         match self.stage {
             Stage::Opening => {
                 self.stage = Stage::Running;
-                Some(Packet::Support(Support::Open))
+                Some(Packet::Support(self.encoder.opening()))
             }
             Stage::Running => {
                 let log = self.log;
@@ -130,11 +131,14 @@ fn run(
 ) -> Option<Packet>
     requires within { taken.old ≤ length events.now }
     requires legal { Legal (words_of program.now) events.now }
-    requires stands { Stands (words_of program.now) (encoder.old.between + 1) (take taken.old events.now) encoder.old }
+    requires stands { Stands (words_of program.now) (encoder.old.between + 1) encoder.old.mode
+        (take taken.old events.now) encoder.old }
     ensures within { taken.new ≤ length events.now }
-    ensures stands { Stands (words_of program.now) (encoder.old.between + 1) (take taken.new events.now) encoder.new }
-    ensures packets { packets_so_far (words_of program.now) (encoder.old.between + 1) (take taken.new events.now)
-        ≡ packets_so_far (words_of program.now) (encoder.old.between + 1) (take taken.old events.now)
+    ensures stands { Stands (words_of program.now) (encoder.old.between + 1) encoder.old.mode
+        (take taken.new events.now) encoder.new }
+    ensures packets { packets_so_far (words_of program.now) (encoder.old.between + 1) encoder.old.mode
+        (take taken.new events.now)
+        ≡ packets_so_far (words_of program.now) (encoder.old.between + 1) encoder.old.mode (take taken.old events.now)
         ++ option_to_list result }
     ensures all { result ≡ None → taken.new ≡ length events.now }
 {

@@ -8,7 +8,7 @@ ghost use Rattle.std.specs.Prelude.{◌<◌};
 
 use crate::{Encoder, Source};
 use legalpath::LegalLog;
-use payload::{Packet, Payload, pack};
+use payload::{Mode, Packet, Payload, pack};
 use retire::Event;
 use rvclass::Program;
 use std::alloc::Global;
@@ -70,12 +70,13 @@ fn packets_of(
     alloc: Global,
     program: &Program,
     period: u16,
+    mode: Mode,
     log: &[Event],
 ) -> Result<Vec<Packet>, Fail> {
     if period == 0 {
         return Err(Fail::from("a period is 0"));
     }
-    let mut encoder = Encoder::new(period);
+    let mut encoder = Encoder::new(period, mode);
     let mut packets = Vec::new(alloc);
     packets.push(encoder.open())?;
     for event in log {
@@ -113,11 +114,16 @@ fn legal_log<'p>(
 }
 
 // The payloads that a source gives, which gives none behind them.
-fn sourced(alloc: Global, log: &LegalLog<'_>, period: u16) -> Result<Vec<Payload>, Fail> {
+fn sourced(
+    alloc: Global,
+    log: &LegalLog<'_>,
+    period: u16,
+    mode: Mode,
+) -> Result<Vec<Payload>, Fail> {
     if period == 0 {
         return Err(Fail::from("a period is 0"));
     }
-    let mut source = Source::new(log, period);
+    let mut source = Source::new(log, period, mode);
     let mut payloads = Vec::new(alloc);
     for _ in 0..log.events().len() + 2 {
         if let Some(payload) = source.next() {

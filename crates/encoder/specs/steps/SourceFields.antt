@@ -2,6 +2,7 @@
 use Rattle.std.specs.Prelude.{ℕ, ◌≡◌, ◌+◌, ◌-◌, ◌≤◌, List, length, take}
 use Rattle.rvclass.specs.Fetch.{words_of}
 use Rattle.legalpath.specs.ProgramLog.{ProgramLog}
+use Rattle.payload.specs.declared.mode.Mode.{Mode}
 use Rattle.payload.specs.declared.packet.Packet.{Packet}
 use Rattle.encoder.specs.Packets.{packets}
 use Rattle.encoder.specs.PacketsSoFar.{packets_so_far}
@@ -11,23 +12,25 @@ use Rattle.encoder.specs.declared.encoder.Encoder.{Encoder}
 use Rattle.encoder.specs.declared.source.Stage.{Stage}
 use Rattle.encoder.specs.declared.source.Stage.TheVariants as stage
 
--- The packets of a log at a period.
-abbrev pub packets_of_log : ℕ → ProgramLog → List Packet
-packets_of_log period log = packets (words_of log.program) period log.events
+-- The packets of a log, at a period and in a mode.
+abbrev pub packets_of_log : ℕ → Mode → ProgramLog → List Packet
+packets_of_log period mode log = packets (words_of log.program) period mode log.events
 
 -- How many packets of a log come before the next one, at this stage, where so many events were taken.
-abbrev pub number_at : ℕ → ProgramLog → Stage → ℕ → ℕ
-number_at period log stage.Opening taken = 0
-number_at period log stage.Running taken = length (packets_so_far (words_of log.program) period (take taken log.events))
-number_at period log stage.Closing taken = length (packets_of_log period log) - 1
-number_at period log stage.Ended taken = length (packets_of_log period log)
+abbrev pub number_at : ℕ → Mode → ProgramLog → Stage → ℕ → ℕ
+number_at period mode log stage.Opening taken = 0
+number_at period mode log stage.Running taken =
+    length (packets_so_far (words_of log.program) period mode (take taken log.events))
+number_at period mode log stage.Closing taken = length (packets_of_log period mode log) - 1
+number_at period mode log stage.Ended taken = length (packets_of_log period mode log)
 
 -- A source of a log stands here by its fields.
 abbrev pub stands_at : ProgramLog → Encoder → Stage → ℕ → SourceAt
 stands_at log encoder stage taken = record {
   log = log;
   period = encoder.between + 1;
-  number = number_at (encoder.between + 1) log stage taken;
+  mode = encoder.mode;
+  number = number_at (encoder.between + 1) encoder.mode log stage taken;
 }
 
 -- So many events were taken at this stage: none, some, or all.
@@ -40,4 +43,4 @@ AreTaken stage.Ended taken all = taken ≡ all
 -- A source's encoder stands for the events that were taken.
 pub record IsSource (log : ProgramLog) (encoder : Encoder) (stage : Stage) (taken : ℕ) : Type 0 where
   pub within : AreTaken stage taken (length log.events)
-  pub stands : Stands (words_of log.program) (encoder.between + 1) (take taken log.events) encoder
+  pub stands : Stands (words_of log.program) (encoder.between + 1) encoder.mode (take taken log.events) encoder

@@ -8,7 +8,8 @@ use Rattle.retire.specs.declared.event.Event.{Event}
 use Rattle.retire.specs.declared.event.Event.TheVariants.{Retire, Trap}
 use Rattle.rvclass.specs.Words.{Words}
 use Rattle.legalpath.specs.Backward.{jumps_back}
-use Rattle.payload.specs.Difference.{difference}
+use Rattle.payload.specs.AddressField.{delta}
+use Rattle.payload.specs.declared.mode.Mode.{Mode}
 use Rattle.payload.specs.declared.packet.Packet.{Packet}
 use Rattle.payload.specs.declared.packet.Packet.TheVariants as packet
 use Rattle.payload.specs.declared.packet.Report.TheVariants.{Plain, Updiscon, Notify}
@@ -81,17 +82,20 @@ rule_at_end due_of.Sync = by.Sync
 rule_at_end due_of.Target = by.Target false
 rule_at_end due_of.Nothing = by.Explicit
 
--- The packets of an event by its rule, with these outcomes, after this last reported address; that of
--- a handler is given already.
-abbrev pub packets_by : Rule → Event → List Bool → ℕ → List Packet
-packets_by (by.Trap handler) held outcomes reported = trap_packet held false (privilege held) false (place held) ∷ []
-packets_by by.Handler held outcomes reported = []
-packets_by by.Sync held outcomes reported = packet.Sync (is_taken held) (privilege held) (place held) ∷ []
-packets_by (by.Target cut_off) held outcomes reported =
-    packet.Address outcomes (difference reported (place held)) (if cut_off then Updiscon else Plain) ∷ []
-packets_by by.Explicit held outcomes reported = packet.Address outcomes (difference reported (place held)) Plain ∷ []
-packets_by by.Notify held outcomes reported = packet.Address outcomes (difference reported (place held)) Notify ∷ []
-packets_by by.Unreported held outcomes reported = packet.Map outcomes ∷ []
+-- The packets of an event by its rule, with these outcomes, in this mode and after this last reported
+-- address; that of a handler is given already.
+abbrev pub packets_by : Rule → Event → List Bool → Mode → ℕ → List Packet
+packets_by (by.Trap handler) held outcomes mode reported =
+    trap_packet held false (privilege held) false (place held) ∷ []
+packets_by by.Handler held outcomes mode reported = []
+packets_by by.Sync held outcomes mode reported = packet.Sync (is_taken held) (privilege held) (place held) ∷ []
+packets_by (by.Target cut_off) held outcomes mode reported =
+    packet.Address outcomes (delta mode reported (place held)) (if cut_off then Updiscon else Plain) ∷ []
+packets_by by.Explicit held outcomes mode reported =
+    packet.Address outcomes (delta mode reported (place held)) Plain ∷ []
+packets_by by.Notify held outcomes mode reported =
+    packet.Address outcomes (delta mode reported (place held)) Notify ∷ []
+packets_by by.Unreported held outcomes mode reported = packet.Map outcomes ∷ []
 
 -- The packet of a trap and its handler.
 abbrev pub handler_packet : Event → Event → Packet
@@ -119,7 +123,7 @@ abbrev pub packets_before : Words → Encoder → Option Event → Event → Due
 packets_before words e None next after = []
 packets_before words e (Some held) next after =
     if is_handler_due after then handler_packet held next ∷ [] else
-    packets_by (rule_before words held e.due next after) held e.pending e.reported
+    packets_by (rule_before words held e.due next after) held e.pending e.mode e.reported
 
 -- The last reported address after them.
 abbrev pub reported_before : Words → Encoder → Option Event → Event → Due → ℕ
@@ -182,7 +186,7 @@ after words e event = after_with words e event (due_next e event)
 -- The packet of the last event of a log, where none told of it yet.
 abbrev pub last_given : Encoder → Option Event → List Packet
 last_given e None = []
-last_given e (Some held) = packets_by (rule_at_end e.due) held e.pending e.reported
+last_given e (Some held) = packets_by (rule_at_end e.due) held e.pending e.mode e.reported
 
 -- How tracing ends after it.
 abbrev pub ends_by : Encoder → Option Event → Support

@@ -4,7 +4,7 @@
 use super::drawn::{Draws, drawn_program};
 use super::{legal_log, packets_of, payloads_of, sourced};
 use legalpath::check;
-use payload::{Outcomes, Packet, Report, Support};
+use payload::{Mode, Outcomes, Packet, Report, Support};
 use retire::Event;
 use rvclass::{Class, Program};
 use std::alloc::Global;
@@ -27,11 +27,12 @@ enum Rule {
     Notify,
 }
 
-// A log, the program that ran, and the period of the syncs.
+// A log, the program that ran, the period of the syncs, and the mode.
 #[derive(Clone, Copy)]
 struct Reading<'a> {
     program: &'a Program,
     period: u16,
+    mode: Mode,
     log: &'a [Event],
 }
 
@@ -235,7 +236,10 @@ impl Reading<'_> {
             Rule::Target | Rule::Explicit => Report::Plain,
             Rule::Notify => Report::Notify,
         };
-        let delta = event.place().wrapping_sub(self.reported(rules, i));
+        let delta = match self.mode {
+            Mode::Full => event.place(),
+            Mode::Differential => event.place().wrapping_sub(self.reported(rules, i)),
+        };
         Some(Packet::Address {
             outcomes,
             delta,
@@ -276,7 +280,7 @@ impl Reading<'_> {
     // The packets of the log.
     fn packets(&self, alloc: Global) -> Result<Vec<Packet>, Fail> {
         let rules = self.rules(alloc)?;
-        let mut packets = vec![in alloc; Packet::Support(Support::Open)]?;
+        let mut packets = vec![in alloc; Packet::Support(Support::Open(self.mode))]?;
         for (i, rule) in rules.iter().enumerate() {
             if let Some(rule) = *rule {
                 self.add_packets(alloc, rules.as_slice(), i, rule, &mut packets)?;
@@ -320,17 +324,21 @@ fn packets_of_random_logs(rt: HostRuntime) -> Result<(), Fail> {
         assert!(rt; log.len() < 100 && check(&program, log.as_slice()).is_ok());
         let drawn = draws.below(4);
         let period = periods[drawn];
-        let reading = Reading {
-            program: &program,
-            period,
-            log: log.as_slice(),
-        };
-        let want = reading.packets(alloc)?;
-        let got = packets_of(alloc, &program, period, log.as_slice())?;
-        assert_eq!(rt; got.as_slice(), want.as_slice(), "log {n}");
-        let packed = payloads_of(alloc, want.as_slice())?;
-        let given = sourced(alloc, &legal_log(alloc, &program, log.as_slice())?, period)?;
-        assert_eq!(rt; given.as_slice(), packed.as_slice(), "log {n}");
+        for mode in [Mode::Differential, Mode::Full] {
+            let reading = Reading {
+                program: &program,
+                period,
+                mode,
+                log: log.as_slice(),
+            };
+            let want = reading.packets(alloc)?;
+            let got = packets_of(alloc, &program, period, mode, log.as_slice())?;
+            assert_eq!(rt; got.as_slice(), want.as_slice(), "log {n}");
+            let packed = payloads_of(alloc, want.as_slice())?;
+            let legal = legal_log(alloc, &program, log.as_slice())?;
+            let given = sourced(alloc, &legal, period, mode)?;
+            assert_eq!(rt; given.as_slice(), packed.as_slice(), "log {n}");
+        }
     }
     Ok(())
 }

@@ -8,7 +8,9 @@ use Rattle.encoder.proofs.source.run.Given as goal
 abbrev pub invariant-loop : goal.invariant-loop
 invariant-loop l =
     let period = l.fn.encoder.between + 1 in
+    let mode = l.fn.encoder.mode in
     (l.counter ≤ l.taken) × (l.taken ≤ length l.events) × (l.encoder.between ≡ l.fn.encoder.between)
-    × Stands (words_of l.program) period (take l.taken l.events) l.encoder
-    × (packets_so_far (words_of l.program) period (take l.taken l.events)
-    ≡ packets_so_far (words_of l.program) period (take l.fn.taken l.events))
+    × (l.encoder.mode ≡ mode)
+    × Stands (words_of l.program) period mode (take l.taken l.events) l.encoder
+    × (packets_so_far (words_of l.program) period mode (take l.taken l.events)
+    ≡ packets_so_far (words_of l.program) period mode (take l.fn.taken l.events))

@@ -17,15 +17,15 @@ given c =
     ∙ ap (λ end. last_given c.args.self c.args.self.held ++ packet.Support end ∷ []) c.closing.ensures
 
 pub returns-clause-packets : goal.returns-clause-packets
-returns-clause-packets c = λ period log stands.
+returns-clause-packets c = λ period mode log stands.
     let words = words_of c.args.program.now in
-    ends_any words period log c.args.self stands ∙ ap (λ given. packets_so_far words period log ++ given)
+    ends_any words period mode log c.args.self stands ∙ ap (λ given. packets_so_far words period mode log ++ given)
     (sym (given c))
 
 pub returns-clause-profile : goal.returns-clause-profile
-returns-clause-profile c = λ period log stands legal.
+returns-clause-profile c = λ period mode log stands legal.
     let words = words_of c.args.program.now in
-    profile_behind (packets_so_far words period log) c.push.new.self.items (packets words period log)
-    (ends_any words period log c.args.self stands ∙ ap (λ given. packets_so_far words period log ++ given)
+    profile_behind (packets_so_far words period mode log) c.push.new.self.items (packets words period mode log)
+    (ends_any words period mode log c.args.self stands ∙ ap (λ given. packets_so_far words period mode log ++ given)
     (sym (given c))) (packets_in_profile words (λ addr word e. (words_stand c.args.program.now addr word e).even)
-    period log stands.numbers legal)
+    period mode log stands.numbers legal)

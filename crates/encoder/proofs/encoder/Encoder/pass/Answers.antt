@@ -25,13 +25,18 @@ loop-at-init c =
     ] in
     let is : record e { held = last_or None (take c.args.taken c.args.events.now); due = due.Nothing } ≡ e =
     ap (λ h. record e { held = h; due = due.Nothing }) (sym c.requires.stands.held)
-    ∙ ap (λ d. record e { due = d }) (sym asked) in
-    (refl, subst (Stands words (e.between + 1) (take c.args.taken c.args.events.now)) (sym is) c.requires.stands, refl)
+    ∙ ap (λ d. record e { due = d }) (sym asked) in (
+      refl,
+      subst (Stands words (e.between + 1) e.mode (take c.args.taken c.args.events.now)) (sym is)
+          c.requires.stands,
+      refl,
+    )
 
 pub loop-at-preserved : goal.loop-at-preserved
 loop-at-preserved c =
     let words = words_of c.args.program.now in
     let period = c.args.self.now.between + 1 in
+    let mode = c.args.self.now.mode in
     let at = c.loop-at.at in
     let events = c.args.events.now in
     let next = get_or events at (Retire 0 0 0) in
@@ -50,7 +55,7 @@ loop-at-preserved c =
     let is = last_of_first events at (omega (arith, from, past)) (omega (arith, on)) in
     let yes = sym c.passes.ensures.value ∙ c.if-not-passes.false in
     let step =
-    steps words period at events next e (passed e next) [] more c.requires.legal c.loop-at.invariant.1
+    steps words period mode at events next e (passed e next) [] more c.requires.legal c.loop-at.invariant.1
     c.passes.ensures.numbers (after_passed words e held next is refl yes)
     (given_passed words e held next is refl yes) in
     let there : last_or None (take (at + 1) events) ≡ Some next =
@@ -60,7 +65,7 @@ loop-at-preserved c =
     ap (λ h. record (passed e next) { held = h }) (sym there)
     ∙ ap (λ p. record grown { pending = p }) (sym c.add_outcome.ensures) in (
       refl,
-      subst (Stands words period (take (at + 1) events)) same step.stands,
+      subst (Stands words period mode (take (at + 1) events)) same step.stands,
       step.more ∙ append-nil _
           ∙ c.loop-at.invariant.2,
     )
@@ -88,6 +93,6 @@ returns-clause-stands c =
     { held = held } =
     ap (λ h. record passed_on { held = h; due = due.Nothing }) last
     ∙ ap (λ d. record passed_on { held = held; due = d }) (sym asked) in
-    subst (λ n. Stands words (e.between + 1) (take n events)
+    subst (λ n. Stands words (e.between + 1) e.mode (take n events)
     (record passed_on { held = Some (get_or events (n - 1) (Retire 0 0 0)) })) (sym c.loop-at.invariant.0)
-    (subst (Stands words (e.between + 1) (take at events)) same c.loop-at.invariant.1)
+    (subst (Stands words (e.between + 1) e.mode (take at events)) same c.loop-at.invariant.1)

@@ -11,11 +11,13 @@ abbrev pub invariant-loop-at : goal.invariant-loop-at
 invariant-loop-at l =
     let words = words_of l.program in
     let period = l.fn.self.between + 1 in
+    let mode = l.fn.self.mode in
     (l.next ≡ l.at)
-    × Stands words period (take l.at l.events) (record l.self {
+    × Stands words period mode (take l.at l.events) (record l.self {
       left = l.left;
       held = last_or None (take l.at l.events);
       due = due.Nothing;
       pending = l.pending;
     })
-    × (packets_so_far words period (take l.at l.events) ≡ packets_so_far words period (take l.fn.taken l.events))
+    × (packets_so_far words period mode (take l.at l.events)
+    ≡ packets_so_far words period mode (take l.fn.taken l.events))

@@ -9,28 +9,28 @@ use Rattle.encoder.proofs.StandsOn.{pushes_any, stands_after}
 use Rattle.encoder.proofs.encoder.Encoder.push.Goals as goal
 
 pub returns-clause-stands : goal.returns-clause-stands
-returns-clause-stands c = λ period log stands legal.
+returns-clause-stands c = λ period mode log stands legal.
     let words = words_of c.args.program.now in
-    let pushed = pushes_any words period log c.args.self.now c.args.event stands legal in
-    subst (λ x. Stands words period (log ++ c.args.event ∷ []) x) (sym c.step.ensures.after)
-    (stands_after words period log c.args.self.now c.args.event c.step.ensures.numbers stands pushed)
+    let pushed = pushes_any words period mode log c.args.self.now c.args.event stands legal in
+    subst (λ x. Stands words period mode (log ++ c.args.event ∷ []) x) (sym c.step.ensures.after)
+    (stands_after words period mode log c.args.self.now c.args.event c.step.ensures.numbers stands pushed)
 
 pub returns-clause-packets : goal.returns-clause-packets
-returns-clause-packets c = λ period log stands legal.
+returns-clause-packets c = λ period mode log stands legal.
     let words = words_of c.args.program.now in
-    let pushed = pushes_any words period log c.args.self.now c.args.event stands legal in
-    pushed.more ∙ ap (λ given. packets_so_far words period log ++ given)
+    let pushed = pushes_any words period mode log c.args.self.now c.args.event stands legal in
+    pushed.more ∙ ap (λ given. packets_so_far words period mode log ++ given)
     (sym (c.burst_of.ensures ∙ c.step.ensures.given))
 
 pub returns-clause-profile : goal.returns-clause-profile
-returns-clause-profile c = λ period log stands legal.
+returns-clause-profile c = λ period mode log stands legal.
     let words = words_of c.args.program.now in
-    let pushed = pushes_any words period log c.args.self.now c.args.event stands legal in
+    let pushed = pushes_any words period mode log c.args.self.now c.args.event stands legal in
     let numbers =
-    (stands_after words period log c.args.self.now c.args.event c.step.ensures.numbers stands pushed).numbers in
+    (stands_after words period mode log c.args.self.now c.args.event c.step.ensures.numbers stands pushed).numbers in
     let is = c.burst_of.ensures ∙ c.step.ensures.given in
-    profile_behind (packets_so_far words period log) c.burst_of.result.items
-    (packets_so_far words period (log ++ c.args.event ∷ []))
-    (pushed.more ∙ ap (λ given. packets_so_far words period log ++ given) (sym is))
-    (so_far_in_profile words (λ addr word held. (words_stand c.args.program.now addr word held).even) period
+    profile_behind (packets_so_far words period mode log) c.burst_of.result.items
+    (packets_so_far words period mode (log ++ c.args.event ∷ []))
+    (pushed.more ∙ ap (λ given. packets_so_far words period mode log ++ given) (sym is))
+    (so_far_in_profile words (λ addr word held. (words_stand c.args.program.now addr word held).even) period mode
     (log ++ c.args.event ∷ []) numbers legal)

@@ -23,7 +23,7 @@ pub returns-in-Some-clause-given : goal.returns-in-Some-clause-given
 returns-in-Some-clause-given g c =
     let is = ap (λ stage. stands_at c.self.inside.log.now c.self.inside.encoder stage c.self.inside.taken)
     (sym c.in-Running.is) ∙ c.self.view_is in
-    subst (λ (s : SourceAt). Some c.in-Some.packet ≡ slice_get (packets_of_log s.period s.log) s.number) is
+    subst (λ (s : SourceAt). Some c.in-Some.packet ≡ slice_get (packets_of_log s.period s.mode s.log) s.number) is
     (given_running _ _ _ _ _ _ c.events.ensures.legal c.in-Some.packet (ran g c))
 
 pub returns-in-Some-clause-profile : goal.returns-in-Some-clause-profile
@@ -41,7 +41,7 @@ pub returns-in-Some-last-clause-given : goal.returns-in-Some-last-clause-given
 returns-in-Some-last-clause-given g c =
     let is = ap (λ stage. stands_at c.self.inside.log.now c.self.inside.encoder stage c.self.inside.taken)
     (sym c.in-Running.is) ∙ c.self.view_is in
-    subst (λ (s : SourceAt). Some c.in-Some-last.packet ≡ slice_get (packets_of_log s.period s.log) s.number) is
+    subst (λ (s : SourceAt). Some c.in-Some-last.packet ≡ slice_get (packets_of_log s.period s.mode s.log) s.number) is
     (end_some _ _ _ _ _ _ c.events.ensures.legal c.in-Some-last.packet (ended g c)
     (sym (ap option_to_list c.in-Some-last.is) ∙ c.last.ensures)).0
 
@@ -50,7 +50,7 @@ returns-in-Some-last-clause-goes_on g c =
     let is = ap (λ stage. stands_at c.self.inside.log.now c.self.inside.encoder stage c.self.inside.taken)
     (sym c.in-Running.is) ∙ c.self.view_is in
     further c.self.inside.log.now c.self.inside.encoder c.run-next.new.encoder stage.Closing c.run-next.new.taken _
-    c.args.self.now c.run-next.ensures.stands.between
+    c.args.self.now c.run-next.ensures.stands.between c.run-next.ensures.stands.in_mode
     (end_some _ _ _ _ _ _ c.events.ensures.legal c.in-Some-last.packet (ended g c)
     (sym (ap option_to_list c.in-Some-last.is) ∙ c.last.ensures)).1 is
 
@@ -72,7 +72,7 @@ returns-in_default-last-clause-given g c =
     let is = ap (λ stage. stands_at c.self.inside.log.now c.self.inside.encoder stage c.self.inside.taken)
     (sym c.in-Running.is) ∙ c.self.view_is in
     subst (λ (s : SourceAt). Some (packet.Support c.closing.result)
-    ≡ slice_get (packets_of_log s.period s.log) s.number) is
+    ≡ slice_get (packets_of_log s.period s.mode s.log) s.number) is
     (end_none _ _ _ _ _ _ c.events.ensures.legal c.closing.result (closed g c)
     (sym (ap option_to_list c.in_default-last.is) ∙ c.last.ensures) c.closing.ensures).0
 
@@ -81,7 +81,7 @@ returns-in_default-last-clause-goes_on g c =
     let is = ap (λ stage. stands_at c.self.inside.log.now c.self.inside.encoder stage c.self.inside.taken)
     (sym c.in-Running.is) ∙ c.self.view_is in
     further c.self.inside.log.now c.self.inside.encoder c.run-next.new.encoder stage.Ended c.run-next.new.taken _
-    c.args.self.now c.run-next.ensures.stands.between
+    c.args.self.now c.run-next.ensures.stands.between c.run-next.ensures.stands.in_mode
     (end_none _ _ _ _ _ _ c.events.ensures.legal c.closing.result (closed g c)
     (sym (ap option_to_list c.in_default-last.is) ∙ c.last.ensures) c.closing.ensures).1 is
 
@@ -90,8 +90,9 @@ returns-in-Closing-clause-given g c =
     let is = ap (λ stage. stands_at c.self.inside.log.now c.self.inside.encoder stage c.self.inside.taken)
     (sym c.in-Closing.is) ∙ c.self.view_is in
     subst (λ (s : SourceAt). Some (packet.Support c.closing-in-Closing.result)
-    ≡ slice_get (packets_of_log s.period s.log) s.number) is
-    (given_closing c.self.inside.log.now.program (c.self.inside.encoder.between + 1) c.self.inside.log.now.events
+    ≡ slice_get (packets_of_log s.period s.mode s.log) s.number) is
+    (given_closing c.self.inside.log.now.program (c.self.inside.encoder.between + 1) c.self.inside.encoder.mode
+    c.self.inside.log.now.events
     c.self.inside.encoder c.self.inside.taken c.closing-in-Closing.result c.self.invariant.stands
     (subst (λ stage. AreTaken stage c.self.inside.taken (length c.self.inside.log.now.events)) c.in-Closing.is
     c.self.invariant.within) c.closing-in-Closing.ensures)
@@ -100,6 +101,6 @@ pub returns-in-Ended-clause-given : goal.returns-in-Ended-clause-given
 returns-in-Ended-clause-given g c =
     let is = ap (λ stage. stands_at c.self.inside.log.now c.self.inside.encoder stage c.self.inside.taken)
     (sym c.in-Ended.is) ∙ c.self.view_is in
-    subst (λ (s : SourceAt). None ≡ slice_get (packets_of_log s.period s.log) s.number) is
-    (let all = packets_of_log (c.self.inside.encoder.between + 1) c.self.inside.log.now in
+    subst (λ (s : SourceAt). None ≡ slice_get (packets_of_log s.period s.mode s.log) s.number) is
+    (let all = packets_of_log (c.self.inside.encoder.between + 1) c.self.inside.encoder.mode c.self.inside.log.now in
     sym (slice_get_past all (length all) (omega arith)))
