@@ -7,13 +7,16 @@ use Rattle.rvclass.specs.Words.{Words, IsProgram}
 use Rattle.legalpath.proofs.FollowOnLemmas.{follow_on_split}
 use Rattle.legalpath.specs.Join.{join}
 use Rattle.legalpath.specs.Legal.{Legal}
-use Rattle.payload.specs.Difference.{aim}
+use Rattle.payload.specs.AddressField.{aim}
+use Rattle.payload.specs.declared.mode.Mode.{Mode}
 use Rattle.payload.specs.declared.packet.Packet.{Packet}
 use Rattle.payload.specs.declared.packet.Packet.TheVariants as packet
 use Rattle.payload.specs.declared.packet.Report.TheVariants as report
+use Rattle.decoder.proofs.ModeTold.{pieces_with}
 use Rattle.decoder.proofs.UniqueLemmas.{one_log}
 use Rattle.decoder.specs.Describes.{Describes}
 use Rattle.decoder.specs.Fits.{AfterRetirement, FitsAddress, Fits}
+use Rattle.decoder.specs.ModeOf.{mode_of}
 use Rattle.decoder.specs.Order.{Begins, first}
 use Rattle.decoder.specs.Pieces.{reported_after, Pieces}
 use Rattle.decoder.specs.SettledPieces.{piece_unless, settled_pieces}
@@ -40,16 +43,17 @@ module _ (words : Words) where
   after_address before taken addr Unknown piece fits = fits.0
 
   -- A packet that comes last has its piece, or none where it waits.
-  fits_last : (before : Option Event) (reported : ℕ) (p : Packet) (next : Option Packet) (piece : List Event) →
-      Fits words before reported p next piece → Fits words before reported p None (piece_unless (waits p) piece)
-  fits_last before reported (packet.Sync taken priv address) next piece fits = fits
-  fits_last before reported (packet.Trap taken priv cause interrupt handler address tval) next piece fits = fits
-  fits_last before reported (packet.Support support) next piece fits = fits
-  fits_last before reported (packet.Address taken delta report.Plain) next piece fits =
-      (after_address before taken (aim reported delta) (settled_by next) piece fits, refl)
-  fits_last before reported (packet.Address taken delta report.Updiscon) next piece fits = fits
-  fits_last before reported (packet.Address taken delta report.Notify) next piece fits = fits
-  fits_last before reported (packet.Map taken) next piece fits = fits
+  fits_last : (mode : Mode) (before : Option Event) (reported : ℕ) (p : Packet) (next : Option Packet)
+      (piece : List Event) → Fits words mode before reported p next piece →
+      Fits words mode before reported p None (piece_unless (waits p) piece)
+  fits_last mode before reported (packet.Sync taken priv address) next piece fits = fits
+  fits_last mode before reported (packet.Trap taken priv cause interrupt handler address tval) next piece fits = fits
+  fits_last mode before reported (packet.Support support) next piece fits = fits
+  fits_last mode before reported (packet.Address taken delta report.Plain) next piece fits =
+      (after_address before taken (aim mode reported delta) (settled_by next) piece fits, refl)
+  fits_last mode before reported (packet.Address taken delta report.Updiscon) next piece fits = fits
+  fits_last mode before reported (packet.Address taken delta report.Notify) next piece fits = fits
+  fits_last mode before reported (packet.Map taken) next piece fits = fits
 
   last_begins : (waiting : Bool) (piece : List Event) (pieces : List (List Event)) →
       IsBeginning (piece_unless waiting piece ++ []) (piece ++ join pieces)
@@ -57,15 +61,16 @@ module _ (words : Words) where
   last_begins false piece pieces = record { rest = join pieces; is = sym (append_assoc piece [] (join pieces)) }
 
   -- The first packets have their settled pieces, with which the pieces of all begin.
-  pub pieces_front : (before : Option Event) (reported : ℕ) (packets more : List Packet) (pieces : List (List Event)) →
-      Pieces words before reported (packets ++ more) None pieces → Pieces words before reported packets None
-      (settled_pieces packets pieces) × IsBeginning (join (settled_pieces packets pieces)) (join pieces)
-  pieces_front before reported [] more pieces each = (tt, record { rest = join pieces; is = refl })
-  pieces_front before reported (p ∷ packets) more [] each = absurd each
-  pieces_front before reported (p ∷ []) more (piece ∷ pieces) each =
-      ((tt, fits_last before reported p (first more None) piece each.1, tt), last_begins (waits p) piece pieces)
-  pieces_front before reported (p ∷ q ∷ packets) more (piece ∷ pieces) each =
-      let rest = pieces_front (last_or before piece) (reported_after p reported piece) (q ∷ packets) more pieces
+  pub pieces_front : (mode : Mode) (before : Option Event) (reported : ℕ) (packets more : List Packet)
+      (pieces : List (List Event)) → Pieces words mode before reported (packets ++ more) None pieces →
+      Pieces words mode before reported packets None (settled_pieces packets pieces) ×
+      IsBeginning (join (settled_pieces packets pieces)) (join pieces)
+  pieces_front mode before reported [] more pieces each = (tt, record { rest = join pieces; is = refl })
+  pieces_front mode before reported (p ∷ packets) more [] each = absurd each
+  pieces_front mode before reported (p ∷ []) more (piece ∷ pieces) each =
+      ((tt, fits_last mode before reported p (first more None) piece each.1, tt), last_begins (waits p) piece pieces)
+  pieces_front mode before reported (p ∷ q ∷ packets) more (piece ∷ pieces) each =
+      let rest = pieces_front mode (last_or before piece) (reported_after p reported piece) (q ∷ packets) more pieces
       each.2 in
       let front = join (settled_pieces (q ∷ packets) pieces) in (
         (each.0, each.1, rest.0),
@@ -85,7 +90,7 @@ module _ (words : Words) where
       (all : Describes words (packets ++ more) log) → Describes words packets (join (settled_pieces packets all.pieces))
       × IsBeginning (join (settled_pieces packets all.pieces)) log
   front_describes packets more log all =
-      let rest = pieces_front None 0 packets more all.pieces all.each in
+      let rest = pieces_front (mode_of (packets ++ more)) None 0 packets more all.pieces all.each in
       let front = join (settled_pieces packets all.pieces) in
       let is : log ≡ front ++ rest.1.rest = all.whole ∙ rest.1.is in
       let legal = (follow_on_split words None front rest.1.rest (subst (Legal words) is all.legal)).0 in (
@@ -95,7 +100,7 @@ module _ (words : Words) where
           whole =
               refl;
           legal = legal;
-          each = rest.0;
+          each = (pieces_with words packets more None (settled_pieces packets all.pieces)).1 rest.0;
         },
         record { rest = rest.1.rest; is = is },
       )

@@ -7,6 +7,7 @@ pub mod Retraces
 pub mod WalkBound
 pub mod PassesFindWalks
 pub mod UniqueLemmas
+pub mod ModeTold
 pub mod ExtendingLemmas
 pub mod OnePacketMore
 pub mod AfterWaiting

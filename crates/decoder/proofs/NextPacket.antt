@@ -38,7 +38,7 @@ ending (p ∷ q ∷ packets) = more (ending (q ∷ packets))
 pub opens : (p : Packet) → IsOpen p → (admitted_first p ≡ Ok tt) × MayCome Unopened None p
 opens (packet.Sync taken priv address) is = absurd is
 opens (packet.Trap taken priv cause interrupt handler address tval) is = absurd is
-opens (packet.Support support.Open) is = (refl, refl)
+opens (packet.Support (support.Open mode)) is = (refl, refl)
 opens (packet.Support support.EndedRep) is = absurd is
 opens (packet.Support support.EndedNtr) is = absurd is
 opens (packet.Address taken delta report) is = absurd is
@@ -47,7 +47,7 @@ opens (packet.Map taken) is = absurd is
 pub opens_only : (p : Packet) → admitted_first p ≡ Ok tt → IsOpen p
 opens_only (packet.Sync taken priv address) admits = cc
 opens_only (packet.Trap taken priv cause interrupt handler address tval) admits = cc
-opens_only (packet.Support support.Open) admits = tt
+opens_only (packet.Support (support.Open mode)) admits = tt
 opens_only (packet.Support support.EndedRep) admits = cc
 opens_only (packet.Support support.EndedNtr) admits = cc
 opens_only (packet.Address taken delta report) admits = cc
@@ -78,8 +78,8 @@ pub follows : (closing : Bool) (q p : Packet) → MayCome (running_or_closed clo
     MayFollow q p
 follows closing q (packet.Sync taken priv address) comes = tt
 follows closing q (packet.Trap taken priv cause interrupt handler address tval) comes = tt
-follows true q (packet.Support support.Open) comes = cc
-follows false q (packet.Support support.Open) comes = cc
+follows true q (packet.Support (support.Open mode)) comes = cc
+follows false q (packet.Support (support.Open mode)) comes = cc
 follows closing q (packet.Support support.EndedRep) comes = sym (waits_for q) ∙ comes
 follows closing q (packet.Support support.EndedNtr) comes = tt
 follows closing q (packet.Address taken delta report) comes = tt
@@ -96,7 +96,7 @@ precedes q p admits comes = (running (is_closing_packet q) admits, follows (is_c
 pub comes_after : (q p : Packet) → MayFollow q p → MayCome Running (waiting_after (Some q)) p
 comes_after q (packet.Sync taken priv address) follows = tt
 comes_after q (packet.Trap taken priv cause interrupt handler address tval) follows = tt
-comes_after q (packet.Support support.Open) follows = absurd follows
+comes_after q (packet.Support (support.Open mode)) follows = absurd follows
 comes_after q (packet.Support support.EndedRep) follows = waits_for q ∙ follows
 comes_after q (packet.Support support.EndedNtr) follows = tt
 comes_after q (packet.Address taken delta report) follows = tt

@@ -18,7 +18,7 @@ use Rattle.decoder.specs.declared.fault.DecodeFault.TheVariants.{NotOpened}
 named_first : (p : Packet) (fault : DecodeFault) → IsNamed (admitted_first p) fault → (fault ≡ NotOpened) ↔ ¬ IsOpen p
 named_first (packet.Sync taken priv address) fault named = (λ is opens. opens, λ no. named)
 named_first (packet.Trap taken priv cause interrupt handler address tval) fault named = (λ is opens. opens, λ no. named)
-named_first (packet.Support support.Open) fault named =
+named_first (packet.Support (support.Open mode)) fault named =
     (λ is opens. subst (IsNamed (Ok tt)) is named, λ no. absurd (no tt))
 named_first (packet.Support support.EndedRep) fault named = (λ is opens. opens, λ no. named)
 named_first (packet.Support support.EndedNtr) fault named = (λ is opens. opens, λ no. named)

@@ -8,12 +8,15 @@ use Rattle.rvclass.specs.Words.{Words, IsProgram}
 use Rattle.legalpath.proofs.FollowOnLemmas.{follow_on_split, follow_on_join, last_or-append}
 use Rattle.legalpath.specs.Join.{join}
 use Rattle.legalpath.specs.Legal.{FollowOn, Legal}
+use Rattle.payload.specs.declared.mode.Mode.{Mode}
 use Rattle.payload.specs.declared.packet.Packet.{Packet}
 use Rattle.payload.specs.declared.packet.Packet.TheVariants as packet
 use Rattle.payload.specs.declared.packet.Report.TheVariants as report
+use Rattle.decoder.proofs.ModeTold.{pieces_with, fits_with}
 use Rattle.decoder.proofs.UniqueLemmas.{pieces_same}
 use Rattle.decoder.specs.Describes.{Describes}
 use Rattle.decoder.specs.Fits.{Fits}
+use Rattle.decoder.specs.ModeOf.{mode_of}
 use Rattle.decoder.specs.Order.{MayPrecede, Begins, first}
 use Rattle.decoder.specs.Pieces.{reported_after, reported_end, Pieces}
 use Rattle.decoder.specs.Settling.{waits}
@@ -28,32 +31,38 @@ first-append : (packets more : List Packet) (next : Option Packet) → first (pa
 first-append [] more next = refl
 first-append (p ∷ packets) more next = refl
 
-pub reported_end-append : (words : Words) (before : Option Event) (reported : ℕ) (packets more : List Packet)
-    (next : Option Packet) (pieces others : List (List Event)) → Pieces words before reported packets next pieces →
+pub reported_end-append : (words : Words) (mode : Mode) (before : Option Event) (reported : ℕ)
+    (packets more : List Packet) (next : Option Packet) (pieces others : List (List Event)) →
+    Pieces words mode before reported packets next pieces →
     reported_end reported (packets ++ more) (pieces ++ others) ≡ reported_end (reported_end reported packets pieces)
     more others
-reported_end-append words before reported [] more next [] others each = refl
-reported_end-append words before reported [] more next (piece ∷ pieces) others each = absurd each
-reported_end-append words before reported (p ∷ packets) more next [] others each = absurd each
-reported_end-append words before reported (p ∷ packets) more next (piece ∷ pieces) others each =
-    reported_end-append words (last_or before piece) (reported_after p reported piece) packets more next pieces others
-    each.2
+reported_end-append words mode before reported [] more next [] others each = refl
+reported_end-append words mode before reported [] more next (piece ∷ pieces) others each = absurd each
+reported_end-append words mode before reported (p ∷ packets) more next [] others each = absurd each
+reported_end-append words mode before reported (p ∷ packets) more next (piece ∷ pieces) others each =
+    reported_end-append words mode (last_or before piece) (reported_after p reported piece) packets more next pieces
+    others each.2
 
 pub begins_more : (p : Packet) (packets more : List Packet) → Begins (p ∷ packets) → Begins (p ∷ packets ++ more)
 begins_more p packets more begins = begins
 
-module _ (words : Words) where
+-- The last of the packets does not wait, and this one may come after it.
+abbrev pub Takes : Option Packet → Packet → Type 0
+Takes None p = Unit {0}
+Takes (Some q) p = (waits q ≡ false) × MayPrecede q (Some p)
+
+module _ (words : Words) (mode : Mode) where
   -- The pieces of more packets, taken apart.
   pub record Split (before : Option Event) (reported : ℕ) (packets more : List Packet) (next : Option Packet)
       (pieces : List (List Event)) : Type 0 where
     pub front : List (List Event)
     pub back : List (List Event)
     pub is : pieces ≡ front ++ back
-    pub early : Pieces words before reported packets (first more next) front
-    pub late : Pieces words (last_or before (join front)) (reported_end reported packets front) more next back
+    pub early : Pieces words mode before reported packets (first more next) front
+    pub late : Pieces words mode (last_or before (join front)) (reported_end reported packets front) more next back
 
   pub pieces_split : (before : Option Event) (reported : ℕ) (packets more : List Packet) (next : Option Packet)
-      (pieces : List (List Event)) → Pieces words before reported (packets ++ more) next pieces →
+      (pieces : List (List Event)) → Pieces words mode before reported (packets ++ more) next pieces →
       Split before reported packets more next pieces
   pieces_split before reported [] more next pieces each =
       record { front = []; back = pieces; is = refl; early = tt; late = each }
@@ -62,44 +71,39 @@ module _ (words : Words) where
       let rest = pieces_split (last_or before piece) (reported_after p reported piece) packets more next pieces
       each.2 in
       let follows = first-append packets more next in
-      let late = subst (λ b. Pieces words b (reported_end (reported_after p reported piece) packets rest.front) more
-      next rest.back) (sym (last_or-append before piece (join rest.front))) rest.late in
+      let late = subst (λ b. Pieces words mode b (reported_end (reported_after p reported piece) packets rest.front)
+      more next rest.back) (sym (last_or-append before piece (join rest.front))) rest.late in
       record {
         front = piece ∷ rest.front;
         back = rest.back;
         is = ap (λ l. piece ∷ l) rest.is;
         early = (
           subst (MayPrecede p) follows each.0,
-          subst (λ n. Fits words before reported p n piece) follows each.1,
+          subst (λ n. Fits words mode before reported p n piece) follows each.1,
           rest.early,
         );
         late = late;
       }
 
   pub pieces_join : (before : Option Event) (reported : ℕ) (packets more : List Packet) (next : Option Packet)
-      (pieces others : List (List Event)) → Pieces words before reported packets (first more next) pieces →
-      Pieces words (last_or before (join pieces)) (reported_end reported packets pieces) more next others →
-      Pieces words before reported (packets ++ more) next (pieces ++ others)
+      (pieces others : List (List Event)) → Pieces words mode before reported packets (first more next) pieces →
+      Pieces words mode (last_or before (join pieces)) (reported_end reported packets pieces) more next others →
+      Pieces words mode before reported (packets ++ more) next (pieces ++ others)
   pieces_join before reported [] more next [] others early late = late
   pieces_join before reported [] more next (piece ∷ pieces) others early late = absurd early
   pieces_join before reported (p ∷ packets) more next [] others early late = absurd early
   pieces_join before reported (p ∷ packets) more next (piece ∷ pieces) others early late =
       let follows = sym (first-append packets more next) in
-      let behind = subst (λ b. Pieces words b (reported_end (reported_after p reported piece) packets pieces) more next
-      others) (last_or-append before piece (join pieces)) late in (
+      let behind = subst (λ b. Pieces words mode b (reported_end (reported_after p reported piece) packets pieces) more
+      next others) (last_or-append before piece (join pieces)) late in (
         subst (MayPrecede p) follows early.0,
-        subst (λ n. Fits words before reported p n piece) follows early.1,
+        subst (λ n. Fits words mode before reported p n piece) follows early.1,
         pieces_join (last_or before piece) (reported_after p reported piece) packets more next pieces others early.2
             behind,
       )
 
-  -- The last of the packets does not wait, and this one may come after it.
-  abbrev pub Takes : Option Packet → Packet → Type 0
-  Takes None p = Unit {0}
-  Takes (Some q) p = (waits q ≡ false) × MayPrecede q (Some p)
-
   settled_fits : (before : Option Event) (reported : ℕ) (q : Packet) (next other : Option Packet) (piece : List Event) →
-      waits q ≡ false → Fits words before reported q next piece → Fits words before reported q other piece
+      waits q ≡ false → Fits words mode before reported q next piece → Fits words mode before reported q other piece
   settled_fits before reported (packet.Sync taken priv address) next other piece settled fits = fits
   settled_fits before reported (packet.Trap taken priv cause interrupt handler address tval) next other piece settled
       fits = fits
@@ -111,8 +115,8 @@ module _ (words : Words) where
 
   -- Where the last packet does not wait, all have the same pieces before this packet and before none.
   pub next_known : (before : Option Event) (reported : ℕ) (packets : List Packet) (p : Packet)
-      (pieces : List (List Event)) → Takes (last_or None packets) p → Pieces words before reported packets None pieces →
-      Pieces words before reported packets (Some p) pieces
+      (pieces : List (List Event)) → Takes (last_or None packets) p → Pieces words mode before reported packets None
+      pieces → Pieces words mode before reported packets (Some p) pieces
   next_known before reported [] p [] takes each = tt
   next_known before reported [] p (piece ∷ pieces) takes each = absurd each
   next_known before reported (q ∷ packets) p [] takes each = absurd each
@@ -127,8 +131,8 @@ module _ (words : Words) where
   )
 
   pub next_unknown : (before : Option Event) (reported : ℕ) (packets : List Packet) (p : Packet)
-      (pieces : List (List Event)) → Takes (last_or None packets) p → Pieces words before reported packets (Some p)
-      pieces → Pieces words before reported packets None pieces
+      (pieces : List (List Event)) → Takes (last_or None packets) p → Pieces words mode before reported packets (Some p)
+      pieces → Pieces words mode before reported packets None pieces
   next_unknown before reported [] p [] takes each = tt
   next_unknown before reported [] p (piece ∷ pieces) takes each = absurd each
   next_unknown before reported (q ∷ packets) p [] takes each = absurd each
@@ -142,21 +146,29 @@ module _ (words : Words) where
         takes each.2,
   )
 
+module _ (words : Words) (mode : Mode) where
   -- Packets of which the last does not wait describe, with one more and its piece, the log that goes on.
   abbrev pub feed_more : (packets : List Packet) (p : Packet) (log piece : List Event) →
-      (d : Describes words packets log) → Begins (packets ++ p ∷ []) → Takes (last_or None packets) p →
-      Fits words (last_or None log) (reported_end 0 packets d.pieces) p None piece →
+      (d : Describes words packets log) → mode ≡ mode_of packets → Begins (packets ++ p ∷ []) →
+      Takes (last_or None packets) p →
+      Fits words mode (last_or None log) (reported_end 0 packets d.pieces) p None piece →
       FollowOn words (last_or None log) piece → Describes words (packets ++ p ∷ []) (log ++ piece)
-  feed_more packets p log piece d begins takes fits follows =
-      let known = next_known None 0 packets p d.pieces takes d.each in
-      let last = subst (λ l. Fits words (last_or None l) (reported_end 0 packets d.pieces) p None piece) d.whole fits in
+  feed_more packets p log piece d told begins takes fits follows =
+      let after = mode_of (packets ++ p ∷ []) in
+      let r = reported_end 0 packets d.pieces in
+      let each = (pieces_with words packets (p ∷ []) None d.pieces).0 d.each in
+      let known = next_known words after None 0 packets p d.pieces takes each in
+      let here = (fits_with words packets p (last_or None log) r None piece begins).0
+      (subst (λ m. Fits words m (last_or None log) r p None piece) told fits) in
+      let last = subst (λ l. Fits words after (last_or None l) r p None piece) d.whole here in
       record {
         begins = begins;
         pieces = d.pieces ++ piece ∷ [];
         whole = ap (λ l. l ++ piece) d.whole ∙ ap (λ l. join d.pieces ++ l) (sym (append-nil piece))
             ∙ sym (join-append d.pieces (piece ∷ []));
         legal = follow_on_join words None log piece d.legal follows;
-        each = pieces_join None 0 packets (p ∷ []) None d.pieces (piece ∷ []) known (tt, last, tt);
+        each =
+            pieces_join words after None 0 packets (p ∷ []) None d.pieces (piece ∷ []) known (tt, last, tt);
       }
 
   -- What one packet more adds to the log.
@@ -164,36 +176,43 @@ module _ (words : Words) where
       (other : List Event) : Type 0 where
     pub piece : List Event
     pub is : other ≡ log ++ piece
-    pub fits : Fits words (last_or None log) (reported_end 0 packets d.pieces) p None piece
+    pub fits : Fits words mode (last_or None log) (reported_end 0 packets d.pieces) p None piece
     pub follows : FollowOn words (last_or None log) piece
 
   -- And every log that they describe is made so.
   pub feed_only : IsProgram words → (packets : List Packet) (p : Packet) (log other : List Event) →
-      (d : Describes words packets log) → Takes (last_or None packets) p → Describes words (packets ++ p ∷ []) other →
-      Added packets p log d other
-  feed_only program packets p log other d takes all =
-      let parts = pieces_split None 0 packets (p ∷ []) None all.pieces all.each in
-      let early = next_unknown None 0 packets p parts.front takes parts.early in
+      (d : Describes words packets log) → mode ≡ mode_of packets → Takes (last_or None packets) p →
+      Describes words (packets ++ p ∷ []) other → Added packets p log d other
+  feed_only program packets p log other d told takes all =
+      let parts = pieces_split words (mode_of (packets ++ p ∷ [])) None 0 packets (p ∷ []) None all.pieces all.each in
+      let known = next_unknown words (mode_of (packets ++ p ∷ [])) None 0 packets p parts.front takes parts.early in
+      let early = (pieces_with words packets (p ∷ []) None parts.front).1 known in
       let whole = all.whole ∙ ap join parts.is ∙ join-append parts.front parts.back in
       let follows =
       follow_on_split words None (join parts.front) (join parts.back) (subst (Legal words) whole all.legal) in
-      let same : d.pieces ≡ parts.front = pieces_same words program None 0 packets None d.pieces parts.front d.each
-      early (subst (Legal words) d.whole d.legal) follows.0 in
+      let same : d.pieces ≡ parts.front = pieces_same words program (mode_of packets) None 0 packets None d.pieces
+      parts.front d.each early (subst (Legal words) d.whole d.legal) follows.0 in
       let logs : log ≡ join parts.front = d.whole ∙ ap join same in
       last parts.back whole logs same parts.late follows.1
     where
       last : {front : List (List Event)} (back : List (List Event)) → other ≡ join front ++ join back →
-          log ≡ join front → d.pieces ≡ front → Pieces words (last_or None (join front)) (reported_end 0 packets front)
-          (p ∷ []) None back → FollowOn words (last_or None (join front)) (join back) → Added packets p log d other
+          log ≡ join front → d.pieces ≡ front → Pieces words (mode_of (packets ++ p ∷ [])) (last_or None (join front))
+          (reported_end 0 packets front) (p ∷ []) None back → FollowOn words (last_or None (join front)) (join back) →
+          Added packets p log d other
       last [] whole logs same late follows = absurd late
       last {front} (piece ∷ []) whole logs same late follows =
           let ran = subst (FollowOn words (last_or None (join front))) (append-nil piece) follows in
-          let fits = subst (λ l. Fits words (last_or None l) (reported_end 0 packets front) p None piece) (sym logs)
-          late.1 in
+          let here = (fits_with words packets p (last_or None (join front)) (reported_end 0 packets front) None piece
+          all.begins).1 late.1 in
+          let there = subst (λ m. Fits words m (last_or None (join front)) (reported_end 0 packets front) p None piece)
+          (sym told) here in
+          let fits = subst (λ l. Fits words mode (last_or None l) (reported_end 0 packets front) p None piece)
+          (sym logs) there in
           record {
             piece = piece;
             is = whole ∙ ap (λ l. l ++ (piece ++ [])) (sym logs) ∙ ap (λ l. log ++ l) (append-nil piece);
-            fits = subst (λ x. Fits words (last_or None log) (reported_end 0 packets x) p None piece) (sym same) fits;
+            fits = subst (λ x. Fits words mode (last_or None log) (reported_end 0 packets x) p None piece) (sym same)
+                fits;
             follows = subst (λ l. FollowOn words (last_or None l) piece) (sym logs) ran;
           }
       last (piece ∷ other ∷ pieces) whole logs same late follows = absurd late.2

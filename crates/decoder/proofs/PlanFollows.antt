@@ -6,7 +6,8 @@ use Rattle.retire.specs.declared.event.Event.{Event}
 use Rattle.rvclass.specs.Words.{Words, IsProgram}
 use Rattle.legalpath.specs.LastPlace.{last_place}
 use Rattle.legalpath.specs.Legal.{FollowOn}
-use Rattle.payload.specs.Difference.{aim}
+use Rattle.payload.specs.AddressField.{aim}
+use Rattle.payload.specs.declared.mode.Mode.{Mode}
 use Rattle.payload.specs.declared.packet.Packet.{Packet}
 use Rattle.decoder.proofs.StretchEnds.{stretch_last-gives, stretch_place-gives, right_after}
 use Rattle.decoder.proofs.UniqueLemmas.{address_same}
@@ -20,20 +21,20 @@ use Rattle.decoder.specs.declared.stretch.Stretch.{Stretch}
 use Rattle.decoder.specs.declared.settling.Waiting.{Waiting}
 
 -- What waits has one piece at most.
-waiting_same : (words : Words) → IsProgram words → (before : Option Event) (reported : ℕ) (waiting : Option Waiting)
-    (p : Packet) (piece other : List Event) → FitsWaiting words before reported waiting p piece →
-    FitsWaiting words before reported waiting p other → FollowOn words before piece → FollowOn words before other →
-    piece ≡ other
-waiting_same words program before reported None p piece other fits fits' follows follows' = fits ∙ sym fits'
-waiting_same words program before reported (Some waiting) p piece other fits fits' follows follows' =
-    address_same words program before waiting.outcomes (aim reported waiting.delta) (settled_by (Some p)) piece other
-    fits fits' follows follows'
+waiting_same : (words : Words) → IsProgram words → (mode : Mode) (before : Option Event) (reported : ℕ)
+    (waiting : Option Waiting) (p : Packet) (piece other : List Event) →
+    FitsWaiting words mode before reported waiting p piece → FitsWaiting words mode before reported waiting p other →
+    FollowOn words before piece → FollowOn words before other → piece ≡ other
+waiting_same words program mode before reported None p piece other fits fits' follows follows' = fits ∙ sym fits'
+waiting_same words program mode before reported (Some waiting) p piece other fits fits' follows follows' =
+    address_same words program before waiting.outcomes (aim mode reported waiting.delta) (settled_by (Some p)) piece
+    other fits fits' follows follows'
 
 module _ (words : Words) (d : Decoder) (p : Packet) where
   pub plans : (settled own : Stretch) (r : Result Unit DecodeFault) → admitted d.phase p ≡ Ok tt →
-      MayCome d.phase d.waiting p → Suits words d.last (FitsWaiting words d.last d.reported d.waiting p) settled →
-      OnOk r (Suits words (stretch_last d.last settled)
-      (Fits words (stretch_last d.last settled) (stretch_place d.reported settled) p None) own) →
+      MayCome d.phase d.waiting p → Suits words d.last (FitsWaiting words d.mode d.last d.reported d.waiting p) settled
+      → OnOk r (Suits words (stretch_last d.last settled)
+      (Fits words d.mode (stretch_last d.last settled) (stretch_place d.reported settled) p None) own) →
       OnOk r (Plans words d p settled own)
   plans settled own (Err fault) admits comes first second = tt
   plans settled own (Ok done) admits comes first second =
@@ -48,21 +49,22 @@ module _ (words : Words) (d : Decoder) (p : Packet) where
             let one = first.fits right in
             let two = second.fits (subst (RightBefore words) (sym last)
             (right_after words d.last first.events right one.1)) in
-            let fits = subst (λ l. Fits words l (stretch_place d.reported settled) p None second.events) last two.0 in
+            let fits = subst (λ l. Fits words d.mode l (stretch_place d.reported settled) p None second.events) last
+            two.0 in
             record {
               admits = admits;
               comes = comes;
               settles = one.0;
               settled_follows = one.1;
-              fits = subst (λ r. Fits words (last_or d.last first.events) r p None second.events) at fits;
+              fits = subst (λ r. Fits words d.mode (last_or d.last first.events) r p None second.events) at fits;
               follows = subst (λ l. FollowOn words l second.events) last two.1;
             };
       }
 
   pub plans_none : IsProgram words → (settled : Stretch) (r : Result Unit DecodeFault) → admitted d.phase p ≡ Ok tt →
-      Suits words d.last (FitsWaiting words d.last d.reported d.waiting p) settled →
+      Suits words d.last (FitsWaiting words d.mode d.last d.reported d.waiting p) settled →
       IfErr r (SuitsNone words (stretch_last d.last settled)
-      (Fits words (stretch_last d.last settled) (stretch_place d.reported settled) p None)) →
+      (Fits words d.mode (stretch_last d.last settled) (stretch_place d.reported settled) p None)) →
       IfErr r (PlansNone words d p)
   plans_none program settled (Ok done) admits first none = tt
   plans_none program settled (Err fault) admits first none =
@@ -72,13 +74,13 @@ module _ (words : Words) (d : Decoder) (p : Packet) where
         named = subst (λ a. IsNamed a fault) (sym admits) none.named;
         none = λ right piece own can.
             let one = first.fits right in
-            let same : piece ≡ first.events = waiting_same words program d.last d.reported d.waiting p piece
+            let same : piece ≡ first.events = waiting_same words program d.mode d.last d.reported d.waiting p piece
             first.events can.settles one.0 can.settled_follows one.1 in
             let before : last_or d.last piece ≡ stretch_last d.last settled = ap (last_or d.last) same ∙ sym last in
             let reported : last_place d.reported piece ≡ stretch_place d.reported settled =
             ap (last_place d.reported) same ∙ sym at in
-            let fits = subst (λ l. Fits words l (last_place d.reported piece) p None own) before can.fits in
+            let fits = subst (λ l. Fits words d.mode l (last_place d.reported piece) p None own) before can.fits in
             none.none (subst (RightBefore words) (sym last) (right_after words d.last first.events right one.1)) own
-            (subst (λ r. Fits words (stretch_last d.last settled) r p None own) reported fits)
+            (subst (λ r. Fits words d.mode (stretch_last d.last settled) r p None own) reported fits)
             (subst (λ l. FollowOn words l own) before can.follows);
       }

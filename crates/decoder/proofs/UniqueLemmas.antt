@@ -11,12 +11,14 @@ use Rattle.legalpath.proofs.StepLemmas.{same_type}
 use Rattle.legalpath.specs.Join.{join}
 use Rattle.legalpath.specs.Legal.{FollowOn, Legal}
 use Rattle.legalpath.specs.Right.{Right}
-use Rattle.payload.specs.Difference.{aim}
+use Rattle.payload.specs.AddressField.{aim}
+use Rattle.payload.specs.declared.mode.Mode.{Mode}
 use Rattle.payload.specs.declared.packet.Packet.{Packet}
 use Rattle.payload.specs.declared.packet.Packet.TheVariants as packet
 use Rattle.decoder.proofs.OneWalk.{walk_same}
 use Rattle.decoder.specs.Describes.{Describes}
 use Rattle.decoder.specs.Fits.{IsReported, FitsTrap, FitsAddress, Fits}
+use Rattle.decoder.specs.ModeOf.{mode_of}
 use Rattle.decoder.specs.Order.{first}
 use Rattle.decoder.specs.Pieces.{reported_after, Pieces}
 use Rattle.decoder.specs.Settling.{AddressKind, Explicit, Target, Unknown, settled}
@@ -73,42 +75,44 @@ module _ (words : Words) (program : IsProgram words) where
   address_same before taken addr Unknown piece other fits fits' follows follows' = fits.1 ∙ sym fits'.1
 
   -- A packet has one piece at most.
-  pub fits_same : (before : Option Event) (reported : ℕ) (p : Packet) (next : Option Packet)
-      (piece other : List Event) → Fits words before reported p next piece → Fits words before reported p next other →
-      FollowOn words before piece → FollowOn words before other → piece ≡ other
-  fits_same before reported (packet.Sync taken priv address) next piece other (event, is, rep) (event', is', rep')
+  pub fits_same : (mode : Mode) (before : Option Event) (reported : ℕ) (p : Packet) (next : Option Packet)
+      (piece other : List Event) → Fits words mode before reported p next piece →
+      Fits words mode before reported p next other → FollowOn words before piece → FollowOn words before other →
+      piece ≡ other
+  fits_same mode before reported (packet.Sync taken priv address) next piece other (event, is, rep) (event', is', rep')
       follows
       follows' =
       sync_same before taken priv address event event' piece other is is' rep rep' follows follows'
-  fits_same before reported (packet.Trap taken priv cause interrupt handler address tval) next piece other fits fits'
-      follows follows' =
+  fits_same mode before reported (packet.Trap taken priv cause interrupt handler address tval) next piece other
+      fits fits' follows follows' =
       trap_same before taken priv cause interrupt handler address tval piece other fits fits' follows follows'
-  fits_same before reported (packet.Support support) next piece other fits fits' follows follows' = fits ∙ sym fits'
-  fits_same before reported (packet.Address taken delta report) next piece other fits fits' follows follows' =
-      address_same before taken (aim reported delta) (settled report next) piece other fits fits' follows follows'
-  fits_same before reported (packet.Map taken) next piece other fits fits' follows follows' =
+  fits_same mode before reported (packet.Support support) next piece other fits fits' follows follows' =
+      fits ∙ sym fits'
+  fits_same mode before reported (packet.Address taken delta report) next piece other fits fits' follows follows' =
+      address_same before taken (aim mode reported delta) (settled report next) piece other fits fits' follows follows'
+  fits_same mode before reported (packet.Map taken) next piece other fits fits' follows follows' =
       walk_same words program before taken AtBranch piece other fits fits' follows follows'
 
   -- Packets have one list of pieces at most.
-  pub pieces_same : (before : Option Event) (reported : ℕ) (packets : List Packet) (next : Option Packet)
-      (pieces others : List (List Event)) → Pieces words before reported packets next pieces →
-      Pieces words before reported packets next others → FollowOn words before (join pieces) →
+  pub pieces_same : (mode : Mode) (before : Option Event) (reported : ℕ) (packets : List Packet) (next : Option Packet)
+      (pieces others : List (List Event)) → Pieces words mode before reported packets next pieces →
+      Pieces words mode before reported packets next others → FollowOn words before (join pieces) →
       FollowOn words before (join others) → pieces ≡ others
-  pieces_same before reported [] next [] [] each each' follows follows' = refl
-  pieces_same before reported [] next [] (other ∷ others) each each' follows follows' = absurd each'
-  pieces_same before reported [] next (piece ∷ pieces) others each each' follows follows' = absurd each
-  pieces_same before reported (p ∷ packets) next [] others each each' follows follows' = absurd each
-  pieces_same before reported (p ∷ packets) next (piece ∷ pieces) [] each each' follows follows' = absurd each'
-  pieces_same before reported (p ∷ packets) next (piece ∷ pieces) (other ∷ others) each each' follows follows' =
+  pieces_same mode before reported [] next [] [] each each' follows follows' = refl
+  pieces_same mode before reported [] next [] (other ∷ others) each each' follows follows' = absurd each'
+  pieces_same mode before reported [] next (piece ∷ pieces) others each each' follows follows' = absurd each
+  pieces_same mode before reported (p ∷ packets) next [] others each each' follows follows' = absurd each
+  pieces_same mode before reported (p ∷ packets) next (piece ∷ pieces) [] each each' follows follows' = absurd each'
+  pieces_same mode before reported (p ∷ packets) next (piece ∷ pieces) (other ∷ others) each each' follows follows' =
       let parts = follow_on_split words before piece (join pieces) follows in
       let parts' = follow_on_split words before other (join others) follows' in
-      let one : piece ≡ other = fits_same before reported p (first packets next) piece other each.1 each'.1 parts.0
+      let one : piece ≡ other = fits_same mode before reported p (first packets next) piece other each.1 each'.1 parts.0
       parts'.0 in
-      let later = subst (λ x. Pieces words (last_or before x) (reported_after p reported x) packets next others)
+      let later = subst (λ x. Pieces words mode (last_or before x) (reported_after p reported x) packets next others)
       (sym one) each'.2 in
       let ran = subst (λ x. FollowOn words (last_or before x) (join others)) (sym one) parts'.1 in
-      let rest : pieces ≡ others = pieces_same (last_or before piece) (reported_after p reported piece) packets next
-      pieces others each.2 later parts.1 ran in
+      let rest : pieces ≡ others = pieces_same mode (last_or before piece) (reported_after p reported piece) packets
+      next pieces others each.2 later parts.1 ran in
       cc
 
   pub one_log : (packets : List Packet) (log other : List Event) → Describes words packets log →
@@ -116,5 +120,5 @@ module _ (words : Words) (program : IsProgram words) where
   one_log packets log other one two =
       let follows = subst (Legal words) one.whole one.legal in
       let follows' = subst (Legal words) two.whole two.legal in
-      one.whole ∙ ap join (pieces_same None 0 packets None one.pieces two.pieces one.each two.each follows follows')
-      ∙ sym two.whole
+      one.whole ∙ ap join (pieces_same (mode_of packets) None 0 packets None one.pieces two.pieces one.each two.each
+      follows follows') ∙ sym two.whole

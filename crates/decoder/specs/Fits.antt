@@ -5,7 +5,8 @@ use Rattle.retire.specs.declared.event.Event.{Event}
 use Rattle.retire.specs.declared.event.Event.TheVariants.{Retire, Trap}
 use Rattle.rvclass.specs.Words.{Words}
 use Rattle.legalpath.specs.Discontinuity.{is_discontinuity}
-use Rattle.payload.specs.Difference.{aim}
+use Rattle.payload.specs.AddressField.{aim}
+use Rattle.payload.specs.declared.mode.Mode.{Mode}
 use Rattle.payload.specs.declared.packet.Packet.{Packet}
 use Rattle.payload.specs.declared.packet.Packet.TheVariants as packet
 use Rattle.decoder.specs.Settling.{AddressKind, Explicit, Target, Unknown, settled}
@@ -50,15 +51,15 @@ FitsAddress words before taken addr Explicit piece = IsWalkFrom words before tak
 FitsAddress words before taken addr Target piece = IsWalkFrom words before taken (AtTarget addr) piece
 FitsAddress words before taken addr Unknown piece = AfterRetirement before × (piece ≡ [])
 
--- The events of a packet, after this event and this last reported address, and before this packet. A
--- support packet has none.
-abbrev pub Fits : Words → Option Event → ℕ → Packet → Option Packet → List Event → Type 0
-Fits words before reported (packet.Sync taken priv address) next piece =
+-- The events of a packet of a trace in this mode, after this event and this last reported address, and before this
+-- packet. A support packet has none.
+abbrev pub Fits : Words → Mode → Option Event → ℕ → Packet → Option Packet → List Event → Type 0
+Fits words mode before reported (packet.Sync taken priv address) next piece =
     FitsSync taken priv address piece
-Fits words before reported (packet.Trap taken priv cause interrupt handler address tval) next piece =
+Fits words mode before reported (packet.Trap taken priv cause interrupt handler address tval) next piece =
     FitsTrap words before taken priv cause interrupt handler address tval piece
-Fits words before reported (packet.Support support) next piece = piece ≡ []
-Fits words before reported (packet.Address taken delta report) next piece =
-    FitsAddress words before taken (aim reported delta) (settled report next) piece
-Fits words before reported (packet.Map taken) next piece =
+Fits words mode before reported (packet.Support support) next piece = piece ≡ []
+Fits words mode before reported (packet.Address taken delta report) next piece =
+    FitsAddress words before taken (aim mode reported delta) (settled report next) piece
+Fits words mode before reported (packet.Map taken) next piece =
     IsWalkFrom words before taken AtBranch piece

@@ -2,6 +2,7 @@ pub mod Walk
 pub mod Settling
 pub mod Fits
 pub mod Order
+pub mod ModeOf
 pub mod Pieces
 pub mod Describes
 pub mod SettledPieces

@@ -9,7 +9,7 @@ use Rattle.decoder.specs.Settling.{waits}
 -- The support packet that opens a trace comes nowhere but first, and the one that tells that the last
 -- instruction was reported follows an address packet with plain bits.
 abbrev pub MayFollow : Packet → Packet → Type 0
-MayFollow before (packet.Support support.Open) = ⊥
+MayFollow before (packet.Support (support.Open mode)) = ⊥
 MayFollow before (packet.Support support.EndedRep) = waits before ≡ true
 MayFollow before other = Unit {0}
 
@@ -25,7 +25,7 @@ first (packet ∷ packets) next = Some packet
 
 -- The packet opens a trace.
 abbrev pub IsOpen : Packet → Type 0
-IsOpen (packet.Support support.Open) = Unit {0}
+IsOpen (packet.Support (support.Open mode)) = Unit {0}
 IsOpen other = ⊥
 
 -- The first packet, if there is one, opens the trace.

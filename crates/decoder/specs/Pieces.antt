@@ -4,6 +4,7 @@ use Rattle.std.specs.List.{last_or}
 use Rattle.retire.specs.declared.event.Event.{Event}
 use Rattle.rvclass.specs.Words.{Words}
 use Rattle.legalpath.specs.LastPlace.{last_place}
+use Rattle.payload.specs.declared.mode.Mode.{Mode}
 use Rattle.payload.specs.declared.packet.Packet.{Packet}
 use Rattle.payload.specs.declared.packet.Packet.TheVariants as packet
 use Rattle.decoder.specs.Fits.{Fits}
@@ -15,15 +16,15 @@ abbrev pub reported_after : Packet → ℕ → List Event → ℕ
 reported_after (packet.Map outcomes) reported piece = reported
 reported_after other reported piece = last_place reported piece
 
--- Each packet has its piece, in order. The first comes after this event and this last reported
--- address, the last before this packet.
-abbrev pub Pieces : Words → Option Event → ℕ → List Packet → Option Packet → List (List Event) → Type 0
-Pieces words before reported [] next [] = Unit {0}
-Pieces words before reported [] next (piece ∷ pieces) = ⊥
-Pieces words before reported (packet ∷ packets) next [] = ⊥
-Pieces words before reported (packet ∷ packets) next (piece ∷ pieces) =
-    MayPrecede packet (first packets next) × Fits words before reported packet (first packets next) piece ×
-    Pieces words (last_or before piece) (reported_after packet reported piece) packets next pieces
+-- Each packet of a trace in this mode has its piece, in order. The first comes after this event and this last
+-- reported address, the last before this packet.
+abbrev pub Pieces : Words → Mode → Option Event → ℕ → List Packet → Option Packet → List (List Event) → Type 0
+Pieces words mode before reported [] next [] = Unit {0}
+Pieces words mode before reported [] next (piece ∷ pieces) = ⊥
+Pieces words mode before reported (packet ∷ packets) next [] = ⊥
+Pieces words mode before reported (packet ∷ packets) next (piece ∷ pieces) =
+    MayPrecede packet (first packets next) × Fits words mode before reported packet (first packets next) piece ×
+    Pieces words mode (last_or before piece) (reported_after packet reported piece) packets next pieces
 
 -- The last reported address after these packets with these pieces.
 abbrev pub reported_end : ℕ → List Packet → List (List Event) → ℕ

@@ -8,6 +8,7 @@ use Rattle.payload.specs.declared.packet.Packet.{Packet}
 use Rattle.payload.specs.declared.packet.Packet.TheVariants as packet
 use Rattle.payload.specs.declared.packet.Report.TheVariants as report
 use Rattle.decoder.specs.Describes.{Describes}
+use Rattle.decoder.specs.ModeOf.{mode_of}
 use Rattle.decoder.specs.Pieces.{reported_end}
 use Rattle.decoder.specs.declared.decoding.Decoder.{Decoder}
 use Rattle.decoder.specs.declared.decoding.Phase.{Phase}
@@ -36,4 +37,5 @@ pub record Stands (words : Words) (packets : List Packet) (log : List Event) (de
   pub phase : decoder.phase ≡ phase_after (last_or None packets)
   pub waiting : decoder.waiting ≡ waiting_after (last_or None packets)
   pub last : decoder.last ≡ last_or None log
+  pub mode : decoder.mode ≡ mode_of packets
   pub reported : decoder.reported ≡ reported_end 0 packets described.pieces

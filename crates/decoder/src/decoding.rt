@@ -11,7 +11,7 @@ ghost use Rattle.decoder.specs.Describes.{Describes};
 ghost use Rattle.decoder.specs.Order.{IsOpen};
 ghost use Rattle.decoder.specs.steps.Stretches.{stretch_count, Suits, SuitsNone};
 ghost use Rattle.decoder.specs.steps.Planning.{MayCome, FitsWaiting, Plans, PlansNone, admitted, decoder_after};
-ghost use Rattle.decoder.specs.steps.Planning.{reported_past};
+ghost use Rattle.decoder.specs.steps.Planning.{mode_past, reported_past};
 ghost use Rattle.decoder.specs.Stands.{Stands, phase_after, waiting_after};
 ghost use Rattle.decoder.specs.declared.fault.DecodeFault.TheVariants.{NotOpened, AfterClose, Memory};
 
@@ -19,7 +19,7 @@ use crate::fault::DecodeFault;
 use crate::settling::{Waiting, own, settle};
 use crate::stretch::Stretch;
 use crate::walking::program_kept;
-use payload::{Packet, Report, Support};
+use payload::{Mode, Packet, Report, Support};
 use retire::Event;
 use rvclass::Program;
 use std::alloc::Allocator;
@@ -38,12 +38,14 @@ enum Phase {
 /// A decoder of one hart's trace: it takes the packets in their order, and adds to a log the events that they describe.
 ///
 /// An address packet with plain bits is not settled before the next packet, so the events of such a packet come with
-/// the one that follows it. The events of all other packets come at once.
+/// the one that follows it. The events of all other packets come at once. What address fields hold, the packet that
+/// opens the trace tells.
 #[derive(Clone, Copy, Debug)]
 pub struct Decoder {
     phase: Phase,
     waiting: Option<Waiting>,
     last: Option<Event>,
+    mode: Mode,
     reported: u64,
 }
 
@@ -75,6 +77,16 @@ fn waiting_after(packet: &Packet) -> Option<Waiting>
     }
 }
 
+/// The mode after a packet: the one that it tells, where it opens a trace, or else this one.
+fn mode_past(packet: &Packet, mode: Mode) -> Mode
+    ensures { result ≡ mode_past packet.now mode }
+{
+    match packet {
+        Packet::Support(Support::Open(told)) => *told,
+        _ => mode,
+    }
+}
+
 /// The last reported address after a packet, where this is the place of its last event.
 fn reported_past(packet: &Packet, reported: u64, at: u64) -> u64
     ensures { result ≡ reported_past packet.now reported at }
@@ -89,7 +101,7 @@ fn reported_past(packet: &Packet, reported: u64, at: u64) -> u64
 fn is_open(packet: &Packet) -> bool
     ensures { IsTrue result ↔ IsOpen packet.now }
 {
-    matches!(packet, Packet::Support(Support::Open))
+    matches!(packet, Packet::Support(Support::Open(_)))
 }
 
 impl Decoder {
@@ -101,6 +113,7 @@ impl Decoder {
             phase: Phase::Unopened,
             waiting: None,
             last: None,
+            mode: Mode::Differential,
             reported: 0,
         }
     }
@@ -188,7 +201,7 @@ impl Decoder {
         }
         let last = first.last(&self.last);
         let reported = first.place(self.reported);
-        own(program, &last, reported, packet, second)
+        own(program, self.mode, &last, reported, packet, second)
     }
 
     /// Tests that the packet comes neither before the one that opens the trace nor after the one that closes it.
@@ -216,7 +229,7 @@ impl Decoder {
         ensures { IsTrue result ↔ MayCome self.now.phase self.now.waiting packet.now }
     {
         match packet {
-            Packet::Support(Support::Open) => self.phase == Phase::Unopened,
+            Packet::Support(Support::Open(_)) => self.phase == Phase::Unopened,
             Packet::Support(Support::EndedRep) => self.waiting.is_some(),
             _ => true,
         }
@@ -231,15 +244,27 @@ impl Decoder {
         stretch: &mut Stretch,
     ) -> Result<(), DecodeFault>
         ensures found { OnOk result (Suits (words_of program.now) self.now.last
-            (FitsWaiting (words_of program.now) self.now.last self.now.reported self.now.waiting packet.now)
+            (FitsWaiting (words_of program.now) self.now.mode self.now.last self.now.reported self.now.waiting
+            packet.now)
             stretch.new) }
         ensures none { IfErr result (λ fault. SuitsNone (words_of program.now) self.now.last
-            (FitsWaiting (words_of program.now) self.now.last self.now.reported self.now.waiting packet.now)
+            (FitsWaiting (words_of program.now) self.now.mode self.now.last self.now.reported self.now.waiting
+            packet.now)
             fault) }
         ensures short { OnOk result (stretch_count stretch.new ≤ 32 * (length program.now.bytes / 2)) }
     {
         match &self.waiting {
-            Some(waiting) => settle(program, &self.last, self.reported, waiting, packet, stretch),
+            Some(waiting) => {
+                let addr = self.mode.aim(self.reported, waiting.delta);
+                settle(
+                    program,
+                    &self.last,
+                    &waiting.outcomes,
+                    addr,
+                    packet,
+                    stretch,
+                )
+            }
             None => {
                 *stretch = Stretch::Nothing;
                 Ok(())
@@ -257,6 +282,7 @@ impl Decoder {
             phase: phase_after(packet),
             waiting: waiting_after(packet),
             last: own.last(&settled.last(&self.last)),
+            mode: mode_past(packet, self.mode),
             reported: reported_past(packet, reported, own.place(reported)),
         }
     }

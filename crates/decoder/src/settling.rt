@@ -4,8 +4,7 @@ ghost use Rattle.std.specs.Prelude.{◌≡◌, ◌+◌, ◌*◌, ◌/◌, ◌≤
 ghost use Rattle.rvclass.specs.Fetch.{words_of};
 ghost use Rattle.decoder.specs.Fits.{Fits, FitsAddress, FitsSync};
 ghost use Rattle.decoder.specs.steps.Stretches.{Suits, SuitsNone, stretch_count};
-ghost use Rattle.decoder.specs.steps.Planning.{FitsWaiting};
-ghost use Rattle.decoder.specs.Settling.{makes_explicit, settled};
+ghost use Rattle.decoder.specs.Settling.{makes_explicit, settled, settled_by};
 ghost use Rattle.decoder.specs.Walk.{IsWalkFrom};
 ghost use Rattle.decoder.specs.steps.Walks.{end_of};
 
@@ -14,7 +13,7 @@ use crate::reporting::{Cause, Told, reported, start, trap};
 use crate::stepping::Goal;
 use crate::stretch::{MeasuredWalk, Stretch};
 use crate::walking::measure;
-use payload::{Outcomes, Packet, Report, Support};
+use payload::{Mode, Outcomes, Packet, Report, Support};
 use retire::Event;
 use rvclass::Program;
 
@@ -23,7 +22,7 @@ use rvclass::Program;
 pub struct Waiting {
     /// The outcomes of its branches.
     pub outcomes: Outcomes,
-    /// Its address, less the last reported one.
+    /// What its address field holds.
     pub delta: u64,
 }
 
@@ -70,29 +69,29 @@ fn makes_explicit(packet: &Packet) -> bool
     )
 }
 
-/// The events of a packet that waits, before the packet that settles it.
+/// The events of a packet that waits, with these outcomes and this address, before the packet that settles it.
 #[inline(always)]
 pub fn settle(
     program: &Program,
     before: &Option<Event>,
-    reported: u64,
-    waiting: &Waiting,
+    outcomes: &Outcomes,
+    addr: u64,
     packet: &Packet,
     stretch: &mut Stretch,
 ) -> Result<(), DecodeFault>
     ensures found { OnOk result (Suits (words_of program.now) before.now
-        (FitsWaiting (words_of program.now) before.now reported (Some waiting.now) packet.now) stretch.new) }
+        (FitsAddress (words_of program.now) before.now outcomes.now addr (settled_by (Some packet.now)))
+        stretch.new) }
     ensures none { IfErr result (λ fault. SuitsNone (words_of program.now) before.now
-        (FitsWaiting (words_of program.now) before.now reported (Some waiting.now) packet.now) fault) }
+        (FitsAddress (words_of program.now) before.now outcomes.now addr (settled_by (Some packet.now))) fault) }
     ensures short { OnOk result (stretch_count stretch.new ≤ 32 * (length program.now.bytes / 2)) }
 {
-    let addr = reported.wrapping_add(waiting.delta);
     let goal = if makes_explicit(packet) {
         Goal::Address(addr)
     } else {
         Goal::Target(addr)
     };
-    walk(program, before, &waiting.outcomes, goal, stretch)
+    walk(program, before, outcomes, goal, stretch)
 }
 
 /// The events of an address packet at its address, as long as no other follows.
@@ -146,19 +145,20 @@ fn sync(
     }
 }
 
-/// The events of a packet, as long as no other follows.
+/// The events of a packet of a trace in this mode, as long as no other follows.
 #[inline(always)]
 pub fn own(
     program: &Program,
+    mode: Mode,
     before: &Option<Event>,
     last_reported: u64,
     packet: &Packet,
     stretch: &mut Stretch,
 ) -> Result<(), DecodeFault>
     ensures found { OnOk result (Suits (words_of program.now) before.now
-        (Fits (words_of program.now) before.now last_reported packet.now None) stretch.new) }
+        (Fits (words_of program.now) mode before.now last_reported packet.now None) stretch.new) }
     ensures none { IfErr result (λ fault. SuitsNone (words_of program.now) before.now
-        (Fits (words_of program.now) before.now last_reported packet.now None) fault) }
+        (Fits (words_of program.now) mode before.now last_reported packet.now None) fault) }
     ensures short { OnOk result (stretch_count stretch.new ≤ 32 * (length program.now.bytes / 2) + 2) }
 {
     match packet {
@@ -194,7 +194,7 @@ pub fn own(
             delta,
             report,
         } => {
-            let addr = last_reported.wrapping_add(*delta);
+            let addr = mode.aim(last_reported, *delta);
             address(program, before, outcomes, addr, *report, stretch)
         }
         Packet::Map(outcomes) => walk(program, before, outcomes, Goal::Branch, stretch),

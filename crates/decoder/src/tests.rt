@@ -9,7 +9,7 @@ mod walks;
 ghost use Rattle.std.specs.Prelude.{◌<◌};
 
 use crate::Decoder;
-use payload::{Outcomes, Packet, Report, Support};
+use payload::{Mode, Outcomes, Packet, Report, Support};
 use retire::Event;
 use rvclass::Program;
 use std::alloc::Global;
@@ -41,7 +41,9 @@ const SRET: u32 = 0x1020_0073;
 
 const ECALL: u32 = 0x0000_0073;
 
-const OPEN: Packet = Packet::Support(Support::Open);
+const OPEN: Packet = Packet::Support(Support::Open(Mode::Differential));
+
+const OPEN_FULL: Packet = Packet::Support(Support::Open(Mode::Full));
 
 const ENDED_REP: Packet = Packet::Support(Support::EndedRep);
 

@@ -5,7 +5,8 @@ use Rattle.retire.specs.declared.event.Event.{Event}
 use Rattle.rvclass.specs.Words.{Words}
 use Rattle.legalpath.specs.LastPlace.{last_place}
 use Rattle.legalpath.specs.Legal.{FollowOn}
-use Rattle.payload.specs.Difference.{aim}
+use Rattle.payload.specs.AddressField.{aim}
+use Rattle.payload.specs.declared.mode.Mode.{Mode}
 use Rattle.payload.specs.declared.packet.Packet.{Packet}
 use Rattle.payload.specs.declared.packet.Packet.TheVariants as packet
 use Rattle.payload.specs.declared.packet.Support.TheVariants as support
@@ -24,13 +25,13 @@ use Rattle.decoder.specs.declared.settling.Waiting.{Waiting}
 
 -- The packet may come in this phase of a trace, by its kind and by what waits.
 abbrev pub MayCome : Phase → Option Waiting → Packet → Type 0
-MayCome phase waiting (packet.Support support.Open) = phase ≡ Unopened
+MayCome phase waiting (packet.Support (support.Open mode)) = phase ≡ Unopened
 MayCome phase waiting (packet.Support support.EndedRep) = is_some waiting ≡ true
 MayCome phase waiting other = Unit {0}
 
 -- A trace that was not opened takes a packet that opens it.
 abbrev pub admitted_first : Packet → Result Unit DecodeFault
-admitted_first (packet.Support support.Open) = Ok tt
+admitted_first (packet.Support (support.Open mode)) = Ok tt
 admitted_first other = Err NotOpened
 
 -- Whether the trace takes a packet in this phase.
@@ -39,38 +40,44 @@ admitted Unopened packet = admitted_first packet
 admitted Running packet = Ok tt
 admitted Closed packet = Err AfterClose
 
--- These are the events of what waits, if anything does, before this packet.
-abbrev pub FitsWaiting : Words → Option Event → ℕ → Option Waiting → Packet → List Event → Type 0
-FitsWaiting words before reported None packet piece = piece ≡ []
-FitsWaiting words before reported (Some waiting) packet piece =
-    FitsAddress words before waiting.outcomes (aim reported waiting.delta) (settled_by (Some packet)) piece
+-- These are the events of what waits, if anything does, before this packet, in this mode.
+abbrev pub FitsWaiting : Words → Mode → Option Event → ℕ → Option Waiting → Packet → List Event → Type 0
+FitsWaiting words mode before reported None packet piece = piece ≡ []
+FitsWaiting words mode before reported (Some waiting) packet piece =
+    FitsAddress words before waiting.outcomes (aim mode reported waiting.delta) (settled_by (Some packet)) piece
 
 -- The last reported address after the packet, where this is the place of its last event.
 abbrev pub reported_past : Packet → ℕ → ℕ → ℕ
 reported_past (packet.Map taken) reported at = reported
 reported_past other reported at = at
 
--- The events of what waits, and then those of the packet itself, after this event and this last reported
--- address.
-pub record CanFollow (words : Words) (phase : Phase) (waiting : Option Waiting) (last : Option Event) (reported : ℕ)
-    (packet : Packet) (settled own : List Event) : Type 0 where
+-- The events of what waits, and then those of the packet itself, after this event and this last reported address, in
+-- this mode.
+pub record CanFollow (words : Words) (mode : Mode) (phase : Phase) (waiting : Option Waiting) (last : Option Event)
+    (reported : ℕ) (packet : Packet) (settled own : List Event) : Type 0 where
   pub admits : admitted phase packet ≡ Ok tt
   pub comes : MayCome phase waiting packet
-  pub settles : FitsWaiting words last reported waiting packet settled
+  pub settles : FitsWaiting words mode last reported waiting packet settled
   pub settled_follows : FollowOn words last settled
-  pub fits : Fits words (last_or last settled) (last_place reported settled) packet None own
+  pub fits : Fits words mode (last_or last settled) (last_place reported settled) packet None own
   pub follows : FollowOn words (last_or last settled) own
 
 -- The same after what a decoder remembers.
 abbrev pub CanFollowAt : Words → Decoder → Packet → List Event → List Event → Type 0
 CanFollowAt words decoder packet settled own =
-    CanFollow words decoder.phase decoder.waiting decoder.last decoder.reported packet settled own
+    CanFollow words decoder.mode decoder.phase decoder.waiting decoder.last decoder.reported packet settled own
+
+-- The mode after the packet: the one that it tells, where it opens a trace, or else this one.
+abbrev pub mode_past : Packet → Mode → Mode
+mode_past (packet.Support (support.Open told)) mode = told
+mode_past other mode = mode
 
 -- The decoder after the packet, with these stretches.
 abbrev pub decoder_after : Decoder → Packet → Stretch → Stretch → Decoder
 decoder_after decoder packet settled own = record {
   phase = phase_after (Some packet);
   waiting = waiting_after (Some packet);
+  mode = mode_past packet decoder.mode;
   last = stretch_last (stretch_last decoder.last settled) own;
   reported =
       reported_past packet (stretch_place decoder.reported settled)

@@ -1,9 +1,12 @@
 //! What is known after which packet.
 
 use super::{
-    ENDED_NTR, ENDED_REP, JUMP_LOOP, NOP, OPEN, fed, plain, program_of, retired, start, sync,
+    BASE, ENDED_NTR, ENDED_REP, JUMP_LOOP, NOP, OPEN, OPEN_FULL, fed, notify, plain, program_of,
+    retired, start, sync,
 };
 use crate::{DecodeFault, Decoder};
+use payload::Packet;
+use std::alloc::Global;
 use std::test::Fail;
 
 #[test]
@@ -42,6 +45,37 @@ fn packets_of_another_image(rt: HostRuntime) -> Result<(), Fail> {
         assert!(rt; !decoder.is_closed());
     }
     Ok(())
+}
+
+// After this packet a field that holds this names the second word, by a packet that waits and by one that does not, and
+// one that holds the other names no word.
+fn names_the_second_word(alloc: Global, open: Packet, held: u64, other: u64) -> Result<(), Fail> {
+    let program = program_of(alloc, &[NOP, NOP], &[])?;
+    let both = [retired(0, 0, 3), retired(4, 0, 3)];
+    let (mut decoder, mut log) = fed(alloc, &program, &[open, start()])?;
+    let mut twin = decoder;
+    let mut copy = log.as_slice().to_vec(alloc)?;
+    if decoder.feed(&program, &notify(other), &mut log) != Err(DecodeFault::OffProgram) {
+        return Err(Fail::from("another answer"));
+    }
+    decoder.feed(&program, &notify(held), &mut log)?;
+    twin.feed(&program, &plain(held), &mut copy)?;
+    twin.feed(&program, &ENDED_REP, &mut copy)?;
+    if log.as_slice() != both.as_slice() || copy.as_slice() != both.as_slice() {
+        return Err(Fail::from("another log"));
+    }
+    decoder.feed(&program, &plain(other), &mut log)?;
+    if decoder.feed(&program, &ENDED_REP, &mut log) != Err(DecodeFault::OffProgram) {
+        return Err(Fail::from("another answer to a waiting packet"));
+    }
+    Ok(())
+}
+
+// The packet that opens the trace tells what address fields hold.
+#[test]
+fn fields_are_read_in_the_mode_that_is_told(rt: HostRuntime) -> Result<(), Fail> {
+    names_the_second_word(rt.alloc(), OPEN, 4, BASE + 4)?;
+    names_the_second_word(rt.alloc(), OPEN_FULL, BASE + 4, 4)
 }
 
 #[test]

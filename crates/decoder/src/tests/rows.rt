@@ -15,6 +15,9 @@ const TAKEN_AT_BASE: &[u8] = &[0x63, 0, 0, 0, 0x20];
 
 const OPEN: &[u8] = &[0x1f];
 
+// In full-address mode.
+const OPEN_FULL: &[u8] = &[0x1f, 0x01];
+
 const ENDED_REP: &[u8] = &[0x4f];
 
 const ENDED_NTR: &[u8] = &[0xcf, 0];
@@ -242,6 +245,54 @@ fn first_event_is_a_taken_branch(rt: HostRuntime) -> Result<(), Fail> {
         &[],
         &[OPEN, TAKEN_AT_BASE, &[0x12], ENDED_REP],
         &[retired(0, 5, 3), retired(8, 0, 3)],
+    )
+}
+
+#[test]
+fn full_addresses(rt: HostRuntime) -> Result<(), Fail> {
+    let alloc = rt.alloc();
+    gives(
+        alloc,
+        &[NOP, NOP],
+        &[],
+        &[OPEN_FULL, AT_BASE, &[0x0a, 0, 0, 0, 0x01], ENDED_REP],
+        &[retired(0, 0, 3), retired(4, 0, 3)],
+    )?;
+    gives(
+        alloc,
+        &[JUMP_LOOP],
+        &[],
+        &[
+            OPEN_FULL,
+            AT_BASE,
+            &[0x02, 0, 0, 0, 0x01, 0, 0, 0, 0xfe],
+            &[0x02, 0, 0, 0, 0x01],
+            ENDED_REP,
+        ],
+        &[retired(0, 0, 3); 3],
+    )?;
+    gives(
+        alloc,
+        &[NOP, BEQ, NOP],
+        &[],
+        &[OPEN_FULL, AT_BASE, &[0x85, 0x04, 0, 0, 0x40], ENDED_REP],
+        &[retired(0, 0, 3), retired(4, 4, 3), retired(8, 0, 3)],
+    )
+}
+
+#[test]
+fn full_address_of_a_target(rt: HostRuntime) -> Result<(), Fail> {
+    gives(
+        rt.alloc(),
+        &[NOP, NOP, RET],
+        &[],
+        &[OPEN_FULL, AT_BASE, &[0x0a, 0, 0, 0, 0x01], ENDED_NTR],
+        &[
+            retired(0, 0, 3),
+            retired(4, 0, 3),
+            retired(8, 6, 3),
+            retired(4, 0, 3),
+        ],
     )
 }
 

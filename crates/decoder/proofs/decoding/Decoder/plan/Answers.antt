@@ -15,10 +15,10 @@ returns-clause-found c =
     let p = c.args.packet.now in
     let first = c.settled.new.stretch in
     let second = c.own.new.stretch in
-    let own = subst (λ l. OnOk c.own.result (Suits w l (Fits w l c.place-reported.result p None) second))
+    let own = subst (λ l. OnOk c.own.result (Suits w l (Fits w d.mode l c.place-reported.result p None) second))
     c.last-last.ensures c.own.ensures.found in
     let own' = subst (λ r. OnOk c.own.result
-    (Suits w (stretch_last d.last first) (Fits w (stretch_last d.last first) r p None) second))
+    (Suits w (stretch_last d.last first) (Fits w d.mode (stretch_last d.last first) r p None) second))
     c.place-reported.ensures own in
     let admits : admitted d.phase p ≡ Ok tt = sym c.in_default.ensures in
     plans w d p first second c.own.result admits (c.if-not-may_come.ensures.0 cc) c.in_default-settled.ensures.found
@@ -30,10 +30,10 @@ returns-clause-none c =
     let d = c.args.self.now in
     let p = c.args.packet.now in
     let first = c.settled.new.stretch in
-    let none = subst (λ l. IfErr c.own.result (SuitsNone w l (Fits w l c.place-reported.result p None)))
+    let none = subst (λ l. IfErr c.own.result (SuitsNone w l (Fits w d.mode l c.place-reported.result p None)))
     c.last-last.ensures c.own.ensures.none in
     let none' = subst (λ r. IfErr c.own.result
-    (SuitsNone w (stretch_last d.last first) (Fits w (stretch_last d.last first) r p None)))
+    (SuitsNone w (stretch_last d.last first) (Fits w d.mode (stretch_last d.last first) r p None)))
     c.place-reported.ensures none in
     let admits : admitted d.phase p ≡ Ok tt = sym c.in_default.ensures in
     plans_none w d p c.program_kept.ensures.words first c.own.result admits c.in_default-settled.ensures.found none'
