@@ -8,6 +8,7 @@ use Rattle.retire.specs.declared.event.Event.TheVariants.{Retire, Trap}
 use Rattle.rvclass.specs.Words.{Word, Words, IsProgram}
 use Rattle.legalpath.specs.Discontinuity.{is_discontinuity}
 use Rattle.legalpath.specs.Right.{RetiresOn, Right}
+use Rattle.payload.specs.declared.mode.Mode.{Mode}
 use Rattle.encoder.specs.Piece.{Piece, next_piece}
 use Rattle.encoder.specs.Rule.{with_handler, is_handler, is_start}
 use Rattle.encoder.specs.Spot.{first_event}
@@ -56,13 +57,13 @@ unhandled : (words : Words) (before : Option Event) (epc priv : ℕ) (interrupt 
 unhandled words before epc priv interrupt cause tval [] is = tt
 unhandled words before epc priv interrupt cause tval (event ∷ events) is = is
 
-module _ (words : Words) (period : ℕ) where
+module _ (words : Words) (period : ℕ) (mode : Mode) where
   -- A trap is reported alone, or waits for its handler.
   pub trap_told : (epc priv : ℕ) (interrupt : Bool) (cause tval number : ℕ) (before : Option Event) (reported : ℕ)
       (by_last : Rule) (events : List Event) (rest : List Event → List Piece) (handler : Bool) →
       with_handler words before (first_event events None) ≡ handler →
-      TellsOn words period before (Trap epc priv interrupt cause tval) number events rest →
-      Told words before reported by_last [] (Trap epc priv interrupt cause tval ∷ events) true
+      TellsOn words period mode before (Trap epc priv interrupt cause tval) number events rest →
+      Told words mode before reported by_last [] (Trap epc priv interrupt cause tval ∷ events) true
       (next_piece [] (Trap epc priv interrupt cause tval) (by.Trap handler) rest)
   trap_told epc priv interrupt cause tval number before reported by_last events rest true is on =
       let told = on before (Trap epc priv interrupt cause tval ∷ []) reported by_last
@@ -72,7 +73,7 @@ module _ (words : Words) (period : ℕ) where
       let trap = Trap epc priv interrupt cause tval in
       let told = on (Some trap) [] epc (by.Trap false)
       (AtCut (unhandled words before epc priv interrupt cause tval events is) tt) in
-      cut words before reported by_last [] trap (by.Trap false) events _ (rest []) (refl, refl) told
+      cut words mode before reported by_last [] trap (by.Trap false) events _ (rest []) (refl, refl) told
 
   module _ (addr itype priv number : ℕ) (before_that : Option Event) (reported : ℕ) (by_last : Rule)
       (events : List Event) (rest : List Event → List Piece) (fits : addr < 2 ^ 64) where
@@ -81,24 +82,24 @@ module _ (words : Words) (period : ℕ) where
         → Quiet words since front before → reported < 2 ^ 64 →
         is_start period number (Some before) priv ≡ false →
         TellsOf words period number before_that (Some before) (Retire addr itype priv) (first_event events None) rule →
-        TellsOn words period (Some before) (Retire addr itype priv) (number + 1) events rest →
-        Told words (Some since) reported by_last front (Retire addr itype priv ∷ events) false
+        TellsOn words period mode (Some before) (Retire addr itype priv) (number + 1) events rest →
+        Told words mode (Some since) reported by_last front (Retire addr itype priv ∷ events) false
         (next_piece front (Retire addr itype priv) rule rest)
     in_stretch_told since front (Trap epc level interrupt cause tval) rule quiet known start tells on =
         let retires : false ≡ true = quiet.now.0 in cc
     in_stretch_told since front (Retire at type level) rule quiet known start tells on =
         let same : priv ≡ level = same_privilege priv level _ start in
-        quiet_retirement_told words period since front (Retire at type level) number before_that reported by_last addr
-        itype priv events rest quiet known (refl, same ∙ quiet.now.1) fits refl start rule tells on
+        quiet_retirement_told words period mode since front (Retire at type level) number before_that reported by_last
+        addr itype priv events rest quiet known (refl, same ∙ quiet.now.1) fits refl start rule tells on
 
     -- A retirement behind a cut that is neither a handler nor a new start begins a quiet stretch.
     behind_cut_told : (before : Option Event) (rule : Rule)
         → is_handler words before_that before (Retire addr itype priv) ≡ false → InRangeAfter before reported →
         TellsOf words period number before_that before (Retire addr itype priv) (first_event events None) rule →
         is_start period number before priv ≡ false →
-        TellsOn words period before (Retire addr itype priv) (number + 1) events rest →
-        Told words before reported by_last [] (Retire addr itype priv ∷ events) (is_start period number before priv)
-        (next_piece [] (Retire addr itype priv) rule rest)
+        TellsOn words period mode before (Retire addr itype priv) (number + 1) events rest →
+        Told words mode before reported by_last [] (Retire addr itype priv ∷ events)
+        (is_start period number before priv) (next_piece [] (Retire addr itype priv) rule rest)
     behind_cut_told None rule handler known tells start on = cc
     behind_cut_told (Some (Trap epc level interrupt cause tval)) rule handler known tells start on = cc
     behind_cut_told (Some (Retire at type level)) rule handler known tells start on =
@@ -112,15 +113,15 @@ module _ (words : Words) (period : ℕ) where
     pub at_cut_told : (before : Option Event) (rule : Rule)
         → is_handler words before_that before (Retire addr itype priv) ≡ false → InRangeAfter before reported →
         TellsOf words period number before_that before (Retire addr itype priv) (first_event events None) rule →
-        TellsOn words period before (Retire addr itype priv) (number + 1) events rest →
-        Told words before reported by_last [] (Retire addr itype priv ∷ events) (is_start period number before priv)
-        (next_piece [] (Retire addr itype priv) rule rest)
+        TellsOn words period mode before (Retire addr itype priv) (number + 1) events rest →
+        Told words mode before reported by_last [] (Retire addr itype priv ∷ events)
+        (is_start period number before priv) (next_piece [] (Retire addr itype priv) rule rest)
     at_cut_told before (by.Trap with) handler known tells on = absurd tells
     at_cut_told before by.Handler handler known tells on = cc
     at_cut_told before by.Sync handler known tells on =
         let last = Retire addr itype priv in
         let told = on (Some last) [] addr by.Sync (AtCut (not_handled words before addr itype priv events) fits) in
-        let sync = cut words before reported by_last [] last by.Sync events _ (rest [])
+        let sync = cut words mode before reported by_last [] last by.Sync events _ (rest [])
         (last, refl, (itype, refl, refl)) told in
         record { fit = sync.fit; whole = sync.whole; head = sym tells.1 }
     at_cut_told before (by.Target cut_off) handler known tells on =
@@ -137,9 +138,9 @@ module _ (words : Words) (period : ℕ) where
         → with_handler words before_that (Some (Retire addr itype priv)) ≡ true →
         TellsOf words period number before_that (Some (Trap epc level interrupt cause tval)) (Retire addr itype priv)
         (first_event events None) rule →
-        TellsOn words period (Some (Trap epc level interrupt cause tval)) (Retire addr itype priv) (number + 1) events
-        rest →
-        Told words before_that reported by_last (Trap epc level interrupt cause tval ∷ [])
+        TellsOn words period mode (Some (Trap epc level interrupt cause tval)) (Retire addr itype priv) (number + 1)
+        events rest →
+        Told words mode before_that reported by_last (Trap epc level interrupt cause tval ∷ [])
         (Retire addr itype priv ∷ events) true (next_piece (Trap epc level interrupt cause tval ∷ [])
         (Retire addr itype priv) rule rest)
     handler_told epc level interrupt cause tval (by.Trap with) is tells on = absurd tells
@@ -148,7 +149,7 @@ module _ (words : Words) (period : ℕ) where
         let trap = Trap epc level interrupt cause tval in
         let told = on (Some last) [] addr by.Handler (AtCut (not_handled words (Some trap) addr itype priv events)
         fits) in
-        cut words before_that reported by_last (trap ∷ []) last by.Handler events _ (rest [])
+        cut words mode before_that reported by_last (trap ∷ []) last by.Handler events _ (rest [])
         (inferable words before_that addr itype priv is, epc, level, last, refl, (itype, refl, refl)) told
     handler_told epc level interrupt cause tval by.Sync is tells on = cc
     handler_told epc level interrupt cause tval (by.Target cut_off) is tells on = cc

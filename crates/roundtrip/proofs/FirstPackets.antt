@@ -8,6 +8,7 @@ use Rattle.retire.specs.declared.event.Event.TheVariants.{Retire, Trap}
 use Rattle.rvclass.specs.Words.{Words, IsProgram}
 use Rattle.legalpath.specs.Join.{join}
 use Rattle.legalpath.specs.Legal.{FollowOn, Legal}
+use Rattle.payload.specs.declared.mode.Mode.{Mode}
 use Rattle.payload.specs.declared.packet.Packet.TheVariants as packet
 use Rattle.payload.specs.declared.packet.Support.TheVariants.{Open}
 use Rattle.encoder.specs.Packets.{packets}
@@ -18,6 +19,7 @@ use Rattle.encoder.specs.declared.rule.Rule.{Rule}
 use Rattle.encoder.specs.declared.rule.Rule.TheVariants as by
 use Rattle.decoder.proofs.ExtendingLemmas.{IsBeginning, front_describes}
 use Rattle.decoder.specs.Describes.{Describes}
+use Rattle.decoder.specs.ModeOf.{mode_of}
 use Rattle.decoder.specs.Order.{MayPrecede, Begins}
 use Rattle.decoder.specs.Pieces.{Pieces}
 use Rattle.roundtrip.specs.Reach.{stretches, told, reach}
@@ -26,12 +28,12 @@ use Rattle.roundtrip.proofs.PacketOrder.{first_is_head, open_precedes}
 use Rattle.roundtrip.proofs.RuleFacts.{rule_tells_of}
 use Rattle.roundtrip.proofs.Telling.{Told, NotHandled, State, AtCut, InStretch, AfterTrap, explicit_before, explicit_in}
 
-module _ (words : Words) (program : IsProgram words) (period : ℕ) where
+module _ (words : Words) (program : IsProgram words) (period : ℕ) (mode : Mode) where
   -- From any event of a log on, its pieces tell its events.
   events_told : (events : List Event) (number : ℕ) (since : Option Event) (front : List Event)
       (before_that before : Option Event) (reported : ℕ) (by_last : Rule) → FollowOn words before events
       → (state : State words period since front before_that before number events reported)
-      → Told words since reported by_last front events (explicit_in by_last state)
+      → Told words mode since reported by_last front events (explicit_in by_last state)
       (pieces words period front (spots number before_that before events None))
   events_told [] number since front before_that before reported by_last follows (AtCut handled known) =
       record { fit = (tt, refl, tt); whole = refl; head = refl }
@@ -40,7 +42,7 @@ module _ (words : Words) (program : IsProgram words) (period : ℕ) where
   events_told (Trap epc priv interrupt cause tval ∷ events) number since front before_that before reported by_last
       follows (AtCut handled known) =
       let trap = Trap epc priv interrupt cause tval in
-      trap_told words period epc priv interrupt cause tval number before reported by_last events _
+      trap_told words period mode epc priv interrupt cause tval number before reported by_last events _
       (with_handler words before (first_event events None)) refl
       (λ since front reported by_last state. events_told events number since front before (Some trap) reported by_last
       follows.2 state)
@@ -51,7 +53,7 @@ module _ (words : Words) (program : IsProgram words) (period : ℕ) where
   events_told (Retire addr itype priv ∷ events) number since front before_that before reported by_last follows
       (AtCut handled known) =
       let last = Retire addr itype priv in
-      at_cut_told words period addr itype priv number before_that reported by_last events _
+      at_cut_told words period mode addr itype priv number before_that reported by_last events _
       (address_in_range words program addr itype priv follows.0) before _ handled known
       (rule_tells_of words period number before_that before last (first_event events None))
       (λ since front reported by_last state. events_told events (number + 1) since front before (Some last) reported
@@ -59,7 +61,7 @@ module _ (words : Words) (program : IsProgram words) (period : ℕ) where
   events_told (Retire addr itype priv ∷ events) number since front before_that before reported by_last follows
       (InStretch {since = first} {before = previous} quiet known on) =
       let last = Retire addr itype priv in
-      in_stretch_told words period addr itype priv number before_that reported by_last events _
+      in_stretch_told words period mode addr itype priv number before_that reported by_last events _
       (address_in_range words program addr itype priv follows.0) first front previous _ quiet known on
       (rule_tells_of words period number before_that (Some previous) last (first_event events None))
       (λ since front reported by_last state. events_told events (number + 1) since front (Some previous) (Some last)
@@ -68,7 +70,7 @@ module _ (words : Words) (program : IsProgram words) (period : ℕ) where
       (AfterTrap {epc = epc} {priv = level} {interrupt = interrupt} {cause = cause} {tval = tval} handles) =
       let last = Retire addr itype priv in
       let trap = Trap epc level interrupt cause tval in
-      handler_told words period addr itype priv number before_that reported by_last events _
+      handler_told words period mode addr itype priv number before_that reported by_last events _
       (address_in_range words program addr itype priv follows.0) epc level interrupt cause tval _ handles
       (rule_tells_of words period number before_that (Some trap) last (first_event events None))
       (λ since front reported by_last state. events_told events (number + 1) since front (Some trap) (Some last)
@@ -79,7 +81,7 @@ module _ (words : Words) (program : IsProgram words) (period : ℕ) where
   first_not_handled (event ∷ events) = refl
 
   log_told : (log : List Event) → Legal words log
-      → Told words None 0 by.Unreported [] log (explicit_before period 0 None by.Unreported log)
+      → Told words mode None 0 by.Unreported [] log (explicit_before period 0 None by.Unreported log)
       (pieces_of words period log)
   log_told log legal = events_told log 0 None [] None None 0 by.Unreported legal (AtCut (first_not_handled log) tt)
 
@@ -89,15 +91,15 @@ module _ (words : Words) (program : IsProgram words) (period : ℕ) where
 
   -- The packets of a legal log have its stretches for their pieces.
   pub packets_have_stretches : (log : List Event) → Legal words log
-      → Pieces words None 0 (packets words period log) None (stretches words period log)
+      → Pieces words mode None 0 (packets words period mode log) None (stretches words period log)
   packets_have_stretches log legal =
       let pieces = pieces_of words period log in
-      let order = subst (λ next. MayPrecede (packet.Support Open) next) (sym (first_is_head 0 by.Unreported pieces))
-      (open_precedes 0 pieces) in
+      let order = subst (λ next. MayPrecede (packet.Support (Open mode)) next)
+      (sym (first_is_head mode 0 by.Unreported pieces)) (open_precedes mode 0 pieces) in
       (order, refl, (log_told log legal).fit)
 
   -- The packets of a legal log describe it.
-  pub packets_describe : (log : List Event) → Legal words log → Describes words (packets words period log) log
+  pub packets_describe : (log : List Event) → Legal words log → Describes words (packets words period mode log) log
   packets_describe log legal =
       record {
         begins = tt;
@@ -109,10 +111,10 @@ module _ (words : Words) (program : IsProgram words) (period : ℕ) where
 
   -- The first of them describe what they tell, with which the log begins.
   pub first_packets_describe_told : (log : List Event) → Legal words log → (count : ℕ) →
-      Describes words (take count (packets words period log)) (told words period log count)
-      × IsBeginning (told words period log count) log
+      Describes words (take count (packets words period mode log)) (told words period mode log count)
+      × IsBeginning (told words period mode log count) log
   first_packets_describe_told log legal count =
-      let all = packets words period log in
+      let all = packets words period mode log in
       let split : take count all ++ drop count all ≡ all = take-append-drop count all in
       front_describes words (take count all) (drop count all) log
       (record {
@@ -121,21 +123,21 @@ module _ (words : Words) (program : IsProgram words) (period : ℕ) where
         whole = sym (join-stretches log legal);
         legal = legal;
         each =
-            subst (λ ps. Pieces words None 0 ps None (stretches words period log)) (sym split)
+            subst (λ ps. Pieces words (mode_of ps) None 0 ps None (stretches words period log)) (sym split)
             (packets_have_stretches log legal);
       })
 
   -- What they tell are the first events of the log, as many as they reach.
   pub take-reach : (log : List Event) → Legal words log → (count : ℕ)
-      → take (reach words period log count) log ≡ told words period log count
+      → take (reach words period mode log count) log ≡ told words period mode log count
   take-reach log legal count =
-      let front = told words period log count in
+      let front = told words period mode log count in
       let begins = (first_packets_describe_told log legal count).1 in
       ap (take (length front)) begins.is ∙ take-append_seam front begins.rest
 
   -- The first packets of a legal log describe its first events.
   pub first_packets_describe : (log : List Event) → Legal words log → (count : ℕ)
-      → Describes words (take count (packets words period log)) (take (reach words period log count) log)
+      → Describes words (take count (packets words period mode log)) (take (reach words period mode log count) log)
   first_packets_describe log legal count =
-      subst (Describes words (take count (packets words period log))) (sym (take-reach log legal count))
+      subst (Describes words (take count (packets words period mode log))) (sym (take-reach log legal count))
       (first_packets_describe_told log legal count).0

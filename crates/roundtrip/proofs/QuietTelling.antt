@@ -11,8 +11,9 @@ use Rattle.rvclass.specs.Words.{Words}
 use Rattle.legalpath.proofs.FollowOnLemmas.{last_or-append}
 use Rattle.legalpath.specs.Backward.{is_backward}
 use Rattle.legalpath.specs.Discontinuity.{is_discontinuity}
-use Rattle.payload.proofs.Differences.{aim-difference}
-use Rattle.payload.specs.Difference.{difference, aim}
+use Rattle.payload.proofs.AddressFields.{aim-delta}
+use Rattle.payload.specs.AddressField.{aim, delta}
+use Rattle.payload.specs.declared.mode.Mode.{Mode}
 use Rattle.payload.specs.declared.packet.Packet.{Packet}
 use Rattle.payload.specs.declared.packet.Packet.TheVariants as packet
 use Rattle.encoder.specs.Packets.{closing}
@@ -43,7 +44,7 @@ as_explicit : (words : Words) (before : Option Event) (taken : List Bool) (addr 
 as_explicit words before taken addr next walk explicit is =
     subst (λ end. FitsAddress words before taken addr end walk) (sym (ap explicit_or_target explicit)) is
 
-module _ (words : Words) (period : ℕ) where
+module _ (words : Words) (period : ℕ) (mode : Mode) where
   -- A retirement that is neither cut off nor the last has another behind it that is no new start.
   goes_on : (number : ℕ) (event : Event) (events : List Event)
       → (is_cut_off period number event (first_event events None) || is_none (first_event events None)) ≡ false
@@ -78,11 +79,11 @@ module _ (words : Words) (period : ℕ) where
           → RetiresAt (privilege since) (Retire addr itype priv) → addr < 2 ^ 64 → is_discontinuity words before ≡ true
           →
           IsWalk words since (outcomes (front ++ Retire addr itype priv ∷ []))
-          (AtTarget (aim reported (difference reported addr))) (front ++ Retire addr itype priv ∷ [])
+          (AtTarget (aim mode reported (delta mode reported addr))) (front ++ Retire addr itype priv ∷ [])
       walk_to_target quiet known here fits leaves =
           quiet_walks words since front before (Retire addr itype priv) (AtTarget _) quiet here (
             none_early-last (is_discontinuity words) since front before quiet.early quiet.ends leaves,
-            sym (aim-difference reported addr fits),
+            sym (aim-delta mode reported addr fits),
           )
 
       -- Elsewhere it ends a walk to its address.
@@ -90,11 +91,11 @@ module _ (words : Words) (period : ℕ) where
           → RetiresAt (privilege since) (Retire addr itype priv) → addr < 2 ^ 64 → is_discontinuity words before ≡ false
           →
           IsWalk words since (outcomes (front ++ Retire addr itype priv ∷ []))
-          (AtAddress (aim reported (difference reported addr))) (front ++ Retire addr itype priv ∷ [])
+          (AtAddress (aim mode reported (delta mode reported addr))) (front ++ Retire addr itype priv ∷ [])
       walk_to_address quiet known here fits stays =
           quiet_walks words since front before (Retire addr itype priv) (AtAddress _) quiet here (
             none_early-none (is_discontinuity words) since front before quiet.early quiet.ends stays,
-            sym (aim-difference reported addr fits),
+            sym (aim-delta mode reported addr fits),
           )
 
       -- A retirement that no packet reports fills the branch map, or the stretch goes on.
@@ -102,13 +103,13 @@ module _ (words : Words) (period : ℕ) where
           → RetiresAt (privilege since) (Retire addr itype priv) →
           TellsOf words period number before_that (Some before) (Retire addr itype priv) (first_event events None)
           by.Unreported →
-          TellsOn words period (Some before) (Retire addr itype priv) (number + 1) events rest →
-          Told words (Some since) reported by_last front (Retire addr itype priv ∷ events) false
+          TellsOn words period mode (Some before) (Retire addr itype priv) (number + 1) events rest →
+          Told words mode (Some since) reported by_last front (Retire addr itype priv ∷ events) false
           (next_piece front (Retire addr itype priv) by.Unreported rest)
       unreported quiet known here tells on = by_count (is_cut front (Retire addr itype priv) by.Unreported) refl
         where
           by_count : (full : Bool) → is_cut front (Retire addr itype priv) by.Unreported ≡ full
-              → Told words (Some since) reported by_last front (Retire addr itype priv ∷ events) false
+              → Told words mode (Some since) reported by_last front (Retire addr itype priv ∷ events) false
               (cut_or_go_on full (record { front = front; last = Retire addr itype priv; by = by.Unreported }) rest)
           by_count true full =
               let last = Retire addr itype priv in
@@ -119,7 +120,7 @@ module _ (words : Words) (period : ℕ) where
                     before quiet.early quiet.ends tells.1,
                 (and_parts _ _ full).0,
               ) in
-              cut words (Some since) reported by_last front last by.Unreported events _ (rest [])
+              cut words mode (Some since) reported by_last front last by.Unreported events _ (rest [])
               (quiet_walks words since front before last AtBranch quiet here ends) told
           by_count false full =
               let last = Retire addr itype priv in
@@ -143,8 +144,8 @@ module _ (words : Words) (period : ℕ) where
           → is_start period number (Some before) priv ≡ false →
           (rule : Rule) → TellsOf words period number before_that (Some before) (Retire addr itype priv)
           (first_event events None) rule →
-          TellsOn words period (Some before) (Retire addr itype priv) (number + 1) events rest →
-          Told words (Some since) reported by_last front (Retire addr itype priv ∷ events) false
+          TellsOn words period mode (Some before) (Retire addr itype priv) (number + 1) events rest →
+          Told words mode (Some since) reported by_last front (Retire addr itype priv ∷ events) false
           (next_piece front (Retire addr itype priv) rule rest)
       quiet_retirement_told quiet known here fits handler start (by.Trap with) tells on = absurd tells
       quiet_retirement_told quiet known here fits handler start by.Handler tells on = cc
@@ -153,27 +154,27 @@ module _ (words : Words) (period : ℕ) where
           let last = Retire addr itype priv in
           let told = on (Some last) [] addr (by.Target true)
           (AtCut (not_handled words (Some before) addr itype priv events) fits) in
-          cut words (Some since) reported by_last front last (by.Target true) events _ (rest [])
+          cut words mode (Some since) reported by_last front last (by.Target true) events _ (rest [])
           (walk_to_target quiet known here fits tells.1) told
       quiet_retirement_told quiet known here fits handler start (by.Target false) tells on =
           let last = Retire addr itype priv in
           let told = on (Some last) [] addr (by.Target false)
           (AtCut (not_handled words (Some before) addr itype priv events) fits) in
           let head = told.head ∙ target_before number last (by.Target false) events refl tells.2 in
-          cut words (Some since) reported by_last front last (by.Target false) events _ (rest [])
+          cut words mode (Some since) reported by_last front last (by.Target false) events _ (rest [])
           (as_target words (Some since) _ _ _ _ head (walk_to_target quiet known here fits tells.1)) told
       quiet_retirement_told quiet known here fits handler start by.Explicit tells on =
           let last = Retire addr itype priv in
           let told = on (Some last) [] addr by.Explicit
           (AtCut (not_handled words (Some before) addr itype priv events) fits) in
           let head = told.head ∙ explicit_after number last by.Explicit events refl tells.2 in
-          cut words (Some since) reported by_last front last by.Explicit events _ (rest [])
+          cut words mode (Some since) reported by_last front last by.Explicit events _ (rest [])
           (as_explicit words (Some since) _ _ _ _ head (walk_to_address quiet known here fits tells.1)) told
       quiet_retirement_told quiet known here fits handler start by.Notify tells on =
           let last = Retire addr itype priv in
           let told = on (Some last) [] addr by.Notify (AtCut (not_handled words (Some before) addr itype priv events)
           fits) in
-          cut words (Some since) reported by_last front last by.Notify events _ (rest [])
+          cut words mode (Some since) reported by_last front last by.Notify events _ (rest [])
           (walk_to_address quiet known here fits tells.1) told
       quiet_retirement_told quiet known here fits handler start by.Unreported tells on =
           unreported quiet known here tells on

@@ -11,6 +11,7 @@ use Rattle.legalpath.specs.Backward.{is_backward}
 use Rattle.legalpath.specs.Discontinuity.{is_discontinuity}
 use Rattle.legalpath.specs.Join.{join}
 use Rattle.legalpath.specs.NoneOf.{NoneOf}
+use Rattle.payload.specs.declared.mode.Mode.{Mode}
 use Rattle.payload.specs.declared.packet.Packet.TheVariants as packet
 use Rattle.encoder.specs.Packets.{packet_by, reported_by, closing}
 use Rattle.encoder.specs.Piece.{Piece}
@@ -28,11 +29,11 @@ use Rattle.roundtrip.proofs.PacketOrder.{last_packets, head_packet, first_is_hea
 -- The last pieces of a log, the first of which may have begun with these events: their packets fit their
 -- stretches after this event, the stretches are the rest of the log, and this tells whether the first of
 -- the packets makes a plain address packet before it explicit.
-pub record Told (words : Words) (since : Option Event) (reported : ℕ) (by_last : Rule) (front events : List Event)
-    (explicit : Bool) (pieces : List Piece) : Type 0 where
-  pub fit : Pieces words since reported (last_packets reported by_last pieces) None (stretches_of pieces)
+pub record Told (words : Words) (mode : Mode) (since : Option Event) (reported : ℕ) (by_last : Rule)
+    (front events : List Event) (explicit : Bool) (pieces : List Piece) : Type 0 where
+  pub fit : Pieces words mode since reported (last_packets mode reported by_last pieces) None (stretches_of pieces)
   pub whole : join (stretches_of pieces) ≡ front ++ events
-  pub head : makes_explicit (head_packet reported by_last pieces) ≡ explicit
+  pub head : makes_explicit (head_packet mode reported by_last pieces) ≡ explicit
 
 -- A stretch of retirements after an event, up to this last one, that gave no packet yet.
 pub record Quiet (words : Words) (since : Event) (front : List Event) (last : Event) : Type 0 where
@@ -101,31 +102,32 @@ explicit_in by_last (InStretch quiet known on) = false
 explicit_in by_last (AfterTrap handles) = true
 
 -- What the events after one tell, in each state that it may leave.
-abbrev pub TellsOn : Words → ℕ → Option Event → Event → ℕ → List Event → (List Event → List Piece) → Type 0
-TellsOn words period before event number events rest =
+abbrev pub TellsOn : Words → ℕ → Mode → Option Event → Event → ℕ → List Event → (List Event → List Piece) → Type 0
+TellsOn words period mode before event number events rest =
     (since : Option Event) (front : List Event) (reported : ℕ) (by_last : Rule) →
     (state : State words period since front before (Some event) number events reported) →
-    Told words since reported by_last front events (explicit_in by_last state) (rest front)
+    Told words mode since reported by_last front events (explicit_in by_last state) (rest front)
 
 -- An event ends a piece, whose packet fits it.
-pub cut : (words : Words) (since : Option Event) (reported : ℕ) (by_last : Rule) (front : List Event) (last : Event)
-    (rule : Rule) (events : List Event) (explicit : Bool) (pieces : List Piece) →
-    Fits words since reported (packet_by reported front last rule)
-    (Some (head_packet (reported_by rule reported last) rule pieces)) (front ++ last ∷ []) →
-    Told words (Some last) (reported_by rule reported last) rule [] events explicit pieces →
-    Told words since reported by_last front (last ∷ events) (makes_explicit (packet_by reported front last rule))
-    (record { front = front; last = last; by = rule } ∷ pieces)
-cut words since reported by_last front last rule events explicit pieces fits told =
+pub cut : (words : Words) (mode : Mode) (since : Option Event) (reported : ℕ) (by_last : Rule) (front : List Event)
+    (last : Event) (rule : Rule) (events : List Event) (explicit : Bool) (pieces : List Piece) →
+    Fits words mode since reported (packet_by mode reported front last rule)
+    (Some (head_packet mode (reported_by rule reported last) rule pieces)) (front ++ last ∷ []) →
+    Told words mode (Some last) (reported_by rule reported last) rule [] events explicit pieces →
+    Told words mode since reported by_last front (last ∷ events)
+    (makes_explicit (packet_by mode reported front last rule)) (record { front = front; last = last; by = rule } ∷ pieces)
+cut words mode since reported by_last front last rule events explicit pieces fits told =
     let after = reported_by rule reported last in
-    let reporting = packet_by reported front last rule in
-    let head = first_is_head after rule pieces in
-    let order = subst (λ next. MayPrecede reporting next) (sym head) (precedes reported front last rule after pieces) in
-    let fit = subst (λ next. Fits words since reported reporting next (front ++ last ∷ [])) (sym head) fits in
+    let reporting = packet_by mode reported front last rule in
+    let head = first_is_head mode after rule pieces in
+    let order = subst (λ next. MayPrecede reporting next) (sym head)
+    (precedes mode reported front last rule after pieces) in
+    let fit = subst (λ next. Fits words mode since reported reporting next (front ++ last ∷ [])) (sym head) fits in
     let ends : last_or since (front ++ last ∷ []) ≡ Some last = last_or-append since front (last ∷ []) in
-    let by_address = subst (λ address. Pieces words (Some last) address (last_packets after rule pieces) None
-    (stretches_of pieces)) (sym (reported_after-packet_by reported front last rule)) told.fit in
-    let rest = subst (λ before. Pieces words before (reported_after reporting reported (front ++ last ∷ []))
-    (last_packets after rule pieces) None (stretches_of pieces)) (sym ends) by_address in
+    let by_address = subst (λ address. Pieces words mode (Some last) address (last_packets mode after rule pieces) None
+    (stretches_of pieces)) (sym (reported_after-packet_by mode reported front last rule)) told.fit in
+    let rest = subst (λ before. Pieces words mode before (reported_after reporting reported (front ++ last ∷ []))
+    (last_packets mode after rule pieces) None (stretches_of pieces)) (sym ends) by_address in
     record {
       fit = (order, fit, rest);
       whole = ap (λ l. (front ++ last ∷ []) ++ l) told.whole ∙ append_assoc front (last ∷ []) events;

@@ -3,6 +3,7 @@ use Rattle.std.specs.Prelude.{ℕ, List, [], ◌∷◌, length, take}
 use Rattle.retire.specs.declared.event.Event.{Event}
 use Rattle.rvclass.specs.Words.{Words}
 use Rattle.legalpath.specs.Join.{join}
+use Rattle.payload.specs.declared.mode.Mode.{Mode}
 use Rattle.decoder.specs.SettledPieces.{settled_pieces}
 use Rattle.encoder.specs.Packets.{packets}
 use Rattle.encoder.specs.Piece.{Piece, events_of, pieces_of}
@@ -17,9 +18,10 @@ abbrev pub stretches : Words → ℕ → List Event → List (List Event)
 stretches words period log = [] ∷ stretches_of (pieces_of words period log)
 
 -- The events that the first packets of a log settle.
-abbrev pub told : Words → ℕ → List Event → ℕ → List Event
-told words period log count = join (settled_pieces (take count (packets words period log)) (stretches words period log))
+abbrev pub told : Words → ℕ → Mode → List Event → ℕ → List Event
+told words period mode log count =
+    join (settled_pieces (take count (packets words period mode log)) (stretches words period log))
 
 -- How many they are.
-abbrev pub reach : Words → ℕ → List Event → ℕ → ℕ
-reach words period log count = length (told words period log count)
+abbrev pub reach : Words → ℕ → Mode → List Event → ℕ → ℕ
+reach words period mode log count = length (told words period mode log count)

@@ -4,7 +4,7 @@ use Rattle.roundtrip.proofs.laws.first_packets_tell_the_first_events.Goals as go
 
 pub returns-clause-first : goal.returns-clause-first
 returns-clause-first c =
-    λ words period count log program legal. first_packets_describe words program period log legal count
+    λ words period count mode log program legal. first_packets_describe words program period mode log legal count
 
 pub returns-clause-whole : goal.returns-clause-whole
-returns-clause-whole c = λ words period log program legal. packets_describe words program period log legal
+returns-clause-whole c = λ words period mode log program legal. packets_describe words program period mode log legal
