@@ -56,7 +56,8 @@ other_packet : (n : ℕ) → is_support n ≡ false → is_closing_packet (packe
 other_packet n none =
     rw none (not_chosen (is_sync n) (is_trap n) (is_address_alone n) (is_map_alone n)
     (packet.Sync (part n 4 1 == 0) (part n 5 2) (2 * part n 7 63)) (trap_from n)
-    (packet.Support (support_from (part n 4 1) (part n 6 2))) (address_from n [] 2) (packet.Map (outcomes_from n 31))
+    (packet.Support (support_from (part n 4 1) (part n 6 2) (part n 8 5))) (address_from n [] 2)
+    (packet.Map (outcomes_from n 31))
     (address_from n (outcomes_from n (part n 2 5)) (address_behind_map n)) refl refl refl refl refl)
 
 fault_or_other : (fault : Option PackFault) (p : Packet) → is_closing_packet p ≡ false
