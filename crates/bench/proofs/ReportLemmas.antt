@@ -1,9 +1,12 @@
 -- The lines of first harts, and whether their logs came back whole, with one hart more.
-use Rattle.std.proofs.Common.{◌≡◌, ◌<◌, ◌≤◌, ◌+◌, ℕ, zero, suc, Bool, List, [], ◌∷◌, ◌++◌, Some, get_or, length, map, take, slice_get, refl, sym, ap, ◌∙◌, arith}
+use Rattle.std.proofs.Common.{◌≡◌, ◌<◌, ◌≤◌, ◌+◌, ℕ, zero, suc, Bool, List, [], ◌∷◌, ◌++◌, Some, drop, get_or, length, map, take, slice_get, refl, subst, sym, ap, ◌∙◌, arith}
 use Rattle.std.specs.Option.{option_map}
 use Rattle.std.specs.Prelude.{◌&&◌, true, false, is_none, is_some, not, Option, None}
 use Rattle.std.proofs.lemmas.List.{append_assoc, append-nil, length-map, take_all}
 use Rattle.std.proofs.lemmas.Option.{same_Some, slice_get-map, slice_get_read}
+use Rattle.std.specs.Io.KnownBytes.{Appends}
+use Rattle.output.specs.Begun.{AppendsBeginning}
+use Rattle.output.proofs.Beginnings.{begun_behind, begun_in_front}
 use Rattle.legalpath.specs.ProgramLog.{ProgramLog}
 use Rattle.bench.specs.Got.{Got, got_of}
 use Rattle.bench.specs.Report.{are_whole, hart_line, hart_lines, is_whole_verdict}
@@ -30,6 +33,40 @@ hart_lines-next hart (g ∷ gots) (l ∷ logs) (suc k) got log at there =
     ∙ sym (append_assoc (hart_line hart g l) (hart_lines (hart + 1) (take k gots) (take k logs))
     (hart_line (hart + 1 + k) got log))
     ∙ ap (λ h. hart_line hart g l ++ hart_lines (hart + 1) (take k gots) (take k logs) ++ hart_line h got log) place
+
+-- No logs have no lines.
+hart_lines-none : (hart : ℕ) (gots : List Got) → hart_lines hart gots [] ≡ []
+hart_lines-none hart [] = refl
+hart_lines-none hart (g ∷ gots) = refl
+
+-- The lines of first harts, the first of them this one, and of the others.
+hart_lines-parted : (hart : ℕ) (gots : List Got) (logs : List ProgramLog) (k : ℕ)
+    → hart_lines hart gots logs
+    ≡ hart_lines hart (take k gots) (take k logs) ++ hart_lines (hart + k) (drop k gots) (drop k logs)
+hart_lines-parted hart gots logs zero = ap (λ h. hart_lines h gots logs) (omega arith)
+hart_lines-parted hart [] logs (suc k) = refl
+hart_lines-parted hart (g ∷ gots) [] (suc k) = sym (hart_lines-none (hart + suc k) (drop k gots))
+hart_lines-parted hart (g ∷ gots) (l ∷ logs) (suc k) =
+    let place : hart + 1 + k ≡ hart + suc k = omega arith in
+    ap (λ rest. hart_line hart g l ++ rest) (hart_lines-parted (hart + 1) gots logs k)
+    ∙ sym (append_assoc (hart_line hart g l) (hart_lines (hart + 1) (take k gots) (take k logs))
+    (hart_lines (hart + 1 + k) (drop k gots) (drop k logs)))
+    ∙ ap (λ h. (hart_line hart g l ++ hart_lines (hart + 1) (take k gots) (take k logs))
+    ++ hart_lines h (drop k gots) (drop k logs)) place
+
+-- The lines of first harts were written, and a beginning of the next.
+pub hart_begun : (gots : List Got) (logs : List ProgramLog) (k : ℕ) (got : Got) (log : ProgramLog)
+    (old mid new : Option (List ℕ)) → slice_get gots k ≡ Some got → slice_get logs k ≡ Some log
+    → Appends old mid (hart_lines 0 (take k gots) (take k logs)) → AppendsBeginning (hart_line (0 + k) got log) mid new
+    → AppendsBeginning (hart_lines 0 gots logs) old new
+hart_begun gots logs k got log old mid new at there first begun =
+    let front = hart_lines 0 (take k gots) (take k logs) in
+    let here = hart_line (0 + k) got log in
+    let rest = hart_lines (0 + suc k) (drop (suc k) gots) (drop (suc k) logs) in
+    let all : hart_lines 0 gots logs ≡ (front ++ here) ++ rest =
+    hart_lines-parted 0 gots logs (suc k) ∙ ap (λ l. l ++ rest) (hart_lines-next 0 gots logs k got log at there) in
+    subst (λ l. AppendsBeginning l old new) (sym all)
+    (begun_in_front (front ++ here) rest old new (begun_behind front here old mid new first begun))
 
 -- The element at a place, of which a hart's outcome tells the rest.
 pub got_at : {A : Type 0} (harts : List (HartOutcome A)) (k : ℕ) (hart : HartOutcome A) → k < length harts

@@ -2,6 +2,7 @@
 
 ghost use Rattle.std.specs.Prelude.{◌≡◌, ◌≤◌, ◌<◌, ◌^◌, IfErr, IfOk, OnOk, length, map, slice_get, Some};
 ghost use Rattle.std.specs.Io.KnownBytes.{Appends};
+ghost use Rattle.output.specs.Begun.{AppendsBeginning};
 ghost use Rattle.legalpath.specs.ProgramLog.{ProgramLog};
 ghost use Rattle.bench.specs.Got.{got_of};
 ghost use Rattle.bench.specs.Report.{are_whole, hart_line, hart_lines, is_whole, is_whole_verdict, report_text, result_line, stop_line};
@@ -12,6 +13,7 @@ use crate::outcome::{HartOutcome, Outcome};
 use crate::stop::Stop;
 use crate::verdict::{Verdict, compare};
 use legalpath::LegalLog;
+use output::{write_bytes, write_text};
 use retire::WriteFault;
 use std::alloc::Allocator;
 use std::io::Write;
@@ -19,7 +21,7 @@ use std::io::Write;
 /// Writes a line for each hart, one for the stop where there is one, and one for the result.
 ///
 /// The logs are those of the outcome's harts, in order. The only fault is [`WriteFault::Write`], where the writer
-/// failed; a beginning of the text may have been written then. No memory is taken, and the writer is not flushed.
+/// failed; what was written then is a beginning of the text. No memory is taken, and the writer is not flushed.
 pub fn report<W: Write, A: Allocator, B: Allocator>(
     outcome: &Outcome<A>,
     logs: &[LegalLog<'_, B>],
@@ -28,6 +30,8 @@ pub fn report<W: Write, A: Allocator, B: Allocator>(
     requires { length logs.now ≡ length outcome.now.harts.items }
     ensures text { OnOk result (Appends (W.contents sink.old) (W.contents sink.new)
         (report_text outcome.now.stop (map got_of outcome.now.harts.items) logs.now)) }
+    ensures begun { AppendsBeginning (report_text outcome.now.stop (map got_of outcome.now.harts.items) logs.now)
+        (W.contents sink.old) (W.contents sink.new) }
     ensures fault { IfErr result (λ fault. fault ≡ WriteFault.Write) }
 {
     let whole = match write_harts(outcome.harts.as_slice(), logs, sink) {
@@ -82,6 +86,8 @@ fn write_harts<W: Write, A: Allocator, B: Allocator>(
     ensures whole { IfOk result (λ whole. whole ≡ are_whole (map got_of harts.now) logs.now) }
     ensures text { OnOk result (Appends (W.contents sink.old) (W.contents sink.new)
         (hart_lines 0 (map got_of harts.now) logs.now)) }
+    ensures begun { AppendsBeginning (hart_lines 0 (map got_of harts.now) logs.now)
+        (W.contents sink.old) (W.contents sink.new) }
     ensures fault { IfErr result (λ fault. fault ≡ WriteFault.Write) }
 {
     let mut whole = true;
@@ -105,6 +111,8 @@ fn write_hart<W: Write, A: Allocator, B: Allocator>(
         whole ≡ is_whole_verdict (verdict outcome.now.closed outcome.now.decoded.items log.now.events)) }
     ensures text { OnOk result (Appends (W.contents sink.old) (W.contents sink.new)
         (hart_line hart (got_of outcome.now) log.now)) }
+    ensures begun { AppendsBeginning (hart_line hart (got_of outcome.now) log.now)
+        (W.contents sink.old) (W.contents sink.new) }
     ensures fault { IfErr result (λ fault. fault ≡ WriteFault.Write) }
 {
     let verdict = verdict_of(outcome, log);
@@ -116,7 +124,7 @@ fn write_hart<W: Write, A: Allocator, B: Allocator>(
         decoded: outcome.decoded.len(),
         verdict,
     };
-    match writeln!(sink, "{line}") {
+    match write_text(sink, format_args!("{line}\n")) {
         Ok(()) => Ok(verdict.is_whole()),
         Err(_) => Err(WriteFault::Write),
     }
@@ -125,12 +133,13 @@ fn write_hart<W: Write, A: Allocator, B: Allocator>(
 /// Writes the line of a stop, where there is one.
 fn write_stop<W: Write>(stop: Option<Stop>, sink: &mut W) -> Result<(), WriteFault>
     ensures text { OnOk result (Appends (W.contents sink.old) (W.contents sink.new) (stop_line stop)) }
+    ensures begun { AppendsBeginning (stop_line stop) (W.contents sink.old) (W.contents sink.new) }
     ensures fault { IfErr result (λ fault. fault ≡ WriteFault.Write) }
 {
     let Some(why) = stop else {
         return Ok(());
     };
-    match writeln!(sink, "stop: {why}") {
+    match write_text(sink, format_args!("stop: {why}\n")) {
         Ok(()) => Ok(()),
         Err(_) => Err(WriteFault::Write),
     }
@@ -139,6 +148,7 @@ fn write_stop<W: Write>(stop: Option<Stop>, sink: &mut W) -> Result<(), WriteFau
 /// Writes the line of the result.
 fn write_result<W: Write>(whole: bool, sink: &mut W) -> Result<(), WriteFault>
     ensures text { OnOk result (Appends (W.contents sink.old) (W.contents sink.new) (result_line whole)) }
+    ensures begun { AppendsBeginning (result_line whole) (W.contents sink.old) (W.contents sink.new) }
     ensures fault { IfErr result (λ fault. fault ≡ WriteFault.Write) }
 {
     let result = if whole {
@@ -146,7 +156,7 @@ fn write_result<W: Write>(whole: bool, sink: &mut W) -> Result<(), WriteFault>
     } else {
         "result: not whole\n"
     };
-    match sink.write_all(result.as_bytes()) {
+    match write_bytes(sink, result.as_bytes()) {
         Ok(()) => Ok(()),
         Err(_) => Err(WriteFault::Write),
     }

@@ -7,3 +7,4 @@ pub mod NextMessages
 pub mod CapturesReturn
 pub mod Reaching
 pub mod ToldMessages
+pub mod Dumps

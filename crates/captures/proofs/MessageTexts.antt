@@ -1,12 +1,14 @@
 -- What is written of messages, a message at a time and a log at a time.
 use Rattle.std.proofs.Common.{ℕ, suc, ◌+◌, ◌≡◌, refl, ◌<◌, ◌≤◌, ◌⊎◌, inl, inr, List, [], ◌∷◌, ◌++◌, Option, Some, None}
-use Rattle.std.proofs.Common.{length, take, slice_get, sym, subst, ap, ◌∙◌, arith, append_assoc, get_or}
+use Rattle.std.proofs.Common.{length, drop, take, take-append-drop, slice_get, sym, subst, ap, ◌∙◌, arith, append_assoc, get_or}
 use Rattle.std.proofs.KnownBytes.{Appends-trans}
 use Rattle.std.proofs.lemmas.List.{append-nil, length-map, length-take-le, take_all, take_more}
 use Rattle.std.proofs.lemmas.Option.{get_or_from_slice_get, slice_get_cases, slice_get_within}
 use Rattle.std.specs.Io.KnownBytes.{Appends}
 use Rattle.std.proofs.lemmas.List.Concat.{flat_map-append}
 use Rattle.std.specs.List.{flat_map}
+use Rattle.output.specs.Begun.{AppendsBeginning}
+use Rattle.output.proofs.Beginnings.{begun_behind, begun_in_front}
 use Rattle.rvclass.specs.Fetch.{words_of}
 use Rattle.legalpath.specs.ProgramLog.{ProgramLog}
 use Rattle.payload.specs.Spelling.{payload_of}
@@ -124,3 +126,64 @@ text-take_more_harts text period i logs log within is =
     ∙ ap
     (λ h. flat_map text (messages_of_harts period 0 (take i logs)) ++ flat_map text
     (messages_from h 0 (payloads period log))) (omega (arith, count))
+
+messages_from-append : (hart number : ℕ) (front back : List (List ℕ))
+    → messages_from hart number (front ++ back)
+    ≡ messages_from hart number front ++ messages_from hart (number + length front) back
+messages_from-append hart number [] back = ap (λ n. messages_from hart n back) (omega arith)
+messages_from-append hart number (first ∷ front) back =
+    let next : number + 1 + length front ≡ number + suc (length front) = omega arith in
+    ap (λ l. record { hart = hart; number = number; payload = first } ∷ l)
+    (messages_from-append hart (number + 1) front back
+    ∙ ap (λ n. messages_from hart (number + 1) front ++ messages_from hart n back) next)
+
+-- Messages were written, and a beginning of the next.
+pub next_begun : (text : Message → List ℕ) (old mid new : Option (List ℕ)) (hart i : ℕ) (items : List (List ℕ))
+    (payload : List ℕ) → slice_get items i ≡ Some payload
+    → Appends old mid (flat_map text (messages_from hart 0 (take i items)))
+    → AppendsBeginning (text (record { hart = hart; number = i; payload = payload })) mid new
+    → AppendsBeginning (flat_map text (messages_from hart 0 items)) old new
+next_begun text old mid new hart i items payload found first begun =
+    let before = flat_map text (messages_from hart 0 (take i items)) in
+    let here = text (record { hart = hart; number = i; payload = payload }) in
+    let front = messages_from hart 0 (take (i + 1) items) in
+    let later = messages_from hart (0 + length (take (i + 1) items)) (drop (i + 1) items) in
+    let all : flat_map text (messages_from hart 0 items) ≡ (before ++ here) ++ flat_map text later =
+    ap (λ l. flat_map text (messages_from hart 0 l)) (sym (take-append-drop (i + 1) items))
+    ∙ ap (flat_map text) (messages_from-append hart 0 (take (i + 1) items) (drop (i + 1) items))
+    ∙ flat_map-append text front later
+    ∙ ap (λ l. l ++ flat_map text later) (text-take_more text hart i items payload found) in
+    subst (λ l. AppendsBeginning l old new) (sym all)
+    (begun_in_front (before ++ here) (flat_map text later) old new (begun_behind before here old mid new first begun))
+
+messages_of_harts-append : (period hart : ℕ) (front back : List ProgramLog)
+    → messages_of_harts period hart (front ++ back)
+    ≡ messages_of_harts period hart front ++ messages_of_harts period (hart + length front) back
+messages_of_harts-append period hart [] back = ap (λ h. messages_of_harts period h back) (omega arith)
+messages_of_harts-append period hart (first ∷ front) back =
+    let next : hart + 1 + length front ≡ hart + suc (length front) = omega arith in
+    ap (λ l. messages_from hart 0 (payloads period first) ++ l)
+    (messages_of_harts-append period (hart + 1) front back
+    ∙ ap (λ h. messages_of_harts period (hart + 1) front ++ messages_of_harts period h back) next)
+    ∙ sym
+    (append_assoc (messages_from hart 0 (payloads period first)) (messages_of_harts period (hart + 1) front)
+    (messages_of_harts period (hart + suc (length front)) back))
+
+-- The messages of harts were written, and a beginning of those of the next.
+pub next_hart_begun : (text : Message → List ℕ) (old mid new : Option (List ℕ)) (period i : ℕ) (logs : List ProgramLog)
+    (log : ProgramLog) → i < length logs → log ≡ get_or logs i log
+    → Appends old mid (flat_map text (messages_of_harts period 0 (take i logs)))
+    → AppendsBeginning (flat_map text (messages_from i 0 (payloads period log))) mid new
+    → AppendsBeginning (flat_map text (messages_of_harts period 0 logs)) old new
+next_hart_begun text old mid new period i logs log within is first begun =
+    let before = flat_map text (messages_of_harts period 0 (take i logs)) in
+    let here = flat_map text (messages_from i 0 (payloads period log)) in
+    let front = messages_of_harts period 0 (take (i + 1) logs) in
+    let later = messages_of_harts period (0 + length (take (i + 1) logs)) (drop (i + 1) logs) in
+    let all : flat_map text (messages_of_harts period 0 logs) ≡ (before ++ here) ++ flat_map text later =
+    ap (λ l. flat_map text (messages_of_harts period 0 l)) (sym (take-append-drop (i + 1) logs))
+    ∙ ap (flat_map text) (messages_of_harts-append period 0 (take (i + 1) logs) (drop (i + 1) logs))
+    ∙ flat_map-append text front later
+    ∙ ap (λ l. l ++ flat_map text later) (text-take_more_harts text period i logs log within is) in
+    subst (λ l. AppendsBeginning l old new) (sym all)
+    (begun_in_front (before ++ here) (flat_map text later) old new (begun_behind before here old mid new first begun))

@@ -4,6 +4,7 @@ use Rattle.std.specs.Fmt.{decimal}
 use Rattle.std.specs.Io.KnownBytes.{Appends}
 use Rattle.std.specs.List.{flat_map, list_any}
 use Rattle.std.specs.Result.{is_err}
+use Rattle.output.specs.Begun.{AppendsBeginning}
 use Rattle.payload.specs.Reading.{reading}
 use Rattle.payload.specs.declared.fault.PackFault.{PackFault}
 use Rattle.payload.specs.declared.packet.Packet.{Packet}
@@ -47,3 +48,11 @@ pub record IsDump (bytes : List ℕ) (bad : Bool) (fault : Option (ℕ × Messag
   pub refused : bad ≡ list_any is_refused messages
   pub text : Appends old new (dump_text messages)
   pub ends : Ends (length messages) rest fault
+
+-- A beginning was appended of what the dump of the bytes into an empty place has.
+pub record BeginsDump (bytes : List ℕ) (old new : Option (List ℕ)) : Type 0 where
+  pub text : List ℕ
+  pub bad : Bool
+  pub fault : Option (ℕ × MessageFault)
+  pub dumped : IsDump bytes bad fault (Some []) (Some text)
+  pub begun : AppendsBeginning text old new

@@ -1,11 +1,13 @@
 //! Captures as text.
 
-ghost use Rattle.std.specs.Prelude.{◌≡◌, IfErr, IfOk, OnOk};
+ghost use Rattle.std.specs.Prelude.{◌≡◌, IfErr, IfOk, OnErr, OnOk};
 ghost use Rattle.std.specs.Io.KnownBytes.{Appends};
-ghost use Rattle.captures.specs.Dump.{IsDump, is_refused, line_of};
+ghost use Rattle.output.specs.Begun.{AppendsBeginning};
+ghost use Rattle.captures.specs.Dump.{BeginsDump, IsDump, is_refused, line_of};
 
 use crate::packet_text::ReadingText;
 use message::{Message, MessageFault, Messages};
+use output::write_text;
 use payload::unpack;
 use retire::WriteFault;
 use std::io::Write;
@@ -23,11 +25,12 @@ pub struct Dumped {
 /// packet, whose numbers are in lower-case hexadecimal, or `bad` and the reason where the payload is no packet.
 ///
 /// The lines stand in the order of the capture, and go on behind a bad payload. They end at the first place where no
-/// message stands. The only fault is [`WriteFault::Write`], where the writer failed; a beginning of the text may have
-/// been written then. No memory is taken.
+/// message stands. The only fault is [`WriteFault::Write`], where the writer failed; what was written then is a
+/// beginning of the text. No memory is taken.
 pub fn dump_capture<W: Write>(capture: &[u8], sink: &mut W) -> Result<Dumped, WriteFault>
     ensures dumped { IfOk result
         (λ dumped. IsDump capture.now dumped.bad dumped.fault (W.contents sink.old) (W.contents sink.new)) }
+    ensures begun { OnErr result (BeginsDump capture.now (W.contents sink.old) (W.contents sink.new)) }
     ensures fault { IfErr result (λ fault. fault ≡ WriteFault.Write) }
 {
     let mut messages = Messages::new(capture);
@@ -57,12 +60,16 @@ pub fn dump_capture<W: Write>(capture: &[u8], sink: &mut W) -> Result<Dumped, Wr
 fn write_message_line<W: Write>(sink: &mut W, message: &Message) -> Result<bool, WriteFault>
     ensures refused { IfOk result (λ refused. refused ≡ is_refused message.now) }
     ensures text { OnOk result (Appends (W.contents sink.old) (W.contents sink.new) (line_of message.now)) }
+    ensures begun { AppendsBeginning (line_of message.now) (W.contents sink.old) (W.contents sink.new) }
     ensures fault { IfErr result (λ fault. fault ≡ WriteFault.Write) }
 {
     let hart = message.hart;
     let number = message.number;
     let unpacked = unpack(message.payload.bytes());
-    match writeln!(sink, "{hart} {number} {}", ReadingText(&unpacked)) {
+    match write_text(
+        sink,
+        format_args!("{hart} {number} {}\n", ReadingText(&unpacked)),
+    ) {
         Ok(()) => Ok(unpacked.is_err()),
         Err(_) => Err(WriteFault::Write),
     }

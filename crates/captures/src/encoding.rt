@@ -3,6 +3,7 @@
 ghost use Rattle.std.specs.Prelude.{◌≡◌, ◌+◌, ◌^◌, ◌≤◌, IfErr, OnOk, length};
 ghost use Rattle.std.specs.Io.KnownBytes.{Appends};
 ghost use Rattle.std.specs.List.{flat_map};
+ghost use Rattle.output.specs.Begun.{AppendsBeginning};
 ghost use Rattle.message.specs.Capture.{capture};
 ghost use Rattle.captures.specs.HexLines.{hex_text};
 ghost use Rattle.message.specs.Numbered.{messages_from};
@@ -19,8 +20,8 @@ use std::io::Write;
 /// Writes the capture of the messages of each hart's log, hart 0 first, numbered from 0 on.
 ///
 /// The payloads are the shortest of the packets of the log, with a synchronisation at each retirement whose number the
-/// period divides. The only fault is [`MessageFault::Write`], where the writer failed; a beginning of the capture may
-/// have been written then. No memory is taken, and the writer is not flushed.
+/// period divides. The only fault is [`MessageFault::Write`], where the writer failed; what was written then is a
+/// beginning of the capture. No memory is taken, and the writer is not flushed.
 pub fn encode_capture<W: Write, A: Allocator>(
     logs: &[LegalLog<'_, A>],
     period: u16,
@@ -30,6 +31,8 @@ pub fn encode_capture<W: Write, A: Allocator>(
     requires few { length logs.now ≤ 2 ^ 16 }
     ensures capture { OnOk result (Appends (W.contents sink.old) (W.contents sink.new)
         (capture (messages_of_harts period 0 logs.now))) }
+    ensures begun { AppendsBeginning (capture (messages_of_harts period 0 logs.now))
+        (W.contents sink.old) (W.contents sink.new) }
     ensures fault { IfErr result (λ fault. fault ≡ MessageFault.Write) }
 {
     encode::<Capture, W, A>(logs, period, sink)
@@ -38,8 +41,8 @@ pub fn encode_capture<W: Write, A: Allocator>(
 /// Writes the same messages as [`encode_capture`], a line each: the hart's number and the message's, both decimal, and
 /// the payload's bytes in lower-case hexadecimal, parted by spaces.
 ///
-/// The only fault is [`MessageFault::Write`], where the writer failed; a beginning of the text may have been written
-/// then. No memory is taken, and the writer is not flushed.
+/// The only fault is [`MessageFault::Write`], where the writer failed; what was written then is a beginning of the
+/// text. No memory is taken, and the writer is not flushed.
 pub fn encode_hex<W: Write, A: Allocator>(
     logs: &[LegalLog<'_, A>],
     period: u16,
@@ -49,6 +52,8 @@ pub fn encode_hex<W: Write, A: Allocator>(
     requires few { length logs.now ≤ 2 ^ 16 }
     ensures text { OnOk result (Appends (W.contents sink.old) (W.contents sink.new)
         (hex_text (messages_of_harts period 0 logs.now))) }
+    ensures begun { AppendsBeginning (hex_text (messages_of_harts period 0 logs.now))
+        (W.contents sink.old) (W.contents sink.new) }
     ensures fault { IfErr result (λ fault. fault ≡ MessageFault.Write) }
 {
     encode::<Lines, W, A>(logs, period, sink)
@@ -64,6 +69,8 @@ fn encode<F: Form, W: Write, A: Allocator>(
     requires few { length logs.now ≤ 2 ^ 16 }
     ensures text { OnOk result (Appends (W.contents sink.old) (W.contents sink.new)
         (flat_map F.text (messages_of_harts period 0 logs.now))) }
+    ensures begun { AppendsBeginning (flat_map F.text (messages_of_harts period 0 logs.now))
+        (W.contents sink.old) (W.contents sink.new) }
     ensures fault { IfErr result (λ fault. fault ≡ MessageFault.Write) }
 {
     for (hart, log) in logs.iter().enumerate() {
@@ -82,6 +89,8 @@ fn encode_log<F: Form, W: Write, A: Allocator>(
     requires { 1 ≤ period }
     ensures text { OnOk result (Appends (W.contents sink.old) (W.contents sink.new)
         (flat_map F.text (messages_from hart 0 (payloads period log.now)))) }
+    ensures begun { AppendsBeginning (flat_map F.text (messages_from hart 0 (payloads period log.now)))
+        (W.contents sink.old) (W.contents sink.new) }
     ensures fault { IfErr result (λ fault. fault ≡ MessageFault.Write) }
 {
     let mut source = Source::new(log, period);

@@ -2,6 +2,7 @@
 
 ghost use Rattle.std.specs.Prelude.{◌≡◌, ℕ, List, IfErr, OnOk};
 ghost use Rattle.std.specs.Io.KnownBytes.{Appends};
+ghost use Rattle.output.specs.Begun.{AppendsBeginning};
 ghost use Rattle.message.specs.Capture.{message_bytes};
 ghost use Rattle.message.specs.declared.message.Message.{Message as AnyMessage};
 ghost use Rattle.captures.specs.HexLines.{hex_line};
@@ -18,6 +19,7 @@ pub(crate) trait Form {
     /// Writes a message.
     fn write<W: Write>(sink: &mut W, message: &Message) -> Result<(), MessageFault>
         ensures text { OnOk result (Appends (W.contents sink.old) (W.contents sink.new) (text message.now)) }
+        ensures begun { AppendsBeginning (text message.now) (W.contents sink.old) (W.contents sink.new) }
         ensures fault { IfErr result (λ fault. fault ≡ MessageFault.Write) };
 }
 

@@ -2,16 +2,19 @@
 
 ghost use Rattle.std.specs.Prelude.{◌≡◌, IfErr, OnOk};
 ghost use Rattle.std.specs.Io.KnownBytes.{Appends};
+ghost use Rattle.output.specs.Begun.{AppendsBeginning};
 ghost use Rattle.captures.specs.HexLines.{hex_line};
 
 use hex::encode_to_slice;
 use message::{Message, MessageFault};
+use output::{write_bytes, write_text};
 use std::io::Write;
 
 /// Writes the line of a message: the hart's number and the message's, both decimal, and the payload's bytes in
 /// lower-case hexadecimal, parted by spaces.
 pub(crate) fn write_line<W: Write>(sink: &mut W, message: &Message) -> Result<(), MessageFault>
     ensures text { OnOk result (Appends (W.contents sink.old) (W.contents sink.new) (hex_line message.now)) }
+    ensures begun { AppendsBeginning (hex_line message.now) (W.contents sink.old) (W.contents sink.new) }
     ensures fault { IfErr result (λ fault. fault ≡ MessageFault.Write) }
 {
     let bytes = message.payload.bytes();
@@ -21,15 +24,15 @@ pub(crate) fn write_line<W: Write>(sink: &mut W, message: &Message) -> Result<()
         Ok(()) => {}
         Err(_) => unreachable!(),
     }
-    match write!(sink, "{} {} ", message.hart, message.number) {
+    match write_text(sink, format_args!("{} {} ", message.hart, message.number)) {
         Ok(()) => {}
         Err(_) => return Err(MessageFault::Write),
     }
-    match sink.write_all(digits) {
+    match write_bytes(sink, digits) {
         Ok(()) => {}
         Err(_) => return Err(MessageFault::Write),
     }
-    match sink.write_all(b"\n") {
+    match write_bytes(sink, b"\n") {
         Ok(()) => Ok(()),
         Err(_) => Err(MessageFault::Write),
     }

@@ -2,19 +2,19 @@
 use Rattle.std.proofs.Common.{◌≡◌, ◌<◌, ◌≤◌, ◌↔◌, ◌+◌, ◌-◌, ◌==◌, ◌||◌, ◌++◌, ℕ, zero, suc, Bool, true, false, nat_lt}
 use Rattle.std.proofs.Common.{if◌then◌else◌, List, [], ◌∷◌, Option, Some, None, Result, Ok, Err, IfOk, IfSome, length}
 use Rattle.std.proofs.Common.{take, drop, replicate, slice_index, refl, sym, ap, subst, ◌∙◌, arith, inl, inr}
-use Rattle.std.proofs.Common.{take-append-drop, length-take-le}
+use Rattle.std.proofs.Common.{◌⊎◌, take-append-drop, length-take-le}
 use Rattle.std.proofs.lemmas.Bool.{ltb-true, ltb-false, le-ltb, eqb-true, eqb-false, ne_eqb, or_cases, or_parts}
-use Rattle.std.proofs.lemmas.List.{length-append, length-drop, length-replicate, drop-drop, get_or-take}
+use Rattle.std.proofs.lemmas.List.{length-append, length-drop, length-replicate, drop-drop, get_or-take, nil_from_length}
 use Rattle.std.proofs.lemmas.List.{get_or_append_left}
 use lib.Seq.{take-append_seam}
 use Rattle.message.specs.Capture.{message_bytes}
-use Rattle.message.specs.Cut.{IsCut, IsMessage, IsBadLength}
+use Rattle.message.specs.Cut.{HasBadLength, IsCut, IsMessage, IsBadLength}
 use Rattle.message.specs.steps.Filling.{AreBytes}
 use Rattle.message.specs.steps.Front.{message_of, first_message}
 use Rattle.message.specs.declared.message.Message.{Message}
 use Rattle.message.specs.declared.fault.MessageFault.{MessageFault}
 use Rattle.message.specs.declared.fault.MessageFault.TheVariants as fault
-use Rattle.message.proofs.Cuts.{IsCut-head, IsCut-payload}
+use Rattle.message.proofs.Cuts.{IsCut-head, IsCut-payload, message_of-ranges}
 use Rattle.message.proofs.Heads.{AreBytes-drop, head_bytes-read}
 use Rattle.message.proofs.ReadBack.{message_in-message_bytes}
 
@@ -146,7 +146,7 @@ kind (Err fault.Write) = 5
 -- None is answered exactly where there are no bytes.
 pub first_message-end : (bytes : List ℕ) → (first_message bytes ≡ Ok None) ↔ (bytes ≡ [])
 first_message-end bytes = by_tests bytes (λ r. (r ≡ Ok None) ↔ (bytes ≡ []))
-    (λ none. (λ e. length-zero bytes none, λ is. refl))
+    (λ none. (λ e. nil_from_length bytes none, λ is. refl))
     (λ some few. (
       λ e. absurd (let k = ap kind e in omega (arith, k)),
       λ is. absurd (let n = ap length is in omega (arith, n, some)),
@@ -163,10 +163,6 @@ first_message-end bytes = by_tests bytes (λ r. (r ≡ Ok None) ↔ (bytes ≡ [
       λ e. absurd (let k = ap kind e in omega (arith, k)),
       λ is. absurd (let n = ap length is in omega (arith, n, fits)),
     ))
-  where
-    length-zero : (xs : List ℕ) → length xs ≡ 0 → xs ≡ []
-    length-zero [] none = refl
-    length-zero (x ∷ xs) none = absurd (omega (arith, none))
 
 -- Short is answered exactly where the bytes begin a message and are not all of it.
 pub first_message-short : (bytes : List ℕ) → AreBytes bytes → (first_message bytes ≡ Err fault.Short) ↔ IsCut bytes
@@ -247,3 +243,25 @@ first_message-reads_back m rest is =
     le-ltb (length (m.payload ++ rest)) count (omega (arith, long)) in
     let same = message_in-message_bytes m rest is in
     rw (begun, whole, none, high, fits) (ap (λ n. Ok (Some n)) same)
+
+-- Bytes are none, begin no message, or are a message and a rest.
+abbrev pub Front : List ℕ → Type 0
+Front bytes =
+    (bytes ≡ []) ⊎ (IsCut bytes ⊎ (HasBadLength bytes
+    ⊎ ((m : Message) × (rest : List ℕ) × IsMessage m × (bytes ≡ message_bytes m ++ rest))))
+
+pub front_of : (bytes : List ℕ) → AreBytes bytes → Front bytes
+front_of bytes are = by_tests bytes (λ r. Stands bytes r → Front bytes)
+    (λ none stands. inl (nil_from_length bytes none))
+    (λ some few stands. inr (inl (few_is_cut bytes are some few)))
+    (λ head bad stands. inr (inr (inl (head, bad))))
+    (λ head some few less stands. inr (inl (head_is_cut bytes are head some few less)))
+    (λ some few fits stands.
+    let count = slice_index bytes 10 in
+    let left = length-drop 11 bytes in
+    let long : length (take count (drop 11 bytes)) ≡ count = length-take-le count (drop 11 bytes) (omega (arith, left, fits)) in
+    let ranges =
+    message_of-ranges (take 11 bytes) (take count (drop 11 bytes)) (AreBytes-take 11 bytes are)
+    (AreBytes-take count (drop 11 bytes) (AreBytes-drop 11 bytes are)) (omega (arith, long, some)) (omega (arith, long, few)) in
+    inr (inr (inr (_, _, ranges, stands.0))))
+    (first_message-stands bytes are)

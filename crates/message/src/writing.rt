@@ -1,17 +1,20 @@
 //! Messages to bytes.
 ghost use Rattle.std.specs.Prelude.{◌≡◌, OnOk, IfErr};
 ghost use Rattle.std.specs.Io.KnownBytes.{Appends};
+ghost use Rattle.output.specs.Begun.{AppendsBeginning};
 ghost use Rattle.message.specs.Capture.{head_bytes, message_bytes};
 
 use crate::head::HEAD;
 use crate::{Message, MessageFault};
 use byteorder::{ByteOrder, LittleEndian};
+use output::write_bytes;
 use std::io::Write;
 
 /// Writes a message: the hart in 2 bytes and the number in 8, both little endian, the payload's length in one, and the
-/// payload. Where the writer fails, a beginning of it may have been written. The writer is not flushed.
+/// payload. Where the writer fails, what was written is a beginning of that. The writer is not flushed.
 pub fn write_message<W: Write>(w: &mut W, message: &Message) -> Result<(), MessageFault>
     ensures written { OnOk result (Appends (W.contents w.old) (W.contents w.new) (message_bytes message.now)) }
+    ensures begun { AppendsBeginning (message_bytes message.now) (W.contents w.old) (W.contents w.new) }
     ensures fault { IfErr result (λ fault. fault ≡ MessageFault.Write) }
 {
     put(w, &head_of(message))?;
@@ -32,9 +35,10 @@ fn head_of(message: &Message) -> [u8; HEAD]
 /// Writes bytes.
 fn put<W: Write>(w: &mut W, bytes: &[u8]) -> Result<(), MessageFault>
     ensures written { OnOk result (Appends (W.contents w.old) (W.contents w.new) bytes.now) }
+    ensures begun { AppendsBeginning bytes.now (W.contents w.old) (W.contents w.new) }
     ensures fault { IfErr result (λ fault. fault ≡ MessageFault.Write) }
 {
-    match w.write_all(bytes) {
+    match write_bytes(w, bytes) {
         Ok(()) => Ok(()),
         Err(_) => Err(MessageFault::Write),
     }

@@ -3,9 +3,11 @@ use Rattle.std.proofs.Common.{◌≡◌, ◌+◌, suc, map, take, length, sym, s
 use Rattle.std.specs.Io.KnownBytes.{Appends}
 use Rattle.std.proofs.KnownBytes.{Appends-trans}
 use Rattle.std.proofs.lemmas.Option.{slice_get_read}
+use Rattle.output.specs.Begun.{AppendsBeginning}
+use Rattle.output.proofs.Beginnings.{whole_begun}
 use Rattle.bench.specs.Got.{got_of}
 use Rattle.bench.specs.Report.{hart_line, hart_lines}
-use Rattle.bench.proofs.ReportLemmas.{are_whole-all, are_whole-next, got_at, hart_lines-all, hart_lines-next, length-gots}
+use Rattle.bench.proofs.ReportLemmas.{are_whole-all, are_whole-next, got_at, hart_begun, hart_lines-all, hart_lines-next, length-gots}
 use Rattle.bench.proofs.reporting.write_harts.Goals as goal
 
 pub loop-hart-preserved : goal.loop-hart-preserved
@@ -53,3 +55,26 @@ returns-clause-text g c =
     (omega (arith, known, over)) (omega (arith, c.requires, over)) in
     subst (Appends (g.W.Write.contents c.args.sink.now) (g.W.Write.contents c.loop-hart.sink)) all
     c.loop-hart.invariant.text
+
+pub returns-in-Err-clause-begun : goal.returns-in-Err-clause-begun
+returns-in-Err-clause-begun g c =
+    let harts = c.args.harts.now in
+    let logs = c.args.logs.now in
+    let hart = c.loop-hart.hart in
+    let known = c.loop-hart-test.true in
+    let one = got_of c.index-harts-hart.result in
+    let mid = g.W.Write.contents c.loop-hart.sink in
+    let new = g.W.Write.contents c.write_hart.new.sink in
+    let got = got_at harts hart c.index-harts-hart.result known c.index-harts-hart.is in
+    let log = slice_get_read logs (length logs) hart c.index-logs-hart.result refl
+    (omega (arith, known, c.requires)) c.index-logs-hart.is in
+    let place : 0 + hart ≡ hart = omega arith in
+    hart_begun (map got_of harts) logs hart one c.index-logs-hart.result (g.W.Write.contents c.args.sink.now) mid new got log
+    c.loop-hart.invariant.text
+    (subst (λ h. AppendsBeginning (hart_line h one c.index-logs-hart.result) mid new) (sym place)
+    c.write_hart.ensures.begun)
+
+pub returns-clause-begun : goal.returns-clause-begun
+returns-clause-begun g c =
+    whole_begun (hart_lines 0 (map got_of c.args.harts.now) c.args.logs.now) (g.W.Write.contents c.args.sink.now)
+    (g.W.Write.contents c.loop-hart.sink) (returns-clause-text g c)

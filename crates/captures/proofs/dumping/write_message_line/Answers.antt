@@ -1,6 +1,7 @@
 -- What was unpacked is what the payload's reading gives: the equation goes into the text, where no tactic puts it.
 use Rattle.std.proofs.Common.{◌≡◌, ap, subst, ◌∙◌}
 use Rattle.std.specs.Io.KnownBytes.{Appends}
+use Rattle.output.specs.Begun.{AppendsBeginning}
 use Rattle.payload.specs.Reading.{reading}
 use Rattle.captures.specs.Dump.{line_with}
 use Rattle.captures.proofs.dumping.write_message_line.Goals as goal
@@ -10,5 +11,21 @@ returns-in-Ok-clause-text g c =
     let same : c.unpack-unpacked.result ≡ reading c.args.message.now.payload = c.unpack-unpacked.ensures.value
     ∙ ap reading c.bytes.ensures.same in
     subst
-    (λ read. Appends (g.W.Write.contents c.args.sink.now) (g.W.Write.contents c.writeln.new.self)
-    (line_with c.args.message.now read)) same c.in-Ok.ensures.bytes
+    (λ read. Appends (g.W.Write.contents c.args.sink.now) (g.W.Write.contents c.write_text.new.out)
+    (line_with c.args.message.now read)) same c.in-Ok.ensures.whole
+
+pub returns-in-Ok-clause-begun : goal.returns-in-Ok-clause-begun
+returns-in-Ok-clause-begun g c =
+    let same : c.unpack-unpacked.result ≡ reading c.args.message.now.payload = c.unpack-unpacked.ensures.value
+    ∙ ap reading c.bytes.ensures.same in
+    subst
+    (λ read. AppendsBeginning (line_with c.args.message.now read) (g.W.Write.contents c.args.sink.now)
+    (g.W.Write.contents c.write_text.new.out)) same c.write_text.ensures.begun
+
+pub returns-in-Err-clause-begun : goal.returns-in-Err-clause-begun
+returns-in-Err-clause-begun g c =
+    let same : c.unpack-unpacked.result ≡ reading c.args.message.now.payload = c.unpack-unpacked.ensures.value
+    ∙ ap reading c.bytes.ensures.same in
+    subst
+    (λ read. AppendsBeginning (line_with c.args.message.now read) (g.W.Write.contents c.args.sink.now)
+    (g.W.Write.contents c.write_text.new.out)) same c.write_text.ensures.begun

@@ -1,9 +1,12 @@
 -- The messages of the harts so far and those of one more are put together by a lemma on lists.
 use Rattle.std.proofs.Common.{take, sym, subst}
+use Rattle.std.proofs.lemmas.List.{take_all}
 use Rattle.std.specs.Io.KnownBytes.{Appends}
 use Rattle.std.specs.List.{flat_map}
 use Rattle.std.proofs.KnownBytes.{Appends-trans}
-use Rattle.captures.proofs.MessageTexts.{text-take_more_harts}
+use Rattle.output.specs.Begun.{AppendsBeginning}
+use Rattle.output.proofs.Beginnings.{whole_begun}
+use Rattle.captures.proofs.MessageTexts.{next_hart_begun, text-take_more_harts}
 use Rattle.message.specs.Numbered.{messages_from}
 use Rattle.captures.specs.Messages.{messages_of_harts}
 use Rattle.encoder.specs.Payloads.{payloads}
@@ -21,3 +24,18 @@ loop-hart-preserved g c =
     subst (Appends (g.W.Write.contents c.args.sink.now) (g.W.Write.contents c.encode_log.new.sink)) (sym more)
     (Appends-trans (g.W.Write.contents c.args.sink.now) (g.W.Write.contents c.loop-hart.sink)
     (g.W.Write.contents c.encode_log.new.sink) before here c.loop-hart.invariant c.in_ok-encode_log.ensures.text)
+
+pub returns-in_err-encode_log-clause-begun : goal.returns-in_err-encode_log-clause-begun
+returns-in_err-encode_log-clause-begun g c =
+    next_hart_begun g.F.Form.text (g.W.Write.contents c.args.sink.now) (g.W.Write.contents c.loop-hart.sink)
+    (g.W.Write.contents c.encode_log.new.sink) c.args.period c.loop-hart.hart c.args.logs.now c.index-logs-hart.result
+    c.loop-hart-test.true c.index-logs-hart.is c.loop-hart.invariant c.encode_log.ensures.begun
+
+pub returns-clause-begun : goal.returns-clause-begun
+returns-clause-begun g c =
+    let old = g.W.Write.contents c.args.sink.now in
+    let new = g.W.Write.contents c.loop-hart.sink in
+    subst (λ logs. AppendsBeginning (flat_map g.F.Form.text (messages_of_harts c.args.period 0 logs)) old new)
+    (take_all c.loop-hart.hart c.args.logs.now c.loop-hart-test.false) (whole_begun
+    (flat_map g.F.Form.text (messages_of_harts c.args.period 0 (take c.loop-hart.hart c.args.logs.now))) old new
+    c.loop-hart.invariant)

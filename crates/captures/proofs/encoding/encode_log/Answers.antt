@@ -2,7 +2,8 @@
 use Rattle.std.proofs.Common.{◌≤◌, sym, ap, ◌∙◌, arith, length, subst}
 use Rattle.encoder.specs.Payloads.{payloads}
 use Rattle.encoder.specs.SourceAt.{IsAt, number_behind}
-use Rattle.captures.proofs.MessageTexts.{few_payloads, written_more, written_all, written_through}
+use Rattle.output.proofs.Beginnings.{whole_begun}
+use Rattle.captures.proofs.MessageTexts.{few_payloads, next_begun, written_more, written_all, written_through}
 use Rattle.captures.proofs.encoding.encode_log.Goals as goal
 
 pub loop-number-preserved : goal.loop-number-preserved
@@ -39,3 +40,22 @@ returns-clause-text g c =
     let over : length (payloads period log) ≤ number = omega (arith, few, same, c.loop-number-test.false) in
     written_all g.F.Form.text (g.W.Write.contents c.args.sink.now) (g.W.Write.contents c.loop-number.sink) c.args.hart
     number (payloads period log) over c.loop-number.invariant.1
+
+pub returns-in_err-write-clause-begun : goal.returns-in_err-write-clause-begun
+returns-in_err-write-clause-begun g c =
+    let period = c.args.period in
+    let log = c.args.log.now in
+    let number = c.loop-number.number in
+    let found = sym (c.next.ensures.given period number log c.loop-number.invariant.0) ∙ c.in-Some.is in
+    next_begun g.F.Form.text (g.W.Write.contents c.args.sink.now) (g.W.Write.contents c.loop-number.sink)
+    (g.W.Write.contents c.write.new.sink) c.args.hart number (payloads period log) c.in-Some.payload found
+    c.loop-number.invariant.1 c.write.ensures.begun
+
+pub returns-in_default-clause-begun : goal.returns-in_default-clause-begun
+returns-in_default-clause-begun g c =
+    whole_begun _ (g.W.Write.contents c.args.sink.now) (g.W.Write.contents c.loop-number.sink)
+    (returns-in_default-clause-text g c)
+
+pub returns-clause-begun : goal.returns-clause-begun
+returns-clause-begun g c =
+    whole_begun _ (g.W.Write.contents c.args.sink.now) (g.W.Write.contents c.loop-number.sink) (returns-clause-text g c)

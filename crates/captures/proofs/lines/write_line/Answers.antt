@@ -1,0 +1,72 @@
+-- The prover does not part the line at the write that failed: its three parts are put together by hand.
+use Rattle.std.proofs.Common.{◌≡◌, ◌∙◌, ◌++◌, ℕ, List, append_assoc, ap, codes, subst, sym}
+use Rattle.std.proofs.KnownBytes.{Appends-trans}
+use Rattle.std.specs.Fmt.{decimal}
+use Rattle.std.specs.Io.KnownBytes.{Appends}
+use Rattle.hex.specs.Hex.{encode_lower}
+use Rattle.output.specs.Begun.{AppendsBeginning}
+use Rattle.output.proofs.Beginnings.{begun_behind, begun_in_front, whole_begun}
+use Rattle.message.specs.declared.message.Message.{Message}
+use Rattle.captures.specs.HexLines.{hex_line}
+use Rattle.captures.proofs.lines.write_line.Goals as goal
+
+-- What stands before the digits.
+abbrev numbers : Message → List ℕ
+numbers m = decimal m.hart ++ (codes " " ++ (decimal m.number ++ codes " "))
+
+parted : (m : Message) → hex_line m ≡ numbers m ++ (encode_lower m.payload ++ codes "\n")
+parted m =
+    let digits = encode_lower m.payload ++ codes "\n" in
+    ap (λ l. decimal m.hart ++ (codes " " ++ l)) (sym (append_assoc (decimal m.number) (codes " ") digits))
+    ∙ sym (append_assoc (decimal m.hart) (codes " " ++ (decimal m.number ++ codes " ")) digits)
+
+pub returns-in-Err-write_text-clause-begun : goal.returns-in-Err-write_text-clause-begun
+returns-in-Err-write_text-clause-begun g c =
+    let m = c.args.message.now in
+    let old = g.W.Write.contents c.args.sink.now in
+    let new = g.W.Write.contents c.write_text.new.out in
+    subst (λ l. AppendsBeginning l old new) (sym (parted m))
+    (begun_in_front (numbers m) (encode_lower m.payload ++ codes "\n") old new c.write_text.ensures.begun)
+
+pub returns-in-Err-write_bytes-clause-begun : goal.returns-in-Err-write_bytes-clause-begun
+returns-in-Err-write_bytes-clause-begun g c =
+    let m = c.args.message.now in
+    let old = g.W.Write.contents c.args.sink.now in
+    let mid = g.W.Write.contents c.write_text.new.out in
+    let new = g.W.Write.contents c.write_bytes.new.out in
+    let digits = c.in-Ok.ensures.written ∙ ap encode_lower c.bytes-bytes.ensures.same in
+    subst (λ l. AppendsBeginning l old new) (sym (parted m))
+    (begun_behind (numbers m) (encode_lower m.payload ++ codes "\n") old mid new c.in-Ok-write_text.ensures.whole
+    (begun_in_front (encode_lower m.payload) (codes "\n") mid new
+    (subst (λ l. AppendsBeginning l mid new) digits c.write_bytes.ensures.begun)))
+
+pub returns-in-Ok-write_bytes-2-clause-text : goal.returns-in-Ok-write_bytes-2-clause-text
+returns-in-Ok-write_bytes-2-clause-text g c =
+    let m = c.args.message.now in
+    let old = g.W.Write.contents c.args.sink.now in
+    let mid = g.W.Write.contents c.write_text.new.out in
+    let late = g.W.Write.contents c.write_bytes.new.out in
+    let new = g.W.Write.contents c.write_bytes-2.new.out in
+    let digits = c.in-Ok.ensures.written ∙ ap encode_lower c.bytes-bytes.ensures.same in
+    subst (Appends old new) (sym (parted m))
+    (Appends-trans old mid new (numbers m) (encode_lower m.payload ++ codes "\n") c.in-Ok-write_text.ensures.whole
+    (Appends-trans mid late new (encode_lower m.payload) (codes "\n")
+    (subst (Appends mid late) digits c.in-Ok-write_bytes.ensures.whole) c.in-Ok-write_bytes-2.ensures.whole))
+
+pub returns-in-Ok-write_bytes-2-clause-begun : goal.returns-in-Ok-write_bytes-2-clause-begun
+returns-in-Ok-write_bytes-2-clause-begun g c =
+    whole_begun (hex_line c.args.message.now) (g.W.Write.contents c.args.sink.now)
+    (g.W.Write.contents c.write_bytes-2.new.out) (returns-in-Ok-write_bytes-2-clause-text g c)
+
+pub returns-in-Err-write_bytes-2-clause-begun : goal.returns-in-Err-write_bytes-2-clause-begun
+returns-in-Err-write_bytes-2-clause-begun g c =
+    let m = c.args.message.now in
+    let old = g.W.Write.contents c.args.sink.now in
+    let mid = g.W.Write.contents c.write_text.new.out in
+    let late = g.W.Write.contents c.write_bytes.new.out in
+    let new = g.W.Write.contents c.write_bytes-2.new.out in
+    let digits = c.in-Ok.ensures.written ∙ ap encode_lower c.bytes-bytes.ensures.same in
+    subst (λ l. AppendsBeginning l old new) (sym (parted m))
+    (begun_behind (numbers m) (encode_lower m.payload ++ codes "\n") old mid new c.in-Ok-write_text.ensures.whole
+    (begun_behind (encode_lower m.payload) (codes "\n") mid late new
+    (subst (Appends mid late) digits c.in-Ok-write_bytes.ensures.whole) c.write_bytes-2.ensures.begun))

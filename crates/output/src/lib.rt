@@ -1,0 +1,10 @@
+//! Bytes and text for an output that may fail: what was appended then is a beginning of what was to be written.
+//!
+//! std's `write_all` and `writeln!` promise nothing of an output that failed; [`write_bytes`] and [`write_text`] do.
+#![tactic(auto)]
+
+mod bytes;
+mod text;
+
+pub use bytes::write_bytes;
+pub use text::{LONGEST_TEXT, write_text};
