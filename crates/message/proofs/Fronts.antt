@@ -142,6 +142,7 @@ kind (Err fault.Short) = 2
 kind (Err fault.BadLength) = 3
 kind (Err fault.Read) = 4
 kind (Err fault.Write) = 5
+kind (Err fault.BadHeader) = 6
 
 -- None is answered exactly where there are no bytes.
 pub first_message-end : (bytes : List ℕ) → (first_message bytes ≡ Ok None) ↔ (bytes ≡ [])

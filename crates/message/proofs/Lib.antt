@@ -2,6 +2,7 @@ pub mod AcceptedLemmas
 pub mod HartMessages
 pub mod OfHartLemmas
 pub mod Answering
+pub mod BadHeaders
 pub mod Cuts
 pub mod Fronts
 pub mod Heads
@@ -9,4 +10,6 @@ pub mod LittleBytes
 pub mod Moving
 pub mod Passed
 pub mod ReadBack
+pub mod SettingsRead
+pub mod StartsRead
 pub mod Writes

@@ -58,21 +58,24 @@ pub reads_back : (m : Message) (rest : List ℕ) (r : Result (Option Message) Me
     → IfOk r (λ found. IfSome found (λ n. Consumes old new (message_bytes n)))
     → (r ≡ Ok None → IsAtEnd old) → (r ≡ Err fault.Short → IfSome old IsCut)
     → (r ≡ Err fault.BadLength → IfSome old HasBadLength) → IfErr r (λ why. why ≢ fault.Write)
+    → IfErr r (λ why. why ≢ fault.BadHeader)
     → (r ≡ Ok (Some m)) ⊎ (r ≡ Err fault.Read)
-reads_back m rest (Ok None) old new is from ranges bytes end short bad write =
+reads_back m rest (Ok None) old new is from ranges bytes end short bad write header =
     absurd (at_end (subst IsAtEnd from (end refl)))
   where
     at_end : message_bytes m ++ rest ≡ [] → ⊥
     at_end e = let none = ap length e in omega (arith, none)
-reads_back m rest (Ok (Some n)) old new is from ranges bytes end short bad write =
+reads_back m rest (Ok (Some n)) old new is from ranges bytes end short bad write header =
     inl (ap (λ l. Ok (Some l)) (sym (same new (subst (λ o. Consumes o new (message_bytes n)) from bytes))))
   where
     same : (o : Option (List ℕ)) → Consumes (Some (message_bytes m ++ rest)) o (message_bytes n) → m ≡ n
     same None e = absurd e
     same (Some ys) e = message_only m n rest ys is ranges e
-reads_back m rest (Err fault.Short) old new is from ranges bytes end short bad write =
+reads_back m rest (Err fault.Short) old new is from ranges bytes end short bad write header =
     absurd (not_cut m rest is (subst (λ o. IfSome o IsCut) from (short refl)))
-reads_back m rest (Err fault.BadLength) old new is from ranges bytes end short bad write =
+reads_back m rest (Err fault.BadLength) old new is from ranges bytes end short bad write header =
     absurd (not_bad m rest is (subst (λ o. IfSome o HasBadLength) from (bad refl)))
-reads_back m rest (Err fault.Read) old new is from ranges bytes end short bad write = inr refl
-reads_back m rest (Err fault.Write) old new is from ranges bytes end short bad write = absurd (write refl)
+reads_back m rest (Err fault.Read) old new is from ranges bytes end short bad write header = inr refl
+reads_back m rest (Err fault.Write) old new is from ranges bytes end short bad write header = absurd (write refl)
+reads_back m rest (Err fault.BadHeader) old new is from ranges bytes end short bad write header =
+    absurd (header refl)

@@ -3,7 +3,7 @@ use Rattle.std.specs.Prelude.{ℕ, ◌++◌, List, codes}
 use Rattle.std.specs.Fmt.{decimal}
 use Rattle.payload.specs.FaultText.{pack_fault_text}
 use Rattle.message.specs.declared.fault.MessageFault.{MessageFault}
-use Rattle.message.specs.declared.fault.MessageFault.TheVariants.{Short, BadLength, Read, Write}
+use Rattle.message.specs.declared.fault.MessageFault.TheVariants.{Short, BadLength, Read, Write, BadHeader}
 use Rattle.message.specs.declared.fault.DemuxFault.{DemuxFault}
 use Rattle.message.specs.declared.fault.DemuxFault.TheVariants.{Stranger, AfterClose, Repeat, Gap, Packet}
 
@@ -13,6 +13,7 @@ message_fault_text Short = codes "the capture ends inside a message"
 message_fault_text BadLength = codes "payload length is not 1 to 18"
 message_fault_text Read = codes "cannot be read"
 message_fault_text Write = codes "cannot be written"
+message_fault_text BadHeader = codes "capture header is not valid"
 
 -- Why a demultiplexer does not accept a message, as a line of text.
 abbrev pub demux_fault_text : DemuxFault → List ℕ

@@ -2,6 +2,8 @@ pub mod OfHart
 pub mod Numbered
 pub mod Capture
 pub mod Cut
+pub mod Header
+pub mod Started
 pub mod Harts
 pub mod Accepting
 pub mod Accepted

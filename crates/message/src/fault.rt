@@ -18,6 +18,8 @@ pub enum MessageFault {
     Read,
     /// The writer failed.
     Write,
+    /// The input begins as a capture of version 2 does, but what follows is no header.
+    BadHeader,
 }
 
 impl fmt::Display for MessageFault {
@@ -29,6 +31,7 @@ impl fmt::Display for MessageFault {
             MessageFault::BadLength => "payload length is not 1 to 18",
             MessageFault::Read => "cannot be read",
             MessageFault::Write => "cannot be written",
+            MessageFault::BadHeader => "capture header is not valid",
         })
     }
 }

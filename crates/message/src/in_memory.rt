@@ -5,12 +5,15 @@ ghost use Rattle.std.specs.Prelude.{IfSome};
 ghost use Rattle.message.specs.steps.Filling.{AreBytes};
 ghost use Rattle.message.specs.Capture.{message_bytes};
 ghost use Rattle.message.specs.Cut.{IsCut, IsMessage, HasBadLength};
+ghost use Rattle.message.specs.Header.{HasBadHeader, IsCutHeader, IsHeader, IsMarked, header_bytes};
+ghost use Rattle.message.specs.declared.header.Header.{Header as AnyHeader};
 ghost use Rattle.message.specs.steps.Front.{first_message};
 ghost use Rattle.message.specs.steps.Passing.{left_by};
 ghost use Rattle.message.specs.declared.message.Message.{Message as AnyMessage};
 
 use crate::head::{HEAD, message_of, payload_length};
-use crate::{Message, MessageFault};
+use crate::header::{MARK, SETTINGS, header_of};
+use crate::{Header, Message, MessageFault};
 use std::marker::Model;
 
 /// The messages of bytes in memory, one at a time. A clause sees the bytes that are left.
@@ -31,6 +34,40 @@ impl<'a> Messages<'a> {
         ensures { result ≡ capture.now }
     {
         Messages { rest: capture }
+    }
+
+    /// The header that the bytes begin with, or `None` where they do not begin as a capture of version 2 does. Only a
+    /// header is passed over.
+    ///
+    /// [`MessageFault::Short`] comes where the bytes end inside the header, [`MessageFault::BadHeader`] where its mode, its
+    /// period or its count of harts is out of range, and no other fault. No memory is taken.
+    pub fn header(&mut self) -> Result<Option<Header>, MessageFault>
+        ensures header { IfOk result
+            (λ found. IfSome found (λ header. IsHeader header × (self.old ≡ header_bytes header ++ self.new))) }
+        ensures none { (result ≡ Ok None) ↔ ¬ IsMarked self.old }
+        ensures short { (result ≡ Err MessageFault.Short) ↔ IsCutHeader self.old }
+        ensures bad_header { (result ≡ Err MessageFault.BadHeader) ↔ HasBadHeader self.old }
+        ensures fault { IfErr result (λ fault. (fault ≡ MessageFault.Short) ⊎ (fault ≡ MessageFault.BadHeader)) }
+        ensures stays { result ≡ Ok None → self.new ≡ self.old }
+        ensures stays_at_fault { IfErr result (λ fault. self.new ≡ self.old) }
+
+        // A header that stands there is read.
+        ensures reads_back { (header : AnyHeader) (rest : List ℕ) → IsHeader header
+            → self.old ≡ header_bytes header ++ rest
+            → (result ≡ Ok (Some header)) × (self.new ≡ rest) }
+    {
+        let Some(behind) = self.rest.strip_prefix(&MARK) else {
+            return Ok(None);
+        };
+        if behind.len() < SETTINGS {
+            return Err(MessageFault::Short);
+        }
+        let (settings, rest) = behind.split_at(SETTINGS);
+        let Some(header) = header_of(settings) else {
+            return Err(MessageFault::BadHeader);
+        };
+        self.rest = rest;
+        Ok(Some(header))
     }
 
     /// The message that the bytes begin with, or `None` at their end. Only a message is passed over: an end or a fault

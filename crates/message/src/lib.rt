@@ -10,6 +10,7 @@ mod demux;
 mod fault;
 mod hart;
 mod head;
+mod header;
 mod in_memory;
 mod message;
 mod reading;
@@ -19,7 +20,8 @@ mod writing;
 
 pub use demux::Demux;
 pub use fault::{DemuxFault, MessageFault};
+pub use header::{Header, MOST_HARTS, Start};
 pub use in_memory::Messages;
 pub use message::Message;
-pub use reading::read_message;
-pub use writing::write_message;
+pub use reading::{read_message, read_start};
+pub use writing::{write_header, write_message};

@@ -3,6 +3,7 @@
 mod captures;
 mod demultiplexing;
 mod devices;
+mod headers;
 mod memory;
 
 use crate::Message;

@@ -3,9 +3,11 @@ ghost use Rattle.std.specs.Prelude.{◌≡◌, OnOk, IfErr};
 ghost use Rattle.std.specs.Io.KnownBytes.{Appends};
 ghost use Rattle.output.specs.Begun.{AppendsBeginning};
 ghost use Rattle.message.specs.Capture.{head_bytes, message_bytes};
+ghost use Rattle.message.specs.Header.{header_bytes};
 
 use crate::head::HEAD;
-use crate::{Message, MessageFault};
+use crate::header::{MARK, settings_of};
+use crate::{Header, Message, MessageFault};
 use byteorder::{ByteOrder, LittleEndian};
 use output::write_bytes;
 use std::io::Write;
@@ -19,6 +21,17 @@ pub fn write_message<W: Write>(w: &mut W, message: &Message) -> Result<(), Messa
 {
     put(w, &head_of(message))?;
     put(w, message.payload.bytes())
+}
+
+/// Writes a header: the mark `ff ff`, the letters `rvtrace2` and `00`, then the mode in one byte, 0 or 1, the period and
+/// the count of harts in 2 bytes each, little endian. Where the writer fails, a beginning of it may have been written.
+/// The writer is not flushed.
+pub fn write_header<W: Write>(w: &mut W, header: &Header) -> Result<(), MessageFault>
+    ensures written { OnOk result (Appends (W.contents w.old) (W.contents w.new) (header_bytes header.now)) }
+    ensures fault { IfErr result (λ fault. fault ≡ MessageFault.Write) }
+{
+    put(w, &MARK)?;
+    put(w, &settings_of(header))
 }
 
 /// The bytes of a message that stand before its payload.

@@ -131,6 +131,7 @@ fn texts(rt: HostRuntime) -> Result<(), Fail> {
         (MessageFault::BadLength, "payload length is not 1 to 18"),
         (MessageFault::Read, "cannot be read"),
         (MessageFault::Write, "cannot be written"),
+        (MessageFault::BadHeader, "capture header is not valid"),
     ];
     for (fault, text) in table {
         assert_eq!(rt; format!(in rt.alloc(); "{fault}")?.as_str(), text);

@@ -1,0 +1,42 @@
+-- The settings of a header that were read.
+use Rattle.std.proofs.Common.{◌≡◌, ◌++◌, ℕ, zero, suc, List, [], ◌∷◌, length, drop, slice_index, refl, sym, ap, ◌∙◌, arith}
+use Rattle.std.proofs.Common.{subst}
+use Rattle.byteorder.specs.Endian.{little_number, little_bytes}
+use Rattle.byteorder.specs.Numbers.{little_number-reads_back}
+use Rattle.message.specs.Header.{IsHeader, mode_byte, setting_bytes}
+use Rattle.message.specs.steps.Filling.{AreBytes}
+use Rattle.message.specs.declared.header.Header.{Header}
+use Rattle.message.proofs.LittleBytes.{little_bytes-little_number}
+
+-- A header of the mode, the period and the harts that five bytes spell has these bytes.
+pub settings_read : (bytes : List ℕ) (h : Header) → length bytes ≡ 5 → AreBytes bytes
+    → mode_byte h.mode ≡ slice_index bytes 0 → h.period ≡ little_number 2 (drop 1 bytes)
+    → h.harts ≡ little_number 2 (drop 3 bytes) → setting_bytes h ≡ bytes
+settings_read [] h five are mode period harts = absurd (omega (arith, five))
+settings_read (a ∷ []) h five are mode period harts = absurd (omega (arith, five))
+settings_read (a ∷ b ∷ []) h five are mode period harts = absurd (omega (arith, five))
+settings_read (a ∷ b ∷ c ∷ []) h five are mode period harts = absurd (omega (arith, five))
+settings_read (a ∷ b ∷ c ∷ d ∷ []) h five are mode period harts = absurd (omega (arith, five))
+settings_read (a ∷ b ∷ c ∷ d ∷ e ∷ []) h five are mode period harts =
+    let first = ap (little_bytes 2) period
+    ∙ little_bytes-little_number 2 (b ∷ c ∷ d ∷ e ∷ []) (omega arith) (λ k. are (suc k)) in
+    let second = ap (little_bytes 2) harts
+    ∙ little_bytes-little_number 2 (d ∷ e ∷ []) (omega arith) (λ k. are (suc (suc (suc k)))) in
+    ap (λ m. m ∷ (little_bytes 2 h.period ++ little_bytes 2 h.harts)) mode
+    ∙ ap (λ l. a ∷ (l ++ little_bytes 2 h.harts)) first ∙ ap (λ l. a ∷ (b ∷ c ∷ []) ++ l) second
+settings_read (a ∷ b ∷ c ∷ d ∷ e ∷ f ∷ rest) h five are mode period harts = absurd (omega (arith, five))
+
+-- What the settings of a header spell.
+pub record AreTold (h : Header) (bytes : List ℕ) : Type 0 where
+  pub mode : slice_index bytes 0 ≡ mode_byte h.mode
+  pub period : little_number 2 (drop 1 bytes) ≡ h.period
+  pub harts : little_number 2 (drop 3 bytes) ≡ h.harts
+
+pub settings_told : (bytes : List ℕ) (h : Header) → IsHeader h → setting_bytes h ≡ bytes → AreTold h bytes
+settings_told bytes h is same =
+    let few = is.harts in
+    subst (AreTold h) same (record {
+      mode = refl;
+      period = little_number-reads_back 2 h.period (little_bytes 2 h.harts) is.period;
+      harts = little_number-reads_back 2 h.harts [] (omega (arith, few));
+    })

@@ -1,0 +1,74 @@
+//! What a capture begins with.
+ghost use Rattle.std.specs.Prelude.{◌≡◌, ◌≢◌, IfSome, None, length};
+ghost use Rattle.message.specs.Header.{IsHeader, setting_bytes};
+ghost use Rattle.message.specs.declared.header.Header.{Header as AnyHeader};
+
+use crate::Message;
+use byteorder::{ByteOrder, LittleEndian};
+use payload::Mode;
+
+/// The most harts of a capture.
+pub const MOST_HARTS: u16 = 1024;
+
+/// What a capture of version 2 tells of all its messages.
+#[derive(Clone, Copy, Debug, PartialEq, Eq)]
+pub struct Header {
+    /// What the address fields of the packets hold.
+    pub mode: Mode,
+    /// How many retirements there are from one periodic synchronisation to the next, 1 to 65535.
+    pub period: u16,
+    /// How many harts there are, 1 to 1024: the harts of the messages are below it.
+    pub harts: u16,
+}
+
+/// What a capture begins with.
+#[derive(Debug, PartialEq, Eq, Drop)]
+pub enum Start {
+    /// The header of a capture of version 2; its messages follow.
+    Version2(Header),
+    /// The first message of a capture of version 1, or none where there are no bytes at all.
+    Version1(Option<Message>),
+}
+
+/// The bytes with which a capture of version 2 begins.
+pub(crate) const MARK: [u8; 11] = *b"\xff\xffrvtrace2\0";
+
+/// How many bytes of a header stand behind the mark.
+pub(crate) const SETTINGS: usize = 5;
+
+/// The header whose settings these bytes are, if they are those of one.
+pub(crate) fn header_of(settings: &[u8]) -> Option<Header>
+    requires { length settings.now ≡ 5 }
+    ensures found { IfSome result (λ header. IsHeader header × (setting_bytes header ≡ settings.now)) }
+    ensures none { result ≡ None → (header : AnyHeader) → IsHeader header → setting_bytes header ≢ settings.now }
+{
+    let mode = match settings[0] {
+        0 => Mode::Differential,
+        1 => Mode::Full,
+        _ => return None,
+    };
+    let period = LittleEndian::read_u16(&settings[1..]);
+    let harts = LittleEndian::read_u16(&settings[3..]);
+    if period == 0 || harts == 0 || harts > MOST_HARTS {
+        return None;
+    }
+    Some(Header {
+        mode,
+        period,
+        harts,
+    })
+}
+
+/// The bytes of a header behind the mark.
+pub(crate) fn settings_of(header: &Header) -> [u8; SETTINGS]
+    ensures { result ≡ setting_bytes header.now }
+{
+    let mut settings = [0; SETTINGS];
+    settings[0] = match header.mode {
+        Mode::Differential => 0,
+        Mode::Full => 1,
+    };
+    LittleEndian::write_u16(&mut settings[1..], header.period);
+    LittleEndian::write_u16(&mut settings[3..], header.harts);
+    settings
+}
