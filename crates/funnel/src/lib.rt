@@ -11,6 +11,7 @@
 mod fault;
 mod laws;
 mod limits;
+mod low_water;
 mod opening;
 mod outlet;
 mod port;

@@ -8,11 +8,13 @@ ghost use Rattle.funnel.specs.Ends.{new_port, AreNewPorts};
 ghost use Rattle.funnel.specs.steps.Passes.{id_of, knows, taken_of, IsOutlet};
 
 use crate::limits::fault_of;
+use crate::low_water::{Drain, LowWater};
 use crate::rule::{HandOut, Law, Sender, Ticket, View};
 use crate::{OpenFault, Outlet, Port};
 use crossbeam_channel::bounded_with;
 use message::Message;
 use std::alloc::{AllocError, Allocator};
+use std::sync::Arc;
 
 /// Opens a funnel over a channel that holds so many messages, with a port for each hart at the hart's place.
 #[tactic(auto, using(crate::proofs::NewPorts::new_ports_each))]
@@ -55,21 +57,28 @@ fn opened<A: Allocator + Clone>(
         capacity as usize,
     )?;
     let counts = Vec::from_elem(alloc.clone()?, 0u64, usize::from(harts))?;
+    let low = Arc::new(alloc.clone()?, LowWater::new())?;
     let mut ports = Vec::with_capacity(alloc, usize::from(harts))?;
     for hart in 0..harts {
-        let port = port_of(sender.try_clone()?, &mut pass, hart);
+        let port = port_of(sender.try_clone()?, Arc::try_clone(&low)?, &mut pass, hart);
         ports.push_reserved(port);
     }
     let outlet = Outlet {
         receiver,
         pass,
         counts,
+        drain: Drain::new(low, capacity as usize),
     };
     Ok((ports, outlet))
 }
 
-/// Hands out the next port, which sends by this end.
-fn port_of<A: Allocator>(sender: Sender<A>, pass: &mut Ticket, hart: u16) -> Port<A>
+/// Hands out the next port, which sends by this end and waits for room there.
+fn port_of<A: Allocator>(
+    sender: Sender<A>,
+    low: Arc<LowWater, A>,
+    pass: &mut Ticket,
+    hart: u16,
+) -> Port<A>
     requires seat { IsSeatAt (sends_on sender) pass.old }
     requires next { IsOutlet hart (knows pass.old) }
     ensures seat { IsSeatAt (sends_on sender) pass.new × (id_of pass.new ≡ id_of pass.old) }
@@ -79,6 +88,7 @@ fn port_of<A: Allocator>(sender: Sender<A>, pass: &mut Ticket, hart: u16) -> Por
     let theirs = sender.another::<HandOut>(pass);
     Port {
         sender,
+        low,
         pass: theirs,
         hart,
         count: 0,

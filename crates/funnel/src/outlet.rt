@@ -5,11 +5,14 @@ ghost use Rattle.crossbeam_channel.specs.Ends.{sends_on, receives_on, ruled_capa
 ghost use Rattle.message.specs.OfHart.{of_hart};
 ghost use Rattle.funnel.specs.Ends.{OutletView, IsBeginning, EndsClosing};
 ghost use Rattle.funnel.specs.Order.{AreInOrder};
+ghost use Rattle.funnel.specs.Rule.{TakesOne, TookInOrder};
 ghost use Rattle.funnel.specs.steps.Passes.{id_of, knows, sent_of, taken_of, IsPort, IsOutlet};
 
 use crate::Ended;
+use crate::low_water::Drain;
 use crate::receipt::{Receipt, Settled};
 use crate::rule::{Compares, Receiver, Sender, Takes, TakesIn, Ticket};
+use crossbeam_channel::TryRecvError;
 use message::Message;
 use std::alloc::{Allocator, Global};
 use std::marker::Model;
@@ -25,6 +28,7 @@ pub struct Outlet<A: Allocator = Global> {
     pub(crate) pass: Ticket,
     /// Of each hart, how many messages were taken.
     pub(crate) counts: Vec<u64, A>,
+    pub(crate) drain: Drain<A>,
 }
 
 impl<A: Allocator> Model for Outlet<A> {
@@ -57,13 +61,14 @@ impl<A: Allocator> Outlet<A> {
         ensures room { self.new.room ≡ self.old.room }
         ensures made { self.new.made ≡ self.old.made }
     {
-        match self.receiver.recv_as::<Takes, R>(rt, &mut self.pass) {
+        match next_message(rt, &self.receiver, &mut self.pass, &mut self.drain) {
             Ok(message) => {
+                self.drain.note_taken();
                 // Its number is how many were taken of its hart before.
                 self.counts[usize::from(message.hart)] = message.number + 1;
                 Ok(message)
             }
-            Err(_) => Err(Ended),
+            Err(ended) => Err(ended),
         }
     }
 
@@ -90,6 +95,31 @@ impl<A: Allocator> Outlet<A> {
             sent: count,
             taken: self.counts[usize::from(hart)],
         }
+    }
+}
+
+/// Takes the oldest message. Where there is none it calls the ports that wait for room, and waits.
+fn next_message<A: Allocator, R: Wait>(
+    rt: &R,
+    receiver: &Receiver<A>,
+    pass: &mut Ticket,
+    drain: &mut Drain<A>,
+) -> Result<Message, Ended>
+    requires seat { IsSeatAt (receives_on receiver.now) pass.old }
+    requires outlet { (made : ℕ) × IsOutlet made (knows pass.old) }
+    ensures seat { IsSeatAt (receives_on receiver.now) pass.new }
+    ensures funnel { id_of pass.new ≡ id_of pass.old }
+    ensures taken { IfOk result (λ message. TakesOne (knows pass.old) message (knows pass.new)) }
+    ensures ended { OnErr result ((knows pass.new ≡ knows pass.old) × TookInOrder (knows pass.old)) }
+{
+    match receiver.try_recv_as::<Takes, R>(rt, pass) {
+        Ok(message) => return Ok(message),
+        Err(TryRecvError::Empty) => drain.note_empty(),
+        Err(TryRecvError::Disconnected) => return Err(Ended),
+    }
+    match receiver.recv_as::<Takes, R>(rt, pass) {
+        Ok(message) => Ok(message),
+        Err(_) => Err(Ended),
     }
 }
 

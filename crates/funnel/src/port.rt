@@ -2,6 +2,7 @@
 ghost use Rattle.std.specs.Prelude.{◌≡◌, ◌+◌, ◌++◌, ◌∷◌, ◌↔◌, [], length, true, false, IfOk, IfErr, OnOk, OnErr, Err};
 ghost use Rattle.crossbeam_channel.specs.Claims.{IsSeatAt};
 ghost use Rattle.crossbeam_channel.specs.Ends.{sends_on};
+ghost use Rattle.crossbeam_channel.specs.Err.{try_send_message};
 ghost use Rattle.payload.specs.Closing.{is_closing};
 ghost use Rattle.funnel.specs.declared.rule.View.TheVariants as V;
 ghost use Rattle.funnel.specs.Ends.{PortView, has_closing, is_finished, after_sending};
@@ -10,13 +11,15 @@ ghost use Rattle.funnel.specs.Refusals.{payload_of};
 
 use crate::SendFault;
 use crate::limits::MOST_MESSAGES;
+use crate::low_water::LowWater;
 use crate::receipt::Receipt;
 use crate::rule::{Sender, Sends, SendsLast, Ticket};
+use crossbeam_channel::TrySendError;
 use message::Message;
 use payload::Payload;
 use std::alloc::{Allocator, Global};
 use std::marker::Model;
-use std::sync::Wait;
+use std::sync::{Arc, Wait};
 
 /// The end of one hart, which sends its payloads.
 ///
@@ -24,6 +27,7 @@ use std::sync::Wait;
 #[derive(Drop)]
 pub struct Port<A: Allocator = Global> {
     pub(crate) sender: Sender<A>,
+    pub(crate) low: Arc<LowWater, A>,
     pub(crate) pass: Ticket,
     pub(crate) hart: u16,
     /// How many messages were sent.
@@ -63,7 +67,14 @@ impl<A: Allocator> Port<A> {
             number: self.count,
             payload,
         };
-        match pass_on(rt, &self.sender, &mut self.pass, message, closing) {
+        match pass_on(
+            rt,
+            &self.sender,
+            &self.low,
+            &mut self.pass,
+            message,
+            closing,
+        ) {
             Ok(()) => {
                 self.count += 1;
                 self.closed = closing;
@@ -79,6 +90,7 @@ impl<A: Allocator> Port<A> {
     {
         let Port {
             sender,
+            low: _low,
             pass,
             hart,
             count,
@@ -100,10 +112,12 @@ fn closes(payload: &Payload) -> bool
     payload.bytes()[0] % 16 == 15 && payload.is_closing()
 }
 
-/// Sends a message by a pass that knows all that its hart sent, and tells whether its payload is closing.
+/// Sends a message by a pass that knows all that its hart sent, and tells whether its payload is closing. It waits while
+/// the channel is full.
 fn pass_on<A: Allocator, R: Wait>(
     rt: &R,
     sender: &Sender<A>,
+    low: &LowWater,
     pass: &mut Ticket,
     message: Message,
     closing: bool,
@@ -118,13 +132,73 @@ fn pass_on<A: Allocator, R: Wait>(
     ensures sent { OnOk result (knows pass.new ≡ V.Port message.hart (sent_of (knows pass.old) ++ message ∷ [])) }
     ensures refused { IfErr result (λ payload. (payload ≡ message.payload) × (knows pass.new ≡ knows pass.old)) }
 {
-    let sent = if closing {
-        sender.send_as::<SendsLast, R>(rt, pass, message)
-    } else {
-        sender.send_as::<Sends, R>(rt, pass, message)
-    };
-    match sent {
+    match try_pass_on(rt, sender, pass, message, closing) {
         Ok(()) => Ok(()),
+        Err(TrySendError::Full(back)) => wait_and_pass_on(rt, sender, low, pass, back, closing),
         Err(e) => Err(e.into_inner().payload),
+    }
+}
+
+/// The same after the channel was full.
+fn wait_and_pass_on<A: Allocator, R: Wait>(
+    rt: &R,
+    sender: &Sender<A>,
+    low: &LowWater,
+    pass: &mut Ticket,
+    mut message: Message,
+    closing: bool,
+) -> Result<(), Payload>
+    requires closing { closing ≡ is_closing message.payload }
+    requires seat { IsSeatAt (sends_on sender.now) pass.old }
+    requires port { IsPort message.hart (knows pass.old) }
+    requires number { message.number ≡ length (sent_of (knows pass.old)) }
+    requires unfinished { is_finished (sent_of (knows pass.old)) ≡ false }
+    ensures seat { IsSeatAt (sends_on sender.now) pass.new }
+    ensures funnel { id_of pass.new ≡ id_of pass.old }
+    ensures sent { OnOk result (knows pass.new ≡ V.Port message.hart (sent_of (knows pass.old) ++ message ∷ [])) }
+    ensures refused { IfErr result (λ payload. (payload ≡ message.payload) × (knows pass.new ≡ knows pass.old)) }
+{
+    for _ in rt.forever() {
+        let heard = low.enter();
+        match try_pass_on(rt, sender, pass, message, closing) {
+            Ok(()) => {
+                low.leave();
+                return Ok(());
+            }
+            Err(TrySendError::Full(back)) => {
+                low.sleep(rt, heard);
+                message = back;
+            }
+            Err(e) => {
+                low.leave();
+                return Err(e.into_inner().payload);
+            }
+        }
+    }
+    unreachable!()
+}
+
+/// Sends a message where there is room.
+fn try_pass_on<A: Allocator, R: Wait>(
+    rt: &R,
+    sender: &Sender<A>,
+    pass: &mut Ticket,
+    message: Message,
+    closing: bool,
+) -> Result<(), TrySendError<Message>>
+    requires closing { closing ≡ is_closing message.payload }
+    requires seat { IsSeatAt (sends_on sender.now) pass.old }
+    requires port { IsPort message.hart (knows pass.old) }
+    requires number { message.number ≡ length (sent_of (knows pass.old)) }
+    requires unfinished { is_finished (sent_of (knows pass.old)) ≡ false }
+    ensures seat { IsSeatAt (sends_on sender.now) pass.new }
+    ensures funnel { id_of pass.new ≡ id_of pass.old }
+    ensures sent { OnOk result (knows pass.new ≡ V.Port message.hart (sent_of (knows pass.old) ++ message ∷ [])) }
+    ensures refused { IfErr result (λ e. (try_send_message e ≡ message) × (knows pass.new ≡ knows pass.old)) }
+{
+    if closing {
+        sender.try_send_as::<SendsLast, R>(rt, pass, message)
+    } else {
+        sender.try_send_as::<Sends, R>(rt, pass, message)
     }
 }

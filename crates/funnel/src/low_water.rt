@@ -1,0 +1,116 @@
+//! How ports wait for room in a full funnel, and when they are woken.
+//!
+//! The channel by itself wakes a port for each message that is taken, at the cost of a call of the kernel in the outlet's
+//! thread. Here a port that found no room sleeps until the outlet drained the funnel to its low-water mark, half of what
+//! it holds, and then sends many messages before it sleeps again.
+
+use std::alloc::Allocator;
+use std::sync::atomic::{AtomicU64, AtomicUsize, Ordering};
+use std::sync::{Arc, Wait};
+use std::time::Duration;
+
+/// How many milliseconds a port sleeps at most. It is woken before, unless the outlet stops taking above the mark.
+const LONGEST: u64 = 10;
+
+/// What the ports and the outlet of a funnel share of waiting for room.
+#[derive(Drop)]
+pub(crate) struct LowWater {
+    /// How often ports were called to look for room again.
+    calls: AtomicU64,
+    /// How many ports wait for room.
+    waiting: AtomicUsize,
+}
+
+impl LowWater {
+    /// No port waits.
+    pub(crate) fn new() -> LowWater {
+        LowWater {
+            calls: AtomicU64::new(0),
+            waiting: AtomicUsize::new(0),
+        }
+    }
+
+    /// Counts one more port that waits, and tells which calls it heard, in 32 bits. It has to look for room once more
+    /// before it sleeps, so that it misses no call.
+    pub(crate) fn enter(&self) -> u32 {
+        self.waiting.fetch_add(1, Ordering::SeqCst);
+        (self.calls.load(Ordering::SeqCst) & 0xffff_ffff) as u32
+    }
+
+    /// Counts one port less.
+    pub(crate) fn leave(&self) {
+        self.waiting.fetch_sub(1, Ordering::SeqCst);
+    }
+
+    /// Sleeps until a call that the port did not hear yet, or for the longest time, and counts one port less.
+    pub(crate) fn sleep<R: Wait>(&self, rt: &R, heard: u32) {
+        self.calls
+            .park_timeout(rt, heard, Duration::from_millis(LONGEST));
+        self.leave();
+    }
+
+    /// Calls one port, where one waits.
+    fn call_one(&self) {
+        if self.waiting.load(Ordering::SeqCst) != 0 {
+            self.calls.fetch_add(1, Ordering::SeqCst);
+            self.calls.wake_one();
+        }
+    }
+
+    /// Calls all ports that wait.
+    fn call_all(&self) {
+        if self.waiting.load(Ordering::SeqCst) != 0 {
+            self.calls.fetch_add(1, Ordering::SeqCst);
+            self.calls.wake_all();
+        }
+    }
+}
+
+/// What the outlet drained since it called a port.
+pub(crate) struct Drain<A: Allocator> {
+    low: Arc<LowWater, A>,
+    /// By how many messages the funnel is drained from full to its low-water mark.
+    depth: usize,
+    /// How many messages were taken since.
+    taken: usize,
+}
+
+impl<A: Allocator> Drain<A> {
+    /// Nothing was taken of a funnel that holds so many messages.
+    pub(crate) fn new(low: Arc<LowWater, A>, capacity: usize) -> Drain<A> {
+        Drain {
+            low,
+            depth: (capacity / 2).max(1),
+            taken: 0,
+        }
+    }
+
+    /// Notes that a message was taken, and calls a port at the low-water mark.
+    pub(crate) fn note_taken(&mut self) {
+        self.taken = self.taken.saturating_add(1);
+        if self.taken >= self.depth {
+            self.taken = 0;
+            self.low.call_one();
+        }
+    }
+
+    /// Notes that no message waits, and calls all ports, but where one was called since the last message.
+    pub(crate) fn note_empty(&mut self) {
+        if self.taken > 0 {
+            self.taken = 0;
+            self.low.call_all();
+        }
+    }
+}
+
+/// Ports that wait are told that the outlet is gone.
+impl<A: Allocator> Drop for Drain<A> {
+    fn drop(self) {
+        let Self {
+            low,
+            depth: _,
+            taken: _,
+        } = self;
+        low.call_all();
+    }
+}
