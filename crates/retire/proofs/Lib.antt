@@ -2,6 +2,7 @@ pub mod TableLemmas
 pub mod NumberLemmas
 pub mod RowLemmas
 pub mod RecordsLemmas
+pub mod EightDigitsLemmas
 pub mod EventsLemmas
 pub mod HexLemmas
 pub mod LineLemmas

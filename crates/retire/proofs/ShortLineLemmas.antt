@@ -1,5 +1,5 @@
 -- The line of a retirement whose address has eight digits.
-use Rattle.std.proofs.Common.{◌≡◌, ◌≤◌, ◌<◌, ◌/◌, ◌%◌, ◌==◌, ℕ, [], ◌∷◌, false, arith, refl}
+use Rattle.std.proofs.Common.{◌≡◌, ◌≤◌, ◌<◌, ◌+◌, ◌/◌, ◌%◌, ◌==◌, ℕ, [], ◌∷◌, false, arith, refl, rules}
 use Rattle.std.proofs.lemmas.Bool.{ne_eqb}
 use Rattle.std.specs.Fmt.{digit_glyph, digits}
 use Rattle.retire.specs.LogText.{event_line, hex}
@@ -8,6 +8,10 @@ use Rattle.retire.specs.declared.event.Event.TheVariants.{Retire}
 -- The digit of a value.
 abbrev pub glyph : ℕ → ℕ
 glyph value = digit_glyph false value
+
+-- That of a value below ten stands so far behind `0`.
+pub glyph-low : (value : ℕ) → value < 10 → 48 + value ≡ glyph value
+glyph-low value low = search (rules, arith)
 
 hex-one : (n : ℕ) → n < 16 → hex n ≡ glyph n ∷ []
 unfolding digits

@@ -1,2 +1,3 @@
+pub mod Excess
 pub mod RowsLeft
 pub mod PlainRow

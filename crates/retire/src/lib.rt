@@ -2,6 +2,7 @@
 //! writing it so that it reads back.
 #![tactic(auto)]
 
+mod eight_digits;
 mod event;
 mod fault;
 mod field;

@@ -69,12 +69,12 @@ fn pair_of(value: u8) -> u16
     PAIRS[usize::from(value)]
 }
 
-/// The line of a retirement; none where its address has not eight digits, or its type or privilege more than one.
+/// The line of a retirement; none where its address has not eight digits, or its type or privilege is above 9.
 #[inline(always)]
 pub(crate) fn short_line(addr: u64, itype: u8, privilege: u8) -> Option<[u8; SHORT_LINE]>
     ensures { IfSome result (λ line. line ≡ event_line (Retire addr itype privilege)) }
 {
-    if addr < 0x1000_0000 || addr > 0xffff_ffff || itype > 15 || privilege > 15 {
+    if addr < 0x1000_0000 || addr > 0xffff_ffff || itype > 9 || privilege > 9 {
         return None;
     }
     let first = pair_of((addr / 0x100_0000) as u8);
@@ -91,9 +91,9 @@ pub(crate) fn short_line(addr: u64, itype: u8, privilege: u8) -> Option<[u8; SHO
         (last % 256) as u8,
         (last / 256) as u8,
         b',',
-        digit_of(itype),
+        b'0' + itype,
         b',',
-        digit_of(privilege),
+        b'0' + privilege,
         b',',
         b',',
         b'\n',

@@ -1,8 +1,9 @@
 //! The row of a retirement at an address of eight digits, which most are.
 
 ghost use Rattle.std.specs.Prelude.{◌≡◌, ◌∷◌, ℕ, List, IfSome};
-ghost use Rattle.retire.specs.steps.PlainRow.{HasDigits, HasRow, IsPlainRow};
+ghost use Rattle.retire.specs.steps.PlainRow.{HasRow, IsPlainRow};
 
+use crate::eight_digits::eight_digits;
 use crate::event::Event;
 use crate::hex::{NO_DIGIT, value_of};
 use crate::row::event_of_numbers;
@@ -22,22 +23,6 @@ struct Tail<'a> {
     itype: u8,
     privilege: u8,
     rest: &'a [u8],
-}
-
-/// The number of eight digits.
-#[inline(always)]
-fn eight_digits(digits: &[u8; 8]) -> Option<u64>
-    ensures { IfSome result (λ value. HasDigits digits.now value 8) }
-{
-    let mut value = 0u64;
-    for byte in digits {
-        let digit = value_of(*byte);
-        if digit == NO_DIGIT {
-            return None;
-        }
-        value = value * 16 + u64::from(digit);
-    }
-    Some(value)
 }
 
 /// What stands behind the address of a row whose type and privilege are one byte each and whose other fields are

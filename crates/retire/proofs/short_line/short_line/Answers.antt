@@ -1,6 +1,6 @@
 -- The digits are named by hand, the highest first.
 use Rattle.std.proofs.Common.{arith}
-use Rattle.retire.proofs.ShortLineLemmas.{short-line}
+use Rattle.retire.proofs.ShortLineLemmas.{glyph-low, short-line}
 use Rattle.retire.proofs.short_line.short_line.Goals as goal
 
 pub returns : goal.returns
@@ -14,6 +14,6 @@ returns c =
       c.pair_of-third.ensures.second,
       c.pair_of-last.ensures.first,
       c.pair_of-last.ensures.second,
-      c.digit_of.ensures,
-      c.digit_of-2.ensures,
+      glyph-low c.args.itype (omega arith),
+      glyph-low c.args.privilege (omega arith),
     ) (short-line c.args.addr c.args.itype c.args.privilege (omega arith) (omega arith) (omega arith) (omega arith))
