@@ -10,3 +10,4 @@ BeginsNone bytes fault.Short = IsCut bytes
 BeginsNone bytes fault.BadLength = HasBadLength bytes
 BeginsNone bytes fault.Read = ⊥
 BeginsNone bytes fault.Write = ⊥
+BeginsNone bytes fault.BadHeader = ⊥

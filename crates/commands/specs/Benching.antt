@@ -33,5 +33,5 @@ Benches content asked =
     First (AreFew asked.logs.items) (λ _.
     First (IsProgram content base asked.image) (λ program.
     First (AreLegalLogs content program asked.logs.items) (λ logs.
-    First (IsSetting (length asked.logs.items) (config_at asked.period asked.capacity)) (λ _.
-    WritesOutcome (config_at asked.period asked.capacity) logs)))))
+    First (IsSetting (length asked.logs.items) (config_at asked.period asked.mode asked.capacity)) (λ _.
+    WritesOutcome (config_at asked.period asked.mode asked.capacity) logs)))))

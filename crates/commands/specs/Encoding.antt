@@ -19,7 +19,7 @@ written false messages = capture messages
 -- The messages of legal logs are written, each log one hart's, in order.
 abbrev pub WritesMessages : Encode → List ProgramLog → Printed → Type 0
 WritesMessages asked logs printed =
-    printed ≡ record { text = written asked.hex (messages_of_harts asked.period 0 logs); ended = Ok Whole }
+    printed ≡ record { text = written asked.hex (messages_of_harts asked.period asked.mode 0 logs); ended = Ok Whole }
 
 -- The base is looked at first, then the count of logs, the image and each log; where there is no fault, the messages of
 -- the logs are written.

@@ -63,10 +63,10 @@ abbrev pub CanReplay : Content → Replay → Type 0
 CanReplay content asked =
     HasLogs content asked.base.now asked.image asked.logs.items
     × HasTurns content (length asked.logs.items) asked.schedule
-    × IsSetting (length asked.logs.items) (config_at asked.period asked.capacity) (Ok tt)
+    × IsSetting (length asked.logs.items) (config_at asked.period asked.mode asked.capacity) (Ok tt)
 
 -- `bench` writes once it has the legal logs, and nothing stands against sending.
 abbrev pub CanBench : Content → Bench → Type 0
 CanBench content asked =
     HasLogs content asked.base.now asked.image asked.logs.items
-    × IsSetting (length asked.logs.items) (config_at asked.period asked.capacity) (Ok tt)
+    × IsSetting (length asked.logs.items) (config_at asked.period asked.mode asked.capacity) (Ok tt)

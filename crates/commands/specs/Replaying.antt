@@ -2,6 +2,7 @@
 use Rattle.std.specs.Prelude.{◌≡◌, ℕ, ◌+◌, ◌<◌, ◌≤◌, ⊤, false, IsFalse, IsSomeAnd, List, [], ◌∷◌, Option, Some, None, Result, Ok, Err, length, slice_get}
 use Rattle.std.specs.Result.{result_map_both}
 use Rattle.legalpath.specs.ProgramLog.{ProgramLog}
+use Rattle.payload.specs.declared.mode.Mode.{Mode}
 use Rattle.message.specs.OfHart.{of_hart}
 use Rattle.message.specs.declared.message.Message.{Message}
 use Rattle.funnel.specs.declared.turn.Turn.{Turn}
@@ -32,37 +33,38 @@ pub record IsSchedule (content : Content) (harts : ℕ) (path : Path) (found : R
 
 -- What comes of each hart, the first of them this one, where these messages were taken: as many packets of its log as
 -- the messages are that were taken of it.
-abbrev pub gots_after : ℕ → ℕ → List ProgramLog → List Message → List Got
-gots_after hart period [] taken = []
-gots_after hart period (log ∷ logs) taken =
-    kept false (got_after period log (length (of_hart hart taken))) ∷ gots_after (hart + 1) period logs taken
+abbrev pub gots_after : ℕ → ℕ → Mode → List ProgramLog → List Message → List Got
+gots_after hart period mode [] taken = []
+gots_after hart period mode (log ∷ logs) taken =
+    kept false (got_after period mode log (length (of_hart hart taken))) ∷ gots_after (hart + 1) period mode logs taken
 
 -- This came of a hart of whose messages so many were taken, and it came of the first of them.
-abbrev pub IsGotOfSome : ℕ → ProgramLog → ℕ → Got → Type 0
-IsGotOfSome period log taken got = (count : ℕ) × (count ≤ taken) × HasGot period false log count got
+abbrev pub IsGotOfSome : ℕ → Mode → ProgramLog → ℕ → Got → Type 0
+IsGotOfSome period mode log taken got = (count : ℕ) × (count ≤ taken) × HasGot period mode false log count got
 
 -- It is so of each hart, the first of them this one.
-abbrev pub AreGotOfSome : ℕ → ℕ → List ProgramLog → List Message → List Got → Type 0
-AreGotOfSome hart period [] taken [] = ⊤
-AreGotOfSome hart period [] taken (got ∷ gots) = ⊥
-AreGotOfSome hart period (log ∷ logs) taken [] = ⊥
-AreGotOfSome hart period (log ∷ logs) taken (got ∷ gots) =
-    IsGotOfSome period log (length (of_hart hart taken)) got × AreGotOfSome (hart + 1) period logs taken gots
+abbrev pub AreGotOfSome : ℕ → ℕ → Mode → List ProgramLog → List Message → List Got → Type 0
+AreGotOfSome hart period mode [] taken [] = ⊤
+AreGotOfSome hart period mode [] taken (got ∷ gots) = ⊥
+AreGotOfSome hart period mode (log ∷ logs) taken [] = ⊥
+AreGotOfSome hart period mode (log ∷ logs) taken (got ∷ gots) =
+    IsGotOfSome period mode log (length (of_hart hart taken)) got × AreGotOfSome (hart + 1) period mode logs taken gots
 
 -- Where there is no stop, this came of all that was taken; the one stop is that memory for a hart was refused, of which
 -- fewer packets came than were taken, the closing one not among them, and then this came of some of what was taken.
-abbrev pub AreGot : ℕ → List ProgramLog → List Message → Option Stop → List Got → Type 0
-AreGot period logs taken None gots = gots ≡ gots_after 0 period logs taken
-AreGot period logs taken (Some (stop.Memory hart)) gots =
+abbrev pub AreGot : ℕ → Mode → List ProgramLog → List Message → Option Stop → List Got → Type 0
+AreGot period mode logs taken None gots = gots ≡ gots_after 0 period mode logs taken
+AreGot period mode logs taken (Some (stop.Memory hart)) gots =
     IsSomeAnd (slice_get gots hart) (λ got. IsFalse got.closed × (got.taken < length (of_hart hart taken)))
-    × AreGotOfSome 0 period logs taken gots
-AreGot period logs taken (Some why) gots = ⊥
+    × AreGotOfSome 0 period mode logs taken gots
+AreGot period mode logs taken (Some why) gots = ⊥
 
 -- The logs went through the funnel, whose machine made these turns, and the report of what came of them is written.
 pub record WritesReport (asked : Replay) (logs : List ProgramLog) (turns : List Turn) (printed : Printed) : Type 0 where
   pub stop : Option Stop
   pub gots : List Got
-  pub came : AreGot asked.period logs (replayed asked.period asked.capacity logs turns).taken stop gots
+  pub came : AreGot asked.period asked.mode logs
+      (replayed asked.period asked.mode asked.capacity logs turns).taken stop gots
   pub text : printed.text ≡ report_text stop gots logs
   pub ended : printed.ended ≡ Ok (end_of_report stop (is_whole stop gots logs))
 
@@ -75,5 +77,5 @@ Replays content asked =
     First (IsProgram content base asked.image) (λ program.
     First (AreLegalLogs content program asked.logs.items) (λ logs.
     First (IsSchedule content (length asked.logs.items) asked.schedule) (λ turns.
-    First (IsSetting (length asked.logs.items) (config_at asked.period asked.capacity)) (λ _.
+    First (IsSetting (length asked.logs.items) (config_at asked.period asked.mode asked.capacity)) (λ _.
     WritesReport asked logs turns))))))

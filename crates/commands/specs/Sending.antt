@@ -1,5 +1,6 @@
 -- How logs are sent through the funnel, and how a report of what came of them ends.
 use Rattle.std.specs.Prelude.{◌≡◌, ℕ, Bool, true, false, Option, Some, None, Result, Ok, Err}
+use Rattle.payload.specs.declared.mode.Mode.{Mode}
 use Rattle.bench.specs.Setting.{setup_fault}
 use Rattle.bench.specs.declared.config.Config.{Config}
 use Rattle.bench.specs.declared.setup.Setup.{Setup}
@@ -9,9 +10,9 @@ use Rattle.commands.specs.declared.fault.Fault.{Fault}
 use Rattle.commands.specs.declared.status.Status.{Status}
 use Rattle.commands.specs.declared.status.Status.TheVariants.{Whole, NotWhole, Machine}
 
--- Logs are sent at this period and this capacity, and no packets are kept.
-abbrev pub config_at : ℕ → ℕ → Config
-config_at period capacity = record { period = period; capacity = capacity; keep = false }
+-- Logs are sent at this period, in this mode and at this capacity, and no packets are kept.
+abbrev pub config_at : ℕ → Mode → ℕ → Config
+config_at period mode capacity = record { period = period; mode = mode; capacity = capacity; keep = false }
 
 -- Nothing stands against sending, or what does is told.
 abbrev pub setting_at : Option Setup → Result (Unit {0}) Fault

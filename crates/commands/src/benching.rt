@@ -58,16 +58,18 @@ fn outcome_of<'a, R: Threads + Wait + Sync>(
     logs: &[LegalLog<'_>],
     asked: &Bench<'a>,
 ) -> Result<Outcome, Fault<'a>>
-    ensures setting { IfOk result (λ _. IsSetting (length logs.now) (config_at asked.now.period asked.now.capacity) (Ok tt)) }
+    ensures setting { IfOk result (λ _.
+        IsSetting (length logs.now) (config_at asked.now.period asked.now.mode asked.now.capacity) (Ok tt)) }
     ensures count { IfOk result (λ outcome. length logs.now ≡ length outcome.harts.items) }
     ensures came { IfOk result (λ outcome.
-        AreBeginnings (config_at asked.now.period asked.now.capacity) logs.now outcome.harts.items) }
+        AreBeginnings (config_at asked.now.period asked.now.mode asked.now.capacity) logs.now outcome.harts.items) }
     ensures names { IfOk result (λ outcome. NamesOpen outcome.stop outcome.harts.items) }
     ensures fault { IfErr result (λ why. (why ≡ Fault.Memory)
-        ⊎ IsSetting (length logs.now) (config_at asked.now.period asked.now.capacity) (Err why)) }
+        ⊎ IsSetting (length logs.now) (config_at asked.now.period asked.now.mode asked.now.capacity) (Err why)) }
 {
     let config = Config {
         period: asked.period,
+        mode: asked.mode,
         capacity: asked.capacity,
         keep: false,
     };

@@ -54,11 +54,11 @@ fn write_messages<'a, O: Write>(
     requires few { length logs.now ≤ 64 }
     ensures fault { IfErr result (λ fault. fault ≡ Fault.Output) }
     ensures text { OnOk result (Appends (O.contents out.old) (O.contents out.new)
-        (written asked.now.hex (messages_of_harts asked.now.period 0 logs.now))) }
+        (written asked.now.hex (messages_of_harts asked.now.period asked.now.mode 0 logs.now))) }
 {
     if asked.hex {
-        encode_hex(logs, asked.period, out).map_err(|_| Fault::Output)
+        encode_hex(logs, asked.period, asked.mode, out).map_err(|_| Fault::Output)
     } else {
-        encode_capture(logs, asked.period, out).map_err(|_| Fault::Output)
+        encode_capture(logs, asked.period, asked.mode, out).map_err(|_| Fault::Output)
     }
 }

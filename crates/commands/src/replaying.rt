@@ -75,14 +75,18 @@ fn outcome_of<'a>(
     asked: &Replay<'a>,
     turns: &[Turn],
 ) -> Result<Outcome, Fault<'a>>
-    ensures setting { IfOk result (λ _. IsSetting (length logs.now) (config_at asked.now.period asked.now.capacity) (Ok tt)) }
+    ensures setting { IfOk result (λ _.
+        IsSetting (length logs.now) (config_at asked.now.period asked.now.mode asked.now.capacity) (Ok tt)) }
     ensures count { IfOk result (λ outcome. length logs.now ≡ length outcome.harts.items) }
-    ensures came { IfOk result (λ outcome. AreGot asked.now.period logs.now
-        (replayed asked.now.period asked.now.capacity logs.now turns.now).taken outcome.stop (map got_of outcome.harts.items)) }
-    ensures fault { IfErr result (λ why. (why ≡ Fault.Memory) ⊎ IsSetting (length logs.now) (config_at asked.now.period asked.now.capacity) (Err why)) }
+    ensures came { IfOk result (λ outcome. AreGot asked.now.period asked.now.mode logs.now
+        (replayed asked.now.period asked.now.mode asked.now.capacity logs.now turns.now).taken outcome.stop
+        (map got_of outcome.harts.items)) }
+    ensures fault { IfErr result (λ why. (why ≡ Fault.Memory)
+        ⊎ IsSetting (length logs.now) (config_at asked.now.period asked.now.mode asked.now.capacity) (Err why)) }
 {
     let config = Config {
         period: asked.period,
+        mode: asked.mode,
         capacity: asked.capacity,
         keep: false,
     };

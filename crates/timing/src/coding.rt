@@ -2,7 +2,7 @@
 
 use crate::fault::Fault;
 use crate::least::Phase;
-use crate::packets::PERIOD;
+use crate::packets::{MODE, PERIOD};
 use decoder::Decoder;
 use encoder::Source;
 use legalpath::LegalLog;
@@ -19,7 +19,7 @@ pub(crate) struct Encoding<'a> {
 impl Phase for Encoding<'_> {
     fn run(&mut self) -> Result<u64, Fault> {
         let log = self.log;
-        let mut source = Source::new(log, PERIOD);
+        let mut source = Source::new(log, PERIOD, MODE);
         let mut bytes = 0u64;
         for _ in 0..log.events().len() + 2 {
             let Some(payload) = source.next() else {

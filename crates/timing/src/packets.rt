@@ -3,13 +3,16 @@
 use crate::fault::Fault;
 use crate::least::Phase;
 use encoder::Encoder;
-use payload::{Packet, Payload, pack, unpack};
+use payload::{Mode, Packet, Payload, pack, unpack};
 use retire::Event;
 use rvclass::Program;
 use std::alloc::{AllocError, Global};
 
 /// How many retirements there are from one periodic synchronisation to the next.
 pub(crate) const PERIOD: u16 = 1024;
+
+/// Packets name addresses by differences.
+pub(crate) const MODE: Mode = Mode::Differential;
 
 /// The packets of a log.
 pub(crate) fn packets_of(
@@ -18,7 +21,7 @@ pub(crate) fn packets_of(
     events: &[Event],
 ) -> Result<Vec<Packet>, AllocError> {
     let mut packets = Vec::new(alloc);
-    let mut encoder = Encoder::new(PERIOD);
+    let mut encoder = Encoder::new(PERIOD, MODE);
     packets.push(encoder.open())?;
     for event in events {
         packets.extend_from_slice(encoder.push(program, *event).as_slice())?;

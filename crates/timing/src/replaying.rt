@@ -2,7 +2,7 @@
 
 use crate::fault::Fault;
 use crate::least::{Phase, RUNS, tell};
-use crate::packets::PERIOD;
+use crate::packets::{MODE, PERIOD};
 use bench::{Config, Open, Outcome, Turn, replay, run};
 use encoder::Source;
 use legalpath::LegalLog;
@@ -17,7 +17,7 @@ const CAPACITY: u32 = 16;
 
 /// How many payloads a log has.
 fn payload_count(log: &LegalLog<'_>) -> usize {
-    let mut source = Source::new(log, PERIOD);
+    let mut source = Source::new(log, PERIOD, MODE);
     let mut count = 0usize;
     for _ in 0..log.events().len() + 2 {
         if source.next().is_none() {
@@ -98,6 +98,7 @@ pub(crate) fn measure_runs<R: Clock + AllocGlobal + Threads + Wait + Sync, E: Wr
 fn config_of(capacity: u32) -> Config {
     Config {
         period: PERIOD,
+        mode: MODE,
         capacity,
         keep: false,
     }

@@ -5,6 +5,7 @@ ghost use Rattle.commands.specs.Known.{content_in};
 ghost use Rattle.subcommands.specs.Limits.{IsWithinLimits};
 
 use crate::{FileFault, Files, carry_out, tell};
+use payload::Mode;
 use std::alloc::{AllocError, Global};
 use std::io::Write;
 use std::process::Abort;
@@ -94,6 +95,7 @@ fn encode_asked<'a>(
     Ok(Asked::Encode(Encode {
         base,
         period: period.max(1),
+        mode: Mode::Differential,
         hex,
         image: files.0,
         logs: parted(alloc, files.1)?,
@@ -126,6 +128,7 @@ fn asked_of<'a>(alloc: Global, request: Request<'a>) -> Result<Asked<'a>, AllocE
         Request::Replay(base, image, schedule, logs) => Ok(Asked::Replay(Replay {
             base,
             period: 1024,
+            mode: Mode::Differential,
             capacity: 16,
             image,
             schedule,
@@ -134,6 +137,7 @@ fn asked_of<'a>(alloc: Global, request: Request<'a>) -> Result<Asked<'a>, AllocE
         Request::Bench(base, capacity, image, logs) => Ok(Asked::Bench(Bench {
             base,
             period: 1024,
+            mode: Mode::Differential,
             capacity: capacity.clamp(1, 65_536),
             image,
             logs: parted(alloc, logs)?,

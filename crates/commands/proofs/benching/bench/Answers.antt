@@ -20,8 +20,8 @@ use Rattle.commands.proofs.benching.bench.Goals as goal
 -- What is printed once the logs are found legal.
 abbrev Reports : Bench → List ProgramLog → Printed → Type 0
 Reports asked logs =
-    First (IsSetting (length asked.logs.items) (config_at asked.period asked.capacity)) (λ _.
-    WritesOutcome (config_at asked.period asked.capacity) logs)
+    First (IsSetting (length asked.logs.items) (config_at asked.period asked.mode asked.capacity)) (λ _.
+    WritesOutcome (config_at asked.period asked.mode asked.capacity) logs)
 
 pub returns-in_err-counted-clause-printed : goal.returns-in_err-counted-clause-printed
 returns-in_err-counted-clause-printed g c =
@@ -61,7 +61,7 @@ pub returns-in_err-outcome-clause-printed : goal.returns-in_err-outcome-clause-p
 returns-in_err-outcome-clause-printed g c =
     let out = g.O.Write.contents c.args.out.now in
     let asked = c.args.asked.now in
-    let config = config_at asked.period asked.capacity in
+    let config = config_at asked.period asked.mode asked.capacity in
     let content = g.F.Files.content c.args.files.now in
     let run = Benches content asked in
     let can = CanBench content asked in
@@ -87,7 +87,7 @@ pub returns-clause-printed : goal.returns-clause-printed
 returns-clause-printed g c =
     let contents = g.O.Write.contents in
     let asked = c.args.asked.now in
-    let config = config_at asked.period asked.capacity in
+    let config = config_at asked.period asked.mode asked.capacity in
     let content = g.F.Files.content c.args.files.now in
     let logs = c.in_ok-legal.legal.items in
     let outcome = c.in_ok-outcome.outcome in

@@ -52,9 +52,10 @@ returns-clause-printed g c =
     let asked = c.args.asked.now in
     let content = g.F.Files.content c.args.files.now in
     let logs = c.in_ok-legal.legal.items in
-    let printed = written asked.hex (messages_of_harts asked.period 0 logs) in
-    let text = subst (λ logs. Appends (contents c.args.out.now) (contents c.write_messages.new.out) (written asked.hex (messages_of_harts asked.period 0 logs)))
-    c.as_slice-3.ensures.value c.in_ok-write_messages.ensures.text in record {
+    let printed = written asked.hex (messages_of_harts asked.period asked.mode 0 logs) in
+    let text = subst (λ logs. Appends (contents c.args.out.now) (contents c.write_messages.new.out)
+    (written asked.hex (messages_of_harts asked.period asked.mode 0 logs))) c.as_slice-3.ensures.value
+    c.in_ok-write_messages.ensures.text in record {
       text = printed;
       prints = logs_found content (g.F.Files.content c.program_of.new.files) asked.base.now asked.image
           asked.logs.items c.as_slice.result.now c.as_slice-2.result.now c.in_ok-base.base c.in_ok-program.program

@@ -7,5 +7,6 @@ use Rattle.commands.proofs.replaying.outcome_of.Goals as goal
 pub returns-in-Ok-clause-came : goal.returns-in-Ok-clause-came
 returns-in-Ok-clause-came c =
     let outcome = c.in-Ok.outcome in
-    are_got (config_at c.args.asked.now.period c.args.asked.now.capacity) c.args.logs.now _ outcome.harts.items outcome.stop refl
-    (sym c.in-Ok.ensures.beginnings.count) c.in-Ok.ensures.taken c.in-Ok.ensures.lacks c.in-Ok.ensures.stop
+    are_got (config_at c.args.asked.now.period c.args.asked.now.mode c.args.asked.now.capacity) c.args.logs.now _
+    outcome.harts.items outcome.stop refl (sym c.in-Ok.ensures.beginnings.count) c.in-Ok.ensures.taken
+    c.in-Ok.ensures.lacks c.in-Ok.ensures.stop

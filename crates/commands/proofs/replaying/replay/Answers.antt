@@ -22,7 +22,7 @@ use Rattle.commands.proofs.replaying.replay.Goals as goal
 abbrev Reports : Content → Replay → List ProgramLog → Printed → Type 0
 Reports content asked logs =
     First (IsSchedule content (length asked.logs.items) asked.schedule) (λ turns.
-    First (IsSetting (length asked.logs.items) (config_at asked.period asked.capacity)) (λ _.
+    First (IsSetting (length asked.logs.items) (config_at asked.period asked.mode asked.capacity)) (λ _.
     WritesReport asked logs turns))
 
 pub returns-in_err-counted-clause-printed : goal.returns-in_err-counted-clause-printed
@@ -105,7 +105,7 @@ returns-in_err-outcome-clause-printed g c =
     let paths = ap length c.as_slice-2.ensures.value in
     let count : length logs ≡ length asked.logs.items =
     omega (arith, c.in_ok-legal.legal.ok.0, c.in_ok-legal.ensures.count, paths) in
-    let config = config_at asked.period asked.capacity in
+    let config = config_at asked.period asked.mode asked.capacity in
     let stands = subst (λ harts. (why ≡ fault.Memory) ⊎ IsSetting harts config (Err why)) count
     (subst (λ logs. (why ≡ fault.Memory) ⊎ IsSetting (length logs) config (Err why)) c.as_slice-3.ensures.value
     c.in_err-outcome.ensures.fault) in
@@ -134,13 +134,14 @@ returns-clause-printed g c =
     let paths = ap length c.as_slice-2.ensures.value in
     let count : length logs ≡ length asked.logs.items =
     omega (arith, c.in_ok-legal.legal.ok.0, c.in_ok-legal.ensures.count, paths) in
-    let config = config_at asked.period asked.capacity in
+    let config = config_at asked.period asked.mode asked.capacity in
     let stands = subst (λ harts. IsSetting harts config (Ok tt)) count
     (subst (λ logs. IsSetting (length logs) config (Ok tt)) c.as_slice-3.ensures.value c.in_ok-outcome.ensures.setting) in
-    let came = subst (λ turns. AreGot asked.period logs (replayed asked.period asked.capacity logs turns).taken outcome.stop gots)
+    let came = subst (λ turns. AreGot asked.period asked.mode logs
+    (replayed asked.period asked.mode asked.capacity logs turns).taken outcome.stop gots)
     c.as_slice-4.ensures.value
-    (subst (λ logs. AreGot asked.period logs
-    (replayed asked.period asked.capacity logs c.as_slice-4.result.now).taken outcome.stop gots)
+    (subst (λ logs. AreGot asked.period asked.mode logs
+    (replayed asked.period asked.mode asked.capacity logs c.as_slice-4.result.now).taken outcome.stop gots)
     c.as_slice-3.ensures.value c.in_ok-outcome.ensures.came) in
     let text = subst (λ logs. Appends (contents c.args.out.now) (contents c.write_report.new.out) (report_text outcome.stop gots logs))
     c.as_slice-5.ensures.value c.in_ok-write_report.ensures.text in
