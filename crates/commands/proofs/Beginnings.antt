@@ -1,50 +1,38 @@
 -- Beginnings of what is written.
-use Rattle.std.proofs.Common.{◌+◌, ◌-◌, length, subst, ℕ, List, [], ◌++◌, Option, sym, ap, ◌∙◌, append_assoc, refl, drop, take, take-append-drop}
-use Rattle.std.proofs.KnownBytes.{Appends-nil, Appends-trans}
-use Rattle.std.proofs.Math.Seq.{take-add}
-use Rattle.std.proofs.lemmas.List.{take_rest}
+use Rattle.std.proofs.Common.{◌⊎◌, inl, inr, ℕ, List, Option, Result}
+use Rattle.std.proofs.KnownBytes.{Keeps-trans}
 use Rattle.std.specs.Io.KnownBytes.{Appends, Keeps}
+use Rattle.output.specs.Begun.{AppendsBeginning}
+use Rattle.output.proofs.Beginnings.{begun_kept, whole_begun}
 use Rattle.rvclass.specs.Image.{Image}
 use Rattle.commands.proofs.Runs.{appends-keeps}
-use Rattle.commands.specs.Begun.{AppendsBeginning, AppendsFirstLines}
+use Rattle.commands.specs.Begun.{AppendsFirstLines, BeginsPrinted, IsCutOf}
 use Rattle.commands.specs.Faults.{Path}
 use Rattle.commands.specs.Known.{Content}
+use Rattle.commands.specs.Printed.{IsPrinted, Printed}
+use Rattle.commands.specs.declared.fault.Fault.{Fault}
+use Rattle.commands.specs.declared.status.Status.{Status}
 
--- Nothing was written yet.
-pub nothing_begun : (text : List ℕ) (old : Option (List ℕ)) → AppendsBeginning text old old
-nothing_begun text old = record { text = []; rest = text; parted = refl; appended = Appends-nil old }
+-- A beginning was appended of a text that may be printed.
+pub printed_begun : (Prints : Printed → Type 0) (text : List ℕ) (ended : Result Status Fault) (old new : Option (List ℕ))
+    → Prints (record { text = text; ended = ended }) → AppendsBeginning text old new → BeginsPrinted Prints old new
+printed_begun Prints text ended old new prints begun =
+    record { printed = record { text = text; ended = ended }; prints = prints; begun = begun }
 
--- The first bytes of a text were written.
-pub first_bytes : (text : List ℕ) (n : ℕ) (old new : Option (List ℕ)) → Appends old new (take n text) → AppendsBeginning text old new
-first_bytes text n old new written =
-    record { text = take n text; rest = drop n text; parted = sym (take-append-drop n text); appended = written }
+-- What was printed is a beginning of itself.
+pub printed_cut : (Prints : Printed → Type 0) (ended : Result Status Fault) (old new : Option (List ℕ))
+    → IsPrinted Prints ended old new → BeginsPrinted Prints old new
+printed_cut Prints ended old new is =
+    printed_begun Prints is.text ended old new is.prints (whole_begun is.text old new is.appended)
 
--- The first bytes of a text were written, and then so many of the rest.
-pub bytes_more : (text : List ℕ) (n more : ℕ) (old mid new : Option (List ℕ))
-    → Appends old mid (take n text) → Appends mid new (take more (take (length text - n) (drop n text)))
-    → Appends old new (take (n + more) text)
-bytes_more text n more old mid new first then =
-    subst (Appends old new) (sym (take-add n more text))
-    (Appends-trans old mid new (take n text) (take more (drop n text)) first
-    (subst (λ rest. Appends mid new (take more rest)) (take_rest text n) then))
-
--- A beginning of the front was written.
-pub begun_in_front : (front back : List ℕ) (old new : Option (List ℕ)) → AppendsBeginning front old new → AppendsBeginning (front ++ back) old new
-begun_in_front front back old new begun = record {
-  text = begun.text;
-  rest = begun.rest ++ back;
-  parted = ap (λ l. l ++ back) begun.parted ∙ append_assoc begun.text begun.rest back;
-  appended = begun.appended;
-}
-
--- The front was written, and a beginning of what is behind it.
-pub begun_behind : (front back : List ℕ) (old mid new : Option (List ℕ))
-    → Appends old mid front → AppendsBeginning back mid new → AppendsBeginning (front ++ back) old new
-begun_behind front back old mid new first begun = record {
-  text = front ++ begun.text;
-  rest = begun.rest;
-  parted = ap (λ l. front ++ l) begun.parted ∙ sym (append_assoc front begun.text begun.rest);
-  appended = Appends-trans old mid new front begun.text first begun.appended;
+-- A beginning was appended of what may be printed, and then nothing more.
+pub cut_kept : (First Prints : Printed → Type 0) (old mid new : Option (List ℕ))
+    → ((printed : Printed) → First printed → Prints printed)
+    → BeginsPrinted First old mid → Keeps mid new → BeginsPrinted Prints old new
+cut_kept First Prints old mid new leads cut kept = record {
+  printed = cut.printed;
+  prints = leads cut.printed cut.prints;
+  begun = begun_kept cut.printed.text old mid new cut.begun kept;
 }
 
 -- First lines were appended, and then nothing more.

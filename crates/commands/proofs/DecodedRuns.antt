@@ -8,7 +8,8 @@ use Rattle.rvclass.specs.Fetch.{words_of}
 use Rattle.rvclass.specs.Image.{Image}
 use Rattle.subcommands.specs.declared.words.Decode.{Decode}
 use Rattle.commands.proofs.Runs.{appends-keeps}
-use Rattle.commands.specs.Begun.{AppendsBeginning, BeginsPrinted}
+use Rattle.output.specs.Begun.{AppendsBeginning}
+use Rattle.commands.specs.Begun.{BeginsPrinted}
 use Rattle.commands.specs.Decoded.{Decodes, harts_text}
 use Rattle.commands.specs.Decoding.{end_of_capture}
 use Rattle.commands.specs.Found.{IsBase, IsProgram, IsRead}

@@ -6,7 +6,8 @@ use Rattle.std.specs.Fmt.{decimal}
 use Rattle.std.specs.Io.KnownBytes.{Appends}
 use Rattle.retire.specs.LogText.{log_text}
 use Rattle.retire.specs.declared.event.Event.{Event}
-use Rattle.commands.specs.Begun.{AppendsBeginning}
+use Rattle.output.specs.Begun.{AppendsBeginning}
+use Rattle.output.proofs.Beginnings.{begun_between}
 use Rattle.commands.specs.Decoded.{hart_text, harts_text}
 
 -- The texts of harts, and of more harts.
@@ -40,27 +41,21 @@ hart_written f lists i list old mid line new within is before head log =
     subst (Appends old new) (sym more)
     (Appends-trans old mid new (harts_text 0 (map f (take i lists))) (hart_text i (f list)) before (Appends-trans mid line new _ _ head log))
 
--- The line before a hart's log was written behind the texts of the harts before.
-pub line_begun : {R : Type 0} (f : R → List Event) (lists : List R) (i : ℕ) (list : R) (old mid new : Option (List ℕ))
+-- A beginning of a hart's line and log was written behind the texts of the harts before.
+pub hart_begun : {R : Type 0} (f : R → List Event) (lists : List R) (i : ℕ) (list : R) (old mid new : Option (List ℕ))
     → i < length lists → list ≡ get_or lists i list → Appends old mid (harts_text 0 (map f (take i lists)))
-    → Appends mid new (codes "hart " ++ (decimal i ++ codes "\n"))
+    → AppendsBeginning (hart_text i (f list)) mid new
     → AppendsBeginning (harts_text 0 (map f lists)) old new
-line_begun f lists i list old mid new within is before head =
-    let line = codes "hart " ++ (decimal i ++ codes "\n") in
+hart_begun f lists i list old mid new within is before begun =
     let front = map f (take i lists) in
     let rest = map f (drop (i + 1) lists) in
-    let tail = log_text (f list) ++ harts_text (i + 1) rest in
     let count : length front ≡ i = length-map (take i lists) f ∙ length-take-le i lists (omega arith) in
     let cut : lists ≡ take i lists ++ list ∷ drop (i + 1) lists =
     sym (take-append-drop i lists) ∙ ap (λ l. take i lists ++ l) (drop_more lists i list within ∙ ap (λ r. r ∷ drop (i + 1) lists) (sym is)) in
-    record {
-      text = harts_text 0 front ++ line;
-      rest = tail;
-      parted = ap (λ l. harts_text 0 (map f l)) cut
-          ∙ ap (harts_text 0) (map-append f (take i lists) (list ∷ drop (i + 1) lists))
-          ∙ harts_text-append 0 front (f list ∷ rest)
-          ∙ ap (λ h. harts_text 0 front ++ harts_text h (f list ∷ rest)) (omega (arith, count))
-          ∙ ap (λ l. harts_text 0 front ++ l) (append_assoc line (log_text (f list)) (harts_text (i + 1) rest))
-          ∙ sym (append_assoc (harts_text 0 front) line tail);
-      appended = Appends-trans old mid new (harts_text 0 front) line before head;
-    }
+    let parted : harts_text 0 (map f lists) ≡ harts_text 0 front ++ (hart_text i (f list) ++ harts_text (i + 1) rest) =
+    ap (λ l. harts_text 0 (map f l)) cut
+    ∙ ap (harts_text 0) (map-append f (take i lists) (list ∷ drop (i + 1) lists))
+    ∙ harts_text-append 0 front (f list ∷ rest)
+    ∙ ap (λ h. harts_text 0 front ++ harts_text h (f list ∷ rest)) (omega (arith, count)) in
+    subst (λ l. AppendsBeginning l old new) (sym parted)
+    (begun_between (harts_text 0 front) (hart_text i (f list)) (harts_text (i + 1) rest) old mid new before begun)

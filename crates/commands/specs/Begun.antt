@@ -1,16 +1,21 @@
--- What is written where memory is refused: a beginning of the text.
+-- What is written where memory is refused or the output fails: a beginning of the text.
 use Rattle.std.specs.Prelude.{◌≡◌, ◌⊎◌, ℕ, ◌++◌, List, Option, Ok}
-use Rattle.std.specs.Io.KnownBytes.{Appends, Keeps}
+use Rattle.std.specs.Io.KnownBytes.{Keeps}
+use Rattle.output.specs.Begun.{AppendsBeginning}
 use Rattle.rvclass.specs.Image.{Image}
 use Rattle.subcommands.specs.declared.words.Asked.{Asked}
 use Rattle.subcommands.specs.declared.words.Asked.TheVariants.{Bench, Check, Decode, Dump, Encode, Replay}
 use Rattle.subcommands.specs.declared.words.Check.{Check as CheckWords}
+use Rattle.commands.specs.Benching.{Benches}
 use Rattle.commands.specs.Checking.{WritesLines}
 use Rattle.commands.specs.Decoded.{Decodes}
+use Rattle.commands.specs.Dumping.{Dumps}
+use Rattle.commands.specs.Encoding.{Encodes}
 use Rattle.commands.specs.Faults.{Path}
 use Rattle.commands.specs.Found.{IsBase, IsProgram}
 use Rattle.commands.specs.Known.{Content}
 use Rattle.commands.specs.Printed.{IsPrinted, Printed}
+use Rattle.commands.specs.Replaying.{Replays}
 use Rattle.commands.specs.declared.status.Status.{Status}
 
 -- The lines of some first ones of the logs at these paths were appended.
@@ -28,13 +33,6 @@ pub record BeginsLines (content : Content) (asked : CheckWords) (old new : Optio
   pub based : IsBase asked.base.now (Ok base)
   pub found : IsProgram content base asked.image (Ok program)
   pub lines : AppendsFirstLines content program asked.logs.items old new
-
--- A beginning of a text was appended.
-pub record AppendsBeginning (whole : List ℕ) (old new : Option (List ℕ)) : Type 0 where
-  pub text : List ℕ
-  pub rest : List ℕ
-  pub parted : whole ≡ text ++ rest
-  pub appended : Appends old new text
 
 -- A beginning of a text was appended that may be printed.
 pub record BeginsPrinted (Prints : Printed → Type 0) (old new : Option (List ℕ)) : Type 0 where
@@ -57,3 +55,32 @@ IsBegun content (Dump asked) old new = Keeps old new
 IsBegun content (Decode asked) old new = Keeps old new ⊎ BeginsPrinted (Decodes content asked) old new
 IsBegun content (Replay asked) old new = Keeps old new
 IsBegun content (Bench asked) old new = Keeps old new
+
+-- The lines of some first ones of the logs at these paths are written.
+pub record WritesFirstLines (content : Content) (program : Image) (paths : List Path) (printed : Printed) : Type 0 where
+  pub front : List Path
+  pub rest : List Path
+  pub whole : paths ≡ front ++ rest
+  pub lines : WritesLines content program front printed
+
+-- The program was found, and the lines of some first logs are written.
+pub record ChecksFirst (content : Content) (asked : CheckWords) (printed : Printed) : Type 0 where
+  pub base : ℕ
+  pub program : Image
+  pub based : IsBase asked.base.now (Ok base)
+  pub found : IsProgram content base asked.image (Ok program)
+  pub lines : WritesFirstLines content program asked.logs.items printed
+
+-- Nothing was written, or a beginning of a text that may be printed.
+abbrev pub IsCutOf : (Printed → Type 0) → Option (List ℕ) → Option (List ℕ) → Type 0
+IsCutOf Prints old new = Keeps old new ⊎ BeginsPrinted Prints old new
+
+-- Nothing was written of what is asked, or a beginning of a text that it may print: of `check`, of the lines of some first
+-- logs.
+abbrev pub IsCut : Content → Asked → Option (List ℕ) → Option (List ℕ) → Type 0
+IsCut content (Check asked) = IsCutOf (ChecksFirst content asked)
+IsCut content (Encode asked) = IsCutOf (Encodes content asked)
+IsCut content (Dump asked) = IsCutOf (Dumps content asked)
+IsCut content (Decode asked) = IsCutOf (Decodes content asked)
+IsCut content (Replay asked) = IsCutOf (Replays content asked)
+IsCut content (Bench asked) = IsCutOf (Benches content asked)

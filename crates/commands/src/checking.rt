@@ -2,7 +2,8 @@
 
 ghost use Rattle.std.specs.Prelude.{⊤, ◌≡◌, ◌⊎◌, ◌≤◌, ◌^◌, Err, IfErr, IfSome, OnOk, length};
 ghost use Rattle.std.specs.Io.KnownBytes.{Appends, Keeps};
-ghost use Rattle.commands.specs.Begun.{AppendsFirstLines, BeginsLines};
+ghost use Rattle.output.specs.Begun.{AppendsBeginning};
+ghost use Rattle.commands.specs.Begun.{AppendsFirstLines, BeginsLines, BeginsPrinted, ChecksFirst, IsCutOf, WritesFirstLines};
 ghost use Rattle.commands.specs.Checking.{Checks, IsVerdict, WritesLines, verdict_line};
 ghost use Rattle.commands.specs.Order.{logs_fault};
 ghost use Rattle.commands.specs.Inputs.{CanCheck};
@@ -15,6 +16,7 @@ use crate::files::Files;
 use crate::inputs::{base_of, counted, log_of, program_of};
 use crate::status::Status;
 use legalpath::PathFault;
+use output::{write_bytes, write_text};
 use retire::Event;
 use rvclass::Program;
 use std::alloc::Global;
@@ -35,6 +37,7 @@ pub fn check<'a, F: Files, O: Write>(
         (O.contents out.old) (O.contents out.new) }
     ensures begun { result ≡ Err Fault.Memory → Keeps (O.contents out.old) (O.contents out.new)
         ⊎ BeginsLines (F.content files.old) asked.now (O.contents out.old) (O.contents out.new) }
+    ensures cut { IsCutOf (ChecksFirst (F.content files.old) asked.now) (O.contents out.old) (O.contents out.new) }
 {
     let base = base_of(asked.base)?;
     counted(asked.logs.as_slice())?;
@@ -56,6 +59,7 @@ fn judge_all<'a, F: Files, O: Write>(
         (O.contents out.old) (O.contents out.new) }
     ensures begun { result ≡ Err Fault.Memory → AppendsFirstLines (F.content files.old) program.now logs.now
         (O.contents out.old) (O.contents out.new) }
+    ensures cut { BeginsPrinted (WritesFirstLines (F.content files.old) program.now logs.now) (O.contents out.old) (O.contents out.new) }
 {
     let mut status = Status::Whole;
     for path in logs {
@@ -92,10 +96,18 @@ fn write_line<'a, O: Write>(
 ) -> Result<(), Fault<'a>>
     ensures fault { IfErr result (λ fault. fault ≡ Fault.Output) }
     ensures text { OnOk result (Appends (O.contents out.old) (O.contents out.new) (verdict_line path.now count illegal)) }
+    ensures begun { AppendsBeginning (verdict_line path.now count illegal) (O.contents out.old) (O.contents out.new) }
 {
+    match write_bytes(out, path.as_bytes()) {
+        Ok(()) => {}
+        Err(_) => return Err(Fault::Output),
+    }
     let written = match illegal {
-        None => writeln!(out, "{path}: legal, {count} events"),
-        Some(fault) => writeln!(out, "{path}: {fault}"),
+        None => write_text(out, format_args!(": legal, {count} events\n")),
+        Some(fault) => write_text(out, format_args!(": {fault}\n")),
     };
-    written.map_err(|_| Fault::Output)
+    match written {
+        Ok(()) => Ok(()),
+        Err(_) => Err(Fault::Output),
+    }
 }

@@ -3,7 +3,8 @@
 ghost use Rattle.std.specs.Prelude.{⊤, ◌≡◌, ◌≢◌, ◌⊎◌, Err, IfErr, IfSome, OnOk};
 ghost use Rattle.std.specs.Io.KnownBytes.{Appends, Keeps};
 ghost use Rattle.receiver.specs.Received.{events_in};
-ghost use Rattle.commands.specs.Begun.{AppendsBeginning, BeginsPrinted};
+ghost use Rattle.output.specs.Begun.{AppendsBeginning};
+ghost use Rattle.commands.specs.Begun.{BeginsPrinted, IsCutOf};
 ghost use Rattle.commands.specs.Decoded.{Decodes, harts_text};
 ghost use Rattle.commands.specs.Inputs.{CanDecode};
 ghost use Rattle.commands.specs.Printed.{IsDenied, PrintsUnlessDenied};
@@ -17,6 +18,7 @@ use crate::files::Files;
 use crate::inputs::{base_of, content_of, program_of};
 use crate::status::Status;
 use captures::{CaptureOutcome, decode_capture};
+use output::write_text;
 use retire::{Event, write_log};
 use std::alloc::Global;
 use std::io::Write;
@@ -36,6 +38,7 @@ pub fn decode<'a, F: Files, O: Write>(
         (O.contents out.old) (O.contents out.new) }
     ensures begun { result ≡ Err Fault.Memory → Keeps (O.contents out.old) (O.contents out.new)
         ⊎ BeginsPrinted (Decodes (F.content files.old) asked.now) (O.contents out.old) (O.contents out.new) }
+    ensures cut { IsCutOf (Decodes (F.content files.old) asked.now) (O.contents out.old) (O.contents out.new) }
 {
     let base = base_of(asked.base)?;
     let program = program_of(files, base, asked.image)?;
@@ -57,11 +60,10 @@ fn write_logs<'a, O: Write>(
     ensures machine { IfErr result (λ fault. status_of fault ≡ Status.Machine) }
     ensures denied { IfErr result (IsDenied ⊤) }
     ensures text { OnOk result (Appends (O.contents out.old) (O.contents out.new) (harts_text 0 (events_in logs.now))) }
-    ensures begun { result ≡ Err Fault.Memory
-        → AppendsBeginning (harts_text 0 (events_in logs.now)) (O.contents out.old) (O.contents out.new) }
+    ensures begun { AppendsBeginning (harts_text 0 (events_in logs.now)) (O.contents out.old) (O.contents out.new) }
 {
     for (hart, log) in logs.iter().enumerate() {
-        writeln!(out, "hart {hart}").map_err(|_| Fault::Output)?;
+        write_text(out, format_args!("hart {hart}\n")).map_err(|_| Fault::Output)?;
         write_log(alloc, out, log.as_slice())?;
     }
     Ok(())

@@ -1,7 +1,7 @@
 //! Whichever subcommand is asked for.
 
 ghost use Rattle.std.specs.Prelude.{◌≡◌, Err, IfSome};
-ghost use Rattle.commands.specs.Begun.{IsBegun, WritesInParts};
+ghost use Rattle.commands.specs.Begun.{IsBegun, IsCut, WritesInParts};
 ghost use Rattle.commands.specs.CarriedOut.{IsCarriedOut};
 ghost use Rattle.commands.specs.Faults.{end_of};
 ghost use Rattle.commands.specs.Order.{early_fault};
@@ -35,6 +35,8 @@ pub fn carry_out<'a, F: Files, O: Write, R: Threads + Wait + Sync>(
     out: &mut O,
 ) -> Result<Status, Fault<'a>>
     requires { IsWithinLimits asked.now }
+    // However it ends, also where the output fails, what was written is a beginning of the text.
+    ensures cut { IsCut (F.content files.old) asked.now (O.contents out.old) (O.contents out.new) }
     ensures early { IfSome (early_fault asked.now) (λ fault. result ≡ Err fault) }
     ensures printed { IsCarriedOut (F.content files.old) asked.now result (O.contents out.old) (O.contents out.new) }
     // Where memory is refused, a beginning of the text was written.

@@ -1,6 +1,7 @@
 //! The subcommand `dump`.
 
 ghost use Rattle.std.specs.Prelude.{◌≡◌, ◌≢◌, Err};
+ghost use Rattle.commands.specs.Begun.{IsCutOf};
 ghost use Rattle.commands.specs.Dumping.{Dumps, end_of_dump};
 ghost use Rattle.commands.specs.Faults.{end_of};
 ghost use Rattle.commands.specs.Inputs.{CanDump};
@@ -25,6 +26,7 @@ pub fn dump<'a, F: Files, O: Write>(
     ensures untouched { result ≡ Err Fault.Memory → out.new ≡ out.old }
     ensures printed { PrintsUnlessDenied (Dumps (F.content files.old) asked.now) (CanDump (F.content files.old) asked.now) result
         (O.contents out.old) (O.contents out.new) }
+    ensures cut { IsCutOf (Dumps (F.content files.old) asked.now) (O.contents out.old) (O.contents out.new) }
 {
     let bytes = content_of(files, asked.capture)?;
     let dumped = dump_capture(bytes.as_slice(), out)?;

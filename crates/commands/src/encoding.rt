@@ -3,6 +3,8 @@
 ghost use Rattle.std.specs.Prelude.{◌≡◌, ◌≤◌, ◌^◌, Err, IfErr, IfSome, OnOk, length};
 ghost use Rattle.std.specs.Io.KnownBytes.{Appends};
 ghost use Rattle.captures.specs.Messages.{messages_of_harts};
+ghost use Rattle.output.specs.Begun.{AppendsBeginning};
+ghost use Rattle.commands.specs.Begun.{IsCutOf};
 ghost use Rattle.commands.specs.Encoding.{Encodes, written};
 ghost use Rattle.commands.specs.Faults.{end_of};
 ghost use Rattle.commands.specs.Order.{logs_fault};
@@ -34,6 +36,7 @@ pub fn encode<'a, F: Files, O: Write>(
     ensures untouched { result ≡ Err Fault.Memory → out.new ≡ out.old }
     ensures printed { PrintsUnlessDenied (Encodes (F.content files.old) asked.now) (CanEncode (F.content files.old) asked.now) result
         (O.contents out.old) (O.contents out.new) }
+    ensures cut { IsCutOf (Encodes (F.content files.old) asked.now) (O.contents out.old) (O.contents out.new) }
 {
     let base = base_of(asked.base)?;
     counted(asked.logs.as_slice())?;
@@ -55,6 +58,8 @@ fn write_messages<'a, O: Write>(
     ensures fault { IfErr result (λ fault. fault ≡ Fault.Output) }
     ensures text { OnOk result (Appends (O.contents out.old) (O.contents out.new)
         (written asked.now.hex (messages_of_harts asked.now.period asked.now.mode 0 logs.now))) }
+    ensures begun { AppendsBeginning (written asked.now.hex (messages_of_harts asked.now.period asked.now.mode 0 logs.now))
+        (O.contents out.old) (O.contents out.new) }
 {
     if asked.hex {
         encode_hex(logs, asked.period, asked.mode, out).map_err(|_| Fault::Output)

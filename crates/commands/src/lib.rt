@@ -19,7 +19,6 @@ mod status;
 mod telling;
 #[cfg(test)]
 mod tests;
-mod writing;
 
 pub use benching::bench;
 pub use checking::check;

@@ -4,6 +4,7 @@ ghost use Rattle.std.specs.Prelude.{◌≡◌, ◌⊎◌, IfErr, IfOk, IfSome, O
 ghost use Rattle.retire.specs.Number.{number_of};
 ghost use Rattle.bench.specs.Got.{got_of};
 ghost use Rattle.bench.specs.Replayed.{replayed};
+ghost use Rattle.commands.specs.Begun.{IsCutOf};
 ghost use Rattle.commands.specs.Faults.{end_of};
 ghost use Rattle.commands.specs.Order.{logs_fault};
 ghost use Rattle.commands.specs.Inputs.{CanReplay};
@@ -39,6 +40,7 @@ pub fn replay<'a, F: Files, O: Write>(
     ensures untouched { result ≡ Err Fault.Memory → out.new ≡ out.old }
     ensures printed { PrintsUnlessDenied (Replays (F.content files.old) asked.now) (CanReplay (F.content files.old) asked.now) result
         (O.contents out.old) (O.contents out.new) }
+    ensures cut { IsCutOf (Replays (F.content files.old) asked.now) (O.contents out.old) (O.contents out.new) }
 {
     let base = base_of(asked.base)?;
     counted(asked.logs.as_slice())?;

@@ -2,6 +2,7 @@
 
 ghost use Rattle.std.specs.Prelude.{◌≡◌, IfErr, OnOk, length, map};
 ghost use Rattle.std.specs.Io.KnownBytes.{Appends};
+ghost use Rattle.output.specs.Begun.{AppendsBeginning};
 ghost use Rattle.bench.specs.Got.{got_of};
 ghost use Rattle.bench.specs.Report.{is_whole, report_text};
 ghost use Rattle.commands.specs.Sending.{end_of_report};
@@ -22,6 +23,8 @@ pub(crate) fn write_report<'a, O: Write>(
     ensures fault { IfErr result (λ fault. fault ≡ Fault.Output) }
     ensures text { OnOk result (Appends (O.contents out.old) (O.contents out.new)
         (report_text outcome.now.stop (map got_of outcome.now.harts.items) logs.now)) }
+    ensures begun { AppendsBeginning (report_text outcome.now.stop (map got_of outcome.now.harts.items) logs.now)
+        (O.contents out.old) (O.contents out.new) }
 {
     report(outcome, logs, out).map_err(|_| Fault::Output)
 }

@@ -2,13 +2,13 @@
 
 ghost use Rattle.std.specs.Prelude.{◌≡◌, OnOk};
 ghost use Rattle.std.specs.Io.KnownBytes.{Appends};
-ghost use Rattle.commands.specs.Begun.{AppendsBeginning};
+ghost use Rattle.output.specs.Begun.{AppendsBeginning};
 ghost use Rattle.commands.specs.FaultText.{error_line};
 ghost use Rattle.commands.specs.Faults.{status_of};
 
 use crate::fault::Fault;
 use crate::status::Status;
-use crate::writing::write_text;
+use output::write_bytes;
 use std::io;
 use std::io::Write;
 
@@ -29,7 +29,7 @@ fn write_line<E: Write>(err: &mut E, fault: &Fault<'_>) -> io::Result<()>
 {
     let (path, colon) = fault.place();
     let rest = fault.rest(colon)?;
-    write_text(err, b"tracebench: ")?;
-    write_text(err, path.as_bytes())?;
-    write_text(err, rest.as_str().as_bytes())
+    write_bytes(err, b"tracebench: ")?;
+    write_bytes(err, path.as_bytes())?;
+    write_bytes(err, rest.as_str().as_bytes())
 }

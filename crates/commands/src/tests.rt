@@ -1,9 +1,9 @@
 //! Runs of the subcommands over files in memory.
 
 mod checks;
+mod devices;
 mod dumps;
 mod logs;
-mod output;
 mod refusals;
 mod runs;
 mod table;

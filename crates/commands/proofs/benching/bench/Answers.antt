@@ -1,7 +1,9 @@
 -- The prover tries no chain of steps by itself: what each step found is handed to it, in order.
-use Rattle.std.proofs.Common.{◌≡◌, ◌⊎◌, ◌∙◌, refl, subst, sym, ap, arith, List, length, map, Ok, Err}
+use Rattle.std.proofs.Common.{◌≡◌, ◌⊎◌, inr, ◌∙◌, refl, subst, sym, ap, arith, List, length, map, Ok, Err}
 use Rattle.std.proofs.lemmas.Grind.{common_steps}
 use Rattle.std.specs.Io.KnownBytes.{Appends}
+use Rattle.output.specs.Begun.{AppendsBeginning}
+use Rattle.output.proofs.Beginnings.{begun_kept}
 use Rattle.legalpath.specs.ProgramLog.{ProgramLog}
 use Rattle.bench.specs.Got.{got_of}
 use Rattle.bench.specs.Beginnings.{AreBeginnings}
@@ -13,6 +15,7 @@ use Rattle.commands.specs.Printed.{First, Printed, PrintsUnlessDenied, silent}
 use Rattle.commands.specs.Benching.{Benches, WritesOutcome}
 use Rattle.commands.specs.Sending.{IsSetting, config_at, end_of_report}
 use Rattle.commands.specs.declared.fault.Fault.TheVariants as fault
+use Rattle.commands.proofs.Beginnings.{printed_begun, printed_cut}
 use Rattle.commands.proofs.FirstSteps.{count_ends, logs_end, logs_found, program_ends}
 use Rattle.commands.proofs.Runs.{appends-keeps, ends_silently}
 use Rattle.commands.proofs.benching.bench.Goals as goal
@@ -124,3 +127,94 @@ returns-clause-printed g c =
       appended = appends-keeps (contents c.args.out.now) (contents c.write_report.new.out) (contents c.flush.new.self)
           (report_text outcome.stop gots logs) text c.flush.ensures.bytes;
     }
+
+pub returns-in_err-write_report-clause-cut : goal.returns-in_err-write_report-clause-cut
+returns-in_err-write_report-clause-cut g c =
+    let contents = g.O.Write.contents in
+    let asked = c.args.asked.now in
+    let config = config_at asked.period asked.capacity in
+    let content = g.F.Files.content c.args.files.now in
+    let logs = c.in_ok-legal.legal.items in
+    let outcome = c.in_ok-outcome.outcome in
+    let gots = map got_of outcome.harts.items in
+    let goes_on = logs_found content (g.F.Files.content c.program_of.new.files) asked.base.now asked.image
+    asked.logs.items c.as_slice.result.now c.as_slice-2.result.now c.in_ok-base.base c.in_ok-program.program
+    c.in_ok-counted.field-0 logs c.in_ok-base.ensures.found c.as_slice.ensures.value c.in_ok-counted.ensures.found
+    c.in_ok-program.ensures.program c.in_ok-program.ensures.kept c.as_slice-2.ensures.value
+    c.in_ok-legal.ensures.logs in
+    let paths = ap length c.as_slice-2.ensures.value in
+    let count : length logs ≡ length asked.logs.items =
+    omega (arith, c.in_ok-legal.legal.ok.0, c.in_ok-legal.ensures.count, paths) in
+    let stands = subst (λ harts. IsSetting harts config (Ok tt)) count
+    (subst (λ logs. IsSetting (length logs) config (Ok tt)) c.as_slice-3.ensures.value c.in_ok-outcome.ensures.setting) in
+    let came = subst (λ logs. AreBeginnings config logs outcome.harts.items) c.as_slice-3.ensures.value
+    c.in_ok-outcome.ensures.came in
+    let text = report_text outcome.stop gots logs in
+    let ended = Ok (end_of_report outcome.stop (is_whole outcome.stop gots logs)) in
+    let old = contents c.args.out.now in
+    let mid = contents c.write_report.new.out in
+    let new = contents c.write_report.new.out in
+    let begun = subst (λ logs. AppendsBeginning (report_text outcome.stop gots logs) old mid) c.as_slice-4.ensures.value
+    c.write_report.ensures.begun in
+    inr (printed_begun (Benches content asked) text ended old new
+    (goes_on (Reports asked) (record { text = text; ended = ended }) (
+      Ok tt,
+      stands,
+      record {
+        stop = outcome.stop;
+        harts = outcome.harts.items;
+        came = came;
+        names = c.in_ok-outcome.ensures.names;
+        text = refl;
+        ended = refl;
+      },
+    ))
+    begun)
+
+pub returns-in_err-map_err-clause-cut : goal.returns-in_err-map_err-clause-cut
+returns-in_err-map_err-clause-cut g c =
+    let contents = g.O.Write.contents in
+    let asked = c.args.asked.now in
+    let config = config_at asked.period asked.capacity in
+    let content = g.F.Files.content c.args.files.now in
+    let logs = c.in_ok-legal.legal.items in
+    let outcome = c.in_ok-outcome.outcome in
+    let gots = map got_of outcome.harts.items in
+    let goes_on = logs_found content (g.F.Files.content c.program_of.new.files) asked.base.now asked.image
+    asked.logs.items c.as_slice.result.now c.as_slice-2.result.now c.in_ok-base.base c.in_ok-program.program
+    c.in_ok-counted.field-0 logs c.in_ok-base.ensures.found c.as_slice.ensures.value c.in_ok-counted.ensures.found
+    c.in_ok-program.ensures.program c.in_ok-program.ensures.kept c.as_slice-2.ensures.value
+    c.in_ok-legal.ensures.logs in
+    let paths = ap length c.as_slice-2.ensures.value in
+    let count : length logs ≡ length asked.logs.items =
+    omega (arith, c.in_ok-legal.legal.ok.0, c.in_ok-legal.ensures.count, paths) in
+    let stands = subst (λ harts. IsSetting harts config (Ok tt)) count
+    (subst (λ logs. IsSetting (length logs) config (Ok tt)) c.as_slice-3.ensures.value c.in_ok-outcome.ensures.setting) in
+    let came = subst (λ logs. AreBeginnings config logs outcome.harts.items) c.as_slice-3.ensures.value
+    c.in_ok-outcome.ensures.came in
+    let text = report_text outcome.stop gots logs in
+    let ended = Ok (end_of_report outcome.stop (is_whole outcome.stop gots logs)) in
+    let old = contents c.args.out.now in
+    let mid = contents c.write_report.new.out in
+    let new = contents c.flush.new.self in
+    let begun = subst (λ logs. AppendsBeginning (report_text outcome.stop gots logs) old mid) c.as_slice-4.ensures.value
+    c.write_report.ensures.begun in
+    inr (printed_begun (Benches content asked) text ended old new
+    (goes_on (Reports asked) (record { text = text; ended = ended }) (
+      Ok tt,
+      stands,
+      record {
+        stop = outcome.stop;
+        harts = outcome.harts.items;
+        came = came;
+        names = c.in_ok-outcome.ensures.names;
+        text = refl;
+        ended = refl;
+      },
+    ))
+    (begun_kept text old mid new begun c.flush.ensures.bytes))
+
+pub returns-clause-cut : goal.returns-clause-cut
+returns-clause-cut g c =
+    inr (printed_cut (Benches (g.F.Files.content c.args.files.now) c.args.asked.now) (Ok c.status_of.result)
+    (g.O.Write.contents c.args.out.now) (g.O.Write.contents c.flush.new.self) (returns-clause-printed g c))

@@ -2,12 +2,12 @@
 use Rattle.std.proofs.Common.{◌≡◌, inr, subst, arith, Ok, Err}
 use Rattle.std.proofs.lemmas.Grind.{common_steps}
 use Rattle.std.specs.Prelude.{⊤}
-use Rattle.commands.specs.Begun.{AppendsFirstLines}
+use Rattle.commands.specs.Begun.{AppendsFirstLines, BeginsPrinted, ChecksFirst, WritesFirstLines}
 use Rattle.commands.specs.Checking.{Checks, WritesLines}
 use Rattle.commands.specs.Found.{AreFew}
 use Rattle.commands.specs.Inputs.{CanCheck}
 use Rattle.commands.specs.Printed.{PrintsUnlessDenied}
-use Rattle.commands.proofs.Beginnings.{lines_kept}
+use Rattle.commands.proofs.Beginnings.{cut_kept, lines_kept}
 use Rattle.commands.proofs.FirstSteps.{count_ends, program_ends}
 use Rattle.commands.proofs.Runs.{goes_on}
 use Rattle.commands.proofs.checking.check.Goals as goal
@@ -80,3 +80,45 @@ returns-clause-begun g c = λ memory.
       found = c.in_ok-program.ensures.program;
       lines = lines_kept content program asked.logs.items old mid (contents c.flush.new.self) lines c.flush.ensures.bytes;
     })
+
+pub returns-in_err-map_err-clause-cut : goal.returns-in_err-map_err-clause-cut
+returns-in_err-map_err-clause-cut g c =
+    let contents = g.O.Write.contents in
+    let asked = c.args.asked.now in
+    let content = g.F.Files.content c.args.files.now in
+    let program = c.in_ok-program.program in
+    let old = contents c.args.out.now in
+    let mid = contents c.judge_all-ended.new.out in
+    let new = contents c.flush.new.self in
+    let lines = subst (λ logs. BeginsPrinted (WritesFirstLines content program logs) old mid) c.as_slice-2.ensures.value
+    (subst (λ told. BeginsPrinted (WritesFirstLines told program c.as_slice-2.result.now) old mid)
+    c.in_ok-program.ensures.kept c.judge_all-ended.ensures.cut) in
+    inr (cut_kept (WritesFirstLines content program asked.logs.items) (ChecksFirst content asked) old mid new
+    (λ printed lines. record {
+      base = c.in_ok-base.base;
+      program = program;
+      based = c.in_ok-base.ensures.found;
+      found = c.in_ok-program.ensures.program;
+      lines = lines;
+    }) lines c.flush.ensures.bytes)
+
+pub returns-clause-cut : goal.returns-clause-cut
+returns-clause-cut g c =
+    let contents = g.O.Write.contents in
+    let asked = c.args.asked.now in
+    let content = g.F.Files.content c.args.files.now in
+    let program = c.in_ok-program.program in
+    let old = contents c.args.out.now in
+    let mid = contents c.judge_all-ended.new.out in
+    let new = contents c.flush.new.self in
+    let lines = subst (λ logs. BeginsPrinted (WritesFirstLines content program logs) old mid) c.as_slice-2.ensures.value
+    (subst (λ told. BeginsPrinted (WritesFirstLines told program c.as_slice-2.result.now) old mid)
+    c.in_ok-program.ensures.kept c.judge_all-ended.ensures.cut) in
+    inr (cut_kept (WritesFirstLines content program asked.logs.items) (ChecksFirst content asked) old mid new
+    (λ printed lines. record {
+      base = c.in_ok-base.base;
+      program = program;
+      based = c.in_ok-base.ensures.found;
+      found = c.in_ok-program.ensures.program;
+      lines = lines;
+    }) lines c.flush.ensures.bytes)

@@ -3,6 +3,7 @@ use Rattle.std.proofs.Common.{◌≡◌, ◌⊎◌, ◌+◌, get_or, take, drop,
 use Rattle.std.proofs.lemmas.Grind.{common_steps}
 use Rattle.std.specs.Io.KnownBytes.{Appends}
 use Rattle.std.specs.Prelude.{if◌then◌else◌, is_some}
+use Rattle.output.specs.Begun.{AppendsBeginning}
 use Rattle.rvclass.specs.Fetch.{words_of}
 use Rattle.commands.specs.Checking.{IsVerdict, WritesLines, verdict_line}
 use Rattle.commands.specs.Faults.{Path}
@@ -10,7 +11,7 @@ use Rattle.commands.specs.Found.{IsLog}
 use Rattle.commands.specs.Printed.{IsPrinted}
 use Rattle.commands.specs.declared.fault.Fault.TheVariants as fault
 use Rattle.commands.specs.declared.status.Status.TheVariants.{Refused}
-use Rattle.commands.proofs.JudgedLogs.{lines_end, lines_more}
+use Rattle.commands.proofs.JudgedLogs.{first_lines, line_begun, lines_end, lines_more}
 use Rattle.commands.proofs.checking.judge_all.Goals as goal
 use Rattle.commands.proofs.checking.judge_all.Goals.{then-is_some, else-is_some}
 
@@ -62,3 +63,34 @@ loop-path-preserved g c =
           (lines_more content program paths i d status old mid c.loop-path-test.true c.loop-path.invariant.printed events illegal new read verdict line);
       kept = grind (arith, common_steps);
     }
+
+pub returns-in-Err-clause-cut : goal.returns-in-Err-clause-cut
+returns-in-Err-clause-cut g c =
+    first_lines (g.F.Files.content c.args.files.now) c.args.program.now c.args.logs.now c.loop-path.path-index c.loop-path.status
+    (g.O.Write.contents c.args.out.now) (g.O.Write.contents c.loop-path.out) c.loop-path.invariant.printed
+
+pub returns-in-Err-write_line-clause-cut : goal.returns-in-Err-write_line-clause-cut
+returns-in-Err-write_line-clause-cut g c =
+    let contents = g.O.Write.contents in
+    let content = g.F.Files.content c.args.files.now in
+    let program = c.args.program.now in
+    let paths = c.args.logs.now in
+    let i = c.loop-path.path-index in
+    let d : Path = record { ref_ptr = (0, 0); now = [] } in
+    let old = contents c.args.out.now in
+    let mid = contents c.loop-path.out in
+    let new = contents c.write_line.new.out in
+    let events = c.in-Ok.events.items in
+    let illegal = c.illegal_row-illegal.result in
+    let read = subst (λ told. IsLog told (get_or paths i d) (Ok events)) c.loop-path.invariant.kept c.in-Ok.ensures.log in
+    let verdict = subst (λ log. IsVerdict (words_of program) log illegal) c.as_slice.ensures.value c.illegal_row-illegal.ensures in
+    let count : c.len.result ≡ length events = grind (arith, common_steps) in
+    let begun = subst (λ count. AppendsBeginning (verdict_line (get_or paths i d).now count illegal) mid new) count
+    c.write_line.ensures.begun in
+    line_begun content program paths i d c.loop-path.status old mid c.loop-path-test.true c.loop-path.invariant.printed events
+    illegal new read verdict begun
+
+pub returns-clause-cut : goal.returns-clause-cut
+returns-clause-cut g c =
+    first_lines (g.F.Files.content c.args.files.now) c.args.program.now c.args.logs.now c.loop-path.path-index c.loop-path.status
+    (g.O.Write.contents c.args.out.now) (g.O.Write.contents c.loop-path.out) c.loop-path.invariant.printed

@@ -5,7 +5,7 @@ use Rattle.std.specs.Io.KnownBytes.{Appends}
 use Rattle.receiver.specs.Received.{events_in}
 use Rattle.captures.specs.Decoded.{IsDecoded}
 use Rattle.rvclass.specs.Fetch.{words_of}
-use Rattle.commands.specs.Begun.{AppendsBeginning}
+use Rattle.output.specs.Begun.{AppendsBeginning}
 use Rattle.commands.specs.Decoded.{Decodes, harts_text}
 use Rattle.commands.specs.Found.{IsProgram, IsRead}
 use Rattle.commands.specs.Inputs.{CanDecode}
@@ -68,8 +68,8 @@ returns-clause-printed g c =
       appended = appends-keeps (contents c.args.out.now) (contents c.write_logs.new.out) (contents c.flush.new.self) _ text c.flush.ensures.bytes;
     })
 
-pub returns-in_err-write_logs-clause-begun : goal.returns-in_err-write_logs-clause-begun
-returns-in_err-write_logs-clause-begun g c = λ memory.
+pub returns-in_err-write_logs-clause-cut : goal.returns-in_err-write_logs-clause-cut
+returns-in_err-write_logs-clause-cut g c =
     let contents = g.O.Write.contents in
     let asked = c.args.asked.now in
     let content = g.F.Files.content c.args.files.now in
@@ -84,16 +84,41 @@ returns-in_err-write_logs-clause-begun g c = λ memory.
     let read = subst (λ told. IsRead told asked.capture (Ok bytes)) c.in_ok-program.ensures.kept c.in_ok-bytes.ensures.held in
     let old = contents c.args.out.now in
     let new = contents c.write_logs.new.out in
-    let why = c.in_err-write_logs.field-0.0 in
-    let is : c.from_residual-in_err-write_logs.result ≡ Err why = grind (arith, common_steps) in
-    let denied : why ≡ fault.Memory = subst (λ r. IfErr r (λ told. told ≡ fault.Memory)) (sym memory ∙ is) refl in
     let begun = subst (λ logs. AppendsBeginning (harts_text 0 (events_in logs)) old new) c.as_slice-2.ensures.value
-    (c.write_logs.ensures.begun (c.in_err-write_logs.was ∙ ap Err denied)) in
+    c.write_logs.ensures.begun in
     inr (decode_begun content asked c.in_ok-base.base program bytes lists outcome.closed.items outcome.fault
     c.in_ok-base.ensures.found c.in_ok-program.ensures.program read decoded old new begun)
 
+pub returns-in_err-write_logs-clause-begun : goal.returns-in_err-write_logs-clause-begun
+returns-in_err-write_logs-clause-begun g c = λ memory. returns-in_err-write_logs-clause-cut g c
+
+pub returns-clause-cut : goal.returns-clause-cut
+returns-clause-cut g c =
+    let contents = g.O.Write.contents in
+    let asked = c.args.asked.now in
+    let content = g.F.Files.content c.args.files.now in
+    let program = c.in_ok-program.program in
+    let outcome = c.in_ok-outcome.outcome in
+    let bytes = c.in_ok-bytes.bytes.items in
+    let lists = events_in outcome.harts.items in
+    let was : c.decode_capture.result ≡ Ok outcome = grind (arith, common_steps) in
+    let decoded : IsDecoded (words_of program) asked.harts bytes lists outcome.closed.items outcome.fault =
+    subst (λ bytes. IsDecoded (words_of program) asked.harts bytes lists outcome.closed.items outcome.fault) c.as_slice.ensures.value
+    (subst (λ r. IfOk r (λ outcome. IsDecoded (words_of program) asked.harts c.as_slice.result.now (events_in outcome.harts.items) outcome.closed.items outcome.fault)) was c.decode_capture.ensures.decoded) in
+    let read = subst (λ told. IsRead told asked.capture (Ok bytes)) c.in_ok-program.ensures.kept c.in_ok-bytes.ensures.held in
+    let old = contents c.args.out.now in
+    let mid = contents c.write_logs.new.out in
+    let new = contents c.flush.new.self in
+    let text = subst (λ logs. Appends old mid (harts_text 0 (events_in logs))) c.as_slice-2.ensures.value c.in_ok-write_logs.ensures.text in
+    inr (decode_begun content asked c.in_ok-base.base program bytes lists outcome.closed.items outcome.fault
+    c.in_ok-base.ensures.found c.in_ok-program.ensures.program read decoded old new
+    (whole_begun (harts_text 0 lists) old mid new text c.flush.ensures.bytes))
+
 pub returns-clause-begun : goal.returns-clause-begun
-returns-clause-begun g c = λ memory.
+returns-clause-begun g c = λ memory. returns-clause-cut g c
+
+pub returns-in_err-map_err-clause-cut : goal.returns-in_err-map_err-clause-cut
+returns-in_err-map_err-clause-cut g c =
     let contents = g.O.Write.contents in
     let asked = c.args.asked.now in
     let content = g.F.Files.content c.args.files.now in

@@ -10,25 +10,21 @@ use Rattle.std.proofs.lemmas.Grind.{common_steps}
 use Rattle.std.proofs.lemmas.List.{take_all}
 use Rattle.retire.specs.declared.fault.WriteFault.{WriteFault}
 use Rattle.retire.specs.declared.fault.WriteFault.TheVariants as write
-use Rattle.commands.specs.Begun.{AppendsBeginning}
+use Rattle.output.specs.Begun.{AppendsBeginning}
 use Rattle.commands.specs.Decoded.{harts_text}
 use Rattle.commands.specs.Faults.{write_fault}
 use Rattle.commands.specs.declared.fault.Fault.TheVariants as fault
-use Rattle.commands.proofs.HartTexts.{hart_written, line_begun}
+use Rattle.output.proofs.Beginnings.{begun_behind, begun_in_front, whole_begun}
+use Rattle.commands.proofs.HartTexts.{hart_begun, hart_written}
 use Rattle.commands.proofs.decoding.write_logs.Goals as goal
-
--- Want of memory is told of want of memory alone.
-denied : (why : WriteFault) → write_fault why ≡ fault.Memory → why ≡ write.Memory
-denied write.Write is = cc
-denied write.Memory is = refl
 
 pub loop-hart-preserved : goal.loop-hart-preserved
 loop-hart-preserved g c =
     let contents = g.O.Write.contents in
     let list = c.index-logs-hart.result in
-    let log = subst (λ events. Appends (contents c.writeln.new.self) (contents c.write_log.new.sink) (log_text events)) c.as_slice.ensures.value c.in_ok-write_log.ensures.written in
+    let log = subst (λ events. Appends (contents c.write_text.new.out) (contents c.write_log.new.sink) (log_text events)) c.as_slice.ensures.value c.in_ok-write_log.ensures.written in
     hart_written (λ (list : Vec Event Global). list.items) c.args.logs.now c.loop-hart.hart-counter list
-    (contents c.args.out.now) (contents c.loop-hart.out) (contents c.writeln.new.self) (contents c.write_log.new.sink)
+    (contents c.args.out.now) (contents c.loop-hart.out) (contents c.write_text.new.out) (contents c.write_log.new.sink)
     c.loop-hart-test.true c.index-logs-hart.is c.loop-hart.invariant (grind (arith, common_steps)) log
 
 pub returns-clause-text : goal.returns-clause-text
@@ -36,17 +32,32 @@ returns-clause-text g c =
     subst (λ lists. Appends (g.O.Write.contents c.args.out.now) (g.O.Write.contents c.loop-hart.out) (harts_text 0 (events_in lists)))
     (take_all c.loop-hart.hart-counter c.args.logs.now c.loop-hart-test.false) c.loop-hart.invariant
 
-pub returns-in_err-write_log-clause-begun : goal.returns-in_err-write_log-clause-begun
-returns-in_err-write_log-clause-begun g c = λ memory.
+pub returns-in_err-map_err-clause-begun : goal.returns-in_err-map_err-clause-begun
+returns-in_err-map_err-clause-begun g c =
     let contents = g.O.Write.contents in
     let list = c.index-logs-hart.result in
-    let why = c.in_err-write_log.field-0.0 in
-    let told = subst (λ r. IsErrAnd r (λ told. told ≡ write_fault why)) memory c.from_residual-in_err-write_log.ensures.1 in
-    let was : c.write_log.result ≡ Err write.Memory = c.in_err-write_log.was ∙ ap Err (denied why (sym told)) in
-    let head : Appends (contents c.loop-hart.out) (contents c.writeln.new.self) (codes "hart " ++ (decimal c.loop-hart.hart-counter ++ codes "\n")) =
-    grind (arith, common_steps) in
-    let same = ap contents {x = c.write_log.new.sink} (c.write_log.ensures.untouched was) in
-    subst (λ new. AppendsBeginning (harts_text 0 (events_in c.args.logs.now)) (contents c.args.out.now) new) (sym same)
-    (line_begun (λ (list : Vec Event Global). list.items) c.args.logs.now c.loop-hart.hart-counter list
-    (contents c.args.out.now) (contents c.loop-hart.out) (contents c.writeln.new.self)
-    c.loop-hart-test.true c.index-logs-hart.is c.loop-hart.invariant head)
+    let i = c.loop-hart.hart-counter in
+    let mid = contents c.loop-hart.out in
+    let new = contents c.write_text.new.out in
+    hart_begun (λ (list : Vec Event Global). list.items) c.args.logs.now i list (contents c.args.out.now) mid new
+    c.loop-hart-test.true c.index-logs-hart.is c.loop-hart.invariant
+    (begun_in_front (codes "hart " ++ (decimal i ++ codes "\n")) (log_text list.items) mid new c.write_text.ensures.begun)
+
+pub returns-in_err-write_log-clause-begun : goal.returns-in_err-write_log-clause-begun
+returns-in_err-write_log-clause-begun g c =
+    let contents = g.O.Write.contents in
+    let list = c.index-logs-hart.result in
+    let i = c.loop-hart.hart-counter in
+    let mid = contents c.loop-hart.out in
+    let line = contents c.write_text.new.out in
+    let new = contents c.write_log.new.sink in
+    let head : Appends mid line (codes "hart " ++ (decimal i ++ codes "\n")) = grind (arith, common_steps) in
+    hart_begun (λ (list : Vec Event Global). list.items) c.args.logs.now i list (contents c.args.out.now) mid new
+    c.loop-hart-test.true c.index-logs-hart.is c.loop-hart.invariant
+    (begun_behind (codes "hart " ++ (decimal i ++ codes "\n")) (log_text list.items) mid line new head
+    (subst (λ events. AppendsBeginning (log_text events) line new) c.as_slice.ensures.value c.write_log.ensures.begun))
+
+pub returns-clause-begun : goal.returns-clause-begun
+returns-clause-begun g c =
+    whole_begun (harts_text 0 (events_in c.args.logs.now)) (g.O.Write.contents c.args.out.now)
+    (g.O.Write.contents c.loop-hart.out) (returns-clause-text g c)

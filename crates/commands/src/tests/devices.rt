@@ -281,3 +281,27 @@ fn keeps_the_status_where_a_line_is_cut(rt: HostRuntime) -> Result<(), Fail> {
     }
     Ok(())
 }
+
+// The output fails at each of its calls, the flush among them: what was written is the beginning of the text.
+#[test]
+fn writes_a_beginning(rt: HostRuntime) -> Result<(), Fail> {
+    let mut files = files_of_runs(rt.alloc())?;
+    for (request, _, written, _) in RUNS {
+        for call in 1..written.len() + 2 {
+            let mut out = FailsAt::new(rt.alloc(), call);
+            let mut err = Vec::new(rt.alloc());
+            let status = run(&rt, &mut files, request, &mut out, &mut err)?;
+            assert_eq!(rt; status, 3, "{request:?}, {call}");
+            assert!(rt;
+                err.as_slice() == b"tracebench: output cannot be written\n".as_slice(),
+                "{request:?}, {call}"
+            );
+            assert_eq!(rt; out.bytes.len(), call - 1, "{request:?}, {call}");
+            assert!(rt;
+                written.as_bytes().starts_with(out.bytes.as_slice()),
+                "{request:?}, {call}"
+            );
+        }
+    }
+    Ok(())
+}
