@@ -132,7 +132,7 @@ pub returns-in_err-write_report-clause-cut : goal.returns-in_err-write_report-cl
 returns-in_err-write_report-clause-cut g c =
     let contents = g.O.Write.contents in
     let asked = c.args.asked.now in
-    let config = config_at asked.period asked.capacity in
+    let config = config_at asked.period asked.mode asked.capacity in
     let content = g.F.Files.content c.args.files.now in
     let logs = c.in_ok-legal.legal.items in
     let outcome = c.in_ok-outcome.outcome in
@@ -175,7 +175,7 @@ pub returns-in_err-map_err-clause-cut : goal.returns-in_err-map_err-clause-cut
 returns-in_err-map_err-clause-cut g c =
     let contents = g.O.Write.contents in
     let asked = c.args.asked.now in
-    let config = config_at asked.period asked.capacity in
+    let config = config_at asked.period asked.mode asked.capacity in
     let content = g.F.Files.content c.args.files.now in
     let logs = c.in_ok-legal.legal.items in
     let outcome = c.in_ok-outcome.outcome in

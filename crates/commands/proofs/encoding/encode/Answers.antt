@@ -75,11 +75,11 @@ returns-in_err-write_messages-clause-cut g c =
     let asked = c.args.asked.now in
     let content = g.F.Files.content c.args.files.now in
     let logs = c.in_ok-legal.legal.items in
-    let printed = written asked.hex (messages_of_harts asked.period 0 logs) in
+    let printed = written asked.hex (messages_of_harts asked.period asked.mode 0 logs) in
     let old = contents c.args.out.now in
     let mid = contents c.write_messages.new.out in
     let new = contents c.write_messages.new.out in
-    let begun = subst (λ logs. AppendsBeginning (written asked.hex (messages_of_harts asked.period 0 logs)) old mid)
+    let begun = subst (λ logs. AppendsBeginning (written asked.hex (messages_of_harts asked.period asked.mode 0 logs)) old mid)
     c.as_slice-3.ensures.value c.write_messages.ensures.begun in
     inr (printed_begun (Encodes content asked) printed (Ok Whole) old new
     (logs_found content (g.F.Files.content c.program_of.new.files) asked.base.now asked.image
@@ -96,11 +96,11 @@ returns-in_err-map_err-clause-cut g c =
     let asked = c.args.asked.now in
     let content = g.F.Files.content c.args.files.now in
     let logs = c.in_ok-legal.legal.items in
-    let printed = written asked.hex (messages_of_harts asked.period 0 logs) in
+    let printed = written asked.hex (messages_of_harts asked.period asked.mode 0 logs) in
     let old = contents c.args.out.now in
     let mid = contents c.write_messages.new.out in
     let new = contents c.flush.new.self in
-    let begun = subst (λ logs. AppendsBeginning (written asked.hex (messages_of_harts asked.period 0 logs)) old mid)
+    let begun = subst (λ logs. AppendsBeginning (written asked.hex (messages_of_harts asked.period asked.mode 0 logs)) old mid)
     c.as_slice-3.ensures.value c.write_messages.ensures.begun in
     inr (printed_begun (Encodes content asked) printed (Ok Whole) old new
     (logs_found content (g.F.Files.content c.program_of.new.files) asked.base.now asked.image

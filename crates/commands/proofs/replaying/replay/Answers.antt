@@ -192,13 +192,13 @@ returns-in_err-write_report-clause-cut g c =
     let paths = ap length c.as_slice-2.ensures.value in
     let count : length logs ≡ length asked.logs.items =
     omega (arith, c.in_ok-legal.legal.ok.0, c.in_ok-legal.ensures.count, paths) in
-    let config = config_at asked.period asked.capacity in
+    let config = config_at asked.period asked.mode asked.capacity in
     let stands = subst (λ harts. IsSetting harts config (Ok tt)) count
     (subst (λ logs. IsSetting (length logs) config (Ok tt)) c.as_slice-3.ensures.value c.in_ok-outcome.ensures.setting) in
-    let came = subst (λ turns. AreGot asked.period logs (replayed asked.period asked.capacity logs turns).taken outcome.stop gots)
+    let came = subst (λ turns. AreGot asked.period asked.mode logs (replayed asked.period asked.mode asked.capacity logs turns).taken outcome.stop gots)
     c.as_slice-4.ensures.value
-    (subst (λ logs. AreGot asked.period logs
-    (replayed asked.period asked.capacity logs c.as_slice-4.result.now).taken outcome.stop gots)
+    (subst (λ logs. AreGot asked.period asked.mode logs
+    (replayed asked.period asked.mode asked.capacity logs c.as_slice-4.result.now).taken outcome.stop gots)
     c.as_slice-3.ensures.value c.in_ok-outcome.ensures.came) in
     let text = report_text outcome.stop gots logs in
     let ended = Ok (end_of_report outcome.stop (is_whole outcome.stop gots logs)) in
@@ -246,13 +246,13 @@ returns-in_err-map_err-clause-cut g c =
     let paths = ap length c.as_slice-2.ensures.value in
     let count : length logs ≡ length asked.logs.items =
     omega (arith, c.in_ok-legal.legal.ok.0, c.in_ok-legal.ensures.count, paths) in
-    let config = config_at asked.period asked.capacity in
+    let config = config_at asked.period asked.mode asked.capacity in
     let stands = subst (λ harts. IsSetting harts config (Ok tt)) count
     (subst (λ logs. IsSetting (length logs) config (Ok tt)) c.as_slice-3.ensures.value c.in_ok-outcome.ensures.setting) in
-    let came = subst (λ turns. AreGot asked.period logs (replayed asked.period asked.capacity logs turns).taken outcome.stop gots)
+    let came = subst (λ turns. AreGot asked.period asked.mode logs (replayed asked.period asked.mode asked.capacity logs turns).taken outcome.stop gots)
     c.as_slice-4.ensures.value
-    (subst (λ logs. AreGot asked.period logs
-    (replayed asked.period asked.capacity logs c.as_slice-4.result.now).taken outcome.stop gots)
+    (subst (λ logs. AreGot asked.period asked.mode logs
+    (replayed asked.period asked.mode asked.capacity logs c.as_slice-4.result.now).taken outcome.stop gots)
     c.as_slice-3.ensures.value c.in_ok-outcome.ensures.came) in
     let text = report_text outcome.stop gots logs in
     let ended = Ok (end_of_report outcome.stop (is_whole outcome.stop gots logs)) in
