@@ -1,12 +1,11 @@
 -- Beginnings of what is written.
-use Rattle.std.proofs.Common.{◌⊎◌, inl, inr, ℕ, List, Option, Result}
-use Rattle.std.proofs.KnownBytes.{Keeps-trans}
-use Rattle.std.specs.Io.KnownBytes.{Appends, Keeps}
+use Rattle.std.proofs.Common.{ℕ, List, Option, Result}
+use Rattle.std.specs.Io.KnownBytes.{Keeps}
 use Rattle.output.specs.Begun.{AppendsBeginning}
 use Rattle.output.proofs.Beginnings.{begun_kept, whole_begun}
 use Rattle.rvclass.specs.Image.{Image}
 use Rattle.commands.proofs.Runs.{appends-keeps}
-use Rattle.commands.specs.Begun.{AppendsFirstLines, BeginsPrinted, IsCutOf}
+use Rattle.commands.specs.Begun.{AppendsFirstLines, BeginsPrinted}
 use Rattle.commands.specs.Faults.{Path}
 use Rattle.commands.specs.Known.{Content}
 use Rattle.commands.specs.Printed.{IsPrinted, Printed}

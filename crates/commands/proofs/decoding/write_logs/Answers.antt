@@ -1,19 +1,14 @@
 -- The prover does not part a text at the hart whose log is not written: the lemma on it is handed to it.
-use Rattle.std.proofs.Common.{◌≡◌, refl, sym, ap, ◌∙◌, ◌++◌, subst, codes, Vec, Global, arith, Err}
+use Rattle.std.proofs.Common.{◌++◌, subst, codes, Vec, Global, arith}
 use Rattle.std.specs.Fmt.{decimal}
 use Rattle.std.specs.Io.KnownBytes.{Appends}
-use Rattle.std.specs.Result.{IsErrAnd}
 use Rattle.receiver.specs.Received.{events_in}
 use Rattle.retire.specs.declared.event.Event.{Event}
 use Rattle.retire.specs.LogText.{log_text}
 use Rattle.std.proofs.lemmas.Grind.{common_steps}
 use Rattle.std.proofs.lemmas.List.{take_all}
-use Rattle.retire.specs.declared.fault.WriteFault.{WriteFault}
-use Rattle.retire.specs.declared.fault.WriteFault.TheVariants as write
 use Rattle.output.specs.Begun.{AppendsBeginning}
 use Rattle.commands.specs.Decoded.{harts_text}
-use Rattle.commands.specs.Faults.{write_fault}
-use Rattle.commands.specs.declared.fault.Fault.TheVariants as fault
 use Rattle.output.proofs.Beginnings.{begun_behind, begun_in_front, whole_begun}
 use Rattle.commands.proofs.HartTexts.{hart_begun, hart_written}
 use Rattle.commands.proofs.decoding.write_logs.Goals as goal
