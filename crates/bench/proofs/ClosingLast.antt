@@ -9,6 +9,7 @@ use Rattle.payload.proofs.ReadingLaws.{reading-payload_of}
 use Rattle.payload.specs.Closing.{is_closing, is_closing_packet, is_closing_reading}
 use Rattle.payload.specs.Profile.{InProfile}
 use Rattle.payload.specs.Spelling.{payload_of}
+use Rattle.payload.specs.declared.mode.Mode.{Mode}
 use Rattle.payload.specs.declared.packet.Packet.{Packet}
 use Rattle.payload.specs.declared.packet.Packet.TheVariants as packet
 use Rattle.payload.specs.declared.packet.Support.TheVariants.{Open}
@@ -17,27 +18,27 @@ use Rattle.encoder.specs.Piece.{Piece, pieces_of}
 use Rattle.roundtrip.proofs.PacketOrder.{not_closing}
 use Rattle.funnel.specs.Payloads.{ClosesOnlyLast}
 
-reports_close_last : (reported : ℕ) (pieces : List Piece) (last : Packet) (n : ℕ) (one : Packet)
-    → slice_get (reports reported pieces ++ last ∷ []) n ≡ Some one → is_closing_packet one ≡ true
-    → length (reports reported pieces ++ last ∷ []) ≡ suc n
-reports_close_last reported [] last zero one is closing = refl
-reports_close_last reported [] last (suc n) one is closing = cc
-reports_close_last reported (piece ∷ pieces) last zero one is closing =
-    let same = same_Some (packet_by reported piece.front piece.last piece.by) one is in
-    let going = not_closing reported piece.front piece.last piece.by in
+reports_close_last : (mode : Mode) (reported : ℕ) (pieces : List Piece) (last : Packet) (n : ℕ) (one : Packet)
+    → slice_get (reports mode reported pieces ++ last ∷ []) n ≡ Some one → is_closing_packet one ≡ true
+    → length (reports mode reported pieces ++ last ∷ []) ≡ suc n
+reports_close_last mode reported [] last zero one is closing = refl
+reports_close_last mode reported [] last (suc n) one is closing = cc
+reports_close_last mode reported (piece ∷ pieces) last zero one is closing =
+    let same = same_Some (packet_by mode reported piece.front piece.last piece.by) one is in
+    let going = not_closing mode reported piece.front piece.last piece.by in
     cc
-reports_close_last reported (piece ∷ pieces) last (suc n) one is closing =
-    ap suc (reports_close_last (reported_by piece.by reported piece.last) pieces last n one is closing)
+reports_close_last mode reported (piece ∷ pieces) last (suc n) one is closing =
+    ap suc (reports_close_last mode (reported_by piece.by reported piece.last) pieces last n one is closing)
 
-pub packets_close_last : (words : Words) (period : ℕ) (log : List Event) (n : ℕ) (one : Packet)
-    → slice_get (packets words period log) n ≡ Some one → is_closing_packet one ≡ true
-    → length (packets words period log) ≡ suc n
-packets_close_last words period log zero one is closing =
-    let same = same_Some (packet.Support Open) one is in
+pub packets_close_last : (words : Words) (period : ℕ) (mode : Mode) (log : List Event) (n : ℕ) (one : Packet)
+    → slice_get (packets words period mode log) n ≡ Some one → is_closing_packet one ≡ true
+    → length (packets words period mode log) ≡ suc n
+packets_close_last words period mode log zero one is closing =
+    let same = same_Some (packet.Support (Open mode)) one is in
     let open_closes = ap is_closing_packet same in
     cc
-packets_close_last words period log (suc n) one is closing =
-    ap suc (reports_close_last 0 (pieces_of words period log) (closing_packet words period log) n one is closing)
+packets_close_last words period mode log (suc n) one is closing =
+    ap suc (reports_close_last mode 0 (pieces_of words period log) (closing_packet words period log) n one is closing)
 
 -- What holds of each element holds of the one at a place.
 pub All_at : {X : Type 0} (P : X → Type 0) (ps : List X) (n : ℕ) (one : X) → slice_get ps n ≡ Some one → All P ps
@@ -56,12 +57,13 @@ packet_at [] n payload is = cc
 packet_at (one ∷ ps) zero payload is = (one, refl, same_Some (payload_of one) payload is)
 packet_at (one ∷ ps) (suc n) payload is = packet_at ps n payload is
 
-pub payloads_close_last : (words : Words) (period : ℕ) (log : List Event) → All InProfile (packets words period log)
-    → ClosesOnlyLast (map payload_of (packets words period log))
-payloads_close_last words period log profile n payload is closing =
-    let ps = packets words period log in
+pub payloads_close_last : (words : Words) (period : ℕ) (mode : Mode) (log : List Event)
+    → All InProfile (packets words period mode log)
+    → ClosesOnlyLast (map payload_of (packets words period mode log))
+payloads_close_last words period mode log profile n payload is closing =
+    let ps = packets words period mode log in
     let found = packet_at ps n payload is in
     let closes = sym (closing_payload found.0 (All_at InProfile ps n found.0 found.1 profile))
     ∙ ap is_closing found.2 ∙ closing in
-    let all = packets_close_last words period log n found.0 found.1 closes in
+    let all = packets_close_last words period mode log n found.0 found.1 closes in
     omega (arith, all, length-map ps payload_of)

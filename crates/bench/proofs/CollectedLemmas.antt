@@ -16,6 +16,7 @@ use Rattle.payload.specs.Ended.{has_ended}
 use Rattle.payload.specs.Profile.{InProfile}
 use Rattle.payload.specs.Reading.{reading}
 use Rattle.payload.specs.Spelling.{payload_of}
+use Rattle.payload.specs.declared.mode.Mode.{Mode}
 use Rattle.payload.specs.declared.packet.Packet.{Packet}
 use Rattle.encoder.proofs.CountLemmas.{few_packets}
 use Rattle.encoder.specs.Packets.{packets}
@@ -98,34 +99,35 @@ kept-next false packet some more same = refl
 abbrev pub taken_by : Got → Bool → Taken
 taken_by got refused = record { packets = got.packets; taken = got.taken; bytes = got.bytes; refused = refused }
 
-module _ (period : ℕ) (log : ProgramLog) (legal : IsLegalLog log) where
+module _ (period : ℕ) (mode : Mode) (log : ProgramLog) (legal : IsLegalLog log) where
   abbrev words : Words
   words = words_of log.program
 
   abbrev ps : List Packet
-  ps = packets words period log.events
+  ps = packets words period mode log.events
 
   program : IsProgram words
   program = words_of-IsProgram log.program legal.image
 
   few_all : length ps ≤ 2 ^ 24 + 2
-  few_all = let short = legal.short in omega (arith, few_packets words period log.events, short)
+  few_all = let short = legal.short in omega (arith, few_packets words period mode log.events, short)
 
   -- What is held of a hart of which so many packets were decoded is what they reach.
   pub held_first : (count hart : ℕ) (received : Received) → HoldsHart words hart (take count ps) received
       → count ≤ length ps
       → IsReceived received → hart < length received.expected
-      → (slice_get received.lists hart ≡ Some (take (reach words period log.events count) log.events))
+      → (slice_get received.lists hart ≡ Some (take (reach words period mode log.events count) log.events))
       × (slice_get received.closed hart ≡ Some (count == length ps))
   held_first count hart received holds few all known =
       let list = element received.lists hart (omega (arith, known, all.lists)) in
       let decoder = element received.decoders hart (omega (arith, known, all.decoders)) in
       let flag = element received.closed hart (omega (arith, known, all.closed)) in
-      let same = one_log words program (take count ps) list.0 (take (reach words period log.events count) log.events)
+      let same = one_log words program (take count ps) list.0
+      (take (reach words period mode log.events count) log.events)
       (holds.stands decoder.0 list.0 decoder.1 list.1).described
-      (first_packets_describe words program period log.events legal.legal count) in (
+      (first_packets_describe words program period mode log.events legal.legal count) in (
         list.1 ∙ ap Some same,
-        flag.1 ∙ ap Some (holds.ended flag.0 flag.1 ∙ first_ended words period log.events count few),
+        flag.1 ∙ ap Some (holds.ended flag.0 flag.1 ∙ first_ended words period mode log.events count few),
       )
 
   -- The message carries the packet of this number.
@@ -134,20 +136,20 @@ module _ (period : ℕ) (log : ProgramLog) (legal : IsLegalLog log) where
     pub at : slice_get ps count ≡ Some packet
     pub read : reading message.payload ≡ Ok packet
 
-  pub next_packet : (count : ℕ) (message : Message) → IsMessageOf period log count message → IsNext count message
+  pub next_packet : (count : ℕ) (message : Message) → IsMessageOf period mode log count message → IsNext count message
   next_packet count message is =
       let found = packet_at ps count message.payload is.payload in
       record {
         packet = found.0;
         at = found.1;
         read = ap reading (sym found.2)
-            ∙ reading-payload_of found.0 (All_at InProfile ps count found.0 found.1 (profile period log legal));
+            ∙ reading-payload_of found.0 (All_at InProfile ps count found.0 found.1 (profile period mode log legal));
       }
 
   -- It is accepted.
   pub next_accepted : (count : ℕ) (message : Message) (collected : Collected)
-      → HasCollected period log count message.hart collected
-      → (is : IsMessageOf period log count message)
+      → HasCollected period mode log count message.hart collected
+      → (is : IsMessageOf period mode log count message)
       → accepting collected.received.expected message ≡ Ok (next_packet count message is).packet
   next_accepted count message collected has is =
       let next = next_packet count message is in
@@ -158,23 +160,23 @@ module _ (period : ℕ) (log : ProgramLog) (legal : IsLegalLog log) where
       (let few = few_all in omega (arith, within, few)) is.number next.read
 
   -- The packets with it are the first ones and one more.
-  pub next_first : (count : ℕ) (message : Message) (is : IsMessageOf period log count message)
+  pub next_first : (count : ℕ) (message : Message) (is : IsMessageOf period mode log count message)
       → take (count + 1) ps ≡ take count ps ++ (next_packet count message is).packet ∷ []
   next_first count message is = let next = next_packet count message is in take-next ps count next.packet next.at
 
   -- They describe a beginning of the log.
-  pub next_described : (count : ℕ) (message : Message) (is : IsMessageOf period log count message)
+  pub next_described : (count : ℕ) (message : Message) (is : IsMessageOf period mode log count message)
       → Describes words (take count ps ++ (next_packet count message is).packet ∷ [])
-      (take (reach words period log.events (count + 1)) log.events)
+      (take (reach words period mode log.events (count + 1)) log.events)
   next_described count message is =
-      subst (λ some. Describes words some (take (reach words period log.events (count + 1)) log.events))
+      subst (λ some. Describes words some (take (reach words period mode log.events (count + 1)) log.events))
       (next_first count message is)
-      (first_packets_describe words program period log.events legal.legal (count + 1))
+      (first_packets_describe words program period mode log.events legal.legal (count + 1))
 
   -- What is expected then.
   pub next_expected : (count : ℕ) (message : Message) (collected : Collected)
-      → HasCollected period log count message.hart collected
-      → (is : IsMessageOf period log count message)
+      → HasCollected period mode log count message.hart collected
+      → (is : IsMessageOf period mode log count message)
       → slice_get (harts_after collected.received.expected message) message.hart
       ≡ Some (record { expected = count + 1; closed = (count + 1) == length ps })
   next_expected count message collected has is =
@@ -186,25 +188,25 @@ module _ (period : ℕ) (log : ProgramLog) (legal : IsLegalLog log) where
       let moved = harts_after-ok old message (Ok next.packet) (sym (next_accepted count message collected has is)) in
       let closing : is_closing_packet next.packet ≡ ((count + 1) == length ps) =
       sym (has_ended-next (take count ps) next.packet) ∙ sym (ap has_ended (next_first count message is))
-      ∙ first_ended words period log.events (count + 1) few in
+      ∙ first_ended words period mode log.events (count + 1) few in
       ap (λ harts. slice_get harts message.hart) moved
       ∙ set-at old message.hart (next_of message.number next.packet) known
       ∙ ap (λ number. Some (next_of number next.packet)) is.number
       ∙ ap (λ closed. Some (record { expected = count + 1; closed = closed })) closing
 
   -- What came of the hart then, but for its events and whether it closed.
-  pub next_taken : (keep : Bool) (count : ℕ) (message : Message) (is : IsMessageOf period log count message)
+  pub next_taken : (keep : Bool) (count : ℕ) (message : Message) (is : IsMessageOf period mode log count message)
       → with_packet keep (next_packet count message is).packet (length message.payload)
-      (taken_by (kept keep (got_after period log count)) false)
-      ≡ taken_by (kept keep (got_after period log (count + 1))) false
+      (taken_by (kept keep (got_after period mode log count)) false)
+      ≡ taken_by (kept keep (got_after period mode log (count + 1))) false
   next_taken keep count message is =
       let next = next_packet count message is in
       let within = slice_get_within ps count next.packet next.at in
       let some = kept-next keep next.packet (take count ps) (take (count + 1) ps) (next_first count message is) in
-      let lists = payloads period log in
+      let lists = payloads period mode log in
       let sums = ap (λ lists. sum (map length lists)) (take-next lists count message.payload is.payload)
       ∙ sum-lengths-next (take count lists) message.payload in
-      let short = sum-lengths-few lists (count + 1) (short_payloads ps (profile period log legal)) in
+      let short = sum-lengths-few lists (count + 1) (short_payloads ps (profile period mode log legal)) in
       let room : sum (map length (take count lists)) + length message.payload < 2 ^ 64 =
       let few = few_all in omega (arith, few, sums, short, length-map ps payload_of) in
       let one : counted count 1 ≡ count + 1 = counted-few count 1 (let few = few_all in omega (arith, few, within)) in

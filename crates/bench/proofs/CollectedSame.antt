@@ -1,6 +1,7 @@
 -- What a collector has of a hart stays where it has the same of it.
 use Rattle.std.proofs.Common.{◌≡◌, ℕ, Bool, true, false, slice_get, subst, sym, ap, ◌∙◌}
 use Rattle.legalpath.specs.ProgramLog.{ProgramLog}
+use Rattle.payload.specs.declared.mode.Mode.{Mode}
 use Rattle.bench.specs.Collected.{Came, Collected, HasCollected, IsSameOf}
 use Rattle.bench.specs.Got.{Got, got_after, kept}
 use Rattle.bench.specs.steps.Taking.{IsCutOff}
@@ -13,15 +14,16 @@ came_same hart got refused old new same came = record {
   closed = same.received.closed ∙ came.closed;
 }
 
-pub collected_same : (period count hart : ℕ) (log : ProgramLog) (old new : Collected) → IsSameOf hart old new
+pub collected_same : (period : ℕ) (mode : Mode) (count hart : ℕ) (log : ProgramLog) (old new : Collected)
+    → IsSameOf hart old new
     → new.logs ≡ old.logs → new.keep ≡ old.keep
-    → HasCollected period log count hart old → HasCollected period log count hart new
-collected_same period count hart log old new same logs keep has = record {
+    → HasCollected period mode log count hart old → HasCollected period mode log count hart new
+collected_same period mode count hart log old new same logs keep has = record {
   known = ap (λ some. slice_get some hart) logs ∙ has.known;
   few = has.few;
   came =
-      subst (λ flag. Came hart (kept flag (got_after period log count)) false new) (sym keep)
-      (came_same hart (kept old.keep (got_after period log count)) false old new same has.came);
+      subst (λ flag. Came hart (kept flag (got_after period mode log count)) false new) (sym keep)
+      (came_same hart (kept old.keep (got_after period mode log count)) false old new same has.came);
   expected = same.received.expected ∙ has.expected;
   holds = record {
     stands = λ decoder list one two.
@@ -30,14 +32,15 @@ collected_same period count hart log old new same logs keep has = record {
   };
 }
 
-pub cut_off_same : (period taken hart : ℕ) (log : ProgramLog) (old new : Collected) → IsSameOf hart old new
-    → new.keep ≡ old.keep → IsCutOff period log taken hart old → IsCutOff period log taken hart new
-cut_off_same period taken hart log old new same keep cut = record {
+pub cut_off_same : (period : ℕ) (mode : Mode) (taken hart : ℕ) (log : ProgramLog) (old new : Collected)
+    → IsSameOf hart old new
+    → new.keep ≡ old.keep → IsCutOff period mode log taken hart old → IsCutOff period mode log taken hart new
+cut_off_same period mode taken hart log old new same keep cut = record {
   count = cut.count;
   within = cut.within;
   lacks = cut.lacks;
   few = cut.few;
   came =
-      subst (λ flag. Came hart (kept flag (got_after period log cut.count)) true new) (sym keep)
-      (came_same hart (kept old.keep (got_after period log cut.count)) true old new same cut.came);
+      subst (λ flag. Came hart (kept flag (got_after period mode log cut.count)) true new) (sym keep)
+      (came_same hart (kept old.keep (got_after period mode log cut.count)) true old new same cut.came);
 }

@@ -8,6 +8,7 @@ use Rattle.rvclass.specs.Words.{Words, IsProgram}
 use Rattle.legalpath.specs.ProgramLog.{ProgramLog, IsLegalLog}
 use Rattle.payload.specs.Ended.{has_ended}
 use Rattle.payload.specs.Profile.{InProfile}
+use Rattle.payload.specs.declared.mode.Mode.{Mode}
 use Rattle.payload.specs.declared.packet.Packet.{Packet}
 use Rattle.encoder.proofs.ProfileLemmas.{packets_in_profile}
 use Rattle.encoder.specs.Packets.{packets}
@@ -25,19 +26,19 @@ use Rattle.bench.proofs.ClosingLast.{payloads_close_last}
 use Rattle.bench.proofs.TakenPackets.{AreFirst, first_ended, first_packets}
 use Rattle.bench.proofs.WholeLog.{has_got}
 
-module _ (period : ℕ) (log : ProgramLog) (legal : IsLegalLog log) where
-  pub profile : All InProfile (packets (words_of log.program) period log.events)
+module _ (period : ℕ) (mode : Mode) (log : ProgramLog) (legal : IsLegalLog log) where
+  pub profile : All InProfile (packets (words_of log.program) period mode log.events)
   profile =
       packets_in_profile (words_of log.program) (words_of-IsProgram log.program legal.image).even
-      period log.events legal.numbers legal.legal
+      period mode log.events legal.numbers legal.legal
 
   -- What is decoded is the beginning of the log that the first packets reach.
   pub got_first : (messages : List Message) (decoded : List Event)
-      → payloads_in messages ≡ take (length messages) (payloads period log)
+      → payloads_in messages ≡ take (length messages) (payloads period mode log)
       → Describes (words_of log.program) (packets_in messages) decoded
-      → HasGot period true log (length messages) (got_from messages decoded)
+      → HasGot period mode true log (length messages) (got_from messages decoded)
   got_first messages decoded carried described =
-      has_got period (length messages) true log (got_from messages decoded) legal first.few same
+      has_got period mode (length messages) true log (got_from messages decoded) legal first.few same
     where
       words : Words
       words = words_of log.program
@@ -46,7 +47,7 @@ module _ (period : ℕ) (log : ProgramLog) (legal : IsLegalLog log) where
       program = words_of-IsProgram log.program legal.image
 
       ps : List Packet
-      ps = packets words period log.events
+      ps = packets words period mode log.events
 
       count : ℕ
       count = length messages
@@ -54,35 +55,35 @@ module _ (period : ℕ) (log : ProgramLog) (legal : IsLegalLog log) where
       first : AreFirst messages ps
       first = first_packets messages ps profile carried
 
-      reached : decoded ≡ take (reach words period log.events count) log.events
+      reached : decoded ≡ take (reach words period mode log.events count) log.events
       reached =
-          one_log words program (take count ps) decoded (take (reach words period log.events count) log.events)
+          one_log words program (take count ps) decoded (take (reach words period mode log.events count) log.events)
           (subst (λ some. Describes words some decoded) first.packets described)
-          (first_packets_describe words program period log.events legal.legal count)
+          (first_packets_describe words program period mode log.events legal.legal count)
 
       ended : has_ended (packets_in messages) ≡ (count == length ps)
-      ended = ap has_ended first.packets ∙ first_ended words period log.events count first.few
+      ended = ap has_ended first.packets ∙ first_ended words period mode log.events count first.few
 
       got : List Packet → ℕ → List Event → Bool → Got
       got some bytes events closed =
           record { packets = some; taken = count; bytes = bytes; decoded = events; closed = closed }
 
-      same : got_from messages decoded ≡ kept true (got_after period log count)
+      same : got_from messages decoded ≡ kept true (got_after period mode log count)
       same =
           ap (λ some. got some (sum (map length (payloads_in messages))) decoded
           (has_ended (packets_in messages))) first.packets
           ∙ ap (λ carry. got (take count ps) (sum (map length carry)) decoded (has_ended (packets_in messages))) carried
-          ∙ ap (λ events. got (take count ps) (sum (map length (take count (payloads period log)))) events
+          ∙ ap (λ events. got (take count ps) (sum (map length (take count (payloads period mode log)))) events
           (has_ended (packets_in messages))) reached
-          ∙ ap (got (take count ps) (sum (map length (take count (payloads period log))))
-          (take (reach words period log.events count) log.events)) ended
+          ∙ ap (got (take count ps) (sum (map length (take count (payloads period mode log))))
+          (take (reach words period mode log.events count) log.events)) ended
 
 -- No payload of legal logs closes before the last of its log.
-pub close_last : (period : ℕ) (logs : List ProgramLog) → All IsLegalLog logs
-    → All ClosesOnlyLast (map (payloads period) logs)
-close_last period [] legal = All-nil ClosesOnlyLast
-close_last period (log ∷ logs) legal =
-    All-cons ClosesOnlyLast (payloads period log) (map (payloads period) logs)
-    (payloads_close_last (words_of log.program) period log.events
-    (profile period log (All-head IsLegalLog log logs legal)))
-    (close_last period logs (All-tail IsLegalLog log logs legal))
+pub close_last : (period : ℕ) (mode : Mode) (logs : List ProgramLog) → All IsLegalLog logs
+    → All ClosesOnlyLast (map (payloads period mode) logs)
+close_last period mode [] legal = All-nil ClosesOnlyLast
+close_last period mode (log ∷ logs) legal =
+    All-cons ClosesOnlyLast (payloads period mode log) (map (payloads period mode) logs)
+    (payloads_close_last (words_of log.program) period mode log.events
+    (profile period mode log (All-head IsLegalLog log logs legal)))
+    (close_last period mode logs (All-tail IsLegalLog log logs legal))

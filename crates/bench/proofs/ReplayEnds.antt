@@ -5,6 +5,7 @@ use Rattle.std.proofs.lemmas.Bool.{ne_eqb}
 use Rattle.std.proofs.lemmas.Option.{slice_get_within}
 use Rattle.rvclass.specs.Fetch.{words_of}
 use Rattle.legalpath.specs.ProgramLog.{IsLegalLog, ProgramLog}
+use Rattle.payload.specs.declared.mode.Mode.{Mode}
 use Rattle.encoder.specs.Packets.{packets}
 use Rattle.message.specs.OfHart.{of_hart}
 use Rattle.message.specs.declared.message.Message.{Message}
@@ -36,15 +37,15 @@ pub record Finishes {A : Type 0} (collected : Collected) (harts : List (HartOutc
       → IsSomeAnd (slice_get harts hart) (λ came. (got_of came ≡ got) × (came.refused ≡ refused))
 
 -- How many packets of the log came of a hart of which so many were taken.
-record CameOut {A : Type 0} (period : ℕ) (keep : Bool) (log : ProgramLog) (taken : ℕ)
+record CameOut {A : Type 0} (period : ℕ) (mode : Mode) (keep : Bool) (log : ProgramLog) (taken : ℕ)
     (came : HartOutcome A) : Type 0 where
   count : ℕ
-  got : HasGot period keep log count (got_of came)
+  got : HasGot period mode keep log count (got_of came)
   all : CameOf came.refused taken count
 
 module _ {A : Type 0} (config : Config) (logs : List ProgramLog) (taken : List Message) (collected : Collected)
     (harts : List (HartOutcome A)) (legal : All IsLegalLog logs) (keep : collected.keep ≡ config.keep)
-    (are : AreTaken config.period logs taken collected) (ends : Finishes collected harts) where
+    (are : AreTaken config.period config.mode logs taken collected) (ends : Finishes collected harts) where
   says : (hart : ℕ) (came : HartOutcome A) (got : Got) (refused : Bool) → slice_get harts hart ≡ Some came
       → Came hart got refused collected → Says got refused came
   says hart came got refused at of =
@@ -53,36 +54,39 @@ module _ {A : Type 0} (config : Config) (logs : List ProgramLog) (taken : List M
 
   came_out : (hart : ℕ) (log : ProgramLog) (came : HartOutcome A) → slice_get logs hart ≡ Some log
       → slice_get harts hart ≡ Some came
-      → CameOut config.period config.keep log (length (of_hart hart taken)) came
+      → CameOut config.period config.mode config.keep log (length (of_hart hart taken)) came
   came_out hart log came known at = by_case (are.each hart log known)
     where
       count : ℕ
       count = length (of_hart hart taken)
 
-      keeps : (n : ℕ) → kept collected.keep (got_after config.period log n)
-          ≡ kept config.keep (got_after config.period log n)
-      keeps n = ap (λ flag. kept flag (got_after config.period log n)) keep
+      keeps : (n : ℕ) → kept collected.keep (got_after config.period config.mode log n)
+          ≡ kept config.keep (got_after config.period config.mode log n)
+      keeps n = ap (λ flag. kept flag (got_after config.period config.mode log n)) keep
 
       lawful : IsLegalLog log
       lawful = All-at IsLegalLog logs hart log legal known
 
-      by_case : IsTakenOf config.period log (length (of_hart hart taken)) hart collected
-          → CameOut config.period config.keep log (length (of_hart hart taken)) came
+      by_case : IsTakenOf config.period config.mode log (length (of_hart hart taken)) hart collected
+          → CameOut config.period config.mode config.keep log (length (of_hart hart taken)) came
       by_case (inl has) =
           let n = length (of_hart hart taken) in
-          let told = says hart came (kept collected.keep (got_after config.period log n)) false at has.came in
+          let told = says hart came (kept collected.keep (got_after config.period config.mode log n)) false at
+          has.came in
           record {
             count = n;
-            got = has_got config.period n config.keep log (got_of came) lawful has.few (told.0 ∙ keeps n);
+            got = has_got config.period config.mode n config.keep log (got_of came) lawful has.few (told.0 ∙ keeps n);
             all = subst (λ refused. CameOf refused n n) (sym told.1) refl;
           }
       by_case (inr cut) =
           let n = length (of_hart hart taken) in
-          let told = says hart came (kept collected.keep (got_after config.period log cut.count)) true at cut.came in
+          let told = says hart came (kept collected.keep (got_after config.period config.mode log cut.count)) true at
+          cut.came in
           record {
             count = cut.count;
             got =
-                has_got config.period cut.count config.keep log (got_of came) lawful (omega (arith, cut.few))
+                has_got config.period config.mode cut.count config.keep log (got_of came) lawful
+                (omega (arith, cut.few))
                 (told.0 ∙ keeps cut.count);
             all = subst (λ refused. CameOf refused n cut.count) (sym told.1) cut.within;
           }
@@ -108,14 +112,14 @@ module _ {A : Type 0} (config : Config) (logs : List ProgramLog) (taken : List M
       by_case its.0 (ap (λ some. slice_get some hart) are.own ∙ its.1) (are.each hart its.0 its.1)
     where
       by_case : (log : ProgramLog) → slice_get collected.logs hart ≡ Some log
-          → IsTakenOf config.period log (length (of_hart hart taken)) hart collected
+          → IsTakenOf config.period config.mode log (length (of_hart hart taken)) hart collected
           → came.taken < length (of_hart hart taken)
       by_case log known (inl has) =
-          let got = kept collected.keep (got_after config.period log (length (of_hart hart taken))) in
+          let got = kept collected.keep (got_after config.period config.mode log (length (of_hart hart taken))) in
           let told = says hart came got false at has.came in
           absurd (differ (sym refused ∙ told.1))
       by_case log known (inr cut) =
-          let got = kept collected.keep (got_after config.period log cut.count) in
+          let got = kept collected.keep (got_after config.period config.mode log cut.count) in
           let told = says hart came got true at cut.came in
           let less = lacks hart log (taken_by got true) known cut.came.taken refl in
           subst (λ n. n < length (of_hart hart taken)) (sym (ap (λ (some : Got). some.taken) told.0)) less
@@ -129,24 +133,27 @@ module _ {A : Type 0} (config : Config) (logs : List ProgramLog) (taken : List M
     where
       by_case : (hart : ℕ) (log : ProgramLog) (came : HartOutcome A) → slice_get harts hart ≡ Some came
           → came.refused ≡ true → 0 < length (of_hart hart taken)
-          → IsTakenOf config.period log (length (of_hart hart taken)) hart collected
+          → IsTakenOf config.period config.mode log (length (of_hart hart taken)) hart collected
           → came.taken < length (of_hart hart taken)
       by_case hart log came at refused some (inl has) =
-          let got = kept collected.keep (got_after config.period log (length (of_hart hart taken))) in
+          let got = kept collected.keep (got_after config.period config.mode log (length (of_hart hart taken))) in
           absurd (differ (sym refused ∙ (says hart came got false at has.came).1))
       by_case hart log came at refused some (inr cut) =
-          let told = says hart came (kept collected.keep (got_after config.period log cut.count)) true at cut.came in
+          let told = says hart came (kept collected.keep (got_after config.period config.mode log cut.count)) true at
+          cut.came in
           subst (λ n. n < length (of_hart hart taken)) (sym (ap (λ (got : Got). got.taken) told.0)) (cut.lacks some)
 
   -- Of a hart that is not refused all came.
   not_refused : (hart : ℕ) (log : ProgramLog) (came : HartOutcome A) → slice_get harts hart ≡ Some came
       → (IsRefusedHart hart collected → ⊥)
-      → IsTakenOf config.period log (length (of_hart hart taken)) hart collected → came.refused ≡ false
+      → IsTakenOf config.period config.mode log (length (of_hart hart taken)) hart collected → came.refused ≡ false
   not_refused hart log came at none (inl has) =
-      (says hart came (kept collected.keep (got_after config.period log (length (of_hart hart taken)))) false at
+      (says hart came (kept collected.keep (got_after config.period config.mode log (length (of_hart hart taken))))
+      false at
       has.came).1
   not_refused hart log came at none (inr cut) =
-      absurd (none (came_refused hart (kept collected.keep (got_after config.period log cut.count)) collected cut.came))
+      absurd (none (came_refused hart (kept collected.keep (got_after config.period config.mode log cut.count))
+      collected cut.came))
 
   told_refused : (got : Got) (at : Option (HartOutcome A)) → got.closed ≡ false
       → IsSomeAnd at (λ one. (got_of one ≡ got) × (one.refused ≡ true))
@@ -156,15 +163,16 @@ module _ {A : Type 0} (config : Config) (logs : List ProgramLog) (taken : List M
 
   -- And one that is refused is told so, and that it is not closed.
   is_refused : (hart : ℕ) (log : ProgramLog) → IsRefusedHart hart collected
-      → IsTakenOf config.period log (length (of_hart hart taken)) hart collected
+      → IsTakenOf config.period config.mode log (length (of_hart hart taken)) hart collected
       → IsSomeAnd (slice_get harts hart) (λ came. IsTrue came.refused × IsFalse came.closed)
   is_refused hart log refused (inl has) =
-      absurd (came_not_refused hart (kept collected.keep (got_after config.period log (length (of_hart hart taken))))
+      absurd (came_not_refused hart
+      (kept collected.keep (got_after config.period config.mode log (length (of_hart hart taken))))
       collected has.came refused)
   is_refused hart log refused (inr cut) =
-      let got = kept collected.keep (got_after config.period log cut.count) in
+      let got = kept collected.keep (got_after config.period config.mode log cut.count) in
       let few = cut.few in
-      let all = length (packets (words_of log.program) config.period log.events) in
+      let all = length (packets (words_of log.program) config.period config.mode log.events) in
       told_refused got (slice_get harts hart) (ne_eqb cut.count all (λ same. omega (arith, same, few)))
       (ends.came hart got true cut.came)
 
@@ -177,17 +185,17 @@ module _ {A : Type 0} (config : Config) (logs : List ProgramLog) (taken : List M
       by_case hart its.0 came at refused (are.each hart its.0 its.1))
     where
       by_case : (hart : ℕ) (log : ProgramLog) (came : HartOutcome A) → slice_get harts hart ≡ Some came
-          → came.refused ≡ true → IsTakenOf config.period log (length (of_hart hart taken)) hart collected
+          → came.refused ≡ true → IsTakenOf config.period config.mode log (length (of_hart hart taken)) hart collected
           → came.closed ≡ false
       by_case hart log came at refused (inl has) =
-          let got = kept collected.keep (got_after config.period log (length (of_hart hart taken))) in
+          let got = kept collected.keep (got_after config.period config.mode log (length (of_hart hart taken))) in
           let told : came.refused ≡ false = (says hart came got false at has.came).1 in
           cc
       by_case hart log came at refused (inr cut) =
           let few = cut.few in
-          let all = length (packets (words_of log.program) config.period log.events) in
+          let all = length (packets (words_of log.program) config.period config.mode log.events) in
           ap (λ (got : Got). got.closed)
-          (says hart came (kept collected.keep (got_after config.period log cut.count)) true at cut.came).0
+          (says hart came (kept collected.keep (got_after config.period config.mode log cut.count)) true at cut.came).0
           ∙ ne_eqb cut.count all (λ same. omega (arith, same, few))
 
   pub names_refused : (why : Option Stop) → NamesRefusedHart why collected → NamesRefused why harts

@@ -3,6 +3,7 @@ use Rattle.std.proofs.Common.{◌≡◌, ◌<◌, ◌+◌, ℕ, Bool, true, fals
 use Rattle.std.specs.Prelude.{IsSomeAnd, IsTrue}
 use Rattle.std.proofs.lemmas.List.{length-map, length-replicate}
 use Rattle.legalpath.specs.ProgramLog.{IsLegalLog, ProgramLog}
+use Rattle.payload.specs.declared.mode.Mode.{Mode}
 use Rattle.encoder.specs.Payloads.{payloads}
 use Rattle.message.specs.declared.message.Message.{Message}
 use Rattle.funnel.proofs.EveryState.{every-keeps}
@@ -54,33 +55,33 @@ take_front-sent state = by_queue state.queue
 
 module _ (config : Config) (logs : List ProgramLog) where
   abbrev state_after : List Turn → Funnel
-  state_after turns = replayed config.period config.capacity logs turns
+  state_after turns = replayed config.period config.mode config.capacity logs turns
 
   next_state : (all : List Turn) (last : Turn) (place : ℕ) → slice_get all place ≡ Some last
       → state_after (take (place + 1) all)
-      ≡ after_turn config.capacity (map (payloads config.period) logs) last (state_after (take place all))
+      ≡ after_turn config.capacity (map (payloads config.period config.mode) logs) last (state_after (take place all))
   next_state all last place at =
       ap state_after (take-next all place last at)
-      ∙ after_turns-next config.capacity (map (payloads config.period) logs) (take place all) last
-      (opening (map (payloads config.period) logs))
+      ∙ after_turns-next config.capacity (map (payloads config.period config.mode) logs) (take place all) last
+      (opening (map (payloads config.period config.mode) logs))
 
   -- Before the first turn.
   pub starts : {B : Type 0} (core : Held) (senders : List (Sender B)) (collected : Collected)
       → core ≡ record { harts = length logs; capacity = config.capacity; queue = [] }
-      → AreNewSenders config.period logs senders → collected.logs ≡ logs → collected.keep ≡ config.keep
+      → AreNewSenders config.period config.mode logs senders → collected.logs ≡ logs → collected.keep ≡ config.keep
       → ((hart : ℕ) (log : ProgramLog) → slice_get logs hart ≡ Some log
-      → HasCollected config.period log 0 hart collected)
+      → HasCollected config.period config.mode log 0 hart collected)
       → IsReplayed config logs [] core senders collected None
   starts {B} core senders collected made new own keep begun = record {
     sending = record {
       funnel = made;
       places =
-          length-replicate (length (map (payloads config.period) logs)) []
-          ∙ length-map logs (payloads config.period);
+          length-replicate (length (map (payloads config.period config.mode) logs)) []
+          ∙ length-map logs (payloads config.period config.mode);
       count = new.count;
       each = λ hart log at.
           new.each hart log at
-          ∙ ap (λ sent. Some (sender_at config.period log (length sent))) (sym (none hart));
+          ∙ ap (λ sent. Some (sender_at config.period config.mode log (length sent))) (sym (none hart));
     };
     keep = keep;
     taken = record { own = own; each = λ hart log at. inl (begun hart log at) };
@@ -93,8 +94,8 @@ module _ (config : Config) (logs : List ProgramLog) where
         came_not_refused hart _ collected (begun hart its.0 its.1).came refused;
   }
     where
-      none : (hart : ℕ) → sent_by hart (opening (map (payloads config.period) logs)) ≡ []
-      none hart = get_or-repeated (length (map (payloads config.period) logs)) hart []
+      none : (hart : ℕ) → sent_by hart (opening (map (payloads config.period config.mode) logs)) ≡ []
+      none hart = get_or-repeated (length (map (payloads config.period config.mode) logs)) hart []
 
   module _ {B : Type 0} (all : List Turn) (place : ℕ) (core : Held) (senders : List (Sender B))
       (collected : Collected) (why : Option Stop)
@@ -112,58 +113,59 @@ module _ (config : Config) (logs : List ProgramLog) where
     waits : core.queue ≡ before.queue
     waits = ap (λ (held : Held). held.queue) is.sending.funnel
 
-    pub next_is : IsFrontNext config.period logs before.taken before.queue
+    pub next_is : IsFrontNext config.period config.mode logs before.taken before.queue
     next_is =
-        front_next config.period config.capacity logs before
-        (every-keeps config.capacity (map (payloads config.period) logs) (take place all))
+        front_next config.period config.mode config.capacity logs before
+        (every-keeps config.capacity (map (payloads config.period config.mode) logs) (take place all))
 
     -- The front message can be taken in.
     pub is_ready : IsReady core.queue collected
     is_ready = record {
       period = config.period;
+      mode = config.mode;
       logs = logs;
       taken = before.taken;
       came = is.taken;
-      next = subst (IsFrontNext config.period logs before.taken) (sym waits) next_is;
+      next = subst (IsFrontNext config.period config.mode logs before.taken) (sym waits) next_is;
     }
 
     -- After the turn of a hart.
     pub after_hart : (hart : ℕ) → slice_get all place ≡ Some (turn.Hart hart) → All IsLegalLog logs
         → (new : Held) (now : List (Sender B))
-        → ((period : ℕ) (some : List ProgramLog) (state : Funnel) → All IsLegalLog some
-        → AreSending period core.capacity some state core senders
-        → AreSending period core.capacity some
-        (after_turn core.capacity (map (payloads period) some) (turn.Hart hart) state) new now)
+        → ((period : ℕ) (mode : Mode) (some : List ProgramLog) (state : Funnel) → All IsLegalLog some
+        → AreSending period mode core.capacity some state core senders
+        → AreSending period mode core.capacity some
+        (after_turn core.capacity (map (payloads period mode) some) (turn.Hart hart) state) new now)
         → IsReplayed config logs (take (place + 1) all) new now collected why
     after_hart hart at legal new now sent = record {
       sending =
-          subst (λ state. AreSending config.period config.capacity logs state new now) (sym next)
-          (subst (λ room. AreSending config.period room logs
-          (after_turn room (map (payloads config.period) logs) (turn.Hart hart) before) new now)
+          subst (λ state. AreSending config.period config.mode config.capacity logs state new now) (sym next)
+          (subst (λ room. AreSending config.period config.mode room logs
+          (after_turn room (map (payloads config.period config.mode) logs) (turn.Hart hart) before) new now)
           same_capacity
-          (sent config.period logs before legal
-          (subst (λ room. AreSending config.period room logs before core senders) (sym same_capacity)
+          (sent config.period config.mode logs before legal
+          (subst (λ room. AreSending config.period config.mode room logs before core senders) (sym same_capacity)
           is.sending)));
       keep = is.keep;
       taken =
-          subst (λ some. AreTaken config.period logs some collected)
+          subst (λ some. AreTaken config.period config.mode logs some collected)
           (sym (ap (λ (state : Funnel). state.taken) next
           ∙ send_next-taken config.capacity hart
-          (slice_get (payloads_of hart (map (payloads config.period) logs))
+          (slice_get (payloads_of hart (map (payloads config.period config.mode) logs))
           (length (sent_by hart before))) before))
           is.taken;
       lacks =
           subst (λ some. LacksSome some collected)
           (sym (ap (λ (state : Funnel). state.taken) next
           ∙ send_next-taken config.capacity hart
-          (slice_get (payloads_of hart (map (payloads config.period) logs))
+          (slice_get (payloads_of hart (map (payloads config.period config.mode) logs))
           (length (sent_by hart before))) before))
           is.lacks;
       named = is.named;
     }
       where
         next : state_after (take (place + 1) all)
-            ≡ after_turn config.capacity (map (payloads config.period) logs) (turn.Hart hart) before
+            ≡ after_turn config.capacity (map (payloads config.period config.mode) logs) (turn.Hart hart) before
         next = next_state all (turn.Hart hart) place at
 
     -- After a turn of the collector.
@@ -171,17 +173,18 @@ module _ (config : Config) (logs : List ProgramLog) where
         → (new : Held) (now : Collected) (told : Option Stop)
         → ((state : Funnel) → state.queue ≡ core.queue → new ≡ record core { queue = (take_front state).queue })
         → now.keep ≡ collected.keep
-        → ((period : ℕ) (some : List ProgramLog) (state : Funnel) → state.queue ≡ core.queue
-        → IsFrontNext period some state.taken state.queue → AreTaken period some state.taken collected
-        → AreTaken period some (take_front state).taken now)
-        → ((period : ℕ) (some : List ProgramLog) (state : Funnel) → state.queue ≡ core.queue
-        → IsFrontNext period some state.taken state.queue → AreTaken period some state.taken collected
+        → ((period : ℕ) (mode : Mode) (some : List ProgramLog) (state : Funnel) → state.queue ≡ core.queue
+        → IsFrontNext period mode some state.taken state.queue → AreTaken period mode some state.taken collected
+        → AreTaken period mode some (take_front state).taken now)
+        → ((period : ℕ) (mode : Mode) (some : List ProgramLog) (state : Funnel) → state.queue ≡ core.queue
+        → IsFrontNext period mode some state.taken state.queue → AreTaken period mode some state.taken collected
         → LacksSome state.taken collected → LacksSome (take_front state).taken now)
         → (NamesRefusedHart why collected → NamesRefusedHart told now)
         → IsReplayed config logs (take (place + 1) all) new senders now told
     after_collect at new now told step keep came lack names = record {
       sending =
-          subst (λ state. AreSending config.period config.capacity logs state new senders) (sym next) (record {
+          subst (λ state. AreSending config.period config.mode config.capacity logs state new senders) (sym next)
+          (record {
             funnel =
                 step before (sym waits)
                 ∙ ap (λ (held : Held). record held { queue = (take_front before).queue })
@@ -190,16 +193,17 @@ module _ (config : Config) (logs : List ProgramLog) where
             count = is.sending.count;
             each = λ hart log known.
                 is.sending.each hart log known
-                ∙ ap (λ all_sent. Some (sender_at config.period log (length (slice_index_or all_sent hart []))))
+                ∙ ap (λ all_sent.
+                Some (sender_at config.period config.mode log (length (slice_index_or all_sent hart []))))
                 (sym sent);
           });
       keep = keep ∙ is.keep;
       taken =
-          subst (λ (state : Funnel). AreTaken config.period logs state.taken now) (sym next)
-          (came config.period logs before (sym waits) next_is is.taken);
+          subst (λ (state : Funnel). AreTaken config.period config.mode logs state.taken now) (sym next)
+          (came config.period config.mode logs before (sym waits) next_is is.taken);
       lacks =
           subst (λ (state : Funnel). LacksSome state.taken now) (sym next)
-          (lack config.period logs before (sym waits) next_is is.taken is.lacks);
+          (lack config.period config.mode logs before (sym waits) next_is is.taken is.lacks);
       named = names is.named;
     }
       where

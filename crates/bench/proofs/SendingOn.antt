@@ -4,6 +4,7 @@ use Rattle.std.proofs.lemmas.Bool.{cases_eq}
 use Rattle.std.proofs.lemmas.List.{get_or-set_other, get_or-set_same, length-set, length_push}
 use Rattle.std.proofs.lemmas.Option.{same_Some, slice_get_within}
 use Rattle.legalpath.specs.ProgramLog.{ProgramLog}
+use Rattle.payload.specs.declared.mode.Mode.{Mode}
 use Rattle.encoder.specs.Payloads.{payloads}
 use Rattle.message.specs.declared.message.Message.{Message}
 use Rattle.funnel.specs.Held.{Held}
@@ -16,26 +17,28 @@ use Rattle.bench.proofs.CollectedLemmas.{set-at}
 use Rattle.bench.proofs.ListElements.{slice_get-unwritten}
 use Rattle.bench.proofs.OwnPayloads.{own_payloads}
 
-module _ {B : Type 0} (period capacity : ℕ) (logs : List ProgramLog) (state : Funnel) (core : Held)
-    (senders : List (Sender B)) (sending : AreSending period capacity logs state core senders)
+module _ {B : Type 0} (period : ℕ) (mode : Mode) (capacity : ℕ) (logs : List ProgramLog) (state : Funnel) (core : Held)
+    (senders : List (Sender B)) (sending : AreSending period mode capacity logs state core senders)
     (hart : ℕ) (log : ProgramLog) (at : slice_get logs hart ≡ Some log) where
   -- How many messages the hart sent.
   abbrev count : ℕ
   count = length (sent_by hart state)
 
-  own : slice_get (payloads_of hart (map (payloads period) logs)) count ≡ slice_get (payloads period log) count
-  own = ap (λ all. slice_get all count) (own_payloads period hart logs log at)
+  own : slice_get (payloads_of hart (map (payloads period mode) logs)) count
+      ≡ slice_get (payloads period mode log) count
+  own = ap (λ all. slice_get all count) (own_payloads period mode hart logs log at)
 
   within : hart < length senders
-  within = slice_get_within senders hart (sender_at period log count) (sending.each hart log at)
+  within = slice_get_within senders hart (sender_at period mode log count) (sending.each hart log at)
 
   -- A hart with no payload left sends none.
-  pub none_sent : (next : Sender B) → slice_get (payloads period log) count ≡ None → next ≡ sender_at period log count
-      → AreSending period capacity logs
-      (send_next capacity hart (slice_get (payloads_of hart (map (payloads period) logs)) count) state) core
+  pub none_sent : (next : Sender B) → slice_get (payloads period mode log) count ≡ None
+      → next ≡ sender_at period mode log count
+      → AreSending period mode capacity logs
+      (send_next capacity hart (slice_get (payloads_of hart (map (payloads period mode) logs)) count) state) core
       (set senders hart next)
   none_sent next ended is =
-      subst (λ payload. AreSending period capacity logs (send_next capacity hart payload state) core
+      subst (λ payload. AreSending period mode capacity logs (send_next capacity hart payload state) core
       (set senders hart next)) (sym (own ∙ ended)) (record {
         funnel = sending.funnel;
         places = sending.places;
@@ -45,7 +48,7 @@ module _ {B : Type 0} (period capacity : ℕ) (logs : List ProgramLog) (state : 
     where
       by_hart : (other : ℕ) (its : ProgramLog) → slice_get logs other ≡ Some its
           → (other ≡ hart) ⊎ (other ≡ hart → ⊥)
-          → slice_get (set senders hart next) other ≡ Some (sender_at period its (length (sent_by other state)))
+          → slice_get (set senders hart next) other ≡ Some (sender_at period mode its (length (sent_by other state)))
       by_hart other its there (inl same) =
           ap (slice_get (set senders hart next)) same
           ∙ set-at senders hart next within
@@ -72,36 +75,36 @@ module _ {B : Type 0} (period capacity : ℕ) (logs : List ProgramLog) (state : 
     sent_other other apart =
         get_or-set_other state.sent hart other (sent_by hart state ++ message ∷ []) [] apart
 
-    module _ (next : Sender B) (is : next ≡ sender_at period log (count + 1)) where
+    module _ (next : Sender B) (is : next ≡ sender_at period mode log (count + 1)) where
       by_hart : (other : ℕ) (its : ProgramLog) → slice_get logs other ≡ Some its
           → (other ≡ hart) ⊎ (other ≡ hart → ⊥)
-          → slice_get (set senders hart next) other ≡ Some (sender_at period its (length (sent_by other after)))
+          → slice_get (set senders hart next) other ≡ Some (sender_at period mode its (length (sent_by other after)))
       by_hart other its there (inl same) =
           let one_more = ap length sent_own ∙ length_push (sent_by hart state) message in
           let its_own : Some log ≡ Some its = sym at ∙ ap (slice_get logs) (sym same) ∙ there in
           ap (slice_get (set senders hart next)) same
           ∙ set-at senders hart next within
           ∙ ap Some is
-          ∙ ap (λ n. Some (sender_at period log n)) (sym one_more)
-          ∙ ap (λ h. Some (sender_at period log (length (sent_by h after)))) (sym same)
-          ∙ ap (λ (l : ProgramLog). Some (sender_at period l (length (sent_by other after))))
+          ∙ ap (λ n. Some (sender_at period mode log n)) (sym one_more)
+          ∙ ap (λ h. Some (sender_at period mode log (length (sent_by h after)))) (sym same)
+          ∙ ap (λ (l : ProgramLog). Some (sender_at period mode l (length (sent_by other after))))
           (same_Some log its its_own)
       by_hart other its there (inr apart) =
           slice_get-unwritten senders hart other next apart
           ∙ sending.each other its there
-          ∙ ap (λ sent. Some (sender_at period its (length sent))) (sym (sent_other other apart))
+          ∙ ap (λ sent. Some (sender_at period mode its (length sent))) (sym (sent_other other apart))
 
       -- A hart with a payload left sends it where there is room.
-      pub one_sent : (new : Held) → slice_get (payloads period log) count ≡ Some payload
+      pub one_sent : (new : Held) → slice_get (payloads period mode log) count ≡ Some payload
           → nat_lt (length state.queue) capacity ≡ true
           → new ≡ record { harts = length logs; capacity = capacity; queue = after.queue }
-          → AreSending period capacity logs
-          (send_next capacity hart (slice_get (payloads_of hart (map (payloads period) logs)) count) state) new
+          → AreSending period mode capacity logs
+          (send_next capacity hart (slice_get (payloads_of hart (map (payloads period mode) logs)) count) state) new
           (set senders hart next)
       one_sent new given room stands =
-          subst (λ some. AreSending period capacity logs (send_next capacity hart some state) new
+          subst (λ some. AreSending period mode capacity logs (send_next capacity hart some state) new
           (set senders hart next)) (sym (own ∙ given))
-          (subst (λ b. AreSending period capacity logs (cond b after state) new (set senders hart next)) (sym room)
+          (subst (λ b. AreSending period mode capacity logs (cond b after state) new (set senders hart next)) (sym room)
           (record {
             funnel = stands;
             places =

@@ -3,6 +3,7 @@ use Rattle.std.proofs.Common.{◌≡◌, ◌<◌, ℕ, Bool, true, false, cond, 
 use Rattle.std.specs.Prelude.{not}
 use Rattle.std.proofs.lemmas.Option.{same_Some, slice_get_read}
 use Rattle.legalpath.specs.ProgramLog.{IsLegalLog, ProgramLog}
+use Rattle.payload.specs.declared.mode.Mode.{Mode}
 use Rattle.encoder.specs.Payloads.{payloads}
 use Rattle.encoder.specs.SourceAt.{number_behind}
 use Rattle.message.specs.declared.message.Message.{Message}
@@ -18,10 +19,12 @@ use Rattle.bench.proofs.SendingOn.{none_sent, one_sent}
 
 -- What a hart's sender promises of its next message.
 pub record GivesNext {B : Type 0} (hart : ℕ) (old new : Sender B) (result : Option Message) : Type 0 where
-  pub given : (period count : ℕ) (log : ProgramLog) → IsLegalLog log → old ≡ sender_at period log count
-      → result ≡ message_with hart count (slice_get (payloads period log) count)
-  pub goes_on : (period count : ℕ) (log : ProgramLog) → IsLegalLog log → old ≡ sender_at period log count
-      → new ≡ sender_at period log (number_behind count (slice_get (payloads period log) count))
+  pub given : (period : ℕ) (mode : Mode) (count : ℕ) (log : ProgramLog) → IsLegalLog log
+      → old ≡ sender_at period mode log count
+      → result ≡ message_with hart count (slice_get (payloads period mode log) count)
+  pub goes_on : (period : ℕ) (mode : Mode) (count : ℕ) (log : ProgramLog) → IsLegalLog log
+      → old ≡ sender_at period mode log count
+      → new ≡ sender_at period mode log (number_behind count (slice_get (payloads period mode log) count))
 
 -- A message goes with a payload.
 record IsWith (hart count : ℕ) (payload : Option (List ℕ)) (message : Message) : Type 0 where
@@ -48,8 +51,8 @@ pub has_room : (room : Bool) → false ≡ not room → room ≡ true
 has_room true is = refl
 has_room false is = cc
 
-module _ {B : Type 0} (period capacity : ℕ) (logs : List ProgramLog) (state : Funnel) (core : Held)
-    (senders : List (Sender B)) (sending : AreSending period capacity logs state core senders)
+module _ {B : Type 0} (period : ℕ) (mode : Mode) (capacity : ℕ) (logs : List ProgramLog) (state : Funnel) (core : Held)
+    (senders : List (Sender B)) (sending : AreSending period mode capacity logs state core senders)
     (legal : All IsLegalLog logs) (hart : ℕ) (known : hart < length senders) (old new : Sender B)
     (result : Option Message) (read : old ≡ get_or senders hart old) (gives : GivesNext hart old new result) where
   abbrev count : ℕ
@@ -61,42 +64,42 @@ module _ {B : Type 0} (period capacity : ℕ) (logs : List ProgramLog) (state : 
   its_legal : IsLegalLog its.0
   its_legal = All-at IsLegalLog logs hart its.0 legal its.1
 
-  stood : old ≡ sender_at period its.0 count
+  stood : old ≡ sender_at period mode its.0 count
   stood =
-      same_Some old (sender_at period its.0 count)
+      same_Some old (sender_at period mode its.0 count)
       (sym (slice_get_read senders (length senders) hart old refl known read) ∙ sending.each hart its.0 its.1)
 
-  given : result ≡ message_with hart count (slice_get (payloads period its.0) count)
-  given = gives.given period count its.0 its_legal stood
+  given : result ≡ message_with hart count (slice_get (payloads period mode its.0) count)
+  given = gives.given period mode count its.0 its_legal stood
 
-  moved : new ≡ sender_at period its.0 (number_behind count (slice_get (payloads period its.0) count))
-  moved = gives.goes_on period count its.0 its_legal stood
+  moved : new ≡ sender_at period mode its.0 (number_behind count (slice_get (payloads period mode its.0) count))
+  moved = gives.goes_on period mode count its.0 its_legal stood
 
   -- A hart with no message left changes nothing.
   pub turn-none : result ≡ None
-      → AreSending period capacity logs
-      (send_next capacity hart (slice_get (payloads_of hart (map (payloads period) logs)) count) state) core
+      → AreSending period mode capacity logs
+      (send_next capacity hart (slice_get (payloads_of hart (map (payloads period mode) logs)) count) state) core
       (set senders hart new)
   turn-none none =
-      let ended = without_payload hart count (slice_get (payloads period its.0) count) (sym given ∙ none) in
-      none_sent period capacity logs state core senders sending hart its.0 its.1 new ended
-      (moved ∙ ap (λ payload. sender_at period its.0 (number_behind count payload)) ended)
+      let ended = without_payload hart count (slice_get (payloads period mode its.0) count) (sym given ∙ none) in
+      none_sent period mode capacity logs state core senders sending hart its.0 its.1 new ended
+      (moved ∙ ap (λ payload. sender_at period mode its.0 (number_behind count payload)) ended)
 
   -- A hart with a message left sends it, where there is room.
   pub turn-one : (message : Message) (after : Held) → result ≡ Some message
       → nat_lt (length core.queue) capacity ≡ true
       → ((before : Funnel) → before.queue ≡ core.queue
       → after ≡ record core { queue = (send capacity message before).queue })
-      → AreSending period capacity logs
-      (send_next capacity hart (slice_get (payloads_of hart (map (payloads period) logs)) count) state) after
+      → AreSending period mode capacity logs
+      (send_next capacity hart (slice_get (payloads_of hart (map (payloads period mode) logs)) count) state) after
       (set senders hart new)
   turn-one message after some room step =
-      one_sent period capacity logs state core senders sending hart its.0 its.1 found.bytes new
-      (moved ∙ ap (λ payload. sender_at period its.0 (number_behind count payload)) found.given)
+      one_sent period mode capacity logs state core senders sending hart its.0 its.1 found.bytes new
+      (moved ∙ ap (λ payload. sender_at period mode its.0 (number_behind count payload)) found.given)
       after found.given here stands
     where
-      found : IsWith hart count (slice_get (payloads period its.0) count) message
-      found = with_payload hart count (slice_get (payloads period its.0) count) message (sym given ∙ some)
+      found : IsWith hart count (slice_get (payloads period mode its.0) count) message
+      found = with_payload hart count (slice_get (payloads period mode its.0) count) message (sym given ∙ some)
 
       queue : core.queue ≡ state.queue
       queue = ap (λ (held : Held). held.queue) sending.funnel

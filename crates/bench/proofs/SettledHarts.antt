@@ -3,6 +3,7 @@ use Rattle.std.proofs.Common.{◌≡◌, ◌∙◌, inr, ℕ, Bool, true, false,
 use Rattle.std.specs.Prelude.{IsSomeAnd}
 use Rattle.std.proofs.lemmas.Option.{slice_get_within}
 use Rattle.legalpath.specs.ProgramLog.{ProgramLog}
+use Rattle.payload.specs.declared.mode.Mode.{Mode}
 use Rattle.message.specs.OfHart.{of_hart}
 use Rattle.message.specs.declared.message.Message.{Message}
 use Rattle.funnel.proofs.Places.{slice_get-some}
@@ -21,12 +22,12 @@ use Rattle.bench.proofs.ReplayEnds.{Finishes, differ}
 
 -- What was gathered was taken, where what was taken of each hart whose worker was started carries the first payloads of
 -- its log.
-pub gathered_taken : (period : ℕ) (logs : List ProgramLog) (started : List Bool) (taken : List Message)
-    (collected : Collected) → length started ≡ length logs → AreGathered period logs started taken collected
+pub gathered_taken : (period : ℕ) (mode : Mode) (logs : List ProgramLog) (started : List Bool) (taken : List Message)
+    (collected : Collected) → length started ≡ length logs → AreGathered period mode logs started taken collected
     → ((hart : ℕ) (log : ProgramLog) → slice_get logs hart ≡ Some log → slice_get started hart ≡ Some true
-    → CarryFirst period log (of_hart hart taken))
-    → AreTaken period logs taken collected
-gathered_taken period logs started taken collected flags came carried = record {
+    → CarryFirst period mode log (of_hart hart taken))
+    → AreTaken period mode logs taken collected
+gathered_taken period mode logs started taken collected flags came carried = record {
   own = came.own;
   each = λ hart log at.
       let within = slice_get_within logs hart log at in
@@ -35,16 +36,16 @@ gathered_taken period logs started taken collected flags came carried = record {
 }
   where
     by_flag : (hart : ℕ) (log : ProgramLog) → slice_get logs hart ≡ Some log → (flag : Bool)
-        → slice_get started hart ≡ Some flag → IsTakenOf period log (length (of_hart hart taken)) hart collected
+        → slice_get started hart ≡ Some flag → IsTakenOf period mode log (length (of_hart hart taken)) hart collected
     by_flag hart log at true on = came.running hart log at on (carried hart log at on)
     by_flag hart log at false off = inr (came.others hart log at off)
 
 -- What was taken of each hart that is not refused carries the first payloads of its log, since its worker was started.
 pub are_carried : {A : Type 0} (config : Config) (logs : List ProgramLog) (started : List Bool) (taken : List Message)
     (collected : Collected) (harts : List (HartOutcome A)) → length started ≡ length logs
-    → AreGathered config.period logs started taken collected → Finishes collected harts
+    → AreGathered config.period config.mode logs started taken collected → Finishes collected harts
     → ((hart : ℕ) (log : ProgramLog) → slice_get logs hart ≡ Some log → slice_get started hart ≡ Some true
-    → CarryFirst config.period log (of_hart hart taken))
+    → CarryFirst config.period config.mode log (of_hart hart taken))
     → AreCarried config logs taken harts
 are_carried config logs started taken collected harts flags gathered ends carried = λ hart log came known at going.
     let within = slice_get_within logs hart log known in
@@ -53,11 +54,11 @@ are_carried config logs started taken collected harts flags gathered ends carrie
   where
     by_flag : (hart : ℕ) (log : ProgramLog) (came : HartOutcome _) → slice_get logs hart ≡ Some log
         → slice_get harts hart ≡ Some came → came.refused ≡ false → (flag : Bool)
-        → slice_get started hart ≡ Some flag → CarryFirst config.period log (of_hart hart taken)
+        → slice_get started hart ≡ Some flag → CarryFirst config.period config.mode log (of_hart hart taken)
     by_flag hart log came known at going true on = carried hart log known on
     by_flag hart log came known at going false off =
         let cut = gathered.others hart log known off in
-        let got = kept collected.keep (got_after config.period log cut.count) in
+        let got = kept collected.keep (got_after config.period config.mode log cut.count) in
         let told = subst (λ some. IsSomeAnd some (λ one. (got_of one ≡ got) × (one.refused ≡ true))) at
         (ends.came hart got true cut.came) in
         absurd (differ (sym told.1 ∙ going))

@@ -3,6 +3,7 @@ use Rattle.std.proofs.Common.{◌≡◌, ◌≢◌, ◌⊎◌, ◌≤◌, ◌<�
 use Rattle.std.proofs.lemmas.Bool.{cases_eq}
 use Rattle.std.proofs.lemmas.Option.{same_Some, slice_get_within}
 use Rattle.legalpath.specs.ProgramLog.{ProgramLog}
+use Rattle.payload.specs.declared.mode.Mode.{Mode}
 use Rattle.encoder.specs.SourceAt.{IsAt, SourceAt}
 use Rattle.funnel.specs.Ends.{FunnelId, PortView, new_port}
 use Rattle.bench.specs.Collected.{Came, Collected, HasCollected, IsSameOf}
@@ -18,35 +19,37 @@ apart : true ≡ false → ⊥
 apart is = cc
 
 -- A worker with this port, the last one, and a new source of the log of its hart.
-pub new_worker : (funnel : FunnelId) (period place : ℕ) (logs : List ProgramLog) (port its : PortView)
+pub new_worker : (funnel : FunnelId) (period : ℕ) (mode : Mode) (place : ℕ) (logs : List ProgramLog)
+    (port its : PortView)
     (source own : SourceAt) (log : ProgramLog) → its ≡ port → own ≡ source → port ≡ new_port funnel place
-    → IsAt period log 0 source → slice_get logs place ≡ Some log
-    → (its.funnel ≡ funnel) × (slice_get logs its.hart ≡ Some own.log) × (own.period ≡ period)
-new_worker funnel period place logs port its source own log same from last new known = (
+    → IsAt period mode log 0 source → slice_get logs place ≡ Some log
+    → (its.funnel ≡ funnel) × (slice_get logs its.hart ≡ Some own.log) × (own.period ≡ period) × (own.mode ≡ mode)
+new_worker funnel period mode place logs port its source own log same from last new known = (
   ap (λ (p : PortView). p.funnel) (same ∙ last),
   ap (λ (p : PortView). slice_get logs p.hart) (same ∙ last) ∙ known
       ∙ ap (λ (s : SourceAt). Some s.log) (sym (from ∙ new)),
   ap (λ (s : SourceAt). s.period) (from ∙ new),
+  ap (λ (s : SourceAt). s.mode) (from ∙ new),
 )
 
-module _ {W : Type 0} (hart_of : W → ℕ) (period : ℕ) (logs : List ProgramLog) where
+module _ {W : Type 0} (hart_of : W → ℕ) (period : ℕ) (mode : Mode) (logs : List ProgramLog) where
   -- Nothing came of any hart. Of those from this one on, each whose worker was started is some worker's, and the others
   -- are cut off.
   pub record AreBegun (from : ℕ) (started : List Bool) (workers : List W) (collected : Collected) : Type 0 where
     pub own : collected.logs ≡ logs
     pub begun : (hart : ℕ) (log : ProgramLog) → hart < from → slice_get logs hart ≡ Some log
-        → HasCollected period log 0 hart collected
+        → HasCollected period mode log 0 hart collected
     pub among : (hart : ℕ) → from ≤ hart → slice_get started hart ≡ Some true
         → Among (λ w. hart_of w ≡ hart) workers
     pub running : (hart : ℕ) (log : ProgramLog) → from ≤ hart → slice_get logs hart ≡ Some log
-        → slice_get started hart ≡ Some true → HasCollected period log 0 hart collected
+        → slice_get started hart ≡ Some true → HasCollected period mode log 0 hart collected
     pub others : (hart : ℕ) (log : ProgramLog) → from ≤ hart → slice_get logs hart ≡ Some log
-        → slice_get started hart ≡ Some false → IsCutOff period log 0 hart collected
+        → slice_get started hart ≡ Some false → IsCutOff period mode log 0 hart collected
 
   -- Before the first.
   pub none_begun : (from : ℕ) (started : List Bool) (workers : List W) (collected : Collected) → from ≡ length logs
       → length started ≡ length logs → collected.logs ≡ logs
-      → ((hart : ℕ) (log : ProgramLog) → slice_get logs hart ≡ Some log → HasCollected period log 0 hart collected)
+      → ((hart : ℕ) (log : ProgramLog) → slice_get logs hart ≡ Some log → HasCollected period mode log 0 hart collected)
       → AreBegun from started workers collected
   none_begun from started workers collected all flags own begun = record {
     own = own;
@@ -126,9 +129,9 @@ module _ {W : Type 0} (hart_of : W → ℕ) (period : ℕ) (logs : List ProgramL
           (cases false hart true behind on);
       others = λ hart log behind at off.
           ⊎_elim
-          (λ here. subst (λ h. IsCutOff period log 0 h new) (sym here.0)
+          (λ here. subst (λ h. IsCutOff period mode log 0 h new) (sym here.0)
           (cut log (before.begun place log (omega (arith, next)) (ap (slice_get logs) (sym here.0) ∙ at))))
-          (λ later. cut_off_same period 0 hart log old new (others hart later.0) keep
+          (λ later. cut_off_same period mode 0 hart log old new (others hart later.0) keep
           (before.others hart log later.1 at later.2))
           (cases false hart false behind off);
     }
@@ -136,25 +139,26 @@ module _ {W : Type 0} (hart_of : W → ℕ) (period : ℕ) (logs : List ProgramL
         keep : new.keep ≡ old.keep
         keep = ap (λ (c : Collected). c.keep) same
 
-        stays : (hart : ℕ) (log : ProgramLog) → hart ≢ place → HasCollected period log 0 hart old
-            → HasCollected period log 0 hart new
+        stays : (hart : ℕ) (log : ProgramLog) → hart ≢ place → HasCollected period mode log 0 hart old
+            → HasCollected period mode log 0 hart new
         stays hart log other has =
-            collected_same period 0 hart log old new (others hart other) (ap (λ (c : Collected). c.logs) same) keep has
+            collected_same period mode 0 hart log old new (others hart other) (ap (λ (c : Collected). c.logs) same)
+            keep has
 
-        cut : (log : ProgramLog) → HasCollected period log 0 place old → IsCutOff period log 0 place new
+        cut : (log : ProgramLog) → HasCollected period mode log 0 place old → IsCutOff period mode log 0 place new
         cut log has = record {
           count = 0;
           within = omega arith;
           lacks = λ some. omega (arith, some);
           few = omega arith;
           came =
-              subst (λ flag. Came place (kept flag (got_after period log 0)) true new) (sym keep)
-              (refused (kept old.keep (got_after period log 0)) false has.came);
+              subst (λ flag. Came place (kept flag (got_after period mode log 0)) true new) (sym keep)
+              (refused (kept old.keep (got_after period mode log 0)) false has.came);
         }
 
   -- All of them.
   pub all_begun : (started : List Bool) (workers : List W) (collected : Collected)
-      → AreBegun 0 started workers collected → AreGathered period logs started [] collected
+      → AreBegun 0 started workers collected → AreGathered period mode logs started [] collected
   all_begun started workers collected all = record {
     own = all.own;
     running = λ hart log at on first. inl (all.running hart log (omega arith) at on);

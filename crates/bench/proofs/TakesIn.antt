@@ -9,6 +9,7 @@ use Rattle.rvclass.specs.Fetch.{words_of}
 use Rattle.rvclass.specs.Image.{Image}
 use Rattle.rvclass.specs.Words.{Words}
 use Rattle.legalpath.specs.ProgramLog.{IsLegalLog, ProgramLog}
+use Rattle.payload.specs.declared.mode.Mode.{Mode}
 use Rattle.payload.specs.declared.packet.Packet.{Packet}
 use Rattle.encoder.specs.Packets.{packets}
 use Rattle.decoder.specs.Describes.{Describes}
@@ -79,11 +80,11 @@ length-harts_after expected message = by_hart (slice_get expected message.hart)
     by_hart (Some h) = length-set expected message.hart (state_after h message)
 
 -- The packets of a log, and its beginning that the first ones reach.
-abbrev packets_of_log : ℕ → ProgramLog → List Packet
-packets_of_log period log = packets (words_of log.program) period log.events
+abbrev packets_of_log : ℕ → Mode → ProgramLog → List Packet
+packets_of_log period mode log = packets (words_of log.program) period mode log.events
 
-abbrev beginning : ℕ → ProgramLog → ℕ → List Event
-beginning period log count = take (reach (words_of log.program) period log.events count) log.events
+abbrev beginning : ℕ → Mode → ProgramLog → ℕ → List Event
+beginning period mode log count = take (reach (words_of log.program) period mode log.events count) log.events
 
 -- One answer.
 same_Ok : (a b : Packet) → ◌≡◌ {A = Result Packet DemuxFault} (Ok a) (Ok b) → a ≡ b
@@ -214,40 +215,42 @@ module _ (message : Message) (packet : Packet) (old new : Collected) where
 
   -- The next message of a log is refused for want of memory alone.
   pub takes_only_memory : (answer : Result (Unit {0}) CollectFault) → TakesIn message packet answer old new
-      → (period count : ℕ) (log : ProgramLog)
-      → HasCollected period log count message.hart old → IsMessageOf period log count message
+      → (period : ℕ) (mode : Mode) (count : ℕ) (log : ProgramLog)
+      → HasCollected period mode log count message.hart old → IsMessageOf period mode log count message
       → IfErr answer (λ why. why ≡ fault.Memory)
-  takes_only_memory (Ok u) t period count log has is = tt
-  takes_only_memory (Err why) t period count log has is =
+  takes_only_memory (Ok u) t period mode count log has is = tt
+  takes_only_memory (Err why) t period mode count log has is =
       let words = words_of log.program in
       let same : t.own ≡ log = same_Some t.own log (sym t.log_at ∙ has.known) in
       let legal = All_at IsLegalLog old.logs message.hart log has.known t.all.legal in
-      let next = next_packet period log legal count message is in
+      let next = next_packet period mode log legal count message is in
       let packet_is : next.packet ≡ packet =
-      same_Ok next.packet packet (sym (next_accepted period log legal count message old has is) ∙ t.packet_answered) in
-      let first = take count (packets_of_log period log) in
-      let described = subst (λ one. Describes words (first ++ one ∷ []) (beginning period log (count + 1)))
-      packet_is (next_described period log legal count message is) in
+      same_Ok next.packet packet
+      (sym (next_accepted period mode log legal count message old has is) ∙ t.packet_answered) in
+      let first = take count (packets_of_log period mode log) in
+      let described = subst (λ one. Describes words (first ++ one ∷ []) (beginning period mode log (count + 1)))
+      packet_is (next_described period mode log legal count message is) in
       let holds = holds_moved words message.hart first old.received t.accepted message t.moved has.holds in
       let either = subst (λ (own : ProgramLog). HoldsHart (words_of own.program) message.hart first t.accepted
       → (why ≡ fault.Memory)
       ⊎ ((events : List Event) → ¬ Describes (words_of own.program) (first ++ packet ∷ []) events))
       same (t.none first) holds in
-      ⊎_elim (λ memory. memory) (λ none. absurd (none (beginning period log (count + 1)) described)) either
+      ⊎_elim (λ memory. memory) (λ none. absurd (none (beginning period mode log (count + 1)) described)) either
 
   -- And else adds what it tells.
   pub takes_next : (answer : Result (Unit {0}) CollectFault) → TakesIn message packet answer old new
-      → (period count : ℕ) (log : ProgramLog)
-      → HasCollected period log count message.hart old → IsMessageOf period log count message
-      → OnOk answer (HasCollected period log (count + 1) message.hart new)
-  takes_next (Err why) t period count log has is = tt
-  takes_next (Ok u) t period count log has is =
+      → (period : ℕ) (mode : Mode) (count : ℕ) (log : ProgramLog)
+      → HasCollected period mode log count message.hart old → IsMessageOf period mode log count message
+      → OnOk answer (HasCollected period mode log (count + 1) message.hart new)
+  takes_next (Err why) t period mode count log has is = tt
+  takes_next (Ok u) t period mode count log has is =
       let same : t.own ≡ log = same_Some t.own log (sym t.log_at ∙ has.known) in
       let legal = All_at IsLegalLog old.logs message.hart log has.known t.all.legal in
-      let ps = packets_of_log period log in
-      let next = next_packet period log legal count message is in
+      let ps = packets_of_log period mode log in
+      let next = next_packet period mode log legal count message is in
       let packet_is : next.packet ≡ packet =
-      same_Ok next.packet packet (sym (next_accepted period log legal count message old has is) ∙ t.packet_answered) in
+      same_Ok next.packet packet
+      (sym (next_accepted period mode log legal count message old has is) ∙ t.packet_answered) in
       let within = slice_get_within ps count next.packet next.at in
       let few : count + 1 ≤ length ps = omega (arith, within) in
       let holds = holds_moved (words_of log.program) message.hart (take count ps) old.received t.accepted message
@@ -256,23 +259,23 @@ module _ (message : Message) (packet : Packet) (old new : Collected) where
       → HoldsHart (words_of own.program) message.hart (take count ps ++ packet ∷ []) new.received) same
       (t.holds (take count ps)) holds in
       let first : take count ps ++ packet ∷ [] ≡ take (count + 1) ps =
-      ap (λ one. take count ps ++ one ∷ []) (sym packet_is) ∙ sym (next_first period log legal count message is) in
+      ap (λ one. take count ps ++ one ∷ []) (sym packet_is) ∙ sym (next_first period mode log legal count message is) in
       let now = subst (λ some. HoldsHart (words_of log.program) message.hart some new.received) first held in
       let moved : new.received.expected ≡ harts_after old.received.expected message =
       t.expected ∙ ap (λ (r : Received). r.expected) t.moved in
       let expected = ap (λ harts. slice_get harts message.hart) moved
-      ∙ next_expected period log legal count message old has is in
-      let reached = held_first period log legal (count + 1) message.hart new.received now few t.complete
+      ∙ next_expected period mode log legal count message old has is in
+      let reached = held_first period mode log legal (count + 1) message.hart new.received now few t.complete
       (slice_get_within new.received.expected message.hart _ expected) in
-      let before = same_Some t.before (taken_by (kept old.keep (got_after period log count)) false)
+      let before = same_Some t.before (taken_by (kept old.keep (got_after period mode log count)) false)
       (sym t.taken_at ∙ has.came.taken) in
-      let after : t.after ≡ taken_by (kept new.keep (got_after period log (count + 1))) false =
+      let after : t.after ≡ taken_by (kept new.keep (got_after period mode log (count + 1))) false =
       t.counts
       ∙ ap (with_packet old.keep packet (length message.payload)) before
       ∙ ap (λ one. with_packet old.keep one (length message.payload)
-      (taken_by (kept old.keep (got_after period log count)) false)) (sym packet_is)
-      ∙ next_taken period log legal old.keep count message is
-      ∙ ap (λ keep. taken_by (kept keep (got_after period log (count + 1))) false) (sym t.keep) in
+      (taken_by (kept old.keep (got_after period mode log count)) false)) (sym packet_is)
+      ∙ next_taken period mode log legal old.keep count message is
+      ∙ ap (λ keep. taken_by (kept keep (got_after period mode log (count + 1))) false) (sym t.keep) in
       record {
         known = ap (λ logs. slice_get logs message.hart) t.logs ∙ has.known;
         few = few;
@@ -305,11 +308,12 @@ module _ (message : Message) (packet : Packet) (old new : Collected) where
 
 -- A message of a log is none that the demultiplexer refuses.
 pub not_refused : (collected : Collected) → IsCollected collected → (message : Message) (why : DemuxFault)
-    → accepting collected.received.expected message ≡ Err why → (period count : ℕ) (log : ProgramLog)
-    → HasCollected period log count message.hart collected → IsMessageOf period log count message → ⊥
-not_refused collected all message why answer period count log has is =
+    → accepting collected.received.expected message ≡ Err why
+    → (period : ℕ) (mode : Mode) (count : ℕ) (log : ProgramLog)
+    → HasCollected period mode log count message.hart collected → IsMessageOf period mode log count message → ⊥
+not_refused collected all message why answer period mode count log has is =
     let legal = All_at IsLegalLog collected.logs message.hart log has.known all.legal in
-    let accepted = next_accepted period log legal count message collected has is in
+    let accepted = next_accepted period mode log legal count message collected has is in
     cc
 
 -- What stands at a place of the outcomes.

@@ -7,6 +7,7 @@ use Rattle.std.proofs.lemmas.Option.{same_Some, slice_get_within}
 use Rattle.rvclass.specs.Fetch.{words_of}
 use Rattle.legalpath.specs.ProgramLog.{ProgramLog}
 use Rattle.payload.specs.Spelling.{payload_of}
+use Rattle.payload.specs.declared.mode.Mode.{Mode}
 use Rattle.encoder.specs.Packets.{packets}
 use Rattle.encoder.specs.Payloads.{payloads}
 use Rattle.message.proofs.OfHartLemmas.{of_hart-next, of_hart-other}
@@ -26,10 +27,13 @@ use Rattle.bench.proofs.CollectedSame.{collected_same, cut_off_same}
 pub record TakesMessage (message : Message) (result : Result (Unit {0}) CollectFault) (old new : Collected)
     : Type 0 where
   pub logs : (new.logs ≡ old.logs) × (new.keep ≡ old.keep)
-  pub next : (period count : ℕ) (log : ProgramLog) → HasCollected period log count message.hart old
-      → IsMessageOf period log count message → OnOk result (HasCollected period log (count + 1) message.hart new)
-  pub only_memory : (period count : ℕ) (log : ProgramLog) → HasCollected period log count message.hart old
-      → IsMessageOf period log count message → IfErr result (λ why. why ≡ fault.Memory)
+  pub next : (period : ℕ) (mode : Mode) (count : ℕ) (log : ProgramLog)
+      → HasCollected period mode log count message.hart old
+      → IsMessageOf period mode log count message
+      → OnOk result (HasCollected period mode log (count + 1) message.hart new)
+  pub only_memory : (period : ℕ) (mode : Mode) (count : ℕ) (log : ProgramLog)
+      → HasCollected period mode log count message.hart old
+      → IsMessageOf period mode log count message → IfErr result (λ why. why ≡ fault.Memory)
   pub others : (hart : ℕ) → hart ≢ message.hart → IsSameOf hart old new
   pub memory : (got : Got) (refused : Bool) → Came message.hart got refused old → result ≡ Err fault.Memory
       → Came message.hart got true new
@@ -59,17 +63,17 @@ came_not_refused hart got collected came refused =
     apart (subst IsRefused came.taken refused)
 
 module _ (message : Message) (result : Result (Unit {0}) CollectFault) (old new : Collected)
-    (takes : TakesMessage message result old new) (period : ℕ) where
-  cut_off_refused : (count : ℕ) (log : ProgramLog) → IsCutOff period log count message.hart old
+    (takes : TakesMessage message result old new) (period : ℕ) (mode : Mode) where
+  cut_off_refused : (count : ℕ) (log : ProgramLog) → IsCutOff period mode log count message.hart old
       → IsRefusedHart message.hart old
   cut_off_refused count log cut =
-      came_refused message.hart (kept old.keep (got_after period log cut.count)) old cut.came
+      came_refused message.hart (kept old.keep (got_after period mode log cut.count)) old cut.came
 
   -- A hart of which memory was refused stays as it was.
-  pub cut_off_stays : (count : ℕ) (log : ProgramLog) → IsCutOff period log count message.hart old
-      → IsCutOff period log (count + 1) message.hart new
+  pub cut_off_stays : (count : ℕ) (log : ProgramLog) → IsCutOff period mode log count message.hart old
+      → IsCutOff period mode log (count + 1) message.hart new
   cut_off_stays count log cut =
-      subst (λ (c : Collected). IsCutOff period log (count + 1) message.hart c)
+      subst (λ (c : Collected). IsCutOff period mode log (count + 1) message.hart c)
       (sym (takes.passed_over (cut_off_refused count log cut)).1)
       (record {
         count = cut.count;
@@ -80,22 +84,22 @@ module _ (message : Message) (result : Result (Unit {0}) CollectFault) (old new 
       })
 
   -- A message of a log is below all of them.
-  below_all : (count : ℕ) (log : ProgramLog) → IsMessageOf period log count message
-      → count < length (packets (words_of log.program) period log.events)
+  below_all : (count : ℕ) (log : ProgramLog) → IsMessageOf period mode log count message
+      → count < length (packets (words_of log.program) period mode log.events)
   below_all count log own =
-      let within = slice_get_within (payloads period log) count message.payload own.payload in
-      omega (arith, within, length-map (packets (words_of log.program) period log.events) payload_of)
+      let within = slice_get_within (payloads period mode log) count message.payload own.payload in
+      omega (arith, within, length-map (packets (words_of log.program) period mode log.events) payload_of)
 
   -- The next message of a hart came, or memory for it was refused.
-  pub own_taken : (count : ℕ) (log : ProgramLog) → IsMessageOf period log count message
-      → IsTakenOf period log count message.hart old → IsTakenOf period log (count + 1) message.hart new
+  pub own_taken : (count : ℕ) (log : ProgramLog) → IsMessageOf period mode log count message
+      → IsTakenOf period mode log count message.hart old → IsTakenOf period mode log (count + 1) message.hart new
   own_taken count log own (inl has) =
-      by_result result refl (takes.next period count log has own) (takes.only_memory period count log has own)
+      by_result result refl (takes.next period mode count log has own) (takes.only_memory period mode count log has own)
     where
       by_result : (r : Result (Unit {0}) CollectFault) → result ≡ r
-          → OnOk r (HasCollected period log (count + 1) message.hart new)
+          → OnOk r (HasCollected period mode log (count + 1) message.hart new)
           → IfErr r (λ why. why ≡ fault.Memory)
-          → IsTakenOf period log (count + 1) message.hart new
+          → IsTakenOf period mode log (count + 1) message.hart new
       by_result (Ok unit) is more memory = inl more
       by_result (Err why) is more memory = inr (record {
         count = count;
@@ -103,31 +107,32 @@ module _ (message : Message) (result : Result (Unit {0}) CollectFault) (old new 
         lacks = λ some. omega arith;
         few = below_all count log own;
         came =
-            subst (λ flag. Came message.hart (kept flag (got_after period log count)) true new)
+            subst (λ flag. Came message.hart (kept flag (got_after period mode log count)) true new)
             (sym takes.logs.1)
-            (takes.memory (kept old.keep (got_after period log count)) false has.came (is ∙ ap Err memory));
+            (takes.memory (kept old.keep (got_after period mode log count)) false has.came (is ∙ ap Err memory));
       })
   own_taken count log own (inr cut) = inr (cut_off_stays count log cut)
 
   -- Of another hart what came stays.
-  pub other_cut_off : (hart count : ℕ) (log : ProgramLog) → hart ≢ message.hart → IsCutOff period log count hart old
-      → IsCutOff period log count hart new
+  pub other_cut_off : (hart count : ℕ) (log : ProgramLog) → hart ≢ message.hart
+      → IsCutOff period mode log count hart old
+      → IsCutOff period mode log count hart new
   other_cut_off hart count log other cut =
-      cut_off_same period count hart log old new (takes.others hart other) takes.logs.1 cut
+      cut_off_same period mode count hart log old new (takes.others hart other) takes.logs.1 cut
 
-  pub other_taken : (hart count : ℕ) (log : ProgramLog) → hart ≢ message.hart → IsTakenOf period log count hart old
-      → IsTakenOf period log count hart new
+  pub other_taken : (hart count : ℕ) (log : ProgramLog) → hart ≢ message.hart → IsTakenOf period mode log count hart old
+      → IsTakenOf period mode log count hart new
   other_taken hart count log other (inl has) =
-      inl (collected_same period count hart log old new (takes.others hart other) takes.logs.0 takes.logs.1 has)
+      inl (collected_same period mode count hart log old new (takes.others hart other) takes.logs.0 takes.logs.1 has)
   other_taken hart count log other (inr cut) = inr (other_cut_off hart count log other cut)
 
-module _ (period : ℕ) (logs : List ProgramLog) (taken : List Message) (message : Message)
+module _ (period : ℕ) (mode : Mode) (logs : List ProgramLog) (taken : List Message) (message : Message)
     (result : Result (Unit {0}) CollectFault) (old new : Collected) (takes : TakesMessage message result old new)
-    (came : AreTaken period logs taken old) (next : IsNext period logs taken message) where
+    (came : AreTaken period mode logs taken old) (next : IsNext period mode logs taken message) where
   abbrev before : ℕ
   before = length (of_hart message.hart taken)
 
-  own_before : IsTakenOf period next.log before message.hart old
+  own_before : IsTakenOf period mode next.log before message.hart old
   own_before = came.each message.hart next.log next.known
 
   -- There is one message more of its hart.
@@ -135,20 +140,20 @@ module _ (period : ℕ) (logs : List ProgramLog) (taken : List Message) (message
   one_more = ap length (of_hart-next taken message) ∙ length_push (of_hart message.hart taken) message
 
   -- A message of a hart of which memory was refused is no fault and changes nothing.
-  passed_over : IsCutOff period next.log before message.hart old → (result ≡ Ok tt) × (new ≡ old)
-  passed_over cut = takes.passed_over (cut_off_refused message result old new takes period before next.log cut)
+  passed_over : IsCutOff period mode next.log before message.hart old → (result ≡ Ok tt) × (new ≡ old)
+  passed_over cut = takes.passed_over (cut_off_refused message result old new takes period mode before next.log cut)
 
   -- A message is refused for want of memory alone.
   pub only_memory : IfErr result (λ why. why ≡ fault.Memory)
   only_memory = by_case own_before
     where
-      by_case : IsTakenOf period next.log before message.hart old → IfErr result (λ why. why ≡ fault.Memory)
-      by_case (inl has) = takes.only_memory period before next.log has next.own
+      by_case : IsTakenOf period mode next.log before message.hart old → IfErr result (λ why. why ≡ fault.Memory)
+      by_case (inl has) = takes.only_memory period mode before next.log has next.own
       by_case (inr cut) =
           subst (λ r. IfErr r (λ why. why ≡ fault.Memory)) (sym (passed_over cut).0) tt
 
   -- Of each hart the messages that were taken and this one came, or memory for it was refused.
-  pub takes_more : AreTaken period logs (taken ++ message ∷ []) new
+  pub takes_more : AreTaken period mode logs (taken ++ message ∷ []) new
   takes_more = record {
     own = takes.logs.0 ∙ came.own;
     each = λ hart log at. by_hart hart log at (cases_eq hart message.hart);
@@ -156,18 +161,18 @@ module _ (period : ℕ) (logs : List ProgramLog) (taken : List Message) (message
     where
       by_hart : (hart : ℕ) (log : ProgramLog) → slice_get logs hart ≡ Some log
           → (hart ≡ message.hart) ⊎ (hart ≡ message.hart → ⊥)
-          → IsTakenOf period log (length (of_hart hart (taken ++ message ∷ []))) hart new
+          → IsTakenOf period mode log (length (of_hart hart (taken ++ message ∷ []))) hart new
       by_hart hart log at (inl same) =
           let its : next.log ≡ log =
           same_Some next.log log (sym next.known ∙ ap (slice_get logs) (sym same) ∙ at) in
-          subst (λ h. IsTakenOf period log (length (of_hart h (taken ++ message ∷ []))) h new) (sym same)
-          (subst (λ n. IsTakenOf period log n message.hart new) (sym one_more)
-          (subst (λ (l : ProgramLog). IsTakenOf period l (before + 1) message.hart new) its
-          (own_taken message result old new takes period before next.log next.own own_before)))
+          subst (λ h. IsTakenOf period mode log (length (of_hart h (taken ++ message ∷ []))) h new) (sym same)
+          (subst (λ n. IsTakenOf period mode log n message.hart new) (sym one_more)
+          (subst (λ (l : ProgramLog). IsTakenOf period mode l (before + 1) message.hart new) its
+          (own_taken message result old new takes period mode before next.log next.own own_before)))
       by_hart hart log at (inr other) =
-          subst (λ n. IsTakenOf period log n hart new)
+          subst (λ n. IsTakenOf period mode log n hart new)
           (sym (ap length (of_hart-other hart taken message (λ same. other (sym same)))))
-          (other_taken message result old new takes period hart (length (of_hart hart taken)) log other
+          (other_taken message result old new takes period mode hart (length (of_hart hart taken)) log other
           (came.each hart log at))
 
   -- Of a hart that is refused fewer messages came than were taken, this one among them.
@@ -178,25 +183,25 @@ module _ (period : ℕ) (logs : List ProgramLog) (taken : List Message) (message
       known = sym (ap (λ some. slice_get some hart) takes.logs.0) ∙ new_log
 
       by_result : (r : Result (Unit {0}) CollectFault) → result ≡ r
-          → HasCollected period next.log before message.hart old
-          → OnOk r (HasCollected period next.log (before + 1) message.hart new)
+          → HasCollected period mode next.log before message.hart old
+          → OnOk r (HasCollected period mode next.log (before + 1) message.hart new)
           → IfErr r (λ why. why ≡ fault.Memory) → slice_get new.harts message.hart ≡ Some at → at.taken < before + 1
       by_result (Ok unit) answer has more memory here =
-          let got = kept new.keep (got_after period next.log (before + 1)) in
+          let got = kept new.keep (got_after period mode next.log (before + 1)) in
           let same = same_Some at (taken_by got false) (sym here ∙ more.came.taken) in
           absurd (apart (sym (ap (λ (some : Taken). some.refused) same) ∙ refused))
       by_result (Err why) answer has more memory here =
-          let got = kept old.keep (got_after period next.log before) in
+          let got = kept old.keep (got_after period mode next.log before) in
           let cut = takes.memory got false has.came (answer ∙ ap Err memory) in
           let same : at.taken ≡ before =
           ap (λ (some : Taken). some.taken) (same_Some at (taken_by got true) (sym here ∙ cut.taken)) in
           omega (arith, same)
 
       own : slice_get old.logs message.hart ≡ Some log → slice_get new.harts message.hart ≡ Some at
-          → IsTakenOf period next.log before message.hart old → at.taken < before + 1
+          → IsTakenOf period mode next.log before message.hart old → at.taken < before + 1
       own there here (inl has) =
-          by_result result refl has (takes.next period before next.log has next.own)
-          (takes.only_memory period before next.log has next.own) here
+          by_result result refl has (takes.next period mode before next.log has next.own)
+          (takes.only_memory period mode before next.log has next.own) here
       own there here (inr cut) =
           let stays = ap (λ (c : Collected). slice_get c.harts message.hart)
           (passed_over cut).1 in
@@ -225,9 +230,9 @@ module _ (period : ℕ) (logs : List ProgramLog) (taken : List Message) (message
   pub names_own : result ≡ Err fault.Memory → NamesRefusedHart (Some (stop.Memory message.hart)) new
   names_own memory = (has_place, by_case own_before)
     where
-      by_case : IsTakenOf period next.log before message.hart old → IsRefusedHart message.hart new
+      by_case : IsTakenOf period mode next.log before message.hart old → IsRefusedHart message.hart new
       by_case (inl has) =
-          let got = kept old.keep (got_after period next.log before) in
+          let got = kept old.keep (got_after period mode next.log before) in
           came_refused message.hart got new (takes.memory got false has.came memory)
       by_case (inr cut) = absurd (no_fault result (passed_over cut).0 memory)
 
@@ -239,28 +244,28 @@ module _ (period : ℕ) (logs : List ProgramLog) (taken : List Message) (message
   pub names_same : (why : Option Stop) → result ≡ Ok tt → NamesRefusedHart why old → NamesRefusedHart why new
   names_same why ok names = by_case own_before
     where
-      none_on : HasCollected period next.log (before + 1) message.hart new → NamesRefusedHart None old → (hart : ℕ)
+      none_on : HasCollected period mode next.log (before + 1) message.hart new → NamesRefusedHart None old → (hart : ℕ)
           → hart < length new.logs → (hart ≡ message.hart) ⊎ (hart ≡ message.hart → ⊥) → IsRefusedHart hart new → ⊥
       none_on more none hart known (inl same) refused =
-          came_not_refused message.hart (kept new.keep (got_after period next.log (before + 1))) new more.came
+          came_not_refused message.hart (kept new.keep (got_after period mode next.log (before + 1))) new more.came
           (subst (λ h. IsRefusedHart h new) same refused)
       none_on more none hart known (inr other) refused =
           none hart (subst (λ n. hart < n) (ap length takes.logs.0) known)
           (subst IsRefused (same_refused hart other) refused)
 
-      named_on : HasCollected period next.log before message.hart old → (hart : ℕ)
+      named_on : HasCollected period mode next.log before message.hart old → (hart : ℕ)
           → NamesRefusedHart (Some (stop.Memory hart)) old → (hart ≡ message.hart) ⊎ (hart ≡ message.hart → ⊥)
           → NamesRefusedHart (Some (stop.Memory hart)) new
       named_on has hart named (inl same) =
-          absurd (came_not_refused message.hart (kept old.keep (got_after period next.log before)) old has.came
+          absurd (came_not_refused message.hart (kept old.keep (got_after period mode next.log before)) old has.came
           (subst (λ h. IsRefusedHart h old) same named.1))
       named_on has hart named (inr other) = (
         subst (λ n. hart < n) (sym (ap length takes.logs.0)) named.0,
         subst IsRefused (sym (same_refused hart other)) named.1,
       )
 
-      kept_on : (some : Option Stop) → HasCollected period next.log before message.hart old
-          → HasCollected period next.log (before + 1) message.hart new
+      kept_on : (some : Option Stop) → HasCollected period mode next.log before message.hart old
+          → HasCollected period mode next.log (before + 1) message.hart new
           → NamesRefusedHart some old → NamesRefusedHart some new
       kept_on None has more none = λ hart known refused.
           none_on more none hart known (cases_eq hart message.hart) refused
@@ -268,17 +273,19 @@ module _ (period : ℕ) (logs : List ProgramLog) (taken : List Message) (message
       kept_on (Some (stop.HandedBack hart)) has more named = absurd named
       kept_on (Some (stop.Ended hart)) has more named = absurd named
 
-      by_case : IsTakenOf period next.log before message.hart old → NamesRefusedHart why new
+      by_case : IsTakenOf period mode next.log before message.hart old → NamesRefusedHart why new
       by_case (inl has) =
           kept_on why has
-          (subst (λ r. OnOk r (HasCollected period next.log (before + 1) message.hart new)) ok
-          (takes.next period before next.log has next.own)) names
+          (subst (λ r. OnOk r (HasCollected period mode next.log (before + 1) message.hart new)) ok
+          (takes.next period mode before next.log has next.own)) names
       by_case (inr cut) =
           subst (NamesRefusedHart why) (sym (passed_over cut).1) names
 
 -- The message in front is the next of its hart.
-pub next_in_front : (period : ℕ) (logs : List ProgramLog) (taken waiting : List Message) (message : Message)
-    → slice_get waiting 0 ≡ Some message → IsFrontNext period logs taken waiting → IsNext period logs taken message
-next_in_front period logs taken [] message front next = cc
-next_in_front period logs taken (first ∷ rest) message front next =
-    subst (λ (m : Message). IsNext period logs taken m) (same_Some first message front) next
+pub next_in_front : (period : ℕ) (mode : Mode) (logs : List ProgramLog) (taken waiting : List Message)
+    (message : Message)
+    → slice_get waiting 0 ≡ Some message → IsFrontNext period mode logs taken waiting
+    → IsNext period mode logs taken message
+next_in_front period mode logs taken [] message front next = cc
+next_in_front period mode logs taken (first ∷ rest) message front next =
+    subst (λ (m : Message). IsNext period mode logs taken m) (same_Some first message front) next

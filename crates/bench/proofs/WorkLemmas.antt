@@ -8,6 +8,7 @@ use Rattle.std.proofs.lemmas.List.Elements.{All-cons, All-head, All-nil}
 use Rattle.std.proofs.lemmas.Option.{same_Some, slice_get-map, slice_get_within}
 use Rattle.legalpath.specs.ProgramLog.{IsLegalLog, ProgramLog}
 use Rattle.payload.specs.Closing.{is_closing}
+use Rattle.payload.specs.declared.mode.Mode.{Mode}
 use Rattle.encoder.specs.Payloads.{payloads}
 use Rattle.message.specs.OfHart.{of_hart}
 use Rattle.message.specs.declared.message.Message.{Message}
@@ -39,14 +40,14 @@ closing_among (m ∷ messages) closing =
     let found = closing_among messages behind in (suc found.0, found.1, found.2, found.3))
     (or_cases (is_closing m.payload) (has_closing messages) closing)
 
-module _ (period : ℕ) (log : ProgramLog) where
+module _ (period : ℕ) (mode : Mode) (log : ProgramLog) where
   abbrev all : List (List ℕ)
-  all = payloads period log
+  all = payloads period mode log
 
   -- With the next one.
-  pub carry_more : (sent : List Message) (message : Message) → CarryFirst period log sent
-      → slice_get (payloads period log) (length sent) ≡ Some message.payload
-      → CarryFirst period log (sent ++ message ∷ [])
+  pub carry_more : (sent : List Message) (message : Message) → CarryFirst period mode log sent
+      → slice_get (payloads period mode log) (length sent) ≡ Some message.payload
+      → CarryFirst period mode log (sent ++ message ∷ [])
   carry_more sent message first at =
       payloads_joined sent (message ∷ [])
       ∙ ap (λ more. more ++ message.payload ∷ []) first
@@ -54,23 +55,24 @@ module _ (period : ℕ) (log : ProgramLog) where
       ∙ ap (λ n. take n all) (sym (length_push sent message))
 
   -- A front of them.
-  pub carry_front : (front rest : List Message) → CarryFirst period log (front ++ rest) → CarryFirst period log front
+  pub carry_front : (front rest : List Message) → CarryFirst period mode log (front ++ rest)
+      → CarryFirst period mode log front
   carry_front front rest first =
       take-front (payloads_in front) (payloads_in rest) all (length (front ++ rest))
       (sym (payloads_joined front rest) ∙ first)
       ∙ ap (λ n. take n all) (count_payloads front)
 
   -- The last of them is the log's next.
-  pub carry_last : (front : List Message) (message : Message) → CarryFirst period log (front ++ message ∷ [])
-      → slice_get (payloads period log) (length front) ≡ Some message.payload
+  pub carry_last : (front : List Message) (message : Message) → CarryFirst period mode log (front ++ message ∷ [])
+      → slice_get (payloads period mode log) (length front) ≡ Some message.payload
   carry_last front message first =
       ap (slice_get all) (sym (count_payloads front))
       ∙ take-last (payloads_in front) message.payload all (length (front ++ message ∷ []))
       (sym (payloads_joined front (message ∷ [])) ∙ first)
 
   -- A port that sent them and has another to send is not finished.
-  pub not_finished : (sent : List Message) (payload : List ℕ) → IsLegalLog log → CarryFirst period log sent
-      → slice_get (payloads period log) (length sent) ≡ Some payload → length sent ≤ 2 ^ 24 + 2
+  pub not_finished : (sent : List Message) (payload : List ℕ) → IsLegalLog log → CarryFirst period mode log sent
+      → slice_get (payloads period mode log) (length sent) ≡ Some payload → length sent ≤ 2 ^ 24 + 2
       → is_finished sent ≡ true → ⊥
   not_finished sent payload legal first at few finished =
       ⊎_elim closed many (or_cases (has_closing sent) (nat_le most_messages (length sent)) finished)
@@ -78,7 +80,7 @@ module _ (period : ℕ) (log : ProgramLog) where
       closes_last : ClosesOnlyLast all
       closes_last =
           All-head ClosesOnlyLast all []
-          (close_last period (log ∷ []) (All-cons IsLegalLog log [] legal (All-nil IsLegalLog)))
+          (close_last period mode (log ∷ []) (All-cons IsLegalLog log [] legal (All-nil IsLegalLog)))
 
       closed : has_closing sent ≡ true → ⊥
       closed closing =
@@ -97,35 +99,37 @@ module _ (period : ℕ) (log : ProgramLog) where
       many most = let over : most_messages ≤ length sent = grind (arith, nat_tests) in omega (arith, over, few)
 
 -- What was taken of a worker's hart carries the first payloads of its log.
-pub settled_first : (period : ℕ) (log : ProgramLog) (port receipt : PortView) (taken : List Message)
-    (handed_back : Bool) → IsWork period port log receipt handed_back
-    → IsBeginning (of_hart receipt.hart taken) receipt.sent → CarryFirst period log (of_hart port.hart taken)
-settled_first period log port receipt taken handed_back work begins =
-    carry_front period log (of_hart port.hart taken) begins.0
-    (subst (CarryFirst period log)
+pub settled_first : (period : ℕ) (mode : Mode) (log : ProgramLog) (port receipt : PortView) (taken : List Message)
+    (handed_back : Bool) → IsWork period mode port log receipt handed_back
+    → IsBeginning (of_hart receipt.hart taken) receipt.sent → CarryFirst period mode log (of_hart port.hart taken)
+settled_first period mode log port receipt taken handed_back work begins =
+    carry_front period mode log (of_hart port.hart taken) begins.0
+    (subst (CarryFirst period mode log)
     (begins.1 ∙ ap (λ hart. of_hart hart taken ++ begins.0) work.1) work.2)
 
 -- And it is not all of the log's where a payload was handed back.
-pub settled_lacks : (period : ℕ) (log : ProgramLog) (port receipt : PortView) (taken : List Message)
-    (handed_back : Bool) → IsWork period port log receipt handed_back
+pub settled_lacks : (period : ℕ) (mode : Mode) (log : ProgramLog) (port receipt : PortView) (taken : List Message)
+    (handed_back : Bool) → IsWork period mode port log receipt handed_back
     → IsBeginning (of_hart receipt.hart taken) receipt.sent → handed_back ≡ true
-    → AreNotAll period log (of_hart port.hart taken)
-settled_lacks period log port receipt taken handed_back work begins back =
+    → AreNotAll period mode log (of_hart port.hart taken)
+settled_lacks period mode log port receipt taken handed_back work begins back =
     let few = work.3 back in
     let all = ap length begins.1 ∙ length-append (of_hart receipt.hart taken) begins.0 in
-    subst (λ hart. AreNotAll period log (of_hart hart taken)) work.1 (omega (arith, few, all))
+    subst (λ hart. AreNotAll period mode log (of_hart hart taken)) work.1 (omega (arith, few, all))
 
 -- With one flag more each hart that is noted as one of which a payload was handed back lacks payloads.
-pub lacks_noted : (period own_period : ℕ) (logs : List ProgramLog) (taken : List Message) (flags : List Bool)
-    (place : ℕ) (flag : Bool) (own : ProgramLog) → slice_get logs place ≡ Some own → own_period ≡ period
-    → (flag ≡ true → AreNotAll own_period own (of_hart place taken))
-    → ((hart : ℕ) → slice_get flags hart ≡ Some true → LacksPayloads period logs taken hart)
-    → (hart : ℕ) → slice_get (set flags place flag) hart ≡ Some true → LacksPayloads period logs taken hart
-lacks_noted period own_period logs taken flags place flag own owned same_period lacks before hart at = λ log known.
+pub lacks_noted : (period : ℕ) (mode : Mode) (own_period : ℕ) (own_mode : Mode) (logs : List ProgramLog)
+    (taken : List Message) (flags : List Bool) (place : ℕ) (flag : Bool) (own : ProgramLog)
+    → slice_get logs place ≡ Some own → own_period ≡ period → own_mode ≡ mode
+    → (flag ≡ true → AreNotAll own_period own_mode own (of_hart place taken))
+    → ((hart : ℕ) → slice_get flags hart ≡ Some true → LacksPayloads period mode logs taken hart)
+    → (hart : ℕ) → slice_get (set flags place flag) hart ≡ Some true → LacksPayloads period mode logs taken hart
+lacks_noted period mode own_period own_mode logs taken flags place flag own owned same_period same_mode lacks before
+    hart at = λ log known.
     by_case (cases_eq hart place) log known
   where
     by_case : (hart ≡ place) ⊎ (hart ≡ place → ⊥) → (log : ProgramLog) → slice_get logs hart ≡ Some log
-        → AreNotAll period log (of_hart hart taken)
+        → AreNotAll period mode log (of_hart hart taken)
     by_case (inl same) log known =
         let within = slice_get_within (set flags place flag) hart true at in
         let size = length-set flags place flag in
@@ -133,29 +137,33 @@ lacks_noted period own_period logs taken flags place flag own owned same_period 
         let on : flag ≡ true =
         same_Some flag true (sym written ∙ ap (slice_get (set flags place flag)) (sym same) ∙ at) in
         let its : own ≡ log = same_Some own log (sym owned ∙ ap (slice_get logs) (sym same) ∙ known) in
-        subst (λ h. AreNotAll period log (of_hart h taken)) (sym same)
-        (subst (λ (l : ProgramLog). AreNotAll period l (of_hart place taken)) its
-        (subst (λ p. AreNotAll p own (of_hart place taken)) same_period (lacks on)))
+        subst (λ h. AreNotAll period mode log (of_hart h taken)) (sym same)
+        (subst (λ (l : ProgramLog). AreNotAll period mode l (of_hart place taken)) its
+        (subst (λ m. AreNotAll period m own (of_hart place taken)) same_mode
+        (subst (λ p. AreNotAll p own_mode own (of_hart place taken)) same_period (lacks on))))
     by_case (inr other) log known =
         before hart (sym (slice_get-unwritten flags place hart flag other) ∙ at) log known
 
 -- What was taken of the harts of workers carries the first payloads of their logs, with one worker more settled.
-pub carried_fewer : {W : Type 0} (hart_of : W → ℕ) (period own_period : ℕ) (logs : List ProgramLog)
-    (taken : List Message) (workers : List W) (worker : W) (own : ProgramLog)
-    → slice_get logs (hart_of worker) ≡ Some own → own_period ≡ period
-    → CarryFirst own_period own (of_hart (hart_of worker) taken) → (hart : ℕ) (log : ProgramLog)
+pub carried_fewer : {W : Type 0} (hart_of : W → ℕ) (period : ℕ) (mode : Mode) (own_period : ℕ) (own_mode : Mode)
+    (logs : List ProgramLog) (taken : List Message) (workers : List W) (worker : W) (own : ProgramLog)
+    → slice_get logs (hart_of worker) ≡ Some own → own_period ≡ period → own_mode ≡ mode
+    → CarryFirst own_period own_mode own (of_hart (hart_of worker) taken) → (hart : ℕ) (log : ProgramLog)
     → slice_get logs hart ≡ Some log
-    → CarryFirst period log (of_hart hart taken) ⊎ Among (λ w. hart_of w ≡ hart) (workers ++ worker ∷ [])
-    → CarryFirst period log (of_hart hart taken) ⊎ Among (λ w. hart_of w ≡ hart) workers
-carried_fewer hart_of period own_period logs taken workers worker own known same first hart log at (inl done) = inl done
-carried_fewer hart_of period own_period logs taken workers worker own known same first hart log at (inr still) =
+    → CarryFirst period mode log (of_hart hart taken) ⊎ Among (λ w. hart_of w ≡ hart) (workers ++ worker ∷ [])
+    → CarryFirst period mode log (of_hart hart taken) ⊎ Among (λ w. hart_of w ≡ hart) workers
+carried_fewer hart_of period mode own_period own_mode logs taken workers worker own known same like first hart log at
+    (inl done) = inl done
+carried_fewer hart_of period mode own_period own_mode logs taken workers worker own known same like first hart log at
+    (inr still) =
     by_rest (among-fewer (λ w. hart_of w ≡ hart) workers worker still)
   where
     by_rest : Among (λ w. hart_of w ≡ hart) workers ⊎ (hart_of worker ≡ hart)
-        → CarryFirst period log (of_hart hart taken) ⊎ Among (λ w. hart_of w ≡ hart) workers
+        → CarryFirst period mode log (of_hart hart taken) ⊎ Among (λ w. hart_of w ≡ hart) workers
     by_rest (inl rest) = inr rest
     by_rest (inr here) =
         let its : own ≡ log = same_Some own log (sym known ∙ ap (slice_get logs) here ∙ at) in
-        inl (subst (λ h. CarryFirst period log (of_hart h taken)) here
-        (subst (λ (l : ProgramLog). CarryFirst period l (of_hart (hart_of worker) taken)) its
-        (subst (λ p. CarryFirst p own (of_hart (hart_of worker) taken)) same first)))
+        inl (subst (λ h. CarryFirst period mode log (of_hart h taken)) here
+        (subst (λ (l : ProgramLog). CarryFirst period mode l (of_hart (hart_of worker) taken)) its
+        (subst (λ m. CarryFirst period m own (of_hart (hart_of worker) taken)) like
+        (subst (λ p. CarryFirst p own_mode own (of_hart (hart_of worker) taken)) same first))))

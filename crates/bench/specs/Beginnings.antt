@@ -16,7 +16,8 @@ pub record AreBeginnings {A : Type 0} (config : Config) (logs : List ProgramLog)
     : Type 0 where
   pub count : length harts ≡ length logs
   pub each : (hart : ℕ) (log : ProgramLog) (came : HartOutcome A) → slice_get logs hart ≡ Some log
-      → slice_get harts hart ≡ Some came → (count : ℕ) × HasGot config.period config.keep log count (got_of came)
+      → slice_get harts hart ≡ Some came
+      → (count : ℕ) × HasGot config.period config.mode config.keep log count (got_of came)
 
 -- How many of the messages that were taken of a hart came of it: at most all where memory for it was refused, and
 -- else all.
@@ -29,7 +30,7 @@ abbrev pub AreThoseTaken : {A : Type 0} → Config → List ProgramLog → List 
 AreThoseTaken {A} config logs taken harts =
     (hart : ℕ) (log : ProgramLog) (came : HartOutcome A) → slice_get logs hart ≡ Some log
     → slice_get harts hart ≡ Some came
-    → (count : ℕ) × HasGot config.period config.keep log count (got_of came)
+    → (count : ℕ) × HasGot config.period config.mode config.keep log count (got_of came)
     × CameOf came.refused (length (of_hart hart taken)) count
 
 -- The messages of each hart among these carry the first payloads of its log, in order, but where memory for it was
@@ -38,7 +39,7 @@ abbrev pub AreCarried : {A : Type 0} → Config → List ProgramLog → List Mes
 AreCarried {A} config logs taken harts =
     (hart : ℕ) (log : ProgramLog) (came : HartOutcome A) → slice_get logs hart ≡ Some log
     → slice_get harts hart ≡ Some came → IsFalse came.refused
-    → CarryFirst config.period log (of_hart hart taken)
+    → CarryFirst config.period config.mode log (of_hart hart taken)
 
 -- Of each hart for which memory was refused fewer packets came than messages of it are among these.
 abbrev pub LackSome : {A : Type 0} → List Message → List (HartOutcome A) → Type 0

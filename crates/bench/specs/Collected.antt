@@ -2,6 +2,7 @@
 use Rattle.std.specs.Prelude.{ℕ, ◌+◌, ◌-◌, ◌^◌, ◌≡◌, ◌≤◌, ◌==◌, ◌++◌, Bool, false, if◌then◌else◌, IsSomeAnd, IsTrue, List, [], ◌∷◌, Some, Ok, length, min, slice_get, take}
 use Rattle.rvclass.specs.Fetch.{words_of}
 use Rattle.legalpath.specs.ProgramLog.{ProgramLog}
+use Rattle.payload.specs.declared.mode.Mode.{Mode}
 use Rattle.payload.specs.declared.packet.Packet.{Packet}
 use Rattle.encoder.specs.Packets.{packets}
 use Rattle.encoder.specs.Payloads.{payloads}
@@ -34,19 +35,23 @@ pub record Came (hart : ℕ) (got : Got) (refused : Bool) (collected : Collected
 
 -- The first packets of this log were taken in of a hart, this many, and memory for it was not refused: what came of it
 -- is what comes of them, the message behind them is expected, and its decoder stands for them.
-pub record HasCollected (period : ℕ) (log : ProgramLog) (count hart : ℕ) (collected : Collected) : Type 0 where
+pub record HasCollected (period : ℕ) (mode : Mode) (log : ProgramLog) (count hart : ℕ) (collected : Collected)
+    : Type 0 where
   pub known : slice_get collected.logs hart ≡ Some log
-  pub few : count ≤ length (packets (words_of log.program) period log.events)
-  pub came : Came hart (kept collected.keep (got_after period log count)) false collected
+  pub few : count ≤ length (packets (words_of log.program) period mode log.events)
+  pub came : Came hart (kept collected.keep (got_after period mode log count)) false collected
   pub expected : slice_get collected.received.expected hart
-      ≡ Some (record { expected = count; closed = count == length (packets (words_of log.program) period log.events) })
-  pub holds : HoldsHart (words_of log.program) hart (take count (packets (words_of log.program) period log.events))
+      ≡ Some (record {
+        expected = count;
+        closed = count == length (packets (words_of log.program) period mode log.events);
+      })
+  pub holds : HoldsHart (words_of log.program) hart (take count (packets (words_of log.program) period mode log.events))
       collected.received
 
--- The message is the one of this number of a log at a period.
-pub record IsMessageOf (period : ℕ) (log : ProgramLog) (place : ℕ) (message : Message) : Type 0 where
+-- The message is the one of this number of a log at a period and in a mode.
+pub record IsMessageOf (period : ℕ) (mode : Mode) (log : ProgramLog) (place : ℕ) (message : Message) : Type 0 where
   pub number : message.number ≡ place
-  pub payload : slice_get (payloads period log) place ≡ Some message.payload
+  pub payload : slice_get (payloads period mode log) place ≡ Some message.payload
 
 -- Memory for the hart was refused.
 abbrev pub IsRefusedHart : ℕ → Collected → Type 0

@@ -3,6 +3,7 @@ use Rattle.std.specs.Prelude.{◌≡◌, ◌≤◌, ◌==◌, ℕ, Bool, true, i
 use Rattle.retire.specs.declared.event.Event.{Event}
 use Rattle.rvclass.specs.Fetch.{words_of}
 use Rattle.legalpath.specs.ProgramLog.{ProgramLog}
+use Rattle.payload.specs.declared.mode.Mode.{Mode}
 use Rattle.payload.specs.declared.packet.Packet.{Packet}
 use Rattle.encoder.specs.Packets.{packets}
 use Rattle.encoder.specs.Payloads.{payloads}
@@ -28,14 +29,14 @@ got_of hart = record {
   closed = hart.closed;
 }
 
--- What comes of a hart of which the first packets of its log were taken, this many, at this period.
-abbrev pub got_after : ℕ → ProgramLog → ℕ → Got
-got_after period log count = record {
-  packets = take count (packets (words_of log.program) period log.events);
+-- What comes of a hart of which the first packets of its log were taken, this many, at this period and in this mode.
+abbrev pub got_after : ℕ → Mode → ProgramLog → ℕ → Got
+got_after period mode log count = record {
+  packets = take count (packets (words_of log.program) period mode log.events);
   taken = count;
-  bytes = sum (map length (take count (payloads period log)));
-  decoded = take (reach (words_of log.program) period log.events count) log.events;
-  closed = count == length (packets (words_of log.program) period log.events);
+  bytes = sum (map length (take count (payloads period mode log)));
+  decoded = take (reach (words_of log.program) period mode log.events count) log.events;
+  closed = count == length (packets (words_of log.program) period mode log.events);
 }
 
 -- The same with the packets left out where they are not kept.
@@ -44,7 +45,7 @@ kept keep got = record got { packets = if keep then got.packets else [] }
 
 -- What came of a hart is what comes of it after so many of its packets, of which it has that many: its whole log, where
 -- the closing packet came.
-pub record HasGot (period : ℕ) (keep : Bool) (log : ProgramLog) (count : ℕ) (got : Got) : Type 0 where
-  pub few : count ≤ length (packets (words_of log.program) period log.events)
-  pub same : got ≡ kept keep (got_after period log count)
+pub record HasGot (period : ℕ) (mode : Mode) (keep : Bool) (log : ProgramLog) (count : ℕ) (got : Got) : Type 0 where
+  pub few : count ≤ length (packets (words_of log.program) period mode log.events)
+  pub same : got ≡ kept keep (got_after period mode log count)
   pub whole : got.closed ≡ true → got.decoded ≡ log.events

@@ -3,6 +3,7 @@ use Rattle.std.specs.Prelude.{ℕ, List, length, map, sum}
 use Rattle.retire.specs.declared.event.Event.{Event}
 use Rattle.legalpath.specs.ProgramLog.{ProgramLog}
 use Rattle.payload.specs.Ended.{has_ended}
+use Rattle.payload.specs.declared.mode.Mode.{Mode}
 use Rattle.encoder.specs.Payloads.{payloads}
 use Rattle.message.specs.OfHart.{packets_in}
 use Rattle.message.specs.declared.message.Message.{Message}
@@ -11,10 +12,11 @@ use Rattle.funnel.specs.Payloads.{payloads_in}
 use Rattle.funnel.specs.declared.turn.Turn.{Turn}
 use Rattle.bench.specs.Got.{Got}
 
--- The state of the funnel machine after turns of harts that have the payloads of these logs at this period.
-abbrev pub replayed : ℕ → ℕ → List ProgramLog → List Turn → Funnel
-replayed period capacity logs turns =
-    after_turns capacity (map (payloads period) logs) turns (opening (map (payloads period) logs))
+-- The state of the funnel machine after turns of harts that have the payloads of these logs at this period and in this
+-- mode.
+abbrev pub replayed : ℕ → Mode → ℕ → List ProgramLog → List Turn → Funnel
+replayed period mode capacity logs turns =
+    after_turns capacity (map (payloads period mode) logs) turns (opening (map (payloads period mode) logs))
 
 -- What comes of a hart whose messages these are, and whose packets decode to this.
 abbrev pub got_from : List Message → List Event → Got

@@ -1,6 +1,7 @@
 -- What a stop of a run tells.
 use Rattle.std.specs.Prelude.{ℕ, ◌≡◌, All, true, false, IsFalse, IsSomeAnd, IsTrue, List, Option, Some, None, slice_get}
 use Rattle.legalpath.specs.ProgramLog.{ProgramLog}
+use Rattle.payload.specs.declared.mode.Mode.{Mode}
 use Rattle.message.specs.OfHart.{of_hart}
 use Rattle.message.specs.declared.message.Message.{Message}
 use Rattle.bench.specs.Working.{AreNotAll}
@@ -36,9 +37,9 @@ NamesOpen None harts = AreClosed harts
 NamesOpen (Some why) harts = IsStopOf why harts
 
 -- Of the hart fewer messages are among these than its log has payloads.
-abbrev pub LacksPayloads : ℕ → List ProgramLog → List Message → ℕ → Type 0
-LacksPayloads period logs taken hart =
-    (log : ProgramLog) → slice_get logs hart ≡ Some log → AreNotAll period log (of_hart hart taken)
+abbrev pub LacksPayloads : ℕ → Mode → List ProgramLog → List Message → ℕ → Type 0
+LacksPayloads period mode logs taken hart =
+    (log : ProgramLog) → slice_get logs hart ≡ Some log → AreNotAll period mode log (of_hart hart taken)
 
 -- Where a stop tells of a payload that was handed back, this holds of the hart that it names.
 abbrev pub IfHandedBack : (ℕ → Type 0) → Option Stop → Type 0

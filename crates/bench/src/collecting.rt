@@ -4,6 +4,7 @@ ghost use Rattle.std.specs.Prelude.{ℕ, ◌+◌, ◌≡◌, ◌≢◌, ◌<◌,
 ghost use Rattle.retire.specs.declared.event.Event.{Event as AnyEvent};
 ghost use Rattle.rvclass.specs.Fetch.{words_of};
 ghost use Rattle.legalpath.specs.ProgramLog.{IsLegalLog, ProgramLog};
+ghost use Rattle.payload.specs.declared.mode.Mode.{Mode};
 ghost use Rattle.payload.specs.declared.packet.Packet.{Packet as AnyPacket};
 ghost use Rattle.decoder.specs.Describes.{Describes};
 ghost use Rattle.decoder.specs.declared.fault.DecodeFault.{DecodeFault as AnyDecodeFault};
@@ -70,8 +71,8 @@ impl<'l, 'p, A: Allocator + Copy, B: Allocator> Collector<'l, 'p, A, B> {
     ) -> Result<Collector<'l, 'p, A, B>, AllocError>
         requires few { length logs.now ≤ 65_535 }
         ensures made { IfOk result (λ collector. (collector.logs ≡ logs.now) × (collector.keep ≡ keep)) }
-        ensures begun { (period hart : ℕ) (log : ProgramLog) → slice_get logs.now hart ≡ Some log
-            → IfOk result (λ collector. HasCollected period log 0 hart collector) }
+        ensures begun { (period : ℕ) (mode : Mode) (hart : ℕ) (log : ProgramLog) → slice_get logs.now hart ≡ Some log
+            → IfOk result (λ collector. HasCollected period mode log 0 hart collector) }
         ensures legal { IfOk result (λ collector. All IsLegalLog logs.now) }
     {
         let harts = outcomes_of(alloc, logs)?;
@@ -91,10 +92,13 @@ impl<'l, 'p, A: Allocator + Copy, B: Allocator> Collector<'l, 'p, A, B> {
         ensures logs { (self.new.logs ≡ self.old.logs) × (self.new.keep ≡ self.old.keep) }
 
         // The next message of a log adds what it tells, unless memory is refused.
-        ensures next { (period count : ℕ) (log : ProgramLog) → HasCollected period log count message.hart self.old
-            → IsMessageOf period log count message → OnOk result (HasCollected period log (count + 1) message.hart self.new) }
-        ensures only_memory { (period count : ℕ) (log : ProgramLog) → HasCollected period log count message.hart self.old
-            → IsMessageOf period log count message → IfErr result (λ fault. fault ≡ CollectFault.Memory) }
+        ensures next { (period : ℕ) (mode : Mode) (count : ℕ) (log : ProgramLog)
+            → HasCollected period mode log count message.hart self.old
+            → IsMessageOf period mode log count message
+            → OnOk result (HasCollected period mode log (count + 1) message.hart self.new) }
+        ensures only_memory { (period : ℕ) (mode : Mode) (count : ℕ) (log : ProgramLog)
+            → HasCollected period mode log count message.hart self.old
+            → IsMessageOf period mode log count message → IfErr result (λ fault. fault ≡ CollectFault.Memory) }
         ensures others { (hart : ℕ) → hart ≢ message.hart → IsSameOf hart self.old self.new }
 
         // A fault leaves what came of the hart as it was.

@@ -2,6 +2,7 @@
 
 ghost use Rattle.std.specs.Prelude.{ℕ, ◌≡◌, ◌≤◌, All, Bool, List, length, slice_get, Some, true};
 ghost use Rattle.legalpath.specs.ProgramLog.{ProgramLog};
+ghost use Rattle.payload.specs.declared.mode.Mode.{Mode as AnyMode};
 ghost use Rattle.message.specs.OfHart.{of_hart};
 ghost use Rattle.bench.specs.Stopping.{LacksPayloads};
 ghost use Rattle.bench.specs.Working.{AreNotAll, CarryFirst};
@@ -11,6 +12,7 @@ use crate::collecting::Collector;
 use crate::worker::{Payloads, Work, Worker};
 use funnel::Outlet;
 use legalpath::LegalLog;
+use payload::Mode;
 use std::alloc::Allocator;
 use std::sync::Wait;
 use std::thread::Threads;
@@ -22,9 +24,9 @@ pub(crate) fn collect<A: Allocator + Copy, R: Wait>(
     collector: &mut Collector<'_, '_, A>,
     outlet: &mut Outlet,
 )
-    ensures gathered { (period : ℕ) (logs : List ProgramLog) (started : List Bool)
-        → AreGathered period logs started outlet.old.taken collector.old
-        → AreGathered period logs started outlet.new.taken collector.new }
+    ensures gathered { (period : ℕ) (mode : AnyMode) (logs : List ProgramLog) (started : List Bool)
+        → AreGathered period mode logs started outlet.old.taken collector.old
+        → AreGathered period mode logs started outlet.new.taken collector.new }
     ensures outlet { outlet.new ≡ record outlet.old { taken = outlet.new.taken } }
     ensures keep { collector.new.keep ≡ collector.old.keep }
 {
@@ -46,9 +48,9 @@ fn collect_one<A: Allocator + Copy, R: Wait>(
     collector: &mut Collector<'_, '_, A>,
     outlet: &mut Outlet,
 ) -> Option<bool>
-    ensures gathered { (period : ℕ) (logs : List ProgramLog) (started : List Bool)
-        → AreGathered period logs started outlet.old.taken collector.old
-        → AreGathered period logs started outlet.new.taken collector.new }
+    ensures gathered { (period : ℕ) (mode : AnyMode) (logs : List ProgramLog) (started : List Bool)
+        → AreGathered period mode logs started outlet.old.taken collector.old
+        → AreGathered period mode logs started outlet.new.taken collector.new }
     ensures outlet { outlet.new ≡ record outlet.old { taken = outlet.new.taken } }
     ensures keep { collector.new.keep ≡ collector.old.keep }
 {
@@ -65,22 +67,23 @@ pub(crate) fn settle_all<S: Payloads, A: Allocator, R: Threads>(
     rt: &R,
     logs: &[LegalLog<'_>],
     period: u16,
+    mode: Mode,
     workers: Vec<Worker<S>, A>,
     handed_back: &mut [bool],
     outlet: &mut Outlet,
 )
     requires workers { All (λ w. (w.promise.port.value.funnel ≡ outlet.old.funnel)
         × (slice_get logs.now w.promise.port.value.hart ≡ Some (S.at w.promise.source.value).log)
-        × ((S.at w.promise.source.value).period ≡ period)) workers.items }
+        × ((S.at w.promise.source.value).period ≡ period) × ((S.at w.promise.source.value).mode ≡ mode)) workers.items }
     requires count { length logs.now ≤ length handed_back.old }
     requires none { (hart : ℕ) → ¬ (slice_get handed_back.old hart ≡ Some true) }
     ensures outlet { outlet.new ≡ outlet.old }
     ensures carried { (hart : ℕ) (log : ProgramLog) → slice_get logs.now hart ≡ Some log
         → Among (λ w. w.promise.port.value.hart ≡ hart) workers.items
-        → CarryFirst period log (of_hart hart outlet.old.taken) }
+        → CarryFirst period mode log (of_hart hart outlet.old.taken) }
     ensures count { length handed_back.new ≡ length handed_back.old }
     ensures lacks { (hart : ℕ) → slice_get handed_back.new hart ≡ Some true
-        → LacksPayloads period logs.now outlet.old.taken hart }
+        → LacksPayloads period mode logs.now outlet.old.taken hart }
 {
     let mut workers = workers;
     while let Some(worker) = workers.pop() {
@@ -94,10 +97,11 @@ fn settle<S: Payloads, R: Threads>(rt: &R, worker: Worker<S>, outlet: &mut Outle
     requires { worker.promise.port.value.funnel ≡ outlet.old.funnel }
     ensures outlet { outlet.new ≡ outlet.old }
     ensures hart { result.0 ≡ worker.promise.port.value.hart }
-    ensures carried { CarryFirst (S.at worker.promise.source.value).period (S.at worker.promise.source.value).log
-        (of_hart worker.promise.port.value.hart outlet.old.taken) }
-    ensures lacks { result.1 ≡ true → AreNotAll (S.at worker.promise.source.value).period
+    ensures carried { CarryFirst (S.at worker.promise.source.value).period (S.at worker.promise.source.value).mode
         (S.at worker.promise.source.value).log (of_hart worker.promise.port.value.hart outlet.old.taken) }
+    ensures lacks { result.1 ≡ true → AreNotAll (S.at worker.promise.source.value).period
+        (S.at worker.promise.source.value).mode (S.at worker.promise.source.value).log
+        (of_hart worker.promise.port.value.hart outlet.old.taken) }
 {
     let Work {
         receipt,

@@ -4,6 +4,7 @@ ghost use Rattle.std.specs.Prelude.{ℕ, ◌≡◌, All, List, Some, length, sli
 ghost use Rattle.retire.specs.declared.event.Event.{Event};
 ghost use Rattle.rvclass.specs.Fetch.{words_of};
 ghost use Rattle.legalpath.specs.ProgramLog.{IsLegalLog, ProgramLog};
+ghost use Rattle.payload.specs.declared.mode.Mode.{Mode};
 ghost use Rattle.decoder.specs.Describes.{Describes};
 ghost use Rattle.message.specs.OfHart.{of_hart, packets_of};
 ghost use Rattle.funnel.specs.Lawful.{Lawful};
@@ -14,13 +15,14 @@ ghost use Rattle.bench.specs.Replayed.{got_from, replayed};
 /// Does nothing. Its contract says what any turns let through of legal logs.
 pub fn turns_let_beginnings_through()
     // Every state is lawful.
-    ensures lawful { (period capacity : ℕ) (logs : List ProgramLog) (turns : List Turn) →
-        All IsLegalLog logs → Lawful (replayed period capacity logs turns) }
+    ensures lawful { (period : ℕ) (mode : Mode) (capacity : ℕ) (logs : List ProgramLog) (turns : List Turn) →
+        All IsLegalLog logs → Lawful (replayed period mode capacity logs turns) }
 
     // What the messages that were taken of a hart tell is what comes of it after so many packets of its log.
-    ensures got { (period capacity : ℕ) (logs : List ProgramLog) (turns : List Turn) (hart : ℕ) (log : ProgramLog)
+    ensures got { (period : ℕ) (mode : Mode) (capacity : ℕ) (logs : List ProgramLog) (turns : List Turn) (hart : ℕ)
+        (log : ProgramLog)
         (decoded : List Event) → IsLegalLog log → slice_get logs hart ≡ Some log →
-        Describes (words_of log.program) (packets_of hart (replayed period capacity logs turns).taken) decoded →
-        HasGot period true log (length (of_hart hart (replayed period capacity logs turns).taken))
-        (got_from (of_hart hart (replayed period capacity logs turns).taken) decoded) }
+        Describes (words_of log.program) (packets_of hart (replayed period mode capacity logs turns).taken) decoded →
+        HasGot period mode true log (length (of_hart hart (replayed period mode capacity logs turns).taken))
+        (got_from (of_hart hart (replayed period mode capacity logs turns).taken) decoded) }
 {}

@@ -2,6 +2,7 @@
 
 ghost use Rattle.std.specs.Prelude.{ℕ, ◌≡◌, ◌≤◌, All, List, Some, None, Err, IfErr, IfOk, length, map};
 ghost use Rattle.legalpath.specs.ProgramLog.{IsLegalLog, ProgramLog};
+ghost use Rattle.payload.specs.declared.mode.Mode.{Mode};
 ghost use Rattle.encoder.specs.Payloads.{payloads};
 ghost use Rattle.funnel.specs.Limits.{limit_fault, most_harts};
 ghost use Rattle.funnel.specs.Machine.{Funnel, after_turn, take_front};
@@ -37,9 +38,9 @@ pub fn replay<A: Allocator + Copy, B: Allocator>(
     ensures beginnings { IfOk result (λ outcome. AreBeginnings config logs.now outcome.harts.items) }
     // As many messages came of each hart as were taken of it, but where memory for it was refused.
     ensures taken { IfOk result (λ outcome. AreThoseTaken config logs.now
-        (replayed config.period config.capacity logs.now turns.now).taken outcome.harts.items) }
+        (replayed config.period config.mode config.capacity logs.now turns.now).taken outcome.harts.items) }
     ensures lacks { IfOk result (λ outcome. LackSome
-        (replayed config.period config.capacity logs.now turns.now).taken outcome.harts.items) }
+        (replayed config.period config.mode config.capacity logs.now turns.now).taken outcome.harts.items) }
     ensures stop { IfOk result (λ outcome. NamesRefused outcome.stop outcome.harts.items) }
     ensures refused { (fault : AnySetup) → setup_fault (length logs.now) config ≡ Some fault → result ≡ Err fault }
     ensures memory { setup_fault (length logs.now) config ≡ None → IfErr result (λ fault. fault ≡ Setup.Memory) }
@@ -51,7 +52,7 @@ pub fn replay<A: Allocator + Copy, B: Allocator>(
         Ok(core) => core,
         Err(_) => return Err(Setup::Memory),
     };
-    let mut senders = match senders_of(alloc, logs, config.period) {
+    let mut senders = match senders_of(alloc, logs, config.period, config.mode) {
         Ok(senders) => senders,
         Err(_) => return Err(Setup::Memory),
     };
@@ -100,10 +101,11 @@ fn send<A: Allocator, C: Allocator, B: Allocator>(
     hart: u16,
 )
     requires known { length senders.old.items ≡ core.old.harts }
-    ensures sent { (period : ℕ) (logs : List ProgramLog) (state : Funnel) → All IsLegalLog logs
-        → AreSending period core.old.capacity logs state core.old senders.old.items
-        → AreSending period core.old.capacity logs
-        (after_turn core.old.capacity (map (payloads period) logs) (turn.Hart hart) state) core.new senders.new.items }
+    ensures sent { (period : ℕ) (mode : Mode) (logs : List ProgramLog) (state : Funnel) → All IsLegalLog logs
+        → AreSending period mode core.old.capacity logs state core.old senders.old.items
+        → AreSending period mode core.old.capacity logs
+        (after_turn core.old.capacity (map (payloads period mode) logs) (turn.Hart hart) state) core.new
+        senders.new.items }
 {
     let place = usize::from(hart);
     if place >= senders.len() {
@@ -132,11 +134,11 @@ fn collect<A: Allocator + Copy, B: Allocator>(
     ensures core { (state : Funnel) → state.queue ≡ core.old.queue
         → core.new ≡ record core.old { queue = (take_front state).queue } }
     ensures keep { collector.new.keep ≡ collector.old.keep }
-    ensures taken { (period : ℕ) (logs : List ProgramLog) (state : Funnel) → state.queue ≡ core.old.queue
-        → IsFrontNext period logs state.taken state.queue → AreTaken period logs state.taken collector.old
-        → AreTaken period logs (take_front state).taken collector.new }
-    ensures lacks { (period : ℕ) (logs : List ProgramLog) (state : Funnel) → state.queue ≡ core.old.queue
-        → IsFrontNext period logs state.taken state.queue → AreTaken period logs state.taken collector.old
+    ensures taken { (period : ℕ) (mode : Mode) (logs : List ProgramLog) (state : Funnel) → state.queue ≡ core.old.queue
+        → IsFrontNext period mode logs state.taken state.queue → AreTaken period mode logs state.taken collector.old
+        → AreTaken period mode logs (take_front state).taken collector.new }
+    ensures lacks { (period : ℕ) (mode : Mode) (logs : List ProgramLog) (state : Funnel) → state.queue ≡ core.old.queue
+        → IsFrontNext period mode logs state.taken state.queue → AreTaken period mode logs state.taken collector.old
         → LacksSome state.taken collector.old → LacksSome (take_front state).taken collector.new }
     ensures names { NamesRefusedHart stop.old collector.old → NamesRefusedHart stop.new collector.new }
 {

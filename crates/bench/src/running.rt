@@ -90,7 +90,7 @@ pub fn run_on<A: Allocator + Copy, G: Gate, R: Threads + Wait + Sync>(
     ensures refused_harts { IfOk result (λ outcome. NoRefusedIsClosed outcome.harts.items) }
     // Where a payload of a hart was handed back, as the stop tells, not all payloads of its log were taken.
     ensures handed_back { IfOk result (λ outcome.
-        IfHandedBack (LacksPayloads config.period logs.now outlet.new.taken) outcome.stop) }
+        IfHandedBack (LacksPayloads config.period config.mode logs.now outlet.new.taken) outcome.stop) }
     ensures untouched { OnErr result (outlet.new ≡ outlet.old) }
     ensures funnel { outlet.new ≡ record outlet.old { taken = outlet.new.taken } }
 {
@@ -108,7 +108,7 @@ pub fn run_on<A: Allocator + Copy, G: Gate, R: Threads + Wait + Sync>(
             ensures stop { IfOk result.0 (λ outcome. NamesOpen outcome.stop outcome.harts.items) }
             ensures refused_harts { IfOk result.0 (λ outcome. NoRefusedIsClosed outcome.harts.items) }
             ensures handed_back { IfOk result.0 (λ outcome.
-                IfHandedBack (LacksPayloads config.period logs.entry.now result.1.now.taken) outcome.stop) }
+                IfHandedBack (LacksPayloads config.period config.mode logs.entry.now result.1.now.taken) outcome.stop) }
             ensures untouched { OnErr result.0 (result.1.now ≡ outlet.entry.now) }
             ensures funnel { result.1.now ≡ record outlet.entry.now { taken = result.1.now.taken } }
         {
@@ -142,7 +142,7 @@ fn conduct<'s, 'p, E, A: Allocator + Copy, G: Gate, R: Threads + Wait + Sync>(
     ensures stop { IfOk result (λ outcome. NamesOpen outcome.stop outcome.harts.items) }
     ensures refused_harts { IfOk result (λ outcome. NoRefusedIsClosed outcome.harts.items) }
     ensures handed_back { IfOk result (λ outcome.
-        IfHandedBack (LacksPayloads config.period logs.now outlet.new.taken) outcome.stop) }
+        IfHandedBack (LacksPayloads config.period config.mode logs.now outlet.new.taken) outcome.stop) }
     ensures untouched { OnErr result (outlet.new ≡ outlet.old) }
     ensures funnel { outlet.new ≡ record outlet.old { taken = outlet.new.taken } }
 {
@@ -156,6 +156,7 @@ fn conduct<'s, 'p, E, A: Allocator + Copy, G: Gate, R: Threads + Wait + Sync>(
         gate,
         logs,
         config.period,
+        config.mode,
         ports,
         workers,
         started.as_mut_slice(),
@@ -167,6 +168,7 @@ fn conduct<'s, 'p, E, A: Allocator + Copy, G: Gate, R: Threads + Wait + Sync>(
         rt,
         logs,
         config.period,
+        config.mode,
         workers,
         handed_back.as_mut_slice(),
         outlet,

@@ -12,6 +12,7 @@ use crate::worker::{Worker, start};
 use encoder::Source;
 use funnel::{Outlet, Port};
 use legalpath::LegalLog;
+use payload::Mode;
 use std::alloc::Allocator;
 use std::sync::Wait;
 use std::thread::Scope;
@@ -24,6 +25,7 @@ pub(crate) fn start_all<'s, 'p, E, A: Allocator + Copy, G: Gate, R: Wait + Sync>
     gate: &'s G,
     logs: &'s [LegalLog<'p>],
     period: u16,
+    mode: Mode,
     ports: Vec<Port>,
     mut workers: Vec<Worker<Source<'s, 'p>>, A>,
     started: &mut [bool],
@@ -37,13 +39,14 @@ pub(crate) fn start_all<'s, 'p, E, A: Allocator + Copy, G: Gate, R: Wait + Sync>
     requires flags { length started.old ≡ length logs.now }
     requires own { collector.old.logs ≡ logs.now }
     requires begun { (hart : ℕ) (log : ProgramLog) → slice_get logs.now hart ≡ Some log
-        → HasCollected period log 0 hart collector.old }
+        → HasCollected period mode log 0 hart collector.old }
     ensures workers { All (λ w. (w.promise.port.value.funnel ≡ outlet.now.funnel)
-        × (slice_get logs.now w.promise.port.value.hart ≡ Some w.promise.source.value.log) × (w.promise.source.value.period ≡ period)) result.items }
+        × (slice_get logs.now w.promise.port.value.hart ≡ Some w.promise.source.value.log)
+        × (w.promise.source.value.period ≡ period) × (w.promise.source.value.mode ≡ mode)) result.items }
     ensures flags { length started.new ≡ length logs.now }
     ensures started { (hart : ℕ) → slice_get started.new hart ≡ Some true
         → Among (λ w. w.promise.port.value.hart ≡ hart) result.items }
-    ensures gathered { AreGathered period logs.now started.new [] collector.new }
+    ensures gathered { AreGathered period mode logs.now started.new [] collector.new }
     ensures keep { collector.new.keep ≡ collector.old.keep }
 {
     let mut ports = ports;
@@ -57,7 +60,7 @@ pub(crate) fn start_all<'s, 'p, E, A: Allocator + Copy, G: Gate, R: Wait + Sync>
             gate,
             hart as u16,
             port,
-            Source::new(log, period),
+            Source::new(log, period, mode),
             most,
         ) {
             Some(worker) => {

@@ -2,6 +2,7 @@
 
 ghost use Rattle.std.specs.Prelude.{ℕ, ◌≡◌, ◌≤◌, ◌+◌, ◌^◌, [], IfSome, slice_get};
 ghost use Rattle.legalpath.specs.ProgramLog.{IsLegalLog, ProgramLog};
+ghost use Rattle.payload.specs.declared.mode.Mode.{Mode};
 ghost use Rattle.encoder.specs.Payloads.{payloads};
 ghost use Rattle.encoder.specs.SourceAt.{IsAt, SourceAt, number_behind};
 ghost use Rattle.bench.specs.Working.{IsWork};
@@ -31,10 +32,12 @@ pub(crate) trait Payloads: Send + Drop {
 
     /// The next payload, where there is one.
     fn next(&mut self) -> Option<Payload>
-        ensures given { (period number : ℕ) (log : ProgramLog) → IsAt period log number (Self.at self.old)
-            → result ≡ slice_get (payloads period log) number }
-        ensures goes_on { (period number : ℕ) (log : ProgramLog) → IsAt period log number (Self.at self.old)
-            → IsAt period log (number_behind number result) (Self.at self.new) };
+        ensures given { (period number : ℕ) (mode : Mode) (log : ProgramLog)
+            → IsAt period mode log number (Self.at self.old)
+            → result ≡ slice_get (payloads period mode log) number }
+        ensures goes_on { (period number : ℕ) (mode : Mode) (log : ProgramLog)
+            → IsAt period mode log number (Self.at self.old)
+            → IsAt period mode log (number_behind number result) (Self.at self.new) };
 }
 
 impl<'l, 'p> Payloads for Source<'l, 'p> {
@@ -56,7 +59,8 @@ pub(crate) struct Sending<S> {
 impl<S: Payloads> Promise<Work> for Sending<S> {
     ghost use Rattle.bench.specs.Working.{IsWork};
 
-    ghost kept_by = { λ p w. IsWork (S.at p.source.value).period p.port.value (S.at p.source.value).log w.receipt w.handed_back };
+    ghost kept_by = { λ p w. IsWork (S.at p.source.value).period (S.at p.source.value).mode p.port.value
+        (S.at p.source.value).log w.receipt w.handed_back };
 }
 
 /// A worker that was started.
@@ -85,7 +89,8 @@ pub(crate) fn start<'s, E, S: Payloads + 's, G: Gate, R: Wait + Sync>(
             move || -> Work
                 requires { ((S.at source).number ≡ 0) × (port.sent ≡ []) × IsLegalLog (S.at source).log
                     × (most ≤ 2 ^ 24 + 2) }
-                ensures { IsWork (S.at source).period port (S.at source).log result.receipt result.handed_back }
+                ensures { IsWork (S.at source).period (S.at source).mode port (S.at source).log result.receipt
+                    result.handed_back }
             { send_all(rt, gate, hart, port, source, most) },
         )
         .ok()
@@ -101,7 +106,7 @@ fn send_all<S: Payloads, G: Gate, R: Wait>(
     most: usize,
 ) -> Work
     requires { ((S.at source).number ≡ 0) × (port.sent ≡ []) × IsLegalLog (S.at source).log × (most ≤ 2 ^ 24 + 2) }
-    ensures { IsWork (S.at source).period port (S.at source).log result.receipt result.handed_back }
+    ensures { IsWork (S.at source).period (S.at source).mode port (S.at source).log result.receipt result.handed_back }
 {
     let mut port = port;
     let mut source = source;

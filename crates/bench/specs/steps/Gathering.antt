@@ -1,6 +1,7 @@
 -- What a collector has of messages that workers sent.
 use Rattle.std.specs.Prelude.{ℕ, ◌≡◌, ◌⊎◌, Bool, true, false, List, [], ◌∷◌, Some, length, slice_get}
 use Rattle.legalpath.specs.ProgramLog.{ProgramLog}
+use Rattle.payload.specs.declared.mode.Mode.{Mode}
 use Rattle.message.specs.OfHart.{of_hart}
 use Rattle.message.specs.declared.message.Message.{Message}
 use Rattle.bench.specs.Collected.{Collected}
@@ -9,14 +10,14 @@ use Rattle.bench.specs.steps.Taking.{IsCutOff, IsTakenOf}
 
 -- Of a hart whose worker was started: where the messages that were taken of it carry the first payloads of its log,
 -- they came, or memory for it was refused. Of any other hart memory was refused when no more had come than were taken.
-pub record AreGathered (period : ℕ) (logs : List ProgramLog) (started : List Bool) (taken : List Message)
+pub record AreGathered (period : ℕ) (mode : Mode) (logs : List ProgramLog) (started : List Bool) (taken : List Message)
     (collected : Collected) : Type 0 where
   pub own : collected.logs ≡ logs
   pub running : (hart : ℕ) (log : ProgramLog) → slice_get logs hart ≡ Some log → slice_get started hart ≡ Some true
-      → CarryFirst period log (of_hart hart taken)
-      → IsTakenOf period log (length (of_hart hart taken)) hart collected
+      → CarryFirst period mode log (of_hart hart taken)
+      → IsTakenOf period mode log (length (of_hart hart taken)) hart collected
   pub others : (hart : ℕ) (log : ProgramLog) → slice_get logs hart ≡ Some log → slice_get started hart ≡ Some false
-      → IsCutOff period log (length (of_hart hart taken)) hart collected
+      → IsCutOff period mode log (length (of_hart hart taken)) hart collected
 
 -- This holds of one among these.
 abbrev pub Among : {X : Type 0} → (X → Type 0) → List X → Type 0

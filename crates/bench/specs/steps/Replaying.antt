@@ -15,9 +15,10 @@ use Rattle.bench.specs.steps.Taking.{AreTaken, LacksSome, NamesRefusedHart}
 -- refused.
 pub record IsReplayed {B : Type 0} (config : Config) (logs : List ProgramLog) (turns : List Turn) (core : Held)
     (senders : List (Sender B)) (collected : Collected) (why : Option Stop) : Type 0 where
-  pub sending : AreSending config.period config.capacity logs (replayed config.period config.capacity logs turns) core
-      senders
+  pub sending : AreSending config.period config.mode config.capacity logs
+      (replayed config.period config.mode config.capacity logs turns) core senders
   pub keep : collected.keep ≡ config.keep
-  pub taken : AreTaken config.period logs (replayed config.period config.capacity logs turns).taken collected
-  pub lacks : LacksSome (replayed config.period config.capacity logs turns).taken collected
+  pub taken : AreTaken config.period config.mode logs
+      (replayed config.period config.mode config.capacity logs turns).taken collected
+  pub lacks : LacksSome (replayed config.period config.mode config.capacity logs turns).taken collected
   pub named : NamesRefusedHart why collected

@@ -1,15 +1,16 @@
 -- Where a funnel and the harts that send into it stand.
 use Rattle.std.specs.Prelude.{ℕ, ◌≡◌, List, Option, Some, None, length, slice_get}
 use Rattle.legalpath.specs.ProgramLog.{ProgramLog}
+use Rattle.payload.specs.declared.mode.Mode.{Mode}
 use Rattle.message.specs.declared.message.Message.{Message}
 use Rattle.funnel.specs.Held.{Held}
 use Rattle.funnel.specs.Machine.{Funnel, sent_by}
 use Rattle.bench.specs.declared.sender.Sender.{Sender}
 
--- A hart that has this log, sends at this period, and sent so many messages.
-abbrev pub sender_at : {B : Type 0} → ℕ → ProgramLog → ℕ → Sender B
-sender_at period log count =
-    record { source = record { log = log; period = period; number = count }; number = count }
+-- A hart that has this log, sends at this period and in this mode, and sent so many messages.
+abbrev pub sender_at : {B : Type 0} → ℕ → Mode → ProgramLog → ℕ → Sender B
+sender_at period mode log count =
+    record { source = record { log = log; period = period; mode = mode; number = count }; number = count }
 
 -- The message of this number of a hart with which it sends a payload, where it has one.
 abbrev pub message_with : ℕ → ℕ → Option (List ℕ) → Option Message
@@ -17,16 +18,17 @@ message_with hart number None = None
 message_with hart number (Some payload) = Some (record { hart = hart; number = number; payload = payload })
 
 -- Each of the harts with these logs stands where it sent nothing.
-pub record AreNewSenders {B : Type 0} (period : ℕ) (logs : List ProgramLog) (senders : List (Sender B)) : Type 0 where
+pub record AreNewSenders {B : Type 0} (period : ℕ) (mode : Mode) (logs : List ProgramLog) (senders : List (Sender B))
+    : Type 0 where
   pub count : length senders ≡ length logs
   pub each : (hart : ℕ) (log : ProgramLog) → slice_get logs hart ≡ Some log
-      → slice_get senders hart ≡ Some (sender_at period log 0)
+      → slice_get senders hart ≡ Some (sender_at period mode log 0)
 
 -- The funnel and the harts with these logs stand where the funnel machine does in this state.
-pub record AreSending {B : Type 0} (period capacity : ℕ) (logs : List ProgramLog) (state : Funnel) (core : Held)
-    (senders : List (Sender B)) : Type 0 where
+pub record AreSending {B : Type 0} (period : ℕ) (mode : Mode) (capacity : ℕ) (logs : List ProgramLog) (state : Funnel)
+    (core : Held) (senders : List (Sender B)) : Type 0 where
   pub funnel : core ≡ record { harts = length logs; capacity = capacity; queue = state.queue }
   pub places : length state.sent ≡ length logs
   pub count : length senders ≡ length logs
   pub each : (hart : ℕ) (log : ProgramLog) → slice_get logs hart ≡ Some log
-      → slice_get senders hart ≡ Some (sender_at period log (length (sent_by hart state)))
+      → slice_get senders hart ≡ Some (sender_at period mode log (length (sent_by hart state)))

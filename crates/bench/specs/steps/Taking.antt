@@ -2,6 +2,7 @@
 use Rattle.std.specs.Prelude.{ℕ, ◌≡◌, ◌≤◌, ◌<◌, ◌⊎◌, ◌∷◌, true, IsTrue, List, [], Option, Some, None, length, slice_get}
 use Rattle.rvclass.specs.Fetch.{words_of}
 use Rattle.legalpath.specs.ProgramLog.{ProgramLog}
+use Rattle.payload.specs.declared.mode.Mode.{Mode}
 use Rattle.encoder.specs.Packets.{packets}
 use Rattle.message.specs.OfHart.{of_hart}
 use Rattle.message.specs.declared.message.Message.{Message}
@@ -12,23 +13,25 @@ use Rattle.bench.specs.declared.stop.Stop.TheVariants as stop
 
 -- Memory for the hart was refused, when fewer of its messages had come than were taken, or none was taken, and not all
 -- of its log's.
-pub record IsCutOff (period : ℕ) (log : ProgramLog) (taken hart : ℕ) (collected : Collected) : Type 0 where
+pub record IsCutOff (period : ℕ) (mode : Mode) (log : ProgramLog) (taken hart : ℕ) (collected : Collected)
+    : Type 0 where
   pub count : ℕ
   pub within : count ≤ taken
   pub lacks : 0 < taken → count < taken
-  pub few : count < length (packets (words_of log.program) period log.events)
-  pub came : Came hart (kept collected.keep (got_after period log count)) true collected
+  pub few : count < length (packets (words_of log.program) period mode log.events)
+  pub came : Came hart (kept collected.keep (got_after period mode log count)) true collected
 
 -- All of the messages that were taken of the hart came, so many, or memory for it was refused.
-abbrev pub IsTakenOf : ℕ → ProgramLog → ℕ → ℕ → Collected → Type 0
-IsTakenOf period log taken hart collected =
-    HasCollected period log taken hart collected ⊎ IsCutOff period log taken hart collected
+abbrev pub IsTakenOf : ℕ → Mode → ProgramLog → ℕ → ℕ → Collected → Type 0
+IsTakenOf period mode log taken hart collected =
+    HasCollected period mode log taken hart collected ⊎ IsCutOff period mode log taken hart collected
 
 -- Of each hart the messages among these came, or memory for it was refused.
-pub record AreTaken (period : ℕ) (logs : List ProgramLog) (taken : List Message) (collected : Collected) : Type 0 where
+pub record AreTaken (period : ℕ) (mode : Mode) (logs : List ProgramLog) (taken : List Message)
+    (collected : Collected) : Type 0 where
   pub own : collected.logs ≡ logs
   pub each : (hart : ℕ) (log : ProgramLog) → slice_get logs hart ≡ Some log
-      → IsTakenOf period log (length (of_hart hart taken)) hart collected
+      → IsTakenOf period mode log (length (of_hart hart taken)) hart collected
 
 -- Of each hart for which memory was refused fewer messages came than were taken.
 abbrev pub LacksSome : List Message → Collected → Type 0
@@ -37,23 +40,25 @@ LacksSome taken collected =
     → slice_get collected.harts hart ≡ Some at → IsTrue at.refused → at.taken < length (of_hart hart taken)
 
 -- The message is of a hart with a log, and the next of it behind those that were taken.
-pub record IsNext (period : ℕ) (logs : List ProgramLog) (taken : List Message) (message : Message) : Type 0 where
+pub record IsNext (period : ℕ) (mode : Mode) (logs : List ProgramLog) (taken : List Message) (message : Message)
+    : Type 0 where
   pub log : ProgramLog
   pub known : slice_get logs message.hart ≡ Some log
-  pub own : IsMessageOf period log (length (of_hart message.hart taken)) message
+  pub own : IsMessageOf period mode log (length (of_hart message.hart taken)) message
 
 -- Where messages wait, the front one is the next of its hart.
-abbrev pub IsFrontNext : ℕ → List ProgramLog → List Message → List Message → Type 0
-IsFrontNext period logs taken [] = Unit {0}
-IsFrontNext period logs taken (message ∷ waiting) = IsNext period logs taken message
+abbrev pub IsFrontNext : ℕ → Mode → List ProgramLog → List Message → List Message → Type 0
+IsFrontNext period mode logs taken [] = Unit {0}
+IsFrontNext period mode logs taken (message ∷ waiting) = IsNext period mode logs taken message
 
 -- Messages came of those that were taken of a funnel, and the front one of those that wait is the next of its hart.
 pub record IsReady (waiting : List Message) (collected : Collected) : Type 0 where
   pub period : ℕ
+  pub mode : Mode
   pub logs : List ProgramLog
   pub taken : List Message
-  pub came : AreTaken period logs taken collected
-  pub next : IsFrontNext period logs taken waiting
+  pub came : AreTaken period mode logs taken collected
+  pub next : IsFrontNext period mode logs taken waiting
 
 -- There is no stop where memory for no hart was refused, and else it names such a hart.
 abbrev pub NamesRefusedHart : Option Stop → Collected → Type 0

@@ -7,7 +7,7 @@ use encoder::Source;
 use legalpath::LegalLog;
 use linked_list_allocator::LocalHeap;
 use message::{DemuxFault, Message};
-use payload::{PackFault, Payload};
+use payload::{Mode, PackFault, Payload};
 use std::alloc::Allocator;
 use std::test::Fail;
 
@@ -27,7 +27,7 @@ fn send<A: Allocator + Copy>(
     hart: u16,
     count: u64,
 ) -> Sent {
-    let mut source = Source::new(log, 1024);
+    let mut source = Source::new(log, 1024, Mode::Differential);
     let mut sent = Sent {
         taken: 0,
         bytes: 0,

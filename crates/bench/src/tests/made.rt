@@ -2,6 +2,7 @@
 
 use crate::{Outcome, Turn, report};
 use legalpath::LegalLog;
+use payload::Mode;
 use retire::Event;
 use rvclass::Program;
 use std::alloc::{AllocError, Allocator, Global};
@@ -12,6 +13,23 @@ const BASE: u64 = 0x8000_0000;
 
 /// Two words `nop`, a jump to the address in `ra`, and a branch to itself.
 const WORDS: [u32; 4] = [0x0000_0013, 0x0000_0013, 0x0000_8067, 0x0000_0063];
+
+/// The report of both harts in each mode, where each log comes back whole. In full mode Open takes one byte more, and
+/// an address packet four.
+pub(super) const WHOLE: [(Mode, &str); 2] = [
+    (
+        Mode::Differential,
+        "hart 0: 33 events, 5 packets, 9 payload bytes, decoded 33, whole\n\
+         hart 1: 4 events, 4 packets, 9 payload bytes, decoded 4, whole\n\
+         result: whole\n",
+    ),
+    (
+        Mode::Full,
+        "hart 0: 33 events, 5 packets, 14 payload bytes, decoded 33, whole\n\
+         hart 1: 4 events, 4 packets, 14 payload bytes, decoded 4, whole\n\
+         result: whole\n",
+    ),
+];
 
 /// The retirement of a word at an offset, at machine level.
 pub(super) fn retired(offset: u64, itype: u8) -> Event {

@@ -5,6 +5,7 @@ use crate::{CollectFault, Collector, Config, Setup, Stop, replay};
 use encoder::Source;
 use linked_list_allocator::LocalHeap;
 use message::Message;
+use payload::Mode;
 use std::test::Fail;
 
 #[test]
@@ -14,6 +15,7 @@ fn replay_is_refused(rt: HostRuntime) -> Result<(), Fail> {
     let logs = logs(alloc, &program)?;
     let config = Config {
         period: 1024,
+        mode: Mode::Differential,
         capacity: 1,
         keep: false,
     };
@@ -73,7 +75,7 @@ fn memory_is_refused_once(rt: HostRuntime) -> Result<(), Fail> {
     let heap = LocalHeap::new(alloc, 8192)?;
     let mut collector = Collector::new(&heap, &logs, false)?;
     for (hart, count) in [(0u16, 5u64), (1, 4)] {
-        let mut source = Source::new(&logs[usize::from(hart).min(1)], 1024);
+        let mut source = Source::new(&logs[usize::from(hart).min(1)], 1024, Mode::Differential);
         for number in 0..count {
             let Some(payload) = source.next() else {
                 return Err(Fail::new("too few payloads"));

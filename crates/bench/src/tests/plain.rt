@@ -4,6 +4,7 @@ use super::made::{kinds, program};
 use crate::{Config, HartOutcome, Turn, replay};
 use encoder::Source;
 use legalpath::LegalLog;
+use payload::Mode;
 use std::alloc::Global;
 use std::test::Fail;
 
@@ -27,9 +28,9 @@ fn below(state: &mut u64, bound: u16) -> u16 {
     (*state >> 48) as u16 % bound
 }
 
-/// The lengths of the payloads of a log.
-fn sizes_of(alloc: Global, log: &LegalLog<'_>, period: u16) -> Result<Vec<u64>, Fail> {
-    let mut source = Source::new(log, period.max(1));
+/// The lengths of the payloads of a log, at the period and in the mode of this configuration.
+fn sizes_of(alloc: Global, log: &LegalLog<'_>, config: Config) -> Result<Vec<u64>, Fail> {
+    let mut source = Source::new(log, config.period.max(1), config.mode);
     let mut sizes = Vec::new(alloc);
     for _ in 0..log.events().len().saturating_add(2) {
         if let Some(payload) = source.next() {
@@ -97,6 +98,11 @@ fn agrees_with_lists(rt: HostRuntime) -> Result<(), Fail> {
         let logs = kinds(alloc, &program, harts)?;
         let config = Config {
             period: 1024,
+            mode: if round % 4 < 2 {
+                Mode::Differential
+            } else {
+                Mode::Full
+            },
             capacity: 1 + round % 9,
             keep: round % 2 == 0,
         };
@@ -108,7 +114,7 @@ fn agrees_with_lists(rt: HostRuntime) -> Result<(), Fail> {
             taken: Vec::new(alloc),
         };
         for log in &logs {
-            let all = sizes_of(alloc, log, config.period)?;
+            let all = sizes_of(alloc, log, config)?;
             counts.push(all.len())?;
             sizes.push(all)?;
             plain.sent.push(0)?;

@@ -1,8 +1,9 @@
 //! Logs through the funnel over threads.
 
-use super::made::{kinds, logs, program, text_of, turns};
+use super::made::{WHOLE, kinds, logs, program, text_of, turns};
 use crate::{Config, Gate, HartOutcome, Open, Setup, Stop, is_whole, replay, run};
 use linked_list_allocator::LocalHeap;
+use payload::Mode;
 use std::sync::Wait;
 use std::sync::atomic::{AtomicBool, AtomicU64, Ordering};
 use std::test::Fail;
@@ -12,6 +13,7 @@ use std::time::Duration;
 /// One message at a time.
 const CONFIG: Config = Config {
     period: 1024,
+    mode: Mode::Differential,
     capacity: 1,
     keep: true,
 };
@@ -31,21 +33,27 @@ fn what_comes_is_what_comes_by_turns(rt: HostRuntime) -> Result<(), Fail> {
     let alloc = rt.alloc();
     let program = program(alloc)?;
     let logs = logs(alloc, &program)?;
-    let by_turns = replay(alloc, &logs, CONFIG, &turns(alloc)?)?;
-    let outcome = run(alloc, alloc, &logs, CONFIG, &Open, &rt)?;
-    assert!(rt; outcome.stop.is_none());
-    assert_eq!(rt; outcome.harts.len(), 2);
-    for hart in 0..2usize {
-        let (Some(one), Some(other)) = (outcome.harts.get(hart), by_turns.harts.get(hart)) else {
-            return Err(Fail::new("no outcome"));
+    for (mode, want) in WHOLE {
+        let config = Config {
+            period: 1024,
+            mode,
+            capacity: 1,
+            keep: true,
         };
-        assert!(rt; is_same(one, other), "hart {hart}");
+        let by_turns = replay(alloc, &logs, config, &turns(alloc)?)?;
+        let outcome = run(alloc, alloc, &logs, config, &Open, &rt)?;
+        assert!(rt; outcome.stop.is_none());
+        assert_eq!(rt; outcome.harts.len(), 2);
+        for hart in 0..2usize {
+            let (Some(one), Some(other)) = (outcome.harts.get(hart), by_turns.harts.get(hart))
+            else {
+                return Err(Fail::new("no outcome"));
+            };
+            assert!(rt; is_same(one, other), "hart {hart}");
+        }
+        let text = text_of(alloc, &outcome, &logs)?;
+        assert!(rt; text.as_slice() == want.as_bytes(), "{mode:?}");
     }
-    let text = text_of(alloc, &outcome, &logs)?;
-    let want = "hart 0: 33 events, 5 packets, 9 payload bytes, decoded 33, whole\n\
-        hart 1: 4 events, 4 packets, 9 payload bytes, decoded 4, whole\n\
-        result: whole\n";
-    assert!(rt; text.as_slice() == want.as_bytes());
     Ok(())
 }
 
@@ -156,17 +164,23 @@ fn sixty_four_harts(rt: HostRuntime) -> Result<(), Fail> {
     let alloc = rt.alloc();
     let program = program(alloc)?;
     let logs = kinds(alloc, &program, 64)?;
-    for capacity in [1, 16, 65_536] {
-        let config = Config {
-            period: 2,
-            capacity,
-            keep: false,
-        };
-        let outcome = run(alloc, alloc, logs.as_slice(), config, &Open, &rt)?;
-        if outcome.harts.len() != logs.len() {
-            return Err(Fail::new("another number of harts"));
+    for mode in [Mode::Differential, Mode::Full] {
+        for capacity in [1, 16, 65_536] {
+            let config = Config {
+                period: 2,
+                mode,
+                capacity,
+                keep: false,
+            };
+            let outcome = run(alloc, alloc, logs.as_slice(), config, &Open, &rt)?;
+            if outcome.harts.len() != logs.len() {
+                return Err(Fail::new("another number of harts"));
+            }
+            assert!(rt;
+                is_whole(&outcome, logs.as_slice()),
+                "{mode:?}, capacity {capacity}"
+            );
         }
-        assert!(rt; is_whole(&outcome, logs.as_slice()), "capacity {capacity}");
     }
     Ok(())
 }

@@ -7,7 +7,7 @@ use Rattle.bench.proofs.TakingIn.{TakesMessage}
 use Rattle.bench.proofs.gathering.collect_one.Goals as goal
 
 pub returns-clause-gathered : goal.returns-clause-gathered
-returns-clause-gathered g c = λ period logs started before.
+returns-clause-gathered g c = λ period mode logs started before.
     let e = c.take_in.ensures in
     let takes : TakesMessage c.in-Ok.message c.take_in.result c.args.collector.now c.take_in.new.self =
     record {
@@ -18,6 +18,7 @@ returns-clause-gathered g c = λ period logs started before.
       memory = e.memory;
       passed_over = e.passed_over;
     } in
-    subst (λ (o : OutletView). AreGathered period logs started o.taken c.take_in.new.self) (sym c.in-Ok.ensures.taken)
-    (gathered_more period logs started c.args.outlet.now.taken c.in-Ok.message c.take_in.result c.args.collector.now
-    c.take_in.new.self takes before c.in-Ok.ensures.number)
+    subst (λ (o : OutletView). AreGathered period mode logs started o.taken c.take_in.new.self)
+    (sym c.in-Ok.ensures.taken)
+    (gathered_more period mode logs started c.args.outlet.now.taken c.in-Ok.message c.take_in.result
+    c.args.collector.now c.take_in.new.self takes before c.in-Ok.ensures.number)

@@ -20,32 +20,35 @@ loop-worker-preserved g c =
     let IsOwn : PromisedHandle Work (Sending g.row.S.Denot) → Type 0 =
     λ w. (w.promise.port.value.funnel ≡ c.args.outlet.now.funnel)
     × (slice_get c.args.logs.now w.promise.port.value.hart ≡ Some (at w.promise.source.value).log)
-    × ((at w.promise.source.value).period ≡ c.args.period) in
+    × ((at w.promise.source.value).period ≡ c.args.period)
+    × ((at w.promise.source.value).mode ≡ c.args.mode) in
     let popped = All-pop IsOwn now.workers.items c.pop.new.self.items c.pop.result c.pop.ensures.items
     now.invariant.workers in
     let own = subst (λ r. IfSome r IsOwn) c.in-Some.is popped.1 in
     let source = at worker.promise.source.value in
     let first =
-    subst (λ (o : OutletView). CarryFirst source.period source.log (of_hart worker.promise.port.value.hart o.taken))
-    now.invariant.outlet c.settle-hart.ensures.carried in
+    subst (λ (o : OutletView). CarryFirst source.period source.mode source.log
+    (of_hart worker.promise.port.value.hart o.taken)) now.invariant.outlet c.settle-hart.ensures.carried in
     let here = c.from.ensures ∙ c.settle-hart.ensures.hart in
     let lacks : c.settle-hart.result.1 ≡ true
-    → AreNotAll source.period source.log (of_hart c.from.result c.args.outlet.now.taken) =
-    λ back. subst (λ (o : OutletView). AreNotAll source.period source.log (of_hart c.from.result o.taken))
-    now.invariant.outlet (subst (λ h. AreNotAll source.period source.log (of_hart h now.outlet.taken)) (sym here)
-    (c.settle-hart.ensures.lacks back)) in
+    → AreNotAll source.period source.mode source.log (of_hart c.from.result c.args.outlet.now.taken) =
+    λ back. subst (λ (o : OutletView). AreNotAll source.period source.mode source.log (of_hart c.from.result o.taken))
+    now.invariant.outlet (subst (λ h. AreNotAll source.period source.mode source.log (of_hart h now.outlet.taken))
+    (sym here) (c.settle-hart.ensures.lacks back)) in
     record {
       outlet = c.settle-hart.ensures.outlet ∙ now.invariant.outlet;
       workers = popped.0;
       count = length-set now.handed_back c.from.result c.settle-hart.result.1 ∙ now.invariant.count;
       lacks =
-          lacks_noted c.args.period source.period c.args.logs.now c.args.outlet.now.taken now.handed_back c.from.result
-          c.settle-hart.result.1 source.log (ap (slice_get c.args.logs.now) here ∙ own.1) own.2 lacks
+          lacks_noted c.args.period c.args.mode source.period source.mode c.args.logs.now c.args.outlet.now.taken
+          now.handed_back c.from.result c.settle-hart.result.1 source.log (ap (slice_get c.args.logs.now) here ∙ own.1)
+          own.2 own.3 lacks
           now.invariant.lacks;
       carried = λ hart log at_log among.
-          carried_fewer (λ w. w.promise.port.value.hart) c.args.period source.period c.args.logs.now
-          c.args.outlet.now.taken c.pop.new.self.items worker source.log own.1 own.2 first hart log at_log
-          (subst (λ items. CarryFirst c.args.period log (of_hart hart c.args.outlet.now.taken)
+          carried_fewer (λ w. w.promise.port.value.hart) c.args.period c.args.mode source.period source.mode
+          c.args.logs.now
+          c.args.outlet.now.taken c.pop.new.self.items worker source.log own.1 own.2 own.3 first hart log at_log
+          (subst (λ items. CarryFirst c.args.period c.args.mode log (of_hart hart c.args.outlet.now.taken)
           ⊎ Among (λ w. w.promise.port.value.hart ≡ hart) items) c.in-Some.ensures.items
           (now.invariant.carried hart log at_log among));
     }

@@ -11,14 +11,15 @@ invariant-loop-worker g l = record {
   outlet : l.outlet ≡ l.fn.outlet;
   workers : All (λ w. (w.promise.port.value.funnel ≡ l.fn.outlet.funnel)
       × (slice_get l.logs w.promise.port.value.hart ≡ Some (g.S.Payloads.at w.promise.source.value).log)
-      × ((g.S.Payloads.at w.promise.source.value).period ≡ l.period))
+      × ((g.S.Payloads.at w.promise.source.value).period ≡ l.period)
+      × ((g.S.Payloads.at w.promise.source.value).mode ≡ l.fn.mode))
       l.workers.items;
   count : length l.handed_back ≡ length l.fn.handed_back;
   lacks : (hart : ℕ) → slice_get l.handed_back hart ≡ Some true
-      → LacksPayloads l.period l.logs l.fn.outlet.taken hart;
+      → LacksPayloads l.period l.fn.mode l.logs l.fn.outlet.taken hart;
   carried : (hart : ℕ) (log : ProgramLog) → slice_get l.logs hart ≡ Some log
       → Among (λ w. w.promise.port.value.hart ≡ hart) l.fn.workers.items
-      → CarryFirst l.period log (of_hart hart l.fn.outlet.taken)
+      → CarryFirst l.period l.fn.mode log (of_hart hart l.fn.outlet.taken)
       ⊎ Among (λ w. w.promise.port.value.hart ≡ hart) l.workers.items;
 }
 

@@ -10,14 +10,14 @@ use Rattle.bench.proofs.OwnPayloads.{own_payloads}
 use Rattle.bench.proofs.laws.turns_let_beginnings_through.Goals as goal
 
 pub returns-clause-lawful : goal.returns-clause-lawful
-returns-clause-lawful c = λ period capacity logs turns legal.
-    keeps-lawful capacity (map (payloads period) logs) (replayed period capacity logs turns)
-    (every-keeps capacity (map (payloads period) logs) turns) (close_last period logs legal)
+returns-clause-lawful c = λ period mode capacity logs turns legal.
+    keeps-lawful capacity (map (payloads period mode) logs) (replayed period mode capacity logs turns)
+    (every-keeps capacity (map (payloads period mode) logs) turns) (close_last period mode logs legal)
 
 pub returns-clause-got : goal.returns-clause-got
-returns-clause-got c = λ period capacity logs turns hart log decoded legal at described.
-    let taken = of_hart hart (replayed period capacity logs turns).taken in
-    let first = keeps-first capacity (map (payloads period) logs) (replayed period capacity logs turns)
-    (every-keeps capacity (map (payloads period) logs) turns) hart in
-    got_first period log legal taken decoded
-    (first ∙ ap (take (length taken)) (own_payloads period hart logs log at)) described
+returns-clause-got c = λ period mode capacity logs turns hart log decoded legal at described.
+    let taken = of_hart hart (replayed period mode capacity logs turns).taken in
+    let first = keeps-first capacity (map (payloads period mode) logs) (replayed period mode capacity logs turns)
+    (every-keeps capacity (map (payloads period mode) logs) turns) hart in
+    got_first period mode log legal taken decoded
+    (first ∙ ap (take (length taken)) (own_payloads period mode hart logs log at)) described

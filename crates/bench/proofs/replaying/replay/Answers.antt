@@ -16,7 +16,7 @@ loop-turn-init g c =
     starts c.args.config c.args.logs.now c.in-Ok.core c.in-Ok-senders_of.senders.items c.in-Ok-new.collector
     c.in-Ok.ensures.made
     c.in-Ok-senders_of.ensures new.made.0 new.made.1
-    (λ hart log at. new.begun c.args.config.period hart log at)
+    (λ hart log at. new.begun c.args.config.period c.args.config.mode hart log at)
 
 pub send-requires : goal.send-requires
 send-requires g c = record {
@@ -65,7 +65,8 @@ returns-clause-taken g c =
     let config = c.args.config in
     let logs = c.args.logs.now in
     let all = take_all c.loop-turn.turn-index c.args.turns.now c.loop-turn-test.false in
-    let taken = subst (λ turns. AreTaken config.period logs (replayed config.period config.capacity logs turns).taken
+    let taken = subst (λ turns. AreTaken config.period config.mode logs
+    (replayed config.period config.mode config.capacity logs turns).taken
     c.loop-turn.collector) all r.taken in
     are_those_taken config logs _ c.loop-turn.collector c.finish-outcome.result.harts.items
     c.in-Ok-new.ensures.legal r.keep taken (record { count = e.count; came = e.came })
@@ -84,9 +85,10 @@ returns-clause-lacks g c =
     let config = c.args.config in
     let logs = c.args.logs.now in
     let all = take_all c.loop-turn.turn-index c.args.turns.now c.loop-turn-test.false in
-    let taken = subst (λ turns. AreTaken config.period logs (replayed config.period config.capacity logs turns).taken
+    let taken = subst (λ turns. AreTaken config.period config.mode logs
+    (replayed config.period config.mode config.capacity logs turns).taken
     c.loop-turn.collector) all r.taken in
-    let lacks = subst (λ turns. LacksSome (replayed config.period config.capacity logs turns).taken
+    let lacks = subst (λ turns. LacksSome (replayed config.period config.mode config.capacity logs turns).taken
     c.loop-turn.collector) all r.lacks in
     lack_some config logs _ c.loop-turn.collector c.finish-outcome.result.harts.items
     c.in-Ok-new.ensures.legal r.keep taken (record { count = e.count; came = e.came }) lacks

@@ -21,12 +21,13 @@ returns-in_default g c =
     let read : old ≡ get_or senders hart old =
     subst (λ place. old ≡ get_or senders place old) at c.index_mut.ensures.value in
     record {
-      sent = λ period logs state legal sending.
-          subst (λ place. AreSending period core.capacity logs
-          (after_turn core.capacity (map (payloads period) logs) (turn.Hart hart) state) core (set senders place new))
+      sent = λ period mode logs state legal sending.
+          subst (λ place. AreSending period mode core.capacity logs
+          (after_turn core.capacity (map (payloads period mode) logs) (turn.Hart hart) state) core
+          (set senders place new))
           (sym at)
-          (turn-none period core.capacity logs state core senders sending legal hart known old new c.next.result read
-          (record { given = c.next.ensures.given; goes_on = c.next.ensures.goes_on }) c.in_default.is);
+          (turn-none period mode core.capacity logs state core senders sending legal hart known old new c.next.result
+          read (record { given = c.next.ensures.given; goes_on = c.next.ensures.goes_on }) c.in_default.is);
     }
 
 pub offer-requires : goal.offer-requires
@@ -48,12 +49,12 @@ returns g c =
     subst (λ place. old ≡ get_or senders place old) at c.index_mut.ensures.value in
     let room = has_room (nat_lt (length core.queue) core.capacity) c.if-is_full.ensures in
     record {
-      sent = λ period logs state legal sending.
-          subst (λ place. AreSending period core.capacity logs
-          (after_turn core.capacity (map (payloads period) logs) (turn.Hart hart) state) c.offer.new.self
+      sent = λ period mode logs state legal sending.
+          subst (λ place. AreSending period mode core.capacity logs
+          (after_turn core.capacity (map (payloads period mode) logs) (turn.Hart hart) state) c.offer.new.self
           (set senders place new))
           (sym at)
-          (turn-one period core.capacity logs state core senders sending legal hart known old new c.next.result read
-          (record { given = c.next.ensures.given; goes_on = c.next.ensures.goes_on }) c.in-Some.message
+          (turn-one period mode core.capacity logs state core senders sending legal hart known old new c.next.result
+          read (record { given = c.next.ensures.given; goes_on = c.next.ensures.goes_on }) c.in-Some.message
           c.offer.new.self c.in-Some.is room c.offer.ensures.step);
     }

@@ -12,20 +12,22 @@ use Rattle.bench.proofs.running.conduct.Goals as goal
 
 pub start_all-workers-requires-clause-begun : goal.start_all-workers-requires-clause-begun
 start_all-workers-requires-clause-begun g c κs within = λ hart log at.
-    c.in_ok-collector.ensures.begun c.args.config.period hart log at
+    c.in_ok-collector.ensures.begun c.args.config.period c.args.config.mode hart log at
 
 pub settle_all-requires-clause-workers : goal.settle_all-requires-clause-workers
 settle_all-requires-clause-workers g c κs within = λ k d low.
     let own = c.start_all-workers.ensures.workers k d low in
-    (own.0 ∙ sym (ap (λ (outlet : OutletView). outlet.funnel) c.collect.ensures.outlet), own.1, own.2)
+    (own.0 ∙ sym (ap (λ (outlet : OutletView). outlet.funnel) c.collect.ensures.outlet), own.1, own.2, own.3)
 
 module _ (g : _) (c : goal.After-drop-handed_back-2 g) where
   -- What was taken of the funnel is gathered.
-  gathered : AreGathered c.args.config.period c.args.logs.now c.start_all-workers.new.started c.collect.new.outlet.taken
+  gathered : AreGathered c.args.config.period c.args.config.mode c.args.logs.now c.start_all-workers.new.started
+      c.collect.new.outlet.taken
       c.collect.new.collector
   gathered =
-      c.collect.ensures.gathered c.args.config.period c.args.logs.now c.start_all-workers.new.started
-      (subst (λ taken. AreGathered c.args.config.period c.args.logs.now c.start_all-workers.new.started taken
+      c.collect.ensures.gathered c.args.config.period c.args.config.mode c.args.logs.now c.start_all-workers.new.started
+      (subst (λ taken. AreGathered c.args.config.period c.args.config.mode c.args.logs.now
+      c.start_all-workers.new.started taken
       c.start_all-workers.new.collector) (sym c.requires.outlet.0) c.start_all-workers.ensures.gathered)
 
   flags : length c.start_all-workers.new.started ≡ length c.args.logs.now
@@ -36,9 +38,11 @@ module _ (g : _) (c : goal.After-drop-handed_back-2 g) where
       omega (arith, same, slice, all)
 
   -- And taken, now that the workers are settled.
-  taken : AreTaken c.args.config.period c.args.logs.now c.collect.new.outlet.taken c.collect.new.collector
+  taken : AreTaken c.args.config.period c.args.config.mode c.args.logs.now c.collect.new.outlet.taken
+      c.collect.new.collector
   taken =
-      gathered_taken c.args.config.period c.args.logs.now c.start_all-workers.new.started c.collect.new.outlet.taken
+      gathered_taken c.args.config.period c.args.config.mode c.args.logs.now c.start_all-workers.new.started
+      c.collect.new.outlet.taken
       c.collect.new.collector flags gathered
       (λ hart log at on. c.settle_all.ensures.carried hart log at (c.start_all-workers.ensures.started hart on))
 
@@ -48,9 +52,9 @@ module _ (g : _) (c : goal.After-drop-handed_back-2 g) where
 pub stop_of-outcome-requires : goal.stop_of-outcome-requires
 stop_of-outcome-requires g c =
     let came =
-    c.collect.ensures.gathered c.args.config.period c.args.logs.now c.start_all-workers.new.started
-    (subst (λ taken. AreGathered c.args.config.period c.args.logs.now c.start_all-workers.new.started taken
-    c.start_all-workers.new.collector) (sym c.requires.outlet.0) c.start_all-workers.ensures.gathered) in
+    c.collect.ensures.gathered c.args.config.period c.args.config.mode c.args.logs.now c.start_all-workers.new.started
+    (subst (λ taken. AreGathered c.args.config.period c.args.config.mode c.args.logs.now c.start_all-workers.new.started
+    taken c.start_all-workers.new.collector) (sym c.requires.outlet.0) c.start_all-workers.ensures.gathered) in
     let harts = c.as_slice.ensures.len in
     let flags = c.as_slice-2.ensures.len in
     let count = c.finish-outcome.ensures.count in
@@ -109,8 +113,9 @@ pub returns-clause-handed_back : goal.returns-clause-handed_back
 returns-clause-handed_back g c =
     let logs = c.args.logs.now in
     let flags : c.as_slice-2.result.now ≡ c.settle_all.new.handed_back = grind (arith, common_steps) in
-    handed_back_as _ (LacksPayloads c.args.config.period logs c.settle_all.new.outlet.taken) c.stop_of-outcome.result
-    (λ hart at. subst (λ (outlet : OutletView). LacksPayloads c.args.config.period logs outlet.taken hart)
-    (sym c.settle_all.ensures.outlet)
+    handed_back_as _ (LacksPayloads c.args.config.period c.args.config.mode logs c.settle_all.new.outlet.taken)
+    c.stop_of-outcome.result
+    (λ hart at. subst (λ (outlet : OutletView). LacksPayloads c.args.config.period c.args.config.mode logs outlet.taken
+    hart) (sym c.settle_all.ensures.outlet)
     (c.settle_all.ensures.lacks hart (subst (λ some. slice_get some hart ≡ Some true) flags at)))
     c.stop_of-outcome.ensures.back

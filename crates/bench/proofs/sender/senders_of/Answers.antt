@@ -14,9 +14,9 @@ loop-place-preserved g c =
     let log = c.index-logs-place.result in
     let senders = c.loop-place.senders.items in
     let items = c.push_reserved.ensures.items in
-    let sender = sender_of {B = g.row.B.Denot} c.args.period 0 log c.new.result 0 in
+    let sender = sender_of {B = g.row.B.Denot} c.args.period c.args.mode 0 log c.new.result 0 in
     let at = slice_get_read logs (length logs) place log refl c.loop-place-test.true c.index-logs-place.is in
-    let same = ap (λ source. sender_of {B = g.row.B.Denot} c.args.period 0 log source 0) c.new.ensures in
+    let same = ap (λ source. sender_of {B = g.row.B.Denot} c.args.period c.args.mode 0 log source 0) c.new.ensures in
     record {
       counted =
           ap length items
@@ -24,11 +24,12 @@ loop-place-preserved g c =
           ∙ ap (λ n. n + 1) c.loop-place.invariant.counted;
       room = subst (λ n. length logs ≤ n) (sym c.push_reserved.ensures.capacity) c.loop-place.invariant.room;
       each =
-          subst (AreNewSenders c.args.period (take (place + 1) logs)) (sym items)
-          (new_senders-next c.args.period logs senders place log sender c.loop-place.invariant.each at same);
+          subst (AreNewSenders c.args.period c.args.mode (take (place + 1) logs)) (sym items)
+          (new_senders-next c.args.period c.args.mode logs senders place log sender c.loop-place.invariant.each
+          at same);
     }
 
 pub returns : goal.returns
 returns g c =
-    subst (λ some. AreNewSenders c.args.period some c.loop-place.senders.items)
+    subst (λ some. AreNewSenders c.args.period c.args.mode some c.loop-place.senders.items)
     (take_all c.loop-place.place c.args.logs.now c.loop-place-test.false) c.loop-place.invariant.each

@@ -7,5 +7,5 @@ abbrev pub invariant-loop-place : goal.invariant-loop-place
 invariant-loop-place g l = record {
   counted : length l.senders.items ≡ l.place;
   room : length l.logs ≤ vec_capacity l.senders;
-  each : AreNewSenders l.period (take l.place l.logs) l.senders.items;
+  each : AreNewSenders l.period l.mode (take l.place l.logs) l.senders.items;
 }

@@ -25,7 +25,7 @@ loop-port-init g c =
       flags = c.requires.flags;
       keep = refl;
       harts =
-          none_begun (λ w. w.promise.port.value.hart) c.args.period c.args.logs.now _ c.args.started.now
+          none_begun (λ w. w.promise.port.value.hart) c.args.period c.args.mode c.args.logs.now _ c.args.started.now
           c.args.workers.items c.args.collector.now (count ∙ all) c.requires.flags c.requires.own c.requires.begun;
     }
 
@@ -62,7 +62,7 @@ loop-port-preserved-in-Some-start g c =
     slice_get_read c.args.logs.now _ c.len-hart.result c.index-logs-hart.result refl (omega (arith, count, few))
     c.index-logs-hart.is in
     let new =
-    new_worker _ _ _ _ _ _ _ _ _ c.in-Some-start.ensures.0 c.in-Some-start.ensures.1 popped.1 c.new.ensures known in
+    new_worker _ _ _ _ _ _ _ _ _ _ c.in-Some-start.ensures.0 c.in-Some-start.ensures.1 popped.1 c.new.ensures known in
     record {
       ports = subst (λ n. AreNewPorts c.args.outlet.now.funnel n c.pop.new.self.items) place popped.0;
       few = omega (arith, few, count, place);
@@ -70,12 +70,12 @@ loop-port-preserved-in-Some-start g c =
       workers =
           All-pushed (λ w. (w.promise.port.value.funnel ≡ c.args.outlet.now.funnel)
           × (slice_get c.args.logs.now w.promise.port.value.hart ≡ Some w.promise.source.value.log)
-          × (w.promise.source.value.period ≡ c.args.period)) c.loop-port.workers.items c.push_reserved.new.self.items
-          worker pushed.items now.workers new;
+          × (w.promise.source.value.period ≡ c.args.period) × (w.promise.source.value.mode ≡ c.args.mode))
+          c.loop-port.workers.items c.push_reserved.new.self.items worker pushed.items now.workers new;
       flags = length-set c.loop-port.started c.len-hart.result _ ∙ now.flags;
       keep = now.keep;
       harts =
-          begun_started (λ w. w.promise.port.value.hart) c.args.period c.args.logs.now _ c.len-hart.result _
+          begun_started (λ w. w.promise.port.value.hart) c.args.period c.args.mode c.args.logs.now _ c.len-hart.result _
           c.loop-port.started c.loop-port.workers.items c.loop-port.collector count place now.harts
           (omega (arith, few, count, flags)) c.push_reserved.new.self.items worker pushed.items
           (ap (λ port. port.hart) (c.in-Some-start.ensures.0 ∙ popped.1));
@@ -99,7 +99,7 @@ loop-port-preserved g c =
       flags = length-set c.loop-port.started c.len-hart.result _ ∙ now.flags;
       keep = ap (λ c. c.keep) c.refuse.ensures.same ∙ now.keep;
       harts =
-          begun_refused (λ w. w.promise.port.value.hart) c.args.period c.args.logs.now _ c.len-hart.result _
+          begun_refused (λ w. w.promise.port.value.hart) c.args.period c.args.mode c.args.logs.now _ c.len-hart.result _
           c.loop-port.started c.loop-port.workers.items c.loop-port.collector count place now.harts
           (omega (arith, few, count, flags)) c.refuse.new.self c.refuse.ensures.refused c.refuse.ensures.others
           c.refuse.ensures.same;

@@ -10,10 +10,10 @@ invariant-loop-port g l = record {
   room : vec_len l.workers + vec_len l.ports ≤ vec_capacity l.workers;
   workers : All (λ w. (w.promise.port.value.funnel ≡ l.outlet.funnel)
       × (slice_get l.logs w.promise.port.value.hart ≡ Some w.promise.source.value.log)
-      × (w.promise.source.value.period ≡ l.period)) l.workers.items;
+      × (w.promise.source.value.period ≡ l.period) × (w.promise.source.value.mode ≡ l.mode)) l.workers.items;
   flags : length l.started ≡ length l.logs;
   keep : l.collector.keep ≡ l.fn.collector.keep;
-  harts : AreBegun (λ w. w.promise.port.value.hart) l.period l.logs (vec_len l.ports) l.started l.workers.items
+  harts : AreBegun (λ w. w.promise.port.value.hart) l.period l.mode l.logs (vec_len l.ports) l.started l.workers.items
       l.collector;
 }
 

@@ -25,15 +25,18 @@ returns-then-index-clause-decoded g c = λ packet log packets accepts has. absur
 pub returns-then-index-clause-counts : goal.returns-then-index-clause-counts
 returns-then-index-clause-counts g c = λ packet taken accepts is. absurd (accepts.going (refused_here g c))
 
+pub returns-then-index-clause-demux : goal.returns-then-index-clause-demux
+returns-then-index-clause-demux g c = λ going why. absurd (going (refused_here g c))
+
 pub returns-then-index-clause-expected : goal.returns-then-index-clause-expected
 returns-then-index-clause-expected g c = λ going. absurd (going (refused_here g c))
 
 pub returns-in-Err-clause-only_memory : goal.returns-in-Err-clause-only_memory
-returns-in-Err-clause-only_memory g c = λ period count log has is.
+returns-in-Err-clause-only_memory g c = λ period mode count log has is.
     let all = subst IsCollected c.self.view_is c.self.invariant in
     let answer = ap (λ (r : Collected). accepting r.received.expected c.args.message) (sym c.self.view_is)
     ∙ sym c.accept.ensures.value ∙ c.in-Err.is in
-    absurd (not_refused c.args.self.now all c.args.message c.in-Err.fault answer period count log has is)
+    absurd (not_refused c.args.self.now all c.args.message c.in-Err.fault answer period mode count log has is)
 
 pub returns-in-Err-clause-passed_over : goal.returns-in-Err-clause-passed_over
 returns-in-Err-clause-passed_over g c = λ given.
