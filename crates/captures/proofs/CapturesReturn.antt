@@ -8,6 +8,7 @@ use Rattle.rvclass.proofs.WordsLemmas.{words_of-IsProgram}
 use Rattle.rvclass.specs.Fetch.{words_of}
 use Rattle.rvclass.specs.Image.{Image}
 use Rattle.legalpath.specs.ProgramLog.{ProgramLog, log_of}
+use Rattle.payload.specs.declared.mode.Mode.{Mode}
 use Rattle.decoder.proofs.UniqueLemmas.{one_log}
 use Rattle.decoder.specs.Describes.{Describes}
 use Rattle.decoder.specs.declared.fault.DecodeFault.{DecodeFault}
@@ -30,10 +31,10 @@ use Rattle.captures.specs.Returned.{IsCaptureOf, AreReturned}
 use Rattle.captures.specs.declared.outcome.CaptureFault.{CaptureFault}
 use Rattle.captures.specs.declared.outcome.CaptureFault.TheVariants as fault
 
-module _ (program : Image) (period : ℕ) (logs : List ProgramLog) (bytes : List ℕ)
-    (sent : IsCaptureOf program period logs bytes) (few : length logs ≤ 2 ^ 16) where
+module _ (program : Image) (period : ℕ) (mode : Mode) (logs : List ProgramLog) (bytes : List ℕ)
+    (sent : IsCaptureOf program period mode logs bytes) (few : length logs ≤ 2 ^ 16) where
   abbrev all : List Message
-  all = messages_of_harts period 0 logs
+  all = messages_of_harts period mode 0 logs
 
   -- Of all messages the lists are the events of the logs.
   lists_same : (lists : List (List Event)) (closed : List Bool)
@@ -48,10 +49,10 @@ module _ (program : Image) (period : ℕ) (logs : List ProgramLog) (bytes : List
       let log = get_or logs k (log_of program d) in
       let list = get_or lists k d in
       let image =
-      program_image program period logs bytes sent few k log (slice_get-get_or logs k (log_of program d) known) in
+      program_image program period mode logs bytes sent few k log (slice_get-get_or logs k (log_of program d) known) in
       one_log (words_of program) (words_of-IsProgram program image) _ list log.events
       (decoded.described k list (slice_get-get_or lists k d within))
-      (log_described program period logs bytes sent few k log (slice_get-get_or logs k (log_of program d) known))
+      (log_described program period mode logs bytes sent few k log (slice_get-get_or logs k (log_of program d) known))
       ∙ sym (get_or-map events logs k (log_of program d) d known))
 
   -- And every hart is closed.
@@ -64,7 +65,7 @@ module _ (program : Image) (period : ℕ) (logs : List ProgramLog) (bytes : List
       let known : k < length logs = omega (arith, within, count) in
       let log = get_or logs k (log_of program []) in
       decoded.ended k (get_or closed k d) (slice_get-get_or closed k d within)
-      ∙ log_ended program period logs bytes sent few k log (slice_get-get_or logs k (log_of program []) known)
+      ∙ log_ended program period mode logs bytes sent few k log (slice_get-get_or logs k (log_of program []) known)
       ∙ sym (get_or-replicate (length logs) k true d known))
 
   -- No message behind the first ones is refused.
@@ -75,7 +76,7 @@ module _ (program : Image) (period : ℕ) (logs : List ProgramLog) (bytes : List
   not_refused messages later rest why whole same ranges refused accepted =
       let first = capture_first later refused.message refused.rest ranges refused.ranges (sym same ∙ refused.begins) in
       let next =
-      next_message program period logs bytes sent few messages refused.message first.0
+      next_message program period mode logs bytes sent few messages refused.message first.0
       (whole ∙ ap (λ l. messages ++ l) first.1) in
       let taken = next.taken accepted in
       let answer = refused.refused in
@@ -89,7 +90,7 @@ module _ (program : Image) (period : ℕ) (logs : List ProgramLog) (bytes : List
   not_decoded messages later rest why whole same ranges left accepted =
       let first = capture_first later left.message left.rest ranges left.ranges (sym same ∙ left.begins) in
       let next =
-      next_message program period logs bytes sent few messages left.message first.0
+      next_message program period mode logs bytes sent few messages left.message first.0
       (whole ∙ ap (λ l. messages ++ l) first.1) in
       let one = next.taken accepted in
       let other = left.refused.accepted in
@@ -125,17 +126,17 @@ module _ (program : Image) (period : ℕ) (logs : List ProgramLog) (bytes : List
       not_decoded messages later rest why whole same ranges stops.1 accepted
 
 -- A capture of legal logs decodes to those logs, with every hart closed, unless memory was refused.
-pub captures_return : (program : Image) (period harts : ℕ) (logs : List ProgramLog) (bytes : List ℕ)
+pub captures_return : (program : Image) (period : ℕ) (mode : Mode) (harts : ℕ) (logs : List ProgramLog) (bytes : List ℕ)
     (lists : List (List Event)) (closed : List Bool) (stop : Option (ℕ × CaptureFault))
-    → IsCaptureOf program period logs bytes → length logs ≡ harts → harts ≤ 2 ^ 16
+    → IsCaptureOf program period mode logs bytes → length logs ≡ harts → harts ≤ 2 ^ 16
     → IsDecoded (words_of program) harts bytes lists closed stop → AreReturned logs lists closed stop
-captures_return program period harts logs bytes lists closed stop sent count room decoded =
+captures_return program period mode harts logs bytes lists closed stop sent count room decoded =
     let few : length logs ≤ 2 ^ 16 = omega (arith, count, room) in
     let here = subst (λ n. IsDecoded (words_of program) n bytes lists closed stop) (sym count) decoded in
-    let ranges = all_ranges program period logs bytes sent few in
+    let ranges = all_ranges program period mode logs bytes sent few in
     let split =
-    capture_split (messages_of_harts period 0 logs) here.messages here.rest ranges here.ranges
+    capture_split (messages_of_harts period mode 0 logs) here.messages here.rest ranges here.ranges
     (sym sent.whole ∙ here.whole) in
     let later = All-behind IsMessage here.messages split.later (subst (All IsMessage) split.whole ranges) in
-    returned program period logs bytes sent few lists closed stop here.messages split.later here.rest split.whole
+    returned program period mode logs bytes sent few lists closed stop here.messages split.later here.rest split.whole
     split.bytes later here.decoded here.accepted here.stops

@@ -10,6 +10,7 @@ use Rattle.payload.proofs.ReadingLaws.{payload_of-shortest, reading-payload_of}
 use Rattle.payload.specs.Profile.{InProfile}
 use Rattle.payload.specs.Reading.{reading}
 use Rattle.payload.specs.Spelling.{payload_of}
+use Rattle.payload.specs.declared.mode.Mode.{Mode}
 use Rattle.payload.specs.declared.packet.Packet.{Packet}
 use Rattle.encoder.specs.Packets.{packets}
 use Rattle.message.specs.Cut.{IsMessage}
@@ -58,18 +59,20 @@ messages_sent harts hart number (p ∷ ps) known few room profile =
     (messages_sent harts hart (number + 1) ps known few (omega (arith, room)) (All-tail InProfile p ps profile))
 
 -- Every message of sound logs is as harts send it.
-pub all_sent : (period harts hart : ℕ) (logs : List ProgramLog) → hart + length logs ≤ harts → harts ≤ 2 ^ 16
-    → All (IsSound period) logs
-    → All (IsSent harts) (messages_of_harts period hart logs)
-all_sent period harts hart [] room few sound = All-nil (IsSent harts)
-all_sent period harts hart (log ∷ logs) room few sound =
-    let good = All-head (IsSound period) log logs sound in
+pub all_sent : (period : ℕ) (mode : Mode) (harts hart : ℕ) (logs : List ProgramLog) → hart + length logs ≤ harts
+    → harts ≤ 2 ^ 16 → All (IsSound period mode) logs
+    → All (IsSent harts) (messages_of_harts period mode hart logs)
+all_sent period mode harts hart [] room few sound = All-nil (IsSent harts)
+all_sent period mode harts hart (log ∷ logs) room few sound =
+    let good = All-head (IsSound period mode) log logs sound in
     let count = good.few in
     let words = words_of log.program in
-    All-append (IsSent harts) (messages_from hart 0 (payloads period log)) (messages_of_harts period (hart + 1) logs)
-    (messages_sent harts hart 0 (packets words period log.events) (omega (arith, room)) few (omega (arith, count))
+    All-append (IsSent harts) (messages_from hart 0 (payloads period mode log))
+    (messages_of_harts period mode (hart + 1) logs)
+    (messages_sent harts hart 0 (packets words period mode log.events) (omega (arith, room)) few (omega (arith, count))
     good.profile)
-    (all_sent period harts (hart + 1) logs (omega (arith, room)) few (All-tail (IsSound period) log logs sound))
+    (all_sent period mode harts (hart + 1) logs (omega (arith, room)) few
+    (All-tail (IsSound period mode) log logs sound))
 
 -- The messages of a hart's payloads are all its own.
 of_hart-same : (hart number : ℕ) (ps : List (List ℕ))
@@ -90,35 +93,37 @@ of_hart-none hart other number (payload ∷ ps) apart =
     ∙ of_hart-none hart other (number + 1) ps apart
 
 -- Of a hart before all of these logs there are none.
-of_hart-before : (period hart first : ℕ) (logs : List ProgramLog) → hart < first
-    → of_hart hart (messages_of_harts period first logs) ≡ []
-of_hart-before period hart first [] before = refl
-of_hart-before period hart first (log ∷ logs) before =
-    of_hart-append hart (messages_from first 0 (payloads period log)) (messages_of_harts period (first + 1) logs)
-    ∙ ap (λ none. none ++ of_hart hart (messages_of_harts period (first + 1) logs))
-    (of_hart-none hart first 0 (payloads period log) (λ same. omega (arith, same, before)))
-    ∙ of_hart-before period hart (first + 1) logs (omega (arith, before))
+of_hart-before : (period : ℕ) (mode : Mode) (hart first : ℕ) (logs : List ProgramLog) → hart < first
+    → of_hart hart (messages_of_harts period mode first logs) ≡ []
+of_hart-before period mode hart first [] before = refl
+of_hart-before period mode hart first (log ∷ logs) before =
+    of_hart-append hart (messages_from first 0 (payloads period mode log))
+    (messages_of_harts period mode (first + 1) logs)
+    ∙ ap (λ none. none ++ of_hart hart (messages_of_harts period mode (first + 1) logs))
+    (of_hart-none hart first 0 (payloads period mode log) (λ same. omega (arith, same, before)))
+    ∙ of_hart-before period mode hart (first + 1) logs (omega (arith, before))
 
 -- Of the hart of a log there are the messages of this log.
-pub of_hart-log : (period first k hart : ℕ) (logs : List ProgramLog) (log : ProgramLog) → hart ≡ first + k
-    → slice_get logs k ≡ Some log
-    → of_hart hart (messages_of_harts period first logs) ≡ messages_from hart 0 (payloads period log)
-of_hart-log period first k hart [] log place at = cc
-of_hart-log period first zero hart (one ∷ logs) log place at =
+pub of_hart-log : (period : ℕ) (mode : Mode) (first k hart : ℕ) (logs : List ProgramLog) (log : ProgramLog)
+    → hart ≡ first + k → slice_get logs k ≡ Some log
+    → of_hart hart (messages_of_harts period mode first logs) ≡ messages_from hart 0 (payloads period mode log)
+of_hart-log period mode first k hart [] log place at = cc
+of_hart-log period mode first zero hart (one ∷ logs) log place at =
     let here : first ≡ hart = omega (arith, place) in
-    let rest = messages_of_harts period (first + 1) logs in
-    of_hart-append hart (messages_from first 0 (payloads period one)) rest
-    ∙ ap (λ h. of_hart hart (messages_from h 0 (payloads period one)) ++ of_hart hart rest) here
-    ∙ ap (λ own. own ++ of_hart hart rest) (of_hart-same hart 0 (payloads period one))
-    ∙ ap (λ none. messages_from hart 0 (payloads period one) ++ none)
-    (of_hart-before period hart (first + 1) logs (omega (arith, place)))
-    ∙ append-nil (messages_from hart 0 (payloads period one))
-    ∙ ap (λ (l : ProgramLog). messages_from hart 0 (payloads period l)) (same_Some one log at)
-of_hart-log period first (suc k) hart (one ∷ logs) log place at =
-    of_hart-append hart (messages_from first 0 (payloads period one)) (messages_of_harts period (first + 1) logs)
-    ∙ ap (λ none. none ++ of_hart hart (messages_of_harts period (first + 1) logs))
-    (of_hart-none hart first 0 (payloads period one) (λ same. omega (arith, same, place)))
-    ∙ of_hart-log period (first + 1) k hart logs log (omega (arith, place)) at
+    let rest = messages_of_harts period mode (first + 1) logs in
+    of_hart-append hart (messages_from first 0 (payloads period mode one)) rest
+    ∙ ap (λ h. of_hart hart (messages_from h 0 (payloads period mode one)) ++ of_hart hart rest) here
+    ∙ ap (λ own. own ++ of_hart hart rest) (of_hart-same hart 0 (payloads period mode one))
+    ∙ ap (λ none. messages_from hart 0 (payloads period mode one) ++ none)
+    (of_hart-before period mode hart (first + 1) logs (omega (arith, place)))
+    ∙ append-nil (messages_from hart 0 (payloads period mode one))
+    ∙ ap (λ (l : ProgramLog). messages_from hart 0 (payloads period mode l)) (same_Some one log at)
+of_hart-log period mode first (suc k) hart (one ∷ logs) log place at =
+    of_hart-append hart (messages_from first 0 (payloads period mode one))
+    (messages_of_harts period mode (first + 1) logs)
+    ∙ ap (λ none. none ++ of_hart hart (messages_of_harts period mode (first + 1) logs))
+    (of_hart-none hart first 0 (payloads period mode one) (λ same. omega (arith, same, place)))
+    ∙ of_hart-log period mode (first + 1) k hart logs log (omega (arith, place)) at
 
 packets_in-payloads : (hart number : ℕ) (ps : List Packet) → All InProfile ps
     → packets_in (messages_from hart number (map payload_of ps)) ≡ ps
@@ -129,12 +134,12 @@ packets_in-payloads hart number (p ∷ ps) profile =
     ∙ ap (λ later. p ∷ later) (packets_in-payloads hart (number + 1) ps (All-tail InProfile p ps profile))
 
 -- And their packets are its packets.
-pub packets_of-log : (period hart : ℕ) (logs : List ProgramLog) (log : ProgramLog) → slice_get logs hart ≡ Some log
-    → IsSound period log
-    → packets_of hart (messages_of_harts period 0 logs) ≡ packets (words_of log.program) period log.events
-packets_of-log period hart logs log at sound =
-    ap packets_in (of_hart-log period 0 hart hart logs log (omega arith) at)
-    ∙ packets_in-payloads hart 0 (packets (words_of log.program) period log.events) sound.profile
+pub packets_of-log : (period : ℕ) (mode : Mode) (hart : ℕ) (logs : List ProgramLog) (log : ProgramLog)
+    → slice_get logs hart ≡ Some log → IsSound period mode log
+    → packets_of hart (messages_of_harts period mode 0 logs) ≡ packets (words_of log.program) period mode log.events
+packets_of-log period mode hart logs log at sound =
+    ap packets_in (of_hart-log period mode 0 hart hart logs log (omega arith) at)
+    ∙ packets_in-payloads hart 0 (packets (words_of log.program) period mode log.events) sound.profile
 
 -- The number of a message of payloads is how many stand before it.
 pub number-front : (hart number : ℕ) (ps : List (List ℕ)) (front : List Message) (message : Message)

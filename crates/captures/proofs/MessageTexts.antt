@@ -10,6 +10,7 @@ use Rattle.std.specs.List.{flat_map}
 use Rattle.rvclass.specs.Fetch.{words_of}
 use Rattle.legalpath.specs.ProgramLog.{ProgramLog}
 use Rattle.payload.specs.Spelling.{payload_of}
+use Rattle.payload.specs.declared.mode.Mode.{Mode}
 use Rattle.encoder.specs.Packets.{packets}
 use Rattle.encoder.specs.Payloads.{payloads}
 use Rattle.encoder.proofs.CountLemmas.{few_packets}
@@ -35,11 +36,12 @@ messages_from-snoc hart number (first ∷ front) payload =
     []) next)
 
 -- A log has no more payloads than events, and the two at its ends.
-pub few_payloads : (period : ℕ) (log : ProgramLog) → length (payloads period log) ≤ length log.events + 2
-few_payloads period log =
+pub few_payloads : (period : ℕ) (mode : Mode) (log : ProgramLog)
+    → length (payloads period mode log) ≤ length log.events + 2
+few_payloads period mode log =
     let words = words_of log.program in
-    let mapped = length-map (packets words period log.events) payload_of in
-    let few = few_packets words period log.events in
+    let mapped = length-map (packets words period mode log.events) payload_of in
+    let few = few_packets words period mode log.events in
     omega (arith, mapped, few)
 
 -- One message more, of payloads.
@@ -93,34 +95,34 @@ written_through text old new hart i items none = go (slice_get_cases items i).1
     go (inl some) = let found = some.2 in cc
     go (inr past) = written_all text old new hart i items past.0
 
-messages_of_harts-snoc : (period hart : ℕ) (logs : List ProgramLog) (log : ProgramLog)
-    → messages_of_harts period hart (logs ++ log ∷ []) ≡ messages_of_harts period hart logs ++ messages_from
-    (hart + length logs) 0 (payloads period log)
-messages_of_harts-snoc period hart [] log =
-    append-nil (messages_from hart 0 (payloads period log))
-    ∙ ap (λ h. messages_from h 0 (payloads period log)) (omega arith)
-messages_of_harts-snoc period hart (first ∷ logs) log =
+messages_of_harts-snoc : (period : ℕ) (mode : Mode) (hart : ℕ) (logs : List ProgramLog) (log : ProgramLog)
+    → messages_of_harts period mode hart (logs ++ log ∷ []) ≡ messages_of_harts period mode hart logs ++ messages_from
+    (hart + length logs) 0 (payloads period mode log)
+messages_of_harts-snoc period mode hart [] log =
+    append-nil (messages_from hart 0 (payloads period mode log))
+    ∙ ap (λ h. messages_from h 0 (payloads period mode log)) (omega arith)
+messages_of_harts-snoc period mode hart (first ∷ logs) log =
     let next : hart + 1 + length logs ≡ hart + suc (length logs) = omega arith in
-    ap (λ l. messages_from hart 0 (payloads period first) ++ l)
-    (messages_of_harts-snoc period (hart + 1) logs log
-    ∙ ap (λ h. messages_of_harts period (hart + 1) logs ++ messages_from h 0 (payloads period log)) next)
+    ap (λ l. messages_from hart 0 (payloads period mode first) ++ l)
+    (messages_of_harts-snoc period mode (hart + 1) logs log
+    ∙ ap (λ h. messages_of_harts period mode (hart + 1) logs ++ messages_from h 0 (payloads period mode log)) next)
     ∙ sym
-    (append_assoc (messages_from hart 0 (payloads period first)) (messages_of_harts period (hart + 1) logs)
-    (messages_from (hart + suc (length logs)) 0 (payloads period log)))
+    (append_assoc (messages_from hart 0 (payloads period mode first)) (messages_of_harts period mode (hart + 1) logs)
+    (messages_from (hart + suc (length logs)) 0 (payloads period mode log)))
 
 -- One hart more.
-pub text-take_more_harts : (text : Message → List ℕ) (period i : ℕ) (logs : List ProgramLog) (log : ProgramLog)
-    → i < length logs → log ≡ get_or logs i log
-    → flat_map text (messages_of_harts period 0 (take (i + 1) logs))
-    ≡ flat_map text (messages_of_harts period 0 (take i logs)) ++ flat_map text
-    (messages_from i 0 (payloads period log))
-text-take_more_harts text period i logs log within is =
+pub text-take_more_harts : (text : Message → List ℕ) (period : ℕ) (mode : Mode) (i : ℕ) (logs : List ProgramLog)
+    (log : ProgramLog) → i < length logs → log ≡ get_or logs i log
+    → flat_map text (messages_of_harts period mode 0 (take (i + 1) logs))
+    ≡ flat_map text (messages_of_harts period mode 0 (take i logs)) ++ flat_map text
+    (messages_from i 0 (payloads period mode log))
+text-take_more_harts text period mode i logs log within is =
     let count : length (take i logs) ≡ i = length-take-le i logs (omega arith) in
-    ap (λ l. flat_map text (messages_of_harts period 0 l))
+    ap (λ l. flat_map text (messages_of_harts period mode 0 l))
     (take_more logs i log within ∙ ap (λ l. take i logs ++ l ∷ []) (sym is))
-    ∙ ap (flat_map text) (messages_of_harts-snoc period 0 (take i logs) log)
-    ∙ flat_map-append text (messages_of_harts period 0 (take i logs))
-    (messages_from (0 + length (take i logs)) 0 (payloads period log))
+    ∙ ap (flat_map text) (messages_of_harts-snoc period mode 0 (take i logs) log)
+    ∙ flat_map-append text (messages_of_harts period mode 0 (take i logs))
+    (messages_from (0 + length (take i logs)) 0 (payloads period mode log))
     ∙ ap
-    (λ h. flat_map text (messages_of_harts period 0 (take i logs)) ++ flat_map text
-    (messages_from h 0 (payloads period log))) (omega (arith, count))
+    (λ h. flat_map text (messages_of_harts period mode 0 (take i logs)) ++ flat_map text
+    (messages_from h 0 (payloads period mode log))) (omega (arith, count))

@@ -13,10 +13,12 @@ use Rattle.rvclass.specs.Words.{Words}
 use Rattle.legalpath.specs.Legal.{Legal}
 use Rattle.legalpath.specs.ProgramLog.{ProgramLog, log_of}
 use Rattle.payload.specs.Reading.{reading}
+use Rattle.payload.specs.declared.mode.Mode.{Mode}
 use Rattle.payload.specs.declared.packet.Packet.{Packet}
 use Rattle.encoder.specs.Packets.{packets}
 use Rattle.decoder.proofs.ExtendingLemmas.{front_describes}
 use Rattle.decoder.specs.Describes.{Describes}
+use Rattle.decoder.specs.ModeOf.{mode_of}
 use Rattle.payload.specs.Ended.{has_ended}
 use Rattle.decoder.specs.Pieces.{reported_after, Pieces}
 use Rattle.message.proofs.AcceptedLemmas.{accepted_counted}
@@ -38,14 +40,15 @@ use Rattle.encoder.specs.Payloads.{payloads}
 use Rattle.captures.specs.Returned.{IsCaptureOf}
 
 -- Packets with another behind them have not ended.
-not_ended : (words : Words) (before : Option Event) (reported : ℕ) (front : List Packet) (packet : Packet)
+not_ended : (words : Words) (mode : Mode) (before : Option Event) (reported : ℕ) (front : List Packet) (packet : Packet)
     (rest : List Packet) (next : Option Packet) (pieces : List (List Event))
-    → Pieces words before reported (front ++ packet ∷ rest) next pieces → has_ended front ≡ false
-not_ended words before reported [] packet rest next pieces each = refl
-not_ended words before reported (p ∷ front) packet rest next [] each = absurd each
-not_ended words before reported (p ∷ []) packet rest next (piece ∷ pieces) each = each.0.0
-not_ended words before reported (p ∷ q ∷ front) packet rest next (piece ∷ pieces) each =
-    not_ended words (last_or before piece) (reported_after p reported piece) (q ∷ front) packet rest next pieces each.2
+    → Pieces words mode before reported (front ++ packet ∷ rest) next pieces → has_ended front ≡ false
+not_ended words mode before reported [] packet rest next pieces each = refl
+not_ended words mode before reported (p ∷ front) packet rest next [] each = absurd each
+not_ended words mode before reported (p ∷ []) packet rest next (piece ∷ pieces) each = each.0.0
+not_ended words mode before reported (p ∷ q ∷ front) packet rest next (piece ∷ pieces) each =
+    not_ended words mode (last_or before piece) (reported_after p reported piece) (q ∷ front) packet rest next pieces
+    each.2
 
 -- A demultiplexer takes the message, and the packets of its hart with this one describe a log.
 pub record IsNext (words : Words) (harts : ℕ) (messages : List Message) (message : Message) : Type 0 where
@@ -55,34 +58,34 @@ pub record IsNext (words : Words) (harts : ℕ) (messages : List Message) (messa
   pub log : List Event
   pub described : Describes words (packets_of message.hart messages ++ packet ∷ []) log
 
-module _ (program : Image) (period : ℕ) (logs : List ProgramLog) (bytes : List ℕ)
-    (sent : IsCaptureOf program period logs bytes) (few : length logs ≤ 2 ^ 16) where
+module _ (program : Image) (period : ℕ) (mode : Mode) (logs : List ProgramLog) (bytes : List ℕ)
+    (sent : IsCaptureOf program period mode logs bytes) (few : length logs ≤ 2 ^ 16) where
   abbrev all : List Message
-  all = messages_of_harts period 0 logs
+  all = messages_of_harts period mode 0 logs
 
-  sound : All (IsSound period) logs
-  sound = sound_logs program period logs bytes sent
+  sound : All (IsSound period mode) logs
+  sound = sound_logs program period mode logs bytes sent
 
   -- Each message is as harts send it.
   as_sent : All (IsSent (length logs)) all
-  as_sent = all_sent period (length logs) 0 logs (omega arith) few sound
+  as_sent = all_sent period mode (length logs) 0 logs (omega arith) few sound
 
   pub all_ranges : All IsMessage all
   all_ranges = All-weaker (IsSent (length logs)) IsMessage (λ message is. is.ranges) all as_sent
 
   -- The packets of a hart's messages are those of its log.
   packets_at : (hart : ℕ) (log : ProgramLog) → slice_get logs hart ≡ Some log
-      → packets_of hart all ≡ packets (words_of program) period log.events
+      → packets_of hart all ≡ packets (words_of program) period mode log.events
   packets_at hart log at =
-      packets_of-log period hart logs log at (All_at (IsSound period) logs hart log at sound)
-      ∙ ap (λ (p : Image). packets (words_of p) period log.events)
+      packets_of-log period mode hart logs log at (All_at (IsSound period mode) logs hart log at sound)
+      ∙ ap (λ (p : Image). packets (words_of p) period mode log.events)
       (All_at (λ (l : ProgramLog). l.program ≡ program) logs hart log at sent.same)
 
   -- Where there is a log, the bytes of the program are an image.
   pub program_image : (hart : ℕ) (log : ProgramLog) → slice_get logs hart ≡ Some log → IsImage program
   program_image hart log at =
       subst IsImage (All_at (λ (l : ProgramLog). l.program ≡ program) logs hart log at sent.same)
-      (All_at (IsSound period) logs hart log at sound).image
+      (All_at (IsSound period mode) logs hart log at sound).image
 
   -- They describe it.
   pub log_described : (hart : ℕ) (log : ProgramLog) → slice_get logs hart ≡ Some log
@@ -91,16 +94,16 @@ module _ (program : Image) (period : ℕ) (logs : List ProgramLog) (bytes : List
       let same = All_at (λ (l : ProgramLog). l.program ≡ program) logs hart log at sent.same in
       let legal =
       subst (λ (p : Image). Legal (words_of p) log.events) same
-      (All_at (IsSound period) logs hart log at sound).legal in
+      (All_at (IsSound period mode) logs hart log at sound).legal in
       let describe =
-      packets_describe (words_of program) (words_of-IsProgram program (program_image hart log at)) period log.events
-      legal in
+      packets_describe (words_of program) (words_of-IsProgram program (program_image hart log at)) period mode
+      log.events legal in
       subst (λ ps. Describes (words_of program) ps log.events) (sym (packets_at hart log at)) describe
 
   -- They end its trace.
   pub log_ended : (hart : ℕ) (log : ProgramLog) → slice_get logs hart ≡ Some log
       → has_ended (packets_of hart all) ≡ true
-  log_ended hart log at = ap has_ended (packets_at hart log at) ∙ packets_end (words_of program) period log.events
+  log_ended hart log at = ap has_ended (packets_at hart log at) ∙ packets_end (words_of program) period mode log.events
 
   -- A demultiplexer that accepted the messages before takes the one behind them.
   takes : (messages : List Message) (message : Message) (later : List Message) (packet : Packet)
@@ -113,10 +116,11 @@ module _ (program : Image) (period : ℕ) (logs : List ProgramLog) (bytes : List
       let hart = message.hart in
       let log = get_or logs hart (log_of program []) in
       let at = slice_get-get_or logs hart (log_of program []) is.known in
-      let own = sym (of_hart-log period 0 hart hart logs log (omega arith) at) ∙ ap (of_hart hart) whole
+      let own = sym (of_hart-log period mode 0 hart hart logs log (omega arith) at) ∙ ap (of_hart hart) whole
       ∙ of_hart-append hart messages (message ∷ later)
       ∙ ap (λ l. of_hart hart messages ++ l) (of_hart-own message later) in
-      let number = number-front hart 0 (payloads period log) (of_hart hart messages) message (of_hart hart later) own in
+      let number = number-front hart 0 (payloads period mode log) (of_hart hart messages) message (of_hart hart later)
+      own in
       let few = is.few in
       let counted = accepted_counted (length logs) messages accepted in
       ap (λ h. answer_of h message) (counted.each hart is.known)
@@ -146,8 +150,9 @@ module _ (program : Image) (period : ℕ) (logs : List ProgramLog) (bytes : List
       (front_describes (words_of program) (before ++ is.packet ∷ []) rest log.events
       (subst (λ ps. Describes (words_of program) ps log.events) joined described)).0 in
       let going =
-      not_ended (words_of program) None 0 before is.packet rest None described.pieces
-      (subst (λ ps. Pieces (words_of program) None 0 ps None described.pieces) split described.each) in
+      not_ended (words_of program) (mode_of (before ++ is.packet ∷ rest)) None 0 before is.packet rest None
+      described.pieces
+      (subst (λ ps. Pieces (words_of program) (mode_of ps) None 0 ps None described.pieces) split described.each) in
       record {
         packet = is.packet;
         taken = λ accepted. takes messages message later is.packet whole is is.read going accepted;

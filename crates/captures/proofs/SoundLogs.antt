@@ -6,6 +6,7 @@ use Rattle.rvclass.specs.Image.{Image, IsImage}
 use Rattle.legalpath.specs.Legal.{Legal}
 use Rattle.legalpath.specs.ProgramLog.{ProgramLog, IsLegalLog}
 use Rattle.payload.specs.Profile.{InProfile}
+use Rattle.payload.specs.declared.mode.Mode.{Mode}
 use Rattle.encoder.proofs.ProfileLemmas.{packets_in_profile}
 use Rattle.encoder.specs.Packets.{packets}
 use Rattle.encoder.proofs.CountLemmas.{few_packets}
@@ -13,26 +14,26 @@ use Rattle.captures.specs.Returned.{IsCaptureOf}
 
 -- The log is legal for its program, whose bytes are an image; its packets are of the profile, and fewer than a hart may
 -- send.
-pub record IsSound (period : ℕ) (log : ProgramLog) : Type 0 where
+pub record IsSound (period : ℕ) (mode : Mode) (log : ProgramLog) : Type 0 where
   pub image : IsImage log.program
   pub legal : Legal (words_of log.program) log.events
-  pub profile : All InProfile (packets (words_of log.program) period log.events)
-  pub few : length (packets (words_of log.program) period log.events) ≤ 2 ^ 24 + 2
+  pub profile : All InProfile (packets (words_of log.program) period mode log.events)
+  pub few : length (packets (words_of log.program) period mode log.events) ≤ 2 ^ 24 + 2
 
 -- Each log of a capture is sound.
-sound : (period : ℕ) (log : ProgramLog) → IsLegalLog log → IsSound period log
-sound period log legal =
+sound : (period : ℕ) (mode : Mode) (log : ProgramLog) → IsLegalLog log → IsSound period mode log
+sound period mode log legal =
     let words = words_of log.program in
     let short = legal.short in
     record {
       image = legal.image;
       legal = legal.legal;
       profile =
-          packets_in_profile words (words_of-IsProgram log.program legal.image).even period log.events legal.numbers
-          legal.legal;
-      few = omega (arith, few_packets words period log.events, short);
+          packets_in_profile words (words_of-IsProgram log.program legal.image).even period mode log.events
+          legal.numbers legal.legal;
+      few = omega (arith, few_packets words period mode log.events, short);
     }
 
-pub sound_logs : (program : Image) (period : ℕ) (logs : List ProgramLog) (bytes : List ℕ)
-    → IsCaptureOf program period logs bytes → All (IsSound period) logs
-sound_logs program period logs bytes sent = λ k d within. sound period _ (sent.legal k d within)
+pub sound_logs : (program : Image) (period : ℕ) (mode : Mode) (logs : List ProgramLog) (bytes : List ℕ)
+    → IsCaptureOf program period mode logs bytes → All (IsSound period mode) logs
+sound_logs program period mode logs bytes sent = λ k d within. sound period mode _ (sent.legal k d within)

@@ -4,6 +4,8 @@ use Rattle.std.specs.List.{flat_map}
 use Rattle.retire.specs.LogText.{hex}
 use Rattle.payload.specs.FaultText.{pack_fault_text}
 use Rattle.payload.specs.declared.fault.PackFault.{PackFault}
+use Rattle.payload.specs.declared.mode.Mode.{Mode}
+use Rattle.payload.specs.declared.mode.Mode.TheVariants.{Differential, Full}
 use Rattle.payload.specs.declared.packet.Packet.{Packet}
 use Rattle.payload.specs.declared.packet.Packet.TheVariants as packet
 use Rattle.payload.specs.declared.packet.Support.{Support}
@@ -20,9 +22,14 @@ branch_text false = codes "1"
 abbrev pub map_text : List Bool → List ℕ
 map_text outcomes = if length outcomes == 0 then codes "-" else flat_map branch_text outcomes
 
+-- The mode of a trace that opens.
+abbrev pub open_text : Mode → List ℕ
+open_text Differential = codes "open"
+open_text Full = codes "open full"
+
 -- What a support packet tells.
 abbrev pub support_text : Support → List ℕ
-support_text support.Open = codes "open"
+support_text (support.Open mode) = open_text mode
 support_text support.EndedRep = codes "close ended_rep"
 support_text support.EndedNtr = codes "close ended_ntr"
 

@@ -3,6 +3,7 @@
 ghost use Rattle.std.specs.Prelude.{ℕ, ◌≡◌, List, [], IfOk, length};
 ghost use Rattle.rvclass.specs.Fetch.{words_of};
 ghost use Rattle.legalpath.specs.ProgramLog.{ProgramLog};
+ghost use Rattle.payload.specs.declared.mode.Mode.{Mode};
 ghost use Rattle.receiver.specs.Holds.{HasReceived};
 ghost use Rattle.receiver.specs.Received.{events_in};
 ghost use Rattle.captures.specs.Decoded.{IsDecoded};
@@ -30,8 +31,9 @@ pub fn decode_capture<A: Allocator + Copy>(
         IsDecoded (words_of program.now) harts bytes.now (events_in outcome.harts.items) outcome.closed.items
         outcome.fault) }
 
-    // The capture of all messages of legal logs gives the logs back, unless room was refused.
-    ensures whole { (period : ℕ) (logs : List ProgramLog) → IsCaptureOf program.now period logs bytes.now
+    // The capture of all messages of legal logs, in either mode, gives the logs back, unless room was refused.
+    ensures whole { (period : ℕ) (mode : Mode) (logs : List ProgramLog)
+        → IsCaptureOf program.now period mode logs bytes.now
         → length logs ≡ harts
         → IfOk result (λ outcome. AreReturned logs (events_in outcome.harts.items) outcome.closed.items outcome.fault) }
 {

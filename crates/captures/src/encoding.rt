@@ -13,26 +13,29 @@ use crate::form::{Capture, Form, Lines};
 use encoder::Source;
 use legalpath::LegalLog;
 use message::{Message, MessageFault};
+use payload::Mode;
 use std::alloc::Allocator;
 use std::io::Write;
 
 /// Writes the capture of the messages of each hart's log, hart 0 first, numbered from 0 on.
 ///
 /// The payloads are the shortest of the packets of the log, with a synchronisation at each retirement whose number the
-/// period divides. The only fault is [`MessageFault::Write`], where the writer failed; a beginning of the capture may
-/// have been written then. No memory is taken, and the writer is not flushed.
+/// period divides. What their address fields hold, the mode says, which each hart's first message tells. The only fault
+/// is [`MessageFault::Write`], where the writer failed; a beginning of the capture may have been written then. No
+/// memory is taken, and the writer is not flushed.
 pub fn encode_capture<W: Write, A: Allocator>(
     logs: &[LegalLog<'_, A>],
     period: u16,
+    mode: Mode,
     sink: &mut W,
 ) -> Result<(), MessageFault>
     requires period { 1 ≤ period }
     requires few { length logs.now ≤ 2 ^ 16 }
     ensures capture { OnOk result (Appends (W.contents sink.old) (W.contents sink.new)
-        (capture (messages_of_harts period 0 logs.now))) }
+        (capture (messages_of_harts period mode 0 logs.now))) }
     ensures fault { IfErr result (λ fault. fault ≡ MessageFault.Write) }
 {
-    encode::<Capture, W, A>(logs, period, sink)
+    encode::<Capture, W, A>(logs, period, mode, sink)
 }
 
 /// Writes the same messages as [`encode_capture`], a line each: the hart's number and the message's, both decimal, and
@@ -43,31 +46,33 @@ pub fn encode_capture<W: Write, A: Allocator>(
 pub fn encode_hex<W: Write, A: Allocator>(
     logs: &[LegalLog<'_, A>],
     period: u16,
+    mode: Mode,
     sink: &mut W,
 ) -> Result<(), MessageFault>
     requires period { 1 ≤ period }
     requires few { length logs.now ≤ 2 ^ 16 }
     ensures text { OnOk result (Appends (W.contents sink.old) (W.contents sink.new)
-        (hex_text (messages_of_harts period 0 logs.now))) }
+        (hex_text (messages_of_harts period mode 0 logs.now))) }
     ensures fault { IfErr result (λ fault. fault ≡ MessageFault.Write) }
 {
-    encode::<Lines, W, A>(logs, period, sink)
+    encode::<Lines, W, A>(logs, period, mode, sink)
 }
 
 /// Writes the messages of each hart's log in a form.
 fn encode<F: Form, W: Write, A: Allocator>(
     logs: &[LegalLog<'_, A>],
     period: u16,
+    mode: Mode,
     sink: &mut W,
 ) -> Result<(), MessageFault>
     requires period { 1 ≤ period }
     requires few { length logs.now ≤ 2 ^ 16 }
     ensures text { OnOk result (Appends (W.contents sink.old) (W.contents sink.new)
-        (flat_map F.text (messages_of_harts period 0 logs.now))) }
+        (flat_map F.text (messages_of_harts period mode 0 logs.now))) }
     ensures fault { IfErr result (λ fault. fault ≡ MessageFault.Write) }
 {
     for (hart, log) in logs.iter().enumerate() {
-        encode_log::<F, W, A>(hart as u16, log, period, sink)?;
+        encode_log::<F, W, A>(hart as u16, log, period, mode, sink)?;
     }
     Ok(())
 }
@@ -77,14 +82,15 @@ fn encode_log<F: Form, W: Write, A: Allocator>(
     hart: u16,
     log: &LegalLog<'_, A>,
     period: u16,
+    mode: Mode,
     sink: &mut W,
 ) -> Result<(), MessageFault>
     requires { 1 ≤ period }
     ensures text { OnOk result (Appends (W.contents sink.old) (W.contents sink.new)
-        (flat_map F.text (messages_from hart 0 (payloads period log.now)))) }
+        (flat_map F.text (messages_from hart 0 (payloads period mode log.now)))) }
     ensures fault { IfErr result (λ fault. fault ≡ MessageFault.Write) }
 {
-    let mut source = Source::new(log, period);
+    let mut source = Source::new(log, period, mode);
     for number in 0..log.events().len() as u64 + 2 {
         let Some(payload) = source.next() else {
             return Ok(());

@@ -4,7 +4,7 @@ ghost use Rattle.std.specs.Prelude.{◌≡◌, Some, codes};
 ghost use Rattle.captures.specs.PacketText.{branch_text, cause_text, map_text, packet_text, place_text, reading_text};
 ghost use Rattle.captures.specs.PacketText.{report_text, support_text};
 
-use payload::{Outcomes, PackFault, Packet, Report, Support};
+use payload::{Mode, Outcomes, PackFault, Packet, Report, Support};
 use std::fmt;
 
 /// The text of what a payload is: that of its packet, or `bad` and why it is none.
@@ -138,7 +138,8 @@ fn support_text(support: Support) -> &'static str
     ensures { result.now ≡ support_text support }
 {
     match support {
-        Support::Open => "open",
+        Support::Open(Mode::Differential) => "open",
+        Support::Open(Mode::Full) => "open full",
         Support::EndedRep => "close ended_rep",
         Support::EndedNtr => "close ended_ntr",
     }

@@ -83,6 +83,22 @@ fn worked_capture(rt: HostRuntime) -> Result<(), Fail> {
     Ok(())
 }
 
+#[test]
+fn first_message_tells_full_addresses(rt: HostRuntime) -> Result<(), Fail> {
+    let messages: [Sent; 4] = [
+        (0, 0, &[0x1f, 0x01]),
+        (0, 1, FIRST),
+        (0, 2, &[0x0a, 0, 0, 0, 0x01]),
+        (0, 3, END),
+    ];
+    let outcome = decoded(rt.alloc(), 1, &messages)?;
+    assert_eq!(rt; outcome.harts.len(), 1);
+    assert_eq!(rt; outcome.fault, None);
+    assert_eq!(rt; outcome.harts[0].as_slice(), BOTH.as_slice());
+    assert_eq!(rt; outcome.closed.as_slice(), [true].as_slice());
+    Ok(())
+}
+
 /// How many of the messages of the worked capture end at this length or before.
 fn whole_messages(length: usize) -> usize {
     PLACES[1..].iter().filter(|end| **end <= length).count()

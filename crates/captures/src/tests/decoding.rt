@@ -1,12 +1,14 @@
 //! Logs that come back from their packets.
 
 use super::made::{BASE, WORDS, image_of, log_of};
-use super::{PERIODS, legal_log};
+use super::{MODES, PERIODS, legal_log};
 use decoder::{DecodeFault, Decoder};
 use encoder::Encoder;
-use payload::{Packet, pack, unpack};
+use legalpath::LegalLog;
+use payload::{Mode, Packet, pack, unpack};
 use retire::Event;
 use rvclass::Program;
+use std::alloc::Global;
 use std::test::Fail;
 
 /// Feeds packets by way of their payloads.
@@ -26,29 +28,42 @@ fn take(
     Ok(())
 }
 
-/// A hundred thousand events, encoded at several periods: the packets give the log back, and no packet comes after
-/// them.
+/// Whether the packets of a log give it back, and no packet comes after them.
+fn comes_back(
+    alloc: Global,
+    program: &Program,
+    log: &LegalLog<'_>,
+    period: u16,
+    mode: Mode,
+) -> Result<bool, Fail> {
+    let mut encoder = Encoder::new(period.max(1), mode);
+    let mut decoder = Decoder::new();
+    let mut events = Vec::new(alloc);
+    let open = encoder.open();
+    take(&mut decoder, program, &[open], &mut events)?;
+    for event in log.events() {
+        let burst = encoder.push(program, *event);
+        take(&mut decoder, program, burst.as_slice(), &mut events)?;
+    }
+    let early = decoder.is_closed();
+    let burst = encoder.finish(program);
+    take(&mut decoder, program, burst.as_slice(), &mut events)?;
+    let closed = decoder.is_closed();
+    let again = decoder.feed(program, &open, &mut events);
+    let refused = again == Err(DecodeFault::AfterClose);
+    Ok(!early && closed && refused && events.as_slice() == log.events())
+}
+
+/// Fifty thousand events, encoded at several periods and in each mode.
 #[test]
 fn has_logs_back(rt: HostRuntime) -> Result<(), Fail> {
     let program = Program::new(BASE, image_of(rt.alloc(), &WORDS)?)?;
     for (seed, period) in PERIODS.iter().enumerate() {
-        let log = legal_log(&program, log_of(rt.alloc(), seed as u64, 100_000)?)?;
-        let mut encoder = Encoder::new((*period).max(1));
-        let mut decoder = Decoder::new();
-        let mut events = Vec::new(rt.alloc());
-        let open = encoder.open();
-        take(&mut decoder, &program, &[open], &mut events)?;
-        for event in log.events() {
-            let burst = encoder.push(&program, *event);
-            take(&mut decoder, &program, burst.as_slice(), &mut events)?;
+        let log = legal_log(&program, log_of(rt.alloc(), seed as u64, 50_000)?)?;
+        for mode in MODES {
+            let back = comes_back(rt.alloc(), &program, &log, *period, mode)?;
+            assert!(rt; back, "{period}");
         }
-        assert!(rt; !decoder.is_closed(), "{period}");
-        let burst = encoder.finish(&program);
-        take(&mut decoder, &program, burst.as_slice(), &mut events)?;
-        assert!(rt; decoder.is_closed(), "{period}");
-        assert!(rt; events.as_slice() == log.events(), "{period}");
-        let again = decoder.feed(&program, &open, &mut events);
-        assert!(rt; again == Err(DecodeFault::AfterClose), "{period}");
     }
     Ok(())
 }

@@ -9,8 +9,9 @@ use std::alloc::Global;
 use std::test::Fail;
 
 /// Payloads and the texts of their packets.
-const TEXTS: [(&[u8], &str); 21] = [
+const TEXTS: [(&[u8], &str); 27] = [
     (b"\x1f", "open"),
+    (b"\x1f\x01", "open full"),
     (b"\x4f", "close ended_rep"),
     (b"\xcf\x00", "close ended_ntr"),
     (
@@ -46,11 +47,20 @@ const TEXTS: [(&[u8], &str); 21] = [
         "address diff=0 map=- notify",
     ),
     (b"\x85\x04", "address diff=8 map=1 plain"),
+    // Full addresses.
+    (b"\x0a\x00\x00\x00\x01", "address diff=80000004 map=- plain"),
+    (
+        b"\x02\x00\x00\x00\x01\x00\x00\x00\xfe",
+        "address diff=80000000 map=- notify",
+    ),
+    (b"\x85\x04\x00\x00\x40", "address diff=80000008 map=1 plain"),
     (b"\x0d\xf9", "address diff=fffffffffffffffc map=010 plain"),
     (b"\x01", "map 0000000000000000000000000000000"),
     (b"\x81\x00", "map 1000000000000000000000000000000"),
     (b"\x1f\x80", "bad BadPad"),
     (b"\xcf", "bad Unsupported"),
+    (b"\x1f\x02", "bad Unsupported"),
+    (b"\x4f\x01", "bad Unsupported"),
     (b"\x00", "bad Unsupported"),
     (b"\x0b", "bad Unsupported"),
     (b"\x53", "bad BadPrivilege"),

@@ -1,12 +1,12 @@
 //! Logs and their messages, as captures and as lines.
 
 use super::made::{BASE, WORDS, image_of, log_of};
-use super::{PERIODS, legal_log};
+use super::{MODES, PERIODS, legal_log};
 use crate::{encode_capture, encode_hex};
 use encoder::Encoder;
 use legalpath::LegalLog;
 use message::MessageFault;
-use payload::Packet;
+use payload::{Mode, Packet};
 use retire::Event;
 use rvclass::{Class, Program};
 use std::alloc::Global;
@@ -71,6 +71,14 @@ const SECOND_CAPTURE: [u8; 41] = [
     1, 0, 2, 0, 0, 0, 0, 0, 0, 0, 2, 0xcf, 0,
 ];
 
+/// The capture of the first log alone in full-address mode.
+const FULL_CAPTURE: [u8; 57] = [
+    0, 0, 0, 0, 0, 0, 0, 0, 0, 0, 2, 0x1f, 0x01, //
+    0, 0, 1, 0, 0, 0, 0, 0, 0, 0, 5, 0x73, 0, 0, 0, 0x20, //
+    0, 0, 2, 0, 0, 0, 0, 0, 0, 0, 5, 0x0a, 0, 0, 0, 0x01, //
+    0, 0, 3, 0, 0, 0, 0, 0, 0, 0, 1, 0x4f,
+];
+
 const LINES: &[u8] = b"0 0 1f\n0 1 7300000020\n0 2 0a\n0 3 4f\n1 0 1f\n1 1 7300000020\n1 2 cf00\n";
 
 #[test]
@@ -78,8 +86,25 @@ fn capture_of_one_hart(rt: HostRuntime) -> Result<(), Fail> {
     let program = Program::new(BASE, image_of(rt.alloc(), &NOPS)?)?;
     let logs = logs_of(rt.alloc(), &program)?;
     let mut bytes = Vec::new(rt.alloc());
-    encode_capture(&logs[..1], 1024, &mut bytes)?;
+    encode_capture(&logs[..1], 1024, Mode::Differential, &mut bytes)?;
     assert_eq!(rt; bytes.as_slice(), FIRST_CAPTURE.as_slice());
+    Ok(())
+}
+
+/// In full-address mode the address packet holds the address, and its payload is longer.
+#[test]
+fn capture_in_full_address_mode(rt: HostRuntime) -> Result<(), Fail> {
+    let program = Program::new(BASE, image_of(rt.alloc(), &NOPS)?)?;
+    let logs = logs_of(rt.alloc(), &program)?;
+    let mut bytes = Vec::new(rt.alloc());
+    encode_capture(&logs[..1], 1024, Mode::Full, &mut bytes)?;
+    assert_eq!(rt; bytes.as_slice(), FULL_CAPTURE.as_slice());
+    let mut lines = Vec::new(rt.alloc());
+    encode_hex(&logs[..1], 1024, Mode::Full, &mut lines)?;
+    assert_eq!(rt;
+        lines.as_slice(),
+        b"0 0 1f01\n0 1 7300000020\n0 2 0a00000001\n0 3 4f\n".as_slice()
+    );
     Ok(())
 }
 
@@ -88,8 +113,8 @@ fn no_logs_are_no_bytes(rt: HostRuntime) -> Result<(), Fail> {
     let program = Program::new(BASE, image_of(rt.alloc(), &NOPS)?)?;
     let logs = logs_of(rt.alloc(), &program)?;
     let mut bytes = Vec::new(rt.alloc());
-    encode_capture(&logs[..0], 1024, &mut bytes)?;
-    encode_hex(&logs[..0], 1024, &mut bytes)?;
+    encode_capture(&logs[..0], 1024, Mode::Differential, &mut bytes)?;
+    encode_hex(&logs[..0], 1024, Mode::Differential, &mut bytes)?;
     assert!(rt; bytes.is_empty());
     Ok(())
 }
@@ -116,7 +141,7 @@ fn capture_of_two_harts_to_writers_that_fail(rt: HostRuntime) -> Result<(), Fail
             held: Vec::new(rt.alloc()),
             calls,
         };
-        let told = encode_capture(&logs, 1024, &mut sink);
+        let told = encode_capture(&logs, 1024, Mode::Differential, &mut sink);
         assert!(rt; is_cut(told, &sink.held, calls, &whole), "{calls}");
     }
     Ok(())
@@ -131,7 +156,7 @@ fn lines_of_two_harts_to_writers_that_fail(rt: HostRuntime) -> Result<(), Fail> 
             held: Vec::new(rt.alloc()),
             calls,
         };
-        let told = encode_hex(&logs, 1024, &mut sink);
+        let told = encode_hex(&logs, 1024, Mode::Differential, &mut sink);
         assert!(rt; is_cut(told, &sink.held, calls, LINES), "{calls}");
     }
     Ok(())
@@ -169,6 +194,25 @@ fn told_with(told: Told, program: &Program, packet: &Packet) -> Told {
     }
 }
 
+/// What all packets of a log tell.
+fn told_by(program: &Program, log: &LegalLog<'_>, period: u16, mode: Mode) -> Told {
+    let mut encoder = Encoder::new(period.max(1), mode);
+    let mut told = Told {
+        outcomes: 0,
+        reported: 0,
+    };
+    told = told_with(told, program, &encoder.open());
+    for event in log.events() {
+        for packet in encoder.push(program, *event).as_slice() {
+            told = told_with(told, program, packet);
+        }
+    }
+    for packet in encoder.finish(program).as_slice() {
+        told = told_with(told, program, packet);
+    }
+    told
+}
+
 /// A hundred thousand events: each branch is told once, as an outcome, by a synchronisation or with its trap.
 #[test]
 fn tells_each_branch_once(rt: HostRuntime) -> Result<(), Fail> {
@@ -181,30 +225,19 @@ fn tells_each_branch_once(rt: HostRuntime) -> Result<(), Fail> {
         }
     }
     assert!(rt; 10_000 < branches);
-    for period in PERIODS {
-        let mut encoder = Encoder::new(period);
-        let mut told = Told {
-            outcomes: 0,
-            reported: 0,
-        };
-        told = told_with(told, &program, &encoder.open());
-        for event in log.events() {
-            for packet in encoder.push(&program, *event).as_slice() {
-                told = told_with(told, &program, packet);
+    for mode in MODES {
+        for period in PERIODS {
+            let told = told_by(&program, &log, period, mode);
+            assert_eq!(rt;
+                told.outcomes.saturating_add(told.reported),
+                branches,
+                "{period}"
+            );
+            if period == 1 {
+                assert_eq!(rt; told.outcomes, 0);
+            } else {
+                assert!(rt; 1000 < told.outcomes, "{period}");
             }
-        }
-        for packet in encoder.finish(&program).as_slice() {
-            told = told_with(told, &program, packet);
-        }
-        assert_eq!(rt;
-            told.outcomes.saturating_add(told.reported),
-            branches,
-            "{period}"
-        );
-        if period == 1 {
-            assert_eq!(rt; told.outcomes, 0);
-        } else {
-            assert!(rt; 1000 < told.outcomes, "{period}");
         }
     }
     Ok(())

@@ -7,6 +7,7 @@ use decoder::DecodeFault;
 use legalpath::LegalLog;
 use linked_list_allocator::LocalHeap;
 use message::{Messages, write_message};
+use payload::Mode;
 use rvclass::Program;
 use std::alloc::{Allocator, Global};
 use std::test::Fail;
@@ -26,12 +27,17 @@ fn logs_of<'p>(
 }
 
 /// The capture of these logs.
-fn capture_of(alloc: Global, logs: &[LegalLog<'_>], period: u16) -> Result<Vec<u8>, Fail> {
+fn capture_of(
+    alloc: Global,
+    logs: &[LegalLog<'_>],
+    period: u16,
+    mode: Mode,
+) -> Result<Vec<u8>, Fail> {
     if logs.len() > 1 << 16 {
         return Err(Fail::new("too many logs"));
     }
     let mut bytes = Vec::new(alloc);
-    encode_capture(logs, period.max(1), &mut bytes)?;
+    encode_capture(logs, period.max(1), mode, &mut bytes)?;
     Ok(bytes)
 }
 
@@ -78,7 +84,7 @@ fn compared<A: Allocator>(
 fn memory_is_refused(rt: HostRuntime) -> Result<(), Fail> {
     let program = Program::new(BASE, image_of(rt.alloc(), &WORDS)?)?;
     let logs = logs_of(rt.alloc(), &program, 2, 100)?;
-    let bytes = capture_of(rt.alloc(), &logs, 31)?;
+    let bytes = capture_of(rt.alloc(), &logs, 31, Mode::Differential)?;
     let mut nothing = 0usize;
     let mut beginnings = 0usize;
     let mut all = 0usize;
@@ -103,14 +109,25 @@ fn memory_is_refused(rt: HostRuntime) -> Result<(), Fail> {
     Ok(())
 }
 
-/// Sixty-four logs of ten thousand events each come back whole.
+/// Whether the logs of so many harts, of ten thousand events each, come back whole in a mode, which nobody tells the
+/// decoder.
+fn come_back(alloc: Global, harts: u16, mode: Mode) -> Result<bool, Fail> {
+    let program = Program::new(BASE, image_of(alloc, &WORDS)?)?;
+    let logs = logs_of(alloc, &program, u64::from(harts), 10_000)?;
+    let bytes = capture_of(alloc, &logs, 1024, mode)?;
+    let outcome = decode_capture(alloc, &program, harts, &bytes)?;
+    Ok(compared(&outcome, &logs)? == Came::All)
+}
+
 #[test]
 fn sixty_four_logs(rt: HostRuntime) -> Result<(), Fail> {
-    let program = Program::new(BASE, image_of(rt.alloc(), &WORDS)?)?;
-    let logs = logs_of(rt.alloc(), &program, 64, 10_000)?;
-    let bytes = capture_of(rt.alloc(), &logs, 1024)?;
-    let outcome = decode_capture(rt.alloc(), &program, 64, &bytes)?;
-    assert!(rt; compared(&outcome, &logs)? == Came::All);
+    assert!(rt; come_back(rt.alloc(), 64, Mode::Differential)?);
+    Ok(())
+}
+
+#[test]
+fn logs_in_full_address_mode(rt: HostRuntime) -> Result<(), Fail> {
+    assert!(rt; come_back(rt.alloc(), 8, Mode::Full)?);
     Ok(())
 }
 
@@ -128,8 +145,8 @@ fn harts_in_turn(rt: HostRuntime) -> Result<(), Fail> {
     let program = Program::new(BASE, image_of(rt.alloc(), &WORDS)?)?;
     let logs = logs_of(rt.alloc(), &program, 2, 1_000)?;
     let alone = logs_of(rt.alloc(), &program, 1, 1_000)?;
-    let first = capture_of(rt.alloc(), &alone, 31)?;
-    let both = capture_of(rt.alloc(), &logs, 31)?;
+    let first = capture_of(rt.alloc(), &alone, 31, Mode::Full)?;
+    let both = capture_of(rt.alloc(), &logs, 31, Mode::Full)?;
     let mut in_turn = Vec::new(rt.alloc());
     let mut of_first = Messages::new(&first);
     let mut of_second = Messages::new(&both[first.len().min(both.len())..]);

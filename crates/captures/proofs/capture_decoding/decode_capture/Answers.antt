@@ -16,7 +16,7 @@ returns-clause-decoded g c =
     (c.into_parts-harts.ensures.decoded (λ hart. words) harts)
 
 pub returns-clause-whole : goal.returns-clause-whole
-returns-clause-whole g c = λ period logs sent counted.
-    captures_return c.args.program.now period c.args.harts logs c.args.bytes.now
+returns-clause-whole g c = λ period mode logs sent counted.
+    captures_return c.args.program.now period mode c.args.harts logs c.args.bytes.now
     (events_in c.into_parts-harts.result.0.items) c.into_parts-harts.result.1.items c.collect-fault.result
     sent counted (omega (arith, c.ranges.harts.fits)) (returns-clause-decoded g c)

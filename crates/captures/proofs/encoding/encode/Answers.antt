@@ -13,11 +13,11 @@ pub loop-hart-preserved : goal.loop-hart-preserved
 loop-hart-preserved g c =
     let text = g.F.Form.text in
     let hart = c.loop-hart.hart in
-    let before = flat_map text (messages_of_harts c.args.period 0 (take hart c.args.logs.now)) in
-    let here = flat_map text (messages_from hart 0 (payloads c.args.period c.index-logs-hart.result)) in
+    let before = flat_map text (messages_of_harts c.args.period c.args.mode 0 (take hart c.args.logs.now)) in
+    let here = flat_map text (messages_from hart 0 (payloads c.args.period c.args.mode c.index-logs-hart.result)) in
     let more =
-    text-take_more_harts text c.args.period hart c.args.logs.now c.index-logs-hart.result c.loop-hart-test.true
-    c.index-logs-hart.is in
+    text-take_more_harts text c.args.period c.args.mode hart c.args.logs.now c.index-logs-hart.result
+    c.loop-hart-test.true c.index-logs-hart.is in
     subst (Appends (g.W.Write.contents c.args.sink.now) (g.W.Write.contents c.encode_log.new.sink)) (sym more)
     (Appends-trans (g.W.Write.contents c.args.sink.now) (g.W.Write.contents c.loop-hart.sink)
     (g.W.Write.contents c.encode_log.new.sink) before here c.loop-hart.invariant c.in_ok-encode_log.ensures.text)

@@ -7,4 +7,4 @@ use Rattle.captures.proofs.encoding.encode.Given as goal
 abbrev pub invariant-loop-hart : goal.invariant-loop-hart
 invariant-loop-hart g l =
     Appends (g.W.Write.contents l.fn.sink) (g.W.Write.contents l.sink)
-    (flat_map g.F.Form.text (messages_of_harts l.period 0 (take l.hart l.logs)))
+    (flat_map g.F.Form.text (messages_of_harts l.period l.mode 0 (take l.hart l.logs)))

@@ -8,34 +8,37 @@ use Rattle.captures.proofs.encoding.encode_log.Goals as goal
 pub loop-number-preserved : goal.loop-number-preserved
 loop-number-preserved g c =
     let period = c.args.period in
+    let mode = c.args.mode in
     let log = c.args.log.now in
     let number = c.loop-number.number in
     let at = c.loop-number.invariant.0 in
-    let found = sym (c.next.ensures.given period number log at) ∙ c.in-Some.is in
-    let on = c.next.ensures.goes_on period number log at in (
-      subst (λ result. IsAt period log (number_behind number result) c.next.new.self) c.in-Some.is on,
+    let found = sym (c.next.ensures.given period number mode log at) ∙ c.in-Some.is in
+    let on = c.next.ensures.goes_on period number mode log at in (
+      subst (λ result. IsAt period mode log (number_behind number result) c.next.new.self) c.in-Some.is on,
       written_more g.F.Form.text (g.W.Write.contents c.args.sink.now) (g.W.Write.contents c.loop-number.sink)
           (g.W.Write.contents c.write.new.sink)
-          c.args.hart number (payloads period log) c.in-Some.payload found c.loop-number.invariant.1
+          c.args.hart number (payloads period mode log) c.in-Some.payload found c.loop-number.invariant.1
           c.in_ok-write.ensures.text,
     )
 
 pub returns-in_default-clause-text : goal.returns-in_default-clause-text
 returns-in_default-clause-text g c =
     let period = c.args.period in
+    let mode = c.args.mode in
     let log = c.args.log.now in
     let number = c.loop-number.number in
-    let none = sym (c.next.ensures.given period number log c.loop-number.invariant.0) ∙ c.in_default.is in
+    let none = sym (c.next.ensures.given period number mode log c.loop-number.invariant.0) ∙ c.in_default.is in
     written_through g.F.Form.text (g.W.Write.contents c.args.sink.now) (g.W.Write.contents c.loop-number.sink)
-    c.args.hart number (payloads period log) none c.loop-number.invariant.1
+    c.args.hart number (payloads period mode log) none c.loop-number.invariant.1
 
 pub returns-clause-text : goal.returns-clause-text
 returns-clause-text g c =
     let period = c.args.period in
+    let mode = c.args.mode in
     let log = c.args.log.now in
     let number = c.loop-number.number in
-    let few = few_payloads period log in
+    let few = few_payloads period mode log in
     let same = ap length c.events.ensures.events in
-    let over : length (payloads period log) ≤ number = omega (arith, few, same, c.loop-number-test.false) in
+    let over : length (payloads period mode log) ≤ number = omega (arith, few, same, c.loop-number-test.false) in
     written_all g.F.Form.text (g.W.Write.contents c.args.sink.now) (g.W.Write.contents c.loop-number.sink) c.args.hart
-    number (payloads period log) over c.loop-number.invariant.1
+    number (payloads period mode log) over c.loop-number.invariant.1

@@ -9,6 +9,6 @@ use Rattle.captures.proofs.encoding.encode_log.Given as goal
 -- The messages below this number are written, and the source stands before the next one's payload.
 abbrev pub invariant-loop-number : goal.invariant-loop-number
 invariant-loop-number g l =
-    IsAt l.period l.log l.number l.source
+    IsAt l.period l.fn.mode l.log l.number l.source
     × Appends (g.W.Write.contents l.fn.sink) (g.W.Write.contents l.sink)
-    (flat_map g.F.Form.text (messages_from l.hart 0 (take l.number (payloads l.period l.log))))
+    (flat_map g.F.Form.text (messages_from l.hart 0 (take l.number (payloads l.period l.fn.mode l.log))))
