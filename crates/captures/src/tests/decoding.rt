@@ -54,12 +54,12 @@ fn comes_back(
     Ok(!early && closed && refused && events.as_slice() == log.events())
 }
 
-/// A hundred thousand events, encoded at several periods and in each mode.
+/// Fifty thousand events, encoded at several periods and in each mode.
 #[test]
 fn has_logs_back(rt: HostRuntime) -> Result<(), Fail> {
     let program = Program::new(BASE, image_of(rt.alloc(), &WORDS)?)?;
     for (seed, period) in PERIODS.iter().enumerate() {
-        let log = legal_log(&program, log_of(rt.alloc(), seed as u64, 100_000)?)?;
+        let log = legal_log(&program, log_of(rt.alloc(), seed as u64, 50_000)?)?;
         for mode in MODES {
             let back = comes_back(rt.alloc(), &program, &log, *period, mode)?;
             assert!(rt; back, "{period}");
