@@ -3,7 +3,7 @@
 use super::message;
 use crate::hart::Hart;
 use crate::{Demux, DemuxFault};
-use payload::{PackFault, Packet, Support};
+use payload::{Mode, PackFault, Packet, Support};
 use std::test::Fail;
 
 const OPEN: &[u8] = &[0x1f];
@@ -71,7 +71,7 @@ fn no_more_than_2_to_the_63(rt: HostRuntime) -> Result<(), Fail> {
     );
     assert_eq!(rt;
         hart.accept(&message(0, last, OPEN)?),
-        Ok(Packet::Support(Support::Open))
+        Ok(Packet::Support(Support::Open(Mode::Differential)))
     );
     for number in [0, last, last + 1, last + 2] {
         assert_eq!(rt;
