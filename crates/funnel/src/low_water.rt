@@ -5,6 +5,7 @@
 //! it holds, and then sends many messages before it sleeps again.
 
 use std::alloc::Allocator;
+use std::hint;
 use std::sync::atomic::{AtomicU64, AtomicUsize, Ordering};
 use std::sync::{Arc, Wait};
 use std::time::Duration;
@@ -12,9 +13,22 @@ use std::time::Duration;
 /// How many milliseconds a port sleeps at most. It is woken before, unless the outlet stops taking above the mark.
 const LONGEST: u64 = 10;
 
+/// How often a port looks for room before it waits, longer each time, where each message that is taken reaches the mark:
+/// then room comes sooner than a thread is woken.
+const MANY_LOOKS: u32 = 7;
+
+/// Rests between two looks, longer each time.
+pub(crate) fn rest(look: u32) {
+    for _ in 0..1u32 << look.min(6) {
+        hint::spin_loop();
+    }
+}
+
 /// What the ports and the outlet of a funnel share of waiting for room.
 #[derive(Drop)]
 pub(crate) struct LowWater {
+    /// How often a port looks for room before it waits.
+    pub(crate) looks: u32,
     /// How often ports were called to look for room again.
     calls: AtomicU64,
     /// How many ports wait for room.
@@ -22,9 +36,10 @@ pub(crate) struct LowWater {
 }
 
 impl LowWater {
-    /// No port waits.
-    pub(crate) fn new() -> LowWater {
+    /// No port waits for room in a funnel that holds so many messages.
+    pub(crate) fn new(capacity: usize) -> LowWater {
         LowWater {
+            looks: if capacity < 4 { MANY_LOOKS } else { 1 },
             calls: AtomicU64::new(0),
             waiting: AtomicUsize::new(0),
         }

@@ -57,7 +57,7 @@ fn opened<A: Allocator + Clone>(
         capacity as usize,
     )?;
     let counts = Vec::from_elem(alloc.clone()?, 0u64, usize::from(harts))?;
-    let low = Arc::new(alloc.clone()?, LowWater::new())?;
+    let low = Arc::new(alloc.clone()?, LowWater::new(capacity as usize))?;
     let mut ports = Vec::with_capacity(alloc, usize::from(harts))?;
     for hart in 0..harts {
         let port = port_of(sender.try_clone()?, Arc::try_clone(&low)?, &mut pass, hart);

@@ -11,7 +11,7 @@ ghost use Rattle.funnel.specs.Refusals.{payload_of};
 
 use crate::SendFault;
 use crate::limits::MOST_MESSAGES;
-use crate::low_water::LowWater;
+use crate::low_water::{LowWater, rest};
 use crate::receipt::Receipt;
 use crate::rule::{Sender, Sends, SendsLast, Ticket};
 use crossbeam_channel::TrySendError;
@@ -119,7 +119,7 @@ fn pass_on<A: Allocator, R: Wait>(
     sender: &Sender<A>,
     low: &LowWater,
     pass: &mut Ticket,
-    message: Message,
+    mut message: Message,
     closing: bool,
 ) -> Result<(), Payload>
     requires closing { closing ≡ is_closing message.payload }
@@ -132,14 +132,18 @@ fn pass_on<A: Allocator, R: Wait>(
     ensures sent { OnOk result (knows pass.new ≡ V.Port message.hart (sent_of (knows pass.old) ++ message ∷ [])) }
     ensures refused { IfErr result (λ payload. (payload ≡ message.payload) × (knows pass.new ≡ knows pass.old)) }
 {
-    match try_pass_on(rt, sender, pass, message, closing) {
-        Ok(()) => Ok(()),
-        Err(TrySendError::Full(back)) => wait_and_pass_on(rt, sender, low, pass, back, closing),
-        Err(e) => Err(e.into_inner().payload),
+    for look in 0..low.looks {
+        match try_pass_on(rt, sender, pass, message, closing) {
+            Ok(()) => return Ok(()),
+            Err(TrySendError::Full(back)) => message = back,
+            Err(e) => return Err(e.into_inner().payload),
+        }
+        rest(look);
     }
+    wait_and_pass_on(rt, sender, low, pass, message, closing)
 }
 
-/// The same after the channel was full.
+/// The same after the channel was full, asleep between looks.
 fn wait_and_pass_on<A: Allocator, R: Wait>(
     rt: &R,
     sender: &Sender<A>,

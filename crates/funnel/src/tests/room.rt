@@ -1,18 +1,35 @@
 //! A sender waits while the channel is full.
 
-use super::{ENDED, OPEN, message, sends};
-use crate::{Port, open};
+use super::{ENDED, OPEN, message, payload, sends};
+use crate::{Port, SendFault, open};
 use std::sync::Wait;
 use std::sync::atomic::{AtomicBool, Ordering};
 use std::test::Fail;
 use std::thread;
 use std::time::{Clock, Duration};
 
+/// How many payloads a sender sends before its closing one, which fill the channel.
+const FULL: u32 = 8;
+
 // Sends two payloads, and raises the flag.
 fn send_two<R: Wait>(rt: &R, mut port: Port, flag: &AtomicBool) {
     sends(rt, &mut port, OPEN);
     sends(rt, &mut port, ENDED);
     flag.store(true, Ordering::SeqCst);
+}
+
+// Fills the channel, sends the closing payload, and raises the flag where this answer comes.
+fn send_all<R: Wait>(rt: &R, mut port: Port, handed_back: bool, flag: &AtomicBool) {
+    for _ in 0..FULL {
+        sends(rt, &mut port, OPEN);
+    }
+    let Ok(last) = payload(ENDED) else {
+        return;
+    };
+    match port.send(rt, last) {
+        Err(SendFault::HandedBack(_)) => flag.store(handed_back, Ordering::SeqCst),
+        sent => flag.store(!handed_back && sent.is_ok(), Ordering::SeqCst),
+    }
 }
 
 // Whether the flag is down at each of 100 looks, a millisecond apart.
@@ -41,5 +58,43 @@ fn a_full_channel_holds_a_sender(rt: HostRuntime) -> Result<(), Fail> {
     assert!(rt; down);
     assert_eq!(rt; first, Ok(message(0, 0, OPEN)?));
     assert_eq!(rt; second, Ok(message(0, 1, ENDED)?));
+    Ok(())
+}
+
+#[test]
+fn one_place_is_enough_for_a_sender_that_waits(rt: HostRuntime) -> Result<(), Fail> {
+    let (mut ports, mut outlet) = open(rt.alloc(), 1, FULL)?;
+    let port = ports.pop().ok_or("a port")?;
+    let flag = AtomicBool::new(false);
+    let raised = &flag;
+    let (down, first) = thread::scope(thread::scope_env(), &rt, move |scope| {
+        let sender = scope.spawn(move || send_all(&rt, port, false, raised));
+        let down = stays_down(&rt, raised);
+        let first = outlet.take(&rt);
+        if let Ok(sender) = sender {
+            sender.join(&rt);
+        }
+        (down, first)
+    });
+    assert!(rt; down);
+    assert_eq!(rt; first, Ok(message(0, 0, OPEN)?));
+    assert!(rt; flag.load(Ordering::SeqCst));
+    Ok(())
+}
+
+#[test]
+fn a_sender_that_waits_gets_its_payload_back(rt: HostRuntime) -> Result<(), Fail> {
+    let (mut ports, outlet) = open(rt.alloc(), 1, FULL)?;
+    let port = ports.pop().ok_or("a port")?;
+    let flag = AtomicBool::new(false);
+    let raised = &flag;
+    let down = thread::scope(thread::scope_env(), &rt, move |scope| {
+        let _ = scope.spawn(move || send_all(&rt, port, true, raised));
+        let down = stays_down(&rt, raised);
+        drop(outlet);
+        down
+    });
+    assert!(rt; down);
+    assert!(rt; flag.load(Ordering::SeqCst));
     Ok(())
 }
