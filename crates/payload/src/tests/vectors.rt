@@ -7,7 +7,7 @@ use crate::{Packet, Report, pack, unpack};
 
 #[test]
 fn packs_and_unpacks(rt: HostRuntime) {
-    let table: [(Packet, &[u8]); 38] = [
+    let table: [(Packet, &[u8]); 40] = [
         (OPEN, &[0x1f]),
         (OPEN_FULL, &[0x1f, 0x01]),
         (ENDED_REP, &[0x4f]),
@@ -35,6 +35,14 @@ fn packs_and_unpacks(rt: HostRuntime) {
         (
             address(0x8000_0000, Report::Notify),
             &[0x02, 0, 0, 0, 0x01, 0, 0, 0, 0xfe],
+        ),
+        (
+            address(0xffff_ffff_8000_0004, Report::Plain),
+            &[0x0a, 0, 0, 0, 0xff],
+        ),
+        (
+            address(0xffff_ffff_8000_0000, Report::Notify),
+            &[0x02, 0, 0, 0, 0xff, 0xff, 0xff, 0xff, 0x01],
         ),
         (
             branches(&[false], 0x8000_0008, Report::Plain),
