@@ -92,13 +92,13 @@ def rule_of(program, events, numbers, period, place):
     return "notify" if reading.is_backward_jump(program, event) else None
 
 
-def packets(program, events, period):
-    """The packets of a legal log."""
+def packets(program, events, period, mode):
+    """The packets of a legal log, in a mode."""
     numbers, count = [], 0
     for event in events:
         numbers.append(count)
         count += is_retirement(event)
-    yield ("open",)
+    yield "open", mode
     reported, outcomes, last_rule = 0, [], None
     for place, event in enumerate(events):
         rule = last_rule = rule_of(program, events, numbers, period, place)
@@ -124,8 +124,9 @@ def packets(program, events, period):
             next_rule = rule_of(program, events, numbers, period, place + 1)
             if rule == "target" and next_rule in ("trap", "sync"):
                 report = "updiscon"
-            yield "address", tuple(outcomes), (event[1] - reported) & MASK, report
+            told = event[1] if mode == reading.FULL else (event[1] - reported) & MASK
             reported = event[1]
+            yield "address", tuple(outcomes), told, report
         elif rule is None and len(outcomes) == 31:
             yield "map", tuple(outcomes)
         elif rule is None:
@@ -139,18 +140,19 @@ def packets(program, events, period):
 SUPPORT = {name: pair for pair, name in reading.SUPPORT.items()}
 
 
-def tail(difference, report):
+def tail(told, report):
     """The address field and the three bits behind it."""
-    notify = difference >> 63 ^ (report == "notify")
+    notify = told >> 63 ^ (report == "notify")
     updiscon = notify ^ (report == "updiscon")
-    return [(63, difference >> 1), (1, notify), (1, updiscon), (1, updiscon)]
+    return [(63, told >> 1), (1, notify), (1, updiscon), (1, updiscon)]
 
 
 def fields_of(packet):
+    """The fields of a packet; a support packet may have any number as its options, which are 0 where none is there."""
     kind = packet[0]
     if kind in SUPPORT:
         enabled, status = SUPPORT[kind]
-        return [(2, 3), (2, 3), (1, enabled), (1, 0), (2, status), (5, 0)]
+        return [(2, 3), (2, 3), (1, enabled), (1, 0), (2, status), (5, *(packet[1:] or (0,)))]
     if kind == "sync":
         return [(2, 3), (2, 0), (1, not packet[1]), (2, packet[2]), (63, packet[3] >> 1)]
     if kind == "trap":
@@ -196,10 +198,14 @@ def any_packet(random, program):
         value = 0 if interrupt else random.choice((0, random.getrandbits(64)))
         return "trap", random.random() < 0.1, privilege, random.randrange(64), interrupt, handler, near(), value
     if kind == "address":
-        difference = random.choice((2, 4, 8, near() - program.base, MASK + 1 - 4, random.getrandbits(64))) & MASK & ~1
+        address, difference = near(), near() - program.base
+        told = random.choice((2, 4, 8, address, address, difference, MASK + 1 - 4, random.getrandbits(64))) & MASK & ~1
         report = random.choice(("plain", "plain", "updiscon", "notify"))
-        return "address", outcomes(random.choice((0, 0, 0, 1, 2, 5, 31))), difference, report
-    return ("map", outcomes(31)) if kind == "map" else (kind,)
+        return "address", outcomes(random.choice((0, 0, 0, 1, 2, 5, 31))), told, report
+    if kind == "map":
+        return "map", outcomes(31)
+    options = random.choice(reading.MODES) if kind == "open" else 0
+    return kind, random.randrange(32) if random.random() < 0.1 else options
 
 
 class Maker:
@@ -211,7 +217,7 @@ class Maker:
         self.logs = [legal_log(random, self.program, random.choice((0, 1, 2, 5, 20, 80))) for _ in range(24)]
         self.payloads = []
         for log in self.logs:
-            made = packets(self.program, log, random.choice((1, 3, 8, 1024)))
+            made = packets(self.program, log, random.choice((1, 3, 8, 1024)), random.choice(reading.MODES))
             self.payloads.append([payload_of(packet, random.choice((0, 0, 0, 1))) for packet in made])
 
     def good(self, harts):
@@ -224,14 +230,14 @@ class Maker:
         return made
 
     def disturbed(self, made, harts):
-        """Messages dropped, doubled, swapped, of other harts, with other numbers, payloads or packets."""
+        """Messages dropped, doubled, swapped, of other harts, with other numbers, payloads, packets or modes."""
         random = self.random
         for _ in range(random.choice((1, 1, 2, 3))):
             if not made:
                 return made
             at, to = random.randrange(len(made)), random.randrange(len(made))
             hart, number, payload = made[at]
-            what = random.randrange(7)
+            what = random.randrange(8)
             if what == 0:
                 del made[at]
             elif what == 1:
@@ -244,6 +250,9 @@ class Maker:
                 made[at] = hart, random.choice((number + 1, max(number, 1) - 1, 1 << 63, random.getrandbits(64))), payload
             elif what == 5:
                 made[at] = hart, number, random.randbytes(random.choice((1, 1, 2, 5, 18)))
+            elif what == 6:
+                opening = payload_of(("open", random.choice(reading.MODES)))
+                made = [(hart, number, payload if number else opening) for hart, number, payload in made]
             else:
                 made[at] = hart, number, payload_of(any_packet(random, self.program))
         return made
@@ -255,7 +264,8 @@ class Maker:
             hart = random.randrange(harts)
             packet = any_packet(random, self.program)
             if counts[hart] < 2 and random.random() < 0.9:
-                packet = ("open",) if counts[hart] == 0 else ("sync", False, 3, self.program.base)
+                opening = "open", random.choice(reading.MODES)
+                packet = opening if counts[hart] == 0 else ("sync", False, 3, self.program.base)
             made.append((hart, counts[hart], payload_of(packet)))
             counts[hart] += 1
         return made

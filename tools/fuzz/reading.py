@@ -273,8 +273,11 @@ def log_text(events):
 
 
 # Packets: ("sync", taken, privilege, address), ("trap", taken, privilege, cause, interrupt, handler, address, value),
-# ("open",), ("ended_rep",), ("ended_ntr",), ("address", outcomes, difference, report), ("map", outcomes).
+# ("open", mode), ("ended_rep",), ("ended_ntr",), ("address", outcomes, told, report), ("map", outcomes). An address
+# packet tells a difference or an address, as the mode of its trace says.
 
+DIFFERENTIAL, FULL = 0, 1
+MODES = DIFFERENTIAL, FULL
 SUPPORT = {(1, 0): "open", (0, 1): "ended_rep", (0, 3): "ended_ntr"}
 
 
@@ -327,6 +330,14 @@ def address_packet(fields, outcomes):
     return "address", outcomes, address << 1, report
 
 
+def support_packet(fields):
+    enabled, encoder_mode, status, options = (fields.field(width) for width in (1, 1, 2, 5))
+    kind = SUPPORT.get((enabled, status))
+    if encoder_mode or kind is None or options not in (MODES if kind == "open" else (0,)):
+        raise Refused("Unsupported")
+    return (kind, options) if kind == "open" else (kind,)
+
+
 def packet_of(fields):
     form = fields.field(2)
     if form == 2:
@@ -340,10 +351,7 @@ def packet_of(fields):
     if subform == 2:
         raise Refused("Unsupported")
     if subform == 3:
-        enabled, mode, status, options = (fields.field(width) for width in (1, 1, 2, 5))
-        if mode or options or (enabled, status) not in SUPPORT:
-            raise Refused("Unsupported")
-        return (SUPPORT[enabled, status],)
+        return support_packet(fields)
     taken = not fields.field(1)
     privilege = privilege_field(fields)
     if subform == 0:
@@ -381,7 +389,9 @@ def packet_text(packet):
         return f"address diff={packet[2]:x} map={digits(packet[1])} {packet[3]}"
     if kind == "map":
         return f"map {digits(packet[1])}"
-    return "open" if kind == "open" else f"close {kind}"
+    if kind == "open":
+        return "open full" if packet[1] == FULL else "open"
+    return f"close {kind}"
 
 
 # What packets describe.
@@ -393,7 +403,7 @@ class Decoder:
     def __init__(self, program):
         self.program, self.events = program, []
         self.opened = self.closed = False
-        self.waiting, self.reported = None, 0
+        self.mode, self.waiting, self.reported = None, None, 0
 
     def feed(self, packet):
         """Takes a packet in; where it is refused nothing has changed."""
@@ -404,7 +414,7 @@ class Decoder:
             raise Refused("NotOpened")
         added = self.settled(kind)
         last = (self.events + added)[-1] if self.events or added else None
-        reported = (self.reported + self.waiting[2]) & MASK if self.waiting else self.reported
+        reported = self.address_of(self.waiting, self.reported) if self.waiting else self.reported
         waiting = None
         if kind == "open" and self.opened or kind == "ended_rep" and not self.waiting:
             raise Refused("WrongPlace")
@@ -422,19 +432,25 @@ class Decoder:
             elif packet[3] == "plain":
                 waiting = packet
             else:
-                reported = (reported + packet[2]) & MASK
+                reported = self.address_of(packet, reported)
                 way = "target" if packet[3] == "updiscon" else "explicit"
                 added += self.walk(last, packet[1], reported, way)
         self.events += added
+        if kind == "open":
+            self.mode = packet[1]
         self.opened, self.closed = True, kind.startswith("ended")
         self.waiting, self.reported = waiting, reported
+
+    def address_of(self, packet, reported):
+        """The address of an address packet, behind the last reported one."""
+        return packet[2] if self.mode == FULL else (reported + packet[2]) & MASK
 
     def settled(self, next_kind):
         """The piece of the packet that waits, by the kind of the packet after it."""
         if not self.waiting:
             return []
         way = "explicit" if next_kind in ("sync", "trap", "ended_rep") else "target"
-        end = (self.reported + self.waiting[2]) & MASK
+        end = self.address_of(self.waiting, self.reported)
         return self.walk(self.events[-1], self.waiting[1], end, way)
 
     def retired(self, before, address, privilege, taken):
