@@ -9,7 +9,7 @@ use std::alloc::Global;
 use std::test::Fail;
 
 /// Payloads and the texts of their packets.
-const TEXTS: [(&[u8], &str); 28] = [
+const TEXTS: [(&[u8], &str); 27] = [
     (b"\x1f", "open"),
     (b"\x1f\x01", "open full"),
     (b"\x4f", "close ended_rep"),
@@ -33,10 +33,6 @@ const TEXTS: [(&[u8], &str); 28] = [
     (
         b"\xf7\x45\x40\x00\x00\x20",
         "trap exception cause=b tval=0 handler=80000100 priv=3 branch=1",
-    ),
-    (
-        b"\xf7\xdf",
-        "trap exception cause=3f tval=ffffffffffffffff handler=fffffffffffffffe priv=3 branch=1",
     ),
     (
         b"\xa7\x1f\x01\x00\x00\x20\x00\x00\x00\xc0\xbb\x6f\xab\x37",
