@@ -1,13 +1,25 @@
 //! Readers and writers that fail, or move one byte a call.
 
 use super::message;
-use crate::{MessageFault, read_message, write_message};
+use crate::{Header, MessageFault, Start, read_message, read_start, write_header, write_message};
+use payload::Mode;
 use std::io;
 use std::io::{ErrorKind, Read, Write};
 use std::test::Fail;
 
 // The bytes of a message.
 const WHOLE: [u8; 16] = [7, 0, 9, 0, 0, 0, 0, 0, 0, 0, 5, 0x73, 0, 0, 0, 0x20];
+
+// A header, and what it tells.
+const HEADER: [u8; 16] = [
+    0xff, 0xff, 0x72, 0x76, 0x74, 0x72, 0x61, 0x63, 0x65, 0x32, 0, 1, 0x34, 0x12, 0x21, 0x03,
+];
+
+const TOLD: Header = Header {
+    mode: Mode::Full,
+    period: 0x1234,
+    harts: 0x0321,
+};
 
 // A reader of some bytes, one a call, that answers an error at one call.
 #[derive(Drop)]
@@ -120,6 +132,66 @@ fn writer_fails_at_each_call(rt: HostRuntime) -> Result<(), Fail> {
             assert_eq!(rt; answer, Err(MessageFault::Write), "call {calls}");
         }
         assert_eq!(rt; writer.held.as_slice(), &WHOLE[..calls]);
+    }
+    Ok(())
+}
+
+#[test]
+fn devices_of_a_header_fail_at_each_call(rt: HostRuntime) -> Result<(), Fail> {
+    for calls in 0..=16usize {
+        let mut reader = FailingReader {
+            rest: HEADER.as_slice(),
+            calls,
+            kind: ErrorKind::TimedOut,
+        };
+        let mut writer = FailingWriter {
+            held: Vec::new(rt.alloc()),
+            calls,
+        };
+        let read = read_start(&mut reader);
+        let written = write_header(&mut writer, &TOLD);
+        if calls == 16 {
+            assert_eq!(rt; read, Ok(Start::Version2(TOLD)));
+            assert_eq!(rt; written, Ok(()));
+        } else {
+            assert_eq!(rt; read, Err(MessageFault::Read), "call {calls}");
+            assert_eq!(rt; written, Err(MessageFault::Write), "call {calls}");
+        }
+        assert_eq!(rt; writer.held.as_slice(), &HEADER[..calls]);
+    }
+    Ok(())
+}
+
+#[test]
+fn interrupted_reader_is_asked_again_for_a_header(rt: HostRuntime) -> Result<(), Fail> {
+    for calls in 0..20usize {
+        let mut reader = FailingReader {
+            rest: HEADER.as_slice(),
+            calls,
+            kind: ErrorKind::Interrupted,
+        };
+        assert_eq!(rt;
+            read_start(&mut reader),
+            Ok(Start::Version2(TOLD)),
+            "call {calls}"
+        );
+    }
+    Ok(())
+}
+
+#[test]
+fn cut_header_is_short_one_byte_a_call(rt: HostRuntime) -> Result<(), Fail> {
+    for length in 1..16usize {
+        let mut reader = FailingReader {
+            rest: &HEADER[..length],
+            calls: 100,
+            kind: ErrorKind::TimedOut,
+        };
+        assert_eq!(rt;
+            read_start(&mut reader),
+            Err(MessageFault::Short),
+            "{length} bytes"
+        );
     }
     Ok(())
 }
