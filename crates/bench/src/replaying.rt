@@ -20,8 +20,9 @@ use crate::outcome::Outcome;
 use crate::sender::{Sender, senders_of};
 use crate::setup::Setup;
 use crate::stop::Stop;
-use funnel::{Core, MOST_CAPACITY, MOST_HARTS, Turn};
+use funnel::{Core, MOST_CAPACITY, Turn};
 use legalpath::LegalLog;
+use message::MOST_HARTS;
 use std::alloc::Allocator;
 
 /// Sends the messages of logs through a funnel and decodes what is taken of it, in the order of the turns.
@@ -42,10 +43,10 @@ pub fn replay<A: Allocator + Copy, B: Allocator>(
     ensures lacks { IfOk result (λ outcome. LackSome
         (replayed config.period config.mode config.capacity logs.now turns.now).taken outcome.harts.items) }
     ensures stop { IfOk result (λ outcome. NamesRefused outcome.stop outcome.harts.items) }
-    ensures refused { (fault : AnySetup) → setup_fault (length logs.now) config ≡ Some fault → result ≡ Err fault }
-    ensures memory { setup_fault (length logs.now) config ≡ None → IfErr result (λ fault. fault ≡ Setup.Memory) }
+    ensures refused { (fault : AnySetup) → setup_fault most_harts (length logs.now) config ≡ Some fault → result ≡ Err fault }
+    ensures memory { setup_fault most_harts (length logs.now) config ≡ None → IfErr result (λ fault. fault ≡ Setup.Memory) }
 {
-    if let Some(fault) = fault_of(logs.len(), config) {
+    if let Some(fault) = fault_of(MOST_HARTS, logs.len(), config) {
         return Err(fault);
     }
     let mut core = match Core::new(alloc, logs.len() as u16, config.capacity) {
@@ -72,17 +73,18 @@ pub fn replay<A: Allocator + Copy, B: Allocator>(
     Ok(outcome)
 }
 
-/// The first fault of this count of logs and this configuration, where there is one.
-pub(crate) fn fault_of(logs: usize, config: Config) -> Option<Setup>
-    ensures fault { result ≡ setup_fault logs config }
-    ensures harts { result ≡ None → logs ≤ most_harts }
-    ensures limits { result ≡ None → limit_fault logs config.capacity ≡ None }
+/// The first fault of this count of logs, of which there may be so many at most, and this configuration, where there is
+/// one.
+pub(crate) fn fault_of(most: u16, logs: usize, config: Config) -> Option<Setup>
+    ensures fault { result ≡ setup_fault most logs config }
+    ensures harts { result ≡ None → logs ≤ most }
+    ensures limits { result ≡ None → limit_fault most logs config.capacity ≡ None }
     ensures period { result ≡ None → 1 ≤ config.period }
 {
     if logs == 0 {
         return Some(Setup::NoHarts);
     }
-    if logs > usize::from(MOST_HARTS) {
+    if logs > usize::from(most) {
         return Some(Setup::TooManyHarts);
     }
     if config.capacity == 0 || config.capacity > MOST_CAPACITY {

@@ -2,6 +2,7 @@
 
 ghost use Rattle.std.specs.Prelude.{ℕ, ◌≡◌, ◌≤◌, [], IfErr, IfOk, None, Some, Err, OnErr, length};
 ghost use Rattle.funnel.specs.Ends.{AreNewPorts};
+ghost use Rattle.funnel.specs.Limits.{most_ports};
 ghost use Rattle.bench.specs.Beginnings.{AreBeginnings, AreCarried, AreThoseTaken, LackSomeTaken};
 ghost use Rattle.bench.specs.Setting.{setup_fault};
 ghost use Rattle.bench.specs.Stopping.{IfHandedBack, LacksPayloads, NamesOpen, NoRefusedIsClosed};
@@ -16,7 +17,7 @@ use crate::replaying::fault_of;
 use crate::setup::Setup;
 use crate::starting::start_all;
 use crate::stopping::stop_of;
-use funnel::{Outlet, Port, open};
+use funnel::{MOST_PORTS, Outlet, Port, open};
 use legalpath::LegalLog;
 use std::alloc::{AllocError, Allocator, Global};
 use std::sync::Wait;
@@ -45,10 +46,10 @@ pub fn run<A: Allocator + Copy, G: Gate, R: Threads + Wait + Sync>(
     ensures beginnings { IfOk result (λ outcome. AreBeginnings config logs.now outcome.harts.items) }
     ensures stop { IfOk result (λ outcome. NamesOpen outcome.stop outcome.harts.items) }
     ensures refused_harts { IfOk result (λ outcome. NoRefusedIsClosed outcome.harts.items) }
-    ensures refused { (fault : AnySetup) → setup_fault (length logs.now) config ≡ Some fault → result ≡ Err fault }
-    ensures memory { setup_fault (length logs.now) config ≡ None → IfErr result (λ fault. fault ≡ Setup.Memory) }
+    ensures refused { (fault : AnySetup) → setup_fault most_ports (length logs.now) config ≡ Some fault → result ≡ Err fault }
+    ensures memory { setup_fault most_ports (length logs.now) config ≡ None → IfErr result (λ fault. fault ≡ Setup.Memory) }
 {
-    if let Some(fault) = fault_of(logs.len(), config) {
+    if let Some(fault) = fault_of(MOST_PORTS, logs.len(), config) {
         return Err(fault);
     }
     let (ports, outlet) = match open(global, logs.len() as u16, config.capacity) {

@@ -1,38 +1,62 @@
 -- A capture of legal logs decodes to those logs, unless memory is refused.
 use Rattle.std.proofs.Common.{◌≡◌, ℕ, ◌<◌, ◌≤◌, ◌^◌, All, Bool, true, List, [], ◌∷◌, ◌++◌, Option, Some, None, length}
-use Rattle.std.proofs.Common.{map, replicate, get_or, sym, ap, subst, ◌∙◌, ⊎_elim, arith}
-use Rattle.std.proofs.lemmas.List.{same_lists, length-map, length-replicate, get_or-map, get_or-replicate, append-nil}
+use Rattle.std.proofs.Common.{map, replicate, get_or, refl, sym, ap, subst, ◌∙◌, ⊎_elim, arith}
+use Rattle.std.specs.Prelude.{false}
+use Rattle.std.proofs.lemmas.List.Elements.{All-head}
+use Rattle.std.proofs.lemmas.List.{append_cancel_left, same_lists, length-map, length-replicate, get_or-map, get_or-replicate, append-nil}
 use Rattle.std.proofs.lemmas.Option.{slice_get-get_or}
 use Rattle.retire.specs.declared.event.Event.{Event}
 use Rattle.rvclass.proofs.WordsLemmas.{words_of-IsProgram}
 use Rattle.rvclass.specs.Fetch.{words_of}
 use Rattle.rvclass.specs.Image.{Image}
-use Rattle.legalpath.specs.ProgramLog.{ProgramLog, log_of}
+use Rattle.legalpath.specs.ProgramLog.{ProgramLog, IsLegalLog, log_of}
 use Rattle.payload.specs.declared.mode.Mode.{Mode}
+use Rattle.payload.specs.declared.packet.Packet.{Packet}
 use Rattle.decoder.proofs.UniqueLemmas.{one_log}
 use Rattle.decoder.specs.Describes.{Describes}
 use Rattle.decoder.specs.declared.fault.DecodeFault.{DecodeFault}
 use Rattle.decoder.specs.declared.fault.DecodeFault.TheVariants.{Memory}
 use Rattle.message.specs.Accepted.{AreAccepted, newcomers}
 use Rattle.message.specs.Capture.{capture}
+use Rattle.message.proofs.StartsRead.{header_only, never_both}
 use Rattle.message.specs.Cut.{IsMessage, IsCut, HasBadLength}
+use Rattle.message.specs.Header.{IsHeader, IsMarked, header_bytes, setting_bytes}
 use Rattle.message.specs.declared.fault.DemuxFault.{DemuxFault}
+use Rattle.message.specs.declared.fault.MessageFault.{MessageFault}
 use Rattle.message.specs.declared.fault.MessageFault.TheVariants as message
+use Rattle.message.specs.declared.header.Header.{Header}
+use Rattle.message.specs.declared.header.Version.{Version}
+use Rattle.message.specs.declared.header.Version.TheVariants.{One, Two}
 use Rattle.message.specs.declared.message.Message.{Message}
+use Rattle.receiver.specs.Agreeing.{opens_another}
 use Rattle.receiver.specs.Holds.{AreDecoded}
 use Rattle.receiver.specs.declared.fault.ReceiveFault.TheVariants as receiving
 use Rattle.captures.proofs.CapturesSplit.{capture_split, capture_none, capture_not_cut, capture_not_bad, capture_first}
 use Rattle.captures.proofs.Elements.{All-behind}
 use Rattle.captures.proofs.NextMessages.{all_ranges, program_image, log_described, log_ended, next_message}
-use Rattle.captures.specs.Decoded.{BeginsRefused, Stops, IsDecoded}
+use Rattle.captures.specs.Decoded.{AreMessagesDecoded, BeginsRefused, IsDecoded, NoHeader, Stops, Version1, Version2}
 use Rattle.captures.specs.Messages.{messages_of_harts}
+use Rattle.captures.specs.NoMessage.{BeginsNoHeader}
 use Rattle.message.specs.OfHart.{packets_of}
-use Rattle.captures.specs.Returned.{IsCaptureOf, AreReturned}
+use Rattle.captures.specs.Returned.{AreAskedFor, AreReturned, IsCaptureOf}
+use Rattle.captures.specs.Versions.{header_of}
 use Rattle.captures.specs.declared.outcome.CaptureFault.{CaptureFault}
 use Rattle.captures.specs.declared.outcome.CaptureFault.TheVariants as fault
 
-module _ (program : Image) (period : ℕ) (mode : Mode) (logs : List ProgramLog) (bytes : List ℕ)
-    (sent : IsCaptureOf program period mode logs bytes) (few : length logs ≤ 2 ^ 16) where
+-- The mode that was told before, if one was, is this one.
+abbrev IsToldOf : Mode → Option Mode → Type 0
+IsToldOf mode None = Unit {0}
+IsToldOf mode (Some told) = told ≡ mode
+
+-- Where a packet opens no trace in another mode than this one, it agrees with what was told.
+agrees_told : (mode : Mode) (told : Option Mode) (p : Packet) → IsToldOf mode told → opens_another (Some mode) p ≡ false
+    → opens_another told p ≡ false
+agrees_told mode None p its agrees = refl
+agrees_told mode (Some told) p its agrees = subst (λ t. opens_another (Some t) p ≡ false) (sym its) agrees
+
+module _ (program : Image) (period : ℕ) (mode : Mode) (logs : List ProgramLog)
+    (legal : All IsLegalLog logs) (all_same : All (λ (log : ProgramLog). log.program ≡ program) logs)
+    (few : length logs ≤ 2 ^ 16) (told : Option Mode) (its : IsToldOf mode told) where
   abbrev all : List Message
   all = messages_of_harts period mode 0 logs
 
@@ -49,10 +73,10 @@ module _ (program : Image) (period : ℕ) (mode : Mode) (logs : List ProgramLog)
       let log = get_or logs k (log_of program d) in
       let list = get_or lists k d in
       let image =
-      program_image program period mode logs bytes sent few k log (slice_get-get_or logs k (log_of program d) known) in
+      program_image program period mode logs legal all_same few k log (slice_get-get_or logs k (log_of program d) known) in
       one_log (words_of program) (words_of-IsProgram program image) _ list log.events
       (decoded.described k list (slice_get-get_or lists k d within))
-      (log_described program period mode logs bytes sent few k log (slice_get-get_or logs k (log_of program d) known))
+      (log_described program period mode logs legal all_same few k log (slice_get-get_or logs k (log_of program d) known))
       ∙ sym (get_or-map events logs k (log_of program d) d known))
 
   -- And every hart is closed.
@@ -65,18 +89,18 @@ module _ (program : Image) (period : ℕ) (mode : Mode) (logs : List ProgramLog)
       let known : k < length logs = omega (arith, within, count) in
       let log = get_or logs k (log_of program []) in
       decoded.ended k (get_or closed k d) (slice_get-get_or closed k d within)
-      ∙ log_ended program period mode logs bytes sent few k log (slice_get-get_or logs k (log_of program []) known)
+      ∙ log_ended program period mode logs legal all_same few k log (slice_get-get_or logs k (log_of program []) known)
       ∙ sym (get_or-replicate (length logs) k true d known))
 
   -- No message behind the first ones is refused.
   not_refused : (messages later : List Message) (rest : List ℕ) (why : DemuxFault) → all ≡ messages ++ later
       → rest ≡ capture later → All IsMessage later
-      → BeginsRefused (words_of program) (length logs) messages rest (receiving.Demux why)
+      → BeginsRefused (words_of program) (length logs) told messages rest (receiving.Demux why)
       → AreAccepted (newcomers (length logs)) messages → ⊥
   not_refused messages later rest why whole same ranges refused accepted =
       let first = capture_first later refused.message refused.rest ranges refused.ranges (sym same ∙ refused.begins) in
       let next =
-      next_message program period mode logs bytes sent few messages refused.message first.0
+      next_message program period mode logs legal all_same few messages refused.message first.0
       (whole ∙ ap (λ l. messages ++ l) first.1) in
       let taken = next.taken accepted in
       let answer = refused.refused in
@@ -85,27 +109,44 @@ module _ (program : Image) (period : ℕ) (mode : Mode) (logs : List ProgramLog)
   -- A packet of theirs that is not decoded lacks memory.
   not_decoded : (messages later : List Message) (rest : List ℕ) (why : DecodeFault) → all ≡ messages ++ later
       → rest ≡ capture later → All IsMessage later
-      → BeginsRefused (words_of program) (length logs) messages rest (receiving.Decode why)
+      → BeginsRefused (words_of program) (length logs) told messages rest (receiving.Decode why)
       → AreAccepted (newcomers (length logs)) messages → why ≡ Memory
   not_decoded messages later rest why whole same ranges left accepted =
       let first = capture_first later left.message left.rest ranges left.ranges (sym same ∙ left.begins) in
       let next =
-      next_message program period mode logs bytes sent few messages left.message first.0
+      next_message program period mode logs legal all_same few messages left.message first.0
+      (whole ∙ ap (λ l. messages ++ l) first.1) in
+      let one = next.taken accepted in
+      let other = left.refused.0.accepted in
+      let packet : next.packet ≡ left.refused.0.packet = cc in
+      let described =
+      subst (λ p. Describes (words_of program) (packets_of left.message.hart messages ++ p ∷ []) next.log) packet
+      next.described in
+      ⊎_elim (λ memory. memory) (λ none. absurd (none next.log described)) left.refused.0.not_decoded.reason
+
+  -- No packet of theirs opens a trace in another mode.
+  not_another : (messages later : List Message) (rest : List ℕ) → all ≡ messages ++ later → rest ≡ capture later
+      → All IsMessage later
+      → BeginsRefused (words_of program) (length logs) told messages rest receiving.Mode
+      → AreAccepted (newcomers (length logs)) messages → ⊥
+  not_another messages later rest whole same ranges left accepted =
+      let first = capture_first later left.message left.rest ranges left.ranges (sym same ∙ left.begins) in
+      let next =
+      next_message program period mode logs legal all_same few messages left.message first.0
       (whole ∙ ap (λ l. messages ++ l) first.1) in
       let one = next.taken accepted in
       let other = left.refused.accepted in
       let packet : next.packet ≡ left.refused.packet = cc in
-      let described =
-      subst (λ p. Describes (words_of program) (packets_of left.message.hart messages ++ p ∷ []) next.log) packet
-      next.described in
-      ⊎_elim (λ memory. memory) (λ none. absurd (none next.log described)) left.refused.not_decoded.reason
+      let agrees = subst (λ p. opens_another told p ≡ false) packet (agrees_told mode told next.packet its next.agrees) in
+      let another = left.refused.another in
+      cc
 
   -- What decoding up to a stop gives.
   returned : (lists : List (List Event)) (closed : List Bool) (stop : Option (ℕ × CaptureFault))
       (messages later : List Message) (rest : List ℕ) → all ≡ messages ++ later → rest ≡ capture later
       → All IsMessage later
       → AreDecoded (λ hart. words_of program) (length logs) messages lists closed
-      → AreAccepted (newcomers (length logs)) messages → Stops (words_of program) (length logs) messages rest stop
+      → AreAccepted (newcomers (length logs)) messages → Stops (words_of program) (length logs) told messages rest stop
       → AreReturned logs lists closed stop
   returned lists closed None messages later rest whole same ranges decoded accepted stops =
       let none = capture_none later (sym same ∙ stops) in
@@ -126,19 +167,89 @@ module _ (program : Image) (period : ℕ) (mode : Mode) (logs : List ProgramLog)
       absurd (not_refused messages later rest why whole same ranges stops.1 accepted)
   returned lists closed (Some (count, fault.Decode why)) messages later rest whole same ranges decoded accepted stops =
       not_decoded messages later rest why whole same ranges stops.1 accepted
+  returned lists closed (Some (count, fault.Mode)) messages later rest whole same ranges decoded accepted stops =
+      absurd (not_another messages later rest whole same ranges stops.1 accepted)
 
--- A capture of legal logs decodes to those logs, with every hart closed, unless memory was refused.
-pub captures_return : (program : Image) (period : ℕ) (mode : Mode) (harts : ℕ) (logs : List ProgramLog) (bytes : List ℕ)
-    (lists : List (List Event)) (closed : List Bool) (stop : Option (ℕ × CaptureFault))
-    → IsCaptureOf program period mode logs bytes → length logs ≡ harts → harts ≤ 2 ^ 16
-    → IsDecoded (words_of program) harts bytes lists closed stop → AreReturned logs lists closed stop
-captures_return program period mode harts logs bytes lists closed stop sent count room decoded =
-    let few : length logs ≤ 2 ^ 16 = omega (arith, count, room) in
-    let here = subst (λ n. IsDecoded (words_of program) n bytes lists closed stop) (sym count) decoded in
-    let ranges = all_ranges program period mode logs bytes sent few in
-    let split =
-    capture_split (messages_of_harts period mode 0 logs) here.messages here.rest ranges here.ranges
-    (sym sent.whole ∙ here.whole) in
-    let later = All-behind IsMessage here.messages split.later (subst (All IsMessage) split.whole ranges) in
-    returned program period mode logs bytes sent few lists closed stop here.messages split.later here.rest split.whole
-    split.bytes later here.decoded here.accepted here.stops
+  -- What is decoded of the capture of all messages.
+  pub all_returned : (lists : List (List Event)) (closed : List Bool) (stop : Option (ℕ × CaptureFault))
+      → AreMessagesDecoded (words_of program) (length logs) told (capture all) lists closed stop
+      → AreReturned logs lists closed stop
+  all_returned lists closed stop here =
+      let ranges = all_ranges program period mode logs legal all_same few in
+      let split = capture_split all here.messages here.rest ranges here.ranges here.whole in
+      let later = All-behind IsMessage here.messages split.later (subst (All IsMessage) split.whole ranges) in
+      returned lists closed stop here.messages split.later here.rest split.whole split.bytes later here.decoded
+      here.accepted here.stops
+
+-- The bytes of messages do not begin with the mark of version 2.
+not_marked : (messages : List Message) → All IsMessage messages → IsMarked (capture messages) → ⊥
+not_marked [] ranges marked = let count = ap length marked.1 in omega (arith, count)
+not_marked (message ∷ messages) ranges marked =
+    never_both message (capture messages) marked.0 (All-head IsMessage message messages ranges) marked.1
+
+-- Bytes that begin with no header begin with the mark all the same.
+marked_by : (bytes : List ℕ) (why : MessageFault) → BeginsNoHeader bytes why → IsMarked bytes
+marked_by bytes message.Short cut = cut.marked
+marked_by bytes message.BadHeader bad = bad.marked
+marked_by bytes message.BadLength none = absurd none
+marked_by bytes message.Read none = absurd none
+marked_by bytes message.Write none = absurd none
+
+-- Bytes that begin with a header do not begin with none.
+has_header : (header : Header) (rest bytes : List ℕ) (why : MessageFault) → IsHeader header
+    → bytes ≡ header_bytes header ++ rest → BeginsNoHeader bytes why → ⊥
+has_header header rest bytes message.Short is begins cut =
+    let few = cut.few in let size = ap length begins in omega (arith, few, size)
+has_header header rest bytes message.BadHeader is begins bad = bad.none header rest is begins
+has_header header rest bytes message.BadLength is begins none = none
+has_header header rest bytes message.Read is begins none = none
+has_header header rest bytes message.Write is begins none = none
+
+module _ (program : Image) (period : ℕ) (mode : Mode) (harts : ℕ) (logs : List ProgramLog) (bytes : List ℕ)
+    (lists : List (List Event)) (closed : List Bool) (stop : Option (ℕ × CaptureFault)) where
+  abbrev sent_all : List ℕ
+  sent_all = capture (messages_of_harts period mode 0 logs)
+
+  -- A capture of version 1 decodes to the logs.
+  return_one : IsCaptureOf program One period mode logs bytes → length logs ≡ harts → length logs ≤ 2 ^ 16
+      → IsDecoded (words_of program) harts bytes lists closed stop → AreReturned logs lists closed stop
+  return_one sent count few (Version1 none here) =
+      all_returned program period mode logs sent.legal sent.same few None tt lists closed stop
+      (subst (λ b. AreMessagesDecoded (words_of program) (length logs) None b lists closed stop) sent.whole
+      (subst (λ n. AreMessagesDecoded (words_of program) n None bytes lists closed stop) (sym count) here))
+  return_one sent count few (Version2 header rest is begins here) =
+      absurd (not_marked (messages_of_harts period mode 0 logs)
+      (all_ranges program period mode logs sent.legal sent.same few)
+      (setting_bytes header ++ rest, sym sent.whole ∙ begins))
+  return_one sent count few (NoHeader why none is_stop no_lists none_closed) =
+      absurd (not_marked (messages_of_harts period mode 0 logs)
+      (all_ranges program period mode logs sent.legal sent.same few)
+      (subst IsMarked sent.whole (marked_by bytes why none)))
+
+  -- A capture of version 2 decodes to the logs, however many harts are asked for.
+  return_two : IsCaptureOf program Two period mode logs bytes
+      → IsDecoded (words_of program) harts bytes lists closed stop → AreReturned logs lists closed stop
+  return_two sent (Version1 none here) =
+      absurd (none (setting_bytes (header_of period mode logs) ++ sent_all, sent.whole))
+  return_two sent (Version2 header rest is begins here) =
+      let own = header_of period mode logs in
+      let both : header_bytes own ++ sent_all ≡ header_bytes header ++ rest = sym sent.whole ∙ begins in
+      let same = header_only own header sent_all rest sent.start is both in
+      let left : rest ≡ sent_all =
+      append_cancel_left (header_bytes own) rest sent_all
+      (ap (λ (h : Header). header_bytes h ++ rest) same ∙ sym both) in
+      let counted = sent.start.harts in
+      all_returned program period mode logs sent.legal sent.same (omega (arith, counted)) (Some mode) refl lists closed
+      stop
+      (subst (λ b. AreMessagesDecoded (words_of program) (length logs) (Some mode) b lists closed stop) left
+      (subst (λ (h : Header). AreMessagesDecoded (words_of program) h.harts (Some h.mode) rest lists closed stop)
+      (sym same) here))
+  return_two sent (NoHeader why none is_stop no_lists none_closed) =
+      absurd (has_header (header_of period mode logs) sent_all bytes why sent.start sent.whole none)
+
+  -- A capture of legal logs decodes to those logs, with every hart closed, unless memory was refused.
+  pub captures_return : (version : Version) → IsCaptureOf program version period mode logs bytes
+      → AreAskedFor version harts logs → harts ≤ 2 ^ 16
+      → IsDecoded (words_of program) harts bytes lists closed stop → AreReturned logs lists closed stop
+  captures_return One sent count room decoded = return_one sent count (omega (arith, count, room)) decoded
+  captures_return Two sent asked room decoded = return_two sent decoded

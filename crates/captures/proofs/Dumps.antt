@@ -8,6 +8,7 @@ use Rattle.std.proofs.lemmas.List.Concat.{flat_map-append}
 use Rattle.std.proofs.lemmas.List.Elements.{All-append, All-nil, All-cons}
 use Rattle.output.specs.Begun.{AppendsBeginning}
 use Rattle.output.proofs.Beginnings.{begun_between}
+use Rattle.payload.specs.declared.mode.Mode.{Mode}
 use Rattle.message.proofs.Fronts.{Front, front_of}
 use Rattle.message.specs.Capture.{capture, message_bytes}
 use Rattle.message.specs.Cut.{IsMessage}
@@ -16,7 +17,7 @@ use Rattle.message.specs.declared.fault.MessageFault.TheVariants as fault
 use Rattle.message.specs.declared.message.Message.{Message}
 use Rattle.message.specs.steps.Filling.{AreBytes}
 use Rattle.captures.proofs.ToldMessages.{HasTold}
-use Rattle.captures.specs.Dump.{BeginsDump, Ends, dump_text, is_refused, line_of}
+use Rattle.captures.specs.Dump.{AreMessagesDumped, BeginsDump, Ends, dump_text, is_refused, line_of}
 use Rattle.captures.specs.NoMessage.{BeginsNone}
 
 -- Bytes end, or begin no message.
@@ -34,7 +35,7 @@ record Parted (bytes : List ℕ) : Type 0 where
   ends : EndsBy rest why
 
 -- What stands behind some bytes is bytes.
-AreBytes-behind : (front back : List ℕ) → AreBytes (front ++ back) → AreBytes back
+pub AreBytes-behind : (front back : List ℕ) → AreBytes (front ++ back) → AreBytes back
 AreBytes-behind [] back are = are
 AreBytes-behind (x ∷ front) back are = AreBytes-behind front back (λ k. are (suc k))
 
@@ -92,19 +93,20 @@ capture_joined (m ∷ front) back =
     ∙ sym (append_assoc (message_bytes m) (capture front) (capture back))
 
 -- Messages were told, and a beginning of the line of the next.
-pub dump_begun : (bytes left next : List ℕ) (count : ℕ) (bad : Bool) (m : Message) (old mid new : Option (List ℕ))
-    → AreBytes bytes → HasTold bytes left count bad old mid → IsMessage m → left ≡ message_bytes m ++ next
-    → AppendsBeginning (line_of m) mid new → BeginsDump bytes old new
-dump_begun bytes left next count bad m old mid new are told is begins begun =
+pub dump_begun : (mode : Mode) (bytes left next : List ℕ) (count : ℕ) (bad : Bool) (m : Message) (old mid new : Option (List ℕ))
+    → AreBytes bytes → HasTold mode bytes left count bad old mid → IsMessage m → left ≡ message_bytes m ++ next
+    → AppendsBeginning (line_of mode m) mid new
+    → BeginsDump (AreMessagesDumped mode bytes) old new
+dump_begun mode bytes left next count bad m old mid new are told is begins begun =
     let behind : AreBytes next =
     AreBytes-behind (message_bytes m) next (subst AreBytes begins
     (AreBytes-behind (capture told.messages) left (subst AreBytes told.whole are))) in
     let later = parted (length next) next (omega arith) behind in
     let all = told.messages ++ m ∷ later.messages in
-    let text : dump_text all ≡ dump_text told.messages ++ (line_of m ++ dump_text later.messages) =
-    flat_map-append line_of told.messages (m ∷ later.messages) in
+    let text : dump_text mode all ≡ dump_text mode told.messages ++ (line_of mode m ++ dump_text mode later.messages) =
+    flat_map-append (line_of mode) told.messages (m ∷ later.messages) in
     record {
-      text = dump_text all;
+      text = dump_text mode all;
       bad = list_any is_refused all;
       fault = stop_at (length all) later.why;
       dumped = record {
@@ -119,9 +121,34 @@ dump_begun bytes left next count bad m old mid new are told is begins begun =
             ∙ sym (append_assoc (capture told.messages) (capture (m ∷ later.messages)) later.rest)
             ∙ ap (λ (l : List ℕ). l ++ later.rest) (sym (capture_joined told.messages (m ∷ later.messages)));
         refused = refl;
-        text = refl;
+        lines = refl;
         ends = ends_at (length all) later.rest later.why later.ends;
       };
       begun = subst (λ (l : List ℕ). AppendsBeginning l old new) (sym text)
-          (begun_between (dump_text told.messages) (line_of m) (dump_text later.messages) old mid new told.text begun);
+          (begun_between (dump_text mode told.messages) (line_of mode m) (dump_text mode later.messages) old mid new told.text begun);
+    }
+
+-- Some text is the dump of any bytes.
+pub record HasDump (mode : Mode) (bytes : List ℕ) : Type 0 where
+  pub text : List ℕ
+  pub bad : Bool
+  pub fault : Option (ℕ × MessageFault)
+  pub dumped : AreMessagesDumped mode bytes bad fault text
+
+pub has_dump : (mode : Mode) (bytes : List ℕ) → AreBytes bytes → HasDump mode bytes
+has_dump mode bytes are =
+    let all = parted (length bytes) bytes (omega arith) are in
+    record {
+      text = dump_text mode all.messages;
+      bad = list_any is_refused all.messages;
+      fault = stop_at (length all.messages) all.why;
+      dumped = record {
+        messages = all.messages;
+        rest = all.rest;
+        ranges = all.ranges;
+        whole = all.whole;
+        refused = refl;
+        lines = refl;
+        ends = ends_at (length all.messages) all.rest all.why all.ends;
+      };
     }

@@ -3,8 +3,12 @@ pub mod Elements
 pub mod CapturesSplit
 pub mod SoundLogs
 pub mod LogMessages
+pub mod OneMode
 pub mod NextMessages
 pub mod CapturesReturn
 pub mod Reaching
 pub mod ToldMessages
 pub mod Dumps
+pub mod NothingDecoded
+pub mod HeaderFaults
+pub mod HeaderDumps

@@ -11,7 +11,7 @@ use Rattle.rvclass.specs.Fetch.{words_of}
 use Rattle.rvclass.specs.Image.{Image, IsImage}
 use Rattle.rvclass.specs.Words.{Words}
 use Rattle.legalpath.specs.Legal.{Legal}
-use Rattle.legalpath.specs.ProgramLog.{ProgramLog, log_of}
+use Rattle.legalpath.specs.ProgramLog.{ProgramLog, IsLegalLog, log_of}
 use Rattle.payload.specs.Reading.{reading}
 use Rattle.payload.specs.declared.mode.Mode.{Mode}
 use Rattle.payload.specs.declared.packet.Packet.{Packet}
@@ -28,6 +28,8 @@ use Rattle.message.specs.Accepting.{answer_of, accepting}
 use Rattle.message.specs.Cut.{IsMessage}
 use Rattle.message.specs.declared.message.Message.{Message}
 use Rattle.captures.proofs.Elements.{All_at, All-middle}
+use Rattle.captures.proofs.OneMode.{AgreesWith, packets_agree}
+use Rattle.receiver.specs.Agreeing.{opens_another}
 use Rattle.roundtrip.proofs.FirstPackets.{packets_describe}
 use Rattle.message.proofs.OfHartLemmas.{of_hart-append, of_hart-own}
 use Rattle.message.proofs.HartMessages.{expected_of, packets_in-cons, packets_of-append}
@@ -37,7 +39,6 @@ use Rattle.captures.proofs.SoundLogs.{IsSound, sound_logs}
 use Rattle.captures.specs.Messages.{messages_of_harts}
 use Rattle.message.specs.OfHart.{of_hart, packets_in, packets_of}
 use Rattle.encoder.specs.Payloads.{payloads}
-use Rattle.captures.specs.Returned.{IsCaptureOf}
 
 -- Packets with another behind them have not ended.
 not_ended : (words : Words) (mode : Mode) (before : Option Event) (reported : ℕ) (front : List Packet) (packet : Packet)
@@ -50,21 +51,24 @@ not_ended words mode before reported (p ∷ q ∷ front) packet rest next (piece
     not_ended words mode (last_or before piece) (reported_after p reported piece) (q ∷ front) packet rest next pieces
     each.2
 
--- A demultiplexer takes the message, and the packets of its hart with this one describe a log.
-pub record IsNext (words : Words) (harts : ℕ) (messages : List Message) (message : Message) : Type 0 where
+-- A demultiplexer takes the message, the packets of its hart with this one describe a log, and it opens no trace in
+-- another mode than this one.
+pub record IsNext (words : Words) (harts : ℕ) (mode : Mode) (messages : List Message) (message : Message) : Type 0 where
   pub packet : Packet
   pub taken : AreAccepted (newcomers harts) messages
       → accepting (expected_after (newcomers harts) messages) message ≡ Ok packet
   pub log : List Event
   pub described : Describes words (packets_of message.hart messages ++ packet ∷ []) log
+  pub agrees : opens_another (Some mode) packet ≡ false
 
-module _ (program : Image) (period : ℕ) (mode : Mode) (logs : List ProgramLog) (bytes : List ℕ)
-    (sent : IsCaptureOf program period mode logs bytes) (few : length logs ≤ 2 ^ 16) where
+module _ (program : Image) (period : ℕ) (mode : Mode) (logs : List ProgramLog)
+    (legal : All IsLegalLog logs) (all_same : All (λ (log : ProgramLog). log.program ≡ program) logs)
+    (few : length logs ≤ 2 ^ 16) where
   abbrev all : List Message
   all = messages_of_harts period mode 0 logs
 
   sound : All (IsSound period mode) logs
-  sound = sound_logs program period mode logs bytes sent
+  sound = sound_logs period mode logs legal
 
   -- Each message is as harts send it.
   as_sent : All (IsSent (length logs)) all
@@ -79,19 +83,19 @@ module _ (program : Image) (period : ℕ) (mode : Mode) (logs : List ProgramLog)
   packets_at hart log at =
       packets_of-log period mode hart logs log at (All_at (IsSound period mode) logs hart log at sound)
       ∙ ap (λ (p : Image). packets (words_of p) period mode log.events)
-      (All_at (λ (l : ProgramLog). l.program ≡ program) logs hart log at sent.same)
+      (All_at (λ (l : ProgramLog). l.program ≡ program) logs hart log at all_same)
 
   -- Where there is a log, the bytes of the program are an image.
   pub program_image : (hart : ℕ) (log : ProgramLog) → slice_get logs hart ≡ Some log → IsImage program
   program_image hart log at =
-      subst IsImage (All_at (λ (l : ProgramLog). l.program ≡ program) logs hart log at sent.same)
+      subst IsImage (All_at (λ (l : ProgramLog). l.program ≡ program) logs hart log at all_same)
       (All_at (IsSound period mode) logs hart log at sound).image
 
   -- They describe it.
   pub log_described : (hart : ℕ) (log : ProgramLog) → slice_get logs hart ≡ Some log
       → Describes (words_of program) (packets_of hart all) log.events
   log_described hart log at =
-      let same = All_at (λ (l : ProgramLog). l.program ≡ program) logs hart log at sent.same in
+      let same = All_at (λ (l : ProgramLog). l.program ≡ program) logs hart log at all_same in
       let legal =
       subst (λ (p : Image). Legal (words_of p) log.events) same
       (All_at (IsSound period mode) logs hart log at sound).legal in
@@ -129,7 +133,7 @@ module _ (program : Image) (period : ℕ) (mode : Mode) (logs : List ProgramLog)
 
   -- The message behind the first ones.
   pub next_message : (messages : List Message) (message : Message) (later : List Message)
-      → all ≡ messages ++ message ∷ later → IsNext (words_of program) (length logs) messages message
+      → all ≡ messages ++ message ∷ later → IsNext (words_of program) (length logs) mode messages message
   next_message messages message later whole =
       let hart = message.hart in
       let is =
@@ -158,4 +162,7 @@ module _ (program : Image) (period : ℕ) (mode : Mode) (logs : List ProgramLog)
         taken = λ accepted. takes messages message later is.packet whole is is.read going accepted;
         log = _;
         described = front;
+        agrees = All-middle (AgreesWith mode) before is.packet rest
+            (subst (All (AgreesWith mode)) (sym (packets_at hart log at) ∙ split)
+            (packets_agree (words_of program) period mode log.events));
       }

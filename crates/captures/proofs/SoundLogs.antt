@@ -2,7 +2,7 @@
 use Rattle.std.proofs.Common.{ℕ, ◌+◌, ◌≤◌, ◌^◌, All, List, length, arith}
 use Rattle.rvclass.proofs.WordsLemmas.{words_of-IsProgram}
 use Rattle.rvclass.specs.Fetch.{words_of}
-use Rattle.rvclass.specs.Image.{Image, IsImage}
+use Rattle.rvclass.specs.Image.{IsImage}
 use Rattle.legalpath.specs.Legal.{Legal}
 use Rattle.legalpath.specs.ProgramLog.{ProgramLog, IsLegalLog}
 use Rattle.payload.specs.Profile.{InProfile}
@@ -10,7 +10,6 @@ use Rattle.payload.specs.declared.mode.Mode.{Mode}
 use Rattle.encoder.proofs.ProfileLemmas.{packets_in_profile}
 use Rattle.encoder.specs.Packets.{packets}
 use Rattle.encoder.proofs.CountLemmas.{few_packets}
-use Rattle.captures.specs.Returned.{IsCaptureOf}
 
 -- The log is legal for its program, whose bytes are an image; its packets are of the profile, and fewer than a hart may
 -- send.
@@ -34,6 +33,6 @@ sound period mode log legal =
       few = omega (arith, few_packets words period mode log.events, short);
     }
 
-pub sound_logs : (program : Image) (period : ℕ) (mode : Mode) (logs : List ProgramLog) (bytes : List ℕ)
-    → IsCaptureOf program period mode logs bytes → All (IsSound period mode) logs
-sound_logs program period mode logs bytes sent = λ k d within. sound period mode _ (sent.legal k d within)
+pub sound_logs : (period : ℕ) (mode : Mode) (logs : List ProgramLog) → All IsLegalLog logs
+    → All (IsSound period mode) logs
+sound_logs period mode logs legal = λ k d within. sound period mode _ (legal k d within)

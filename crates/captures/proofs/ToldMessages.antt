@@ -9,6 +9,7 @@ use Rattle.std.proofs.Math.Bool.{or-false}
 use Rattle.std.proofs.lemmas.List.{length-append, flat_map_more}
 use Rattle.std.proofs.lemmas.List.Elements.{All-push}
 use Rattle.std.proofs.lemmas.List.Folds.{list_any-append}
+use Rattle.payload.specs.declared.mode.Mode.{Mode}
 use Rattle.message.specs.Capture.{capture, message_bytes}
 use Rattle.message.specs.Cut.{IsMessage}
 use Rattle.message.specs.declared.message.Message.{Message}
@@ -17,22 +18,22 @@ use Rattle.captures.specs.Dump.{is_refused, line_of, dump_text}
 
 -- So many messages stand before the bytes that are left, this tells whether a payload of theirs is bad, and their lines
 -- were appended.
-pub record HasTold (bytes left : List ℕ) (count : ℕ) (bad : Bool) (old new : Option (List ℕ)) : Type 0 where
+pub record HasTold (mode : Mode) (bytes left : List ℕ) (count : ℕ) (bad : Bool) (old new : Option (List ℕ)) : Type 0 where
   pub messages : List Message
   pub ranges : All IsMessage messages
   pub whole : bytes ≡ capture messages ++ left
   pub counted : count ≡ length messages
   pub refused : bad ≡ list_any is_refused messages
-  pub text : Appends old new (dump_text messages)
+  pub text : Appends old new (dump_text mode messages)
   pub room : count + length left ≤ length bytes
 
 -- One message more.
-pub told-next : (bytes left next : List ℕ) (count : ℕ) (bad : Bool) (m : Message) (old before after : Option (List ℕ))
-    → HasTold bytes left count bad old before
-    → IsMessage m → Appends before after (line_of m)
+pub told-next : (mode : Mode) (bytes left next : List ℕ) (count : ℕ) (bad : Bool) (m : Message) (old before after : Option (List ℕ))
+    → HasTold mode bytes left count bad old before
+    → IsMessage m → Appends before after (line_of mode m)
     → left ≡ message_bytes m ++ next → length next < length left
-    → HasTold bytes next (count + 1) (bad || is_refused m) old after
-told-next bytes left next count bad m old before after told is line begins fewer =
+    → HasTold mode bytes next (count + 1) (bad || is_refused m) old after
+told-next mode bytes left next count bad m old before after told is line begins fewer =
     let messages = told.messages in
     let more = length-append messages (m ∷ []) in
     let counted = told.counted in
@@ -45,12 +46,12 @@ told-next bytes left next count bad m old before after told is line begins fewer
       refused = ap (λ b. b || is_refused m) told.refused ∙ any-snoc messages;
       text =
           subst (Appends old after) (text-snoc messages)
-          (Appends-trans old before after (dump_text messages) (line_of m) told.text line);
+          (Appends-trans old before after (dump_text mode messages) (line_of mode m) told.text line);
       room = omega (arith, room, fewer);
     }
   where
-    text-snoc : (messages : List Message) → dump_text messages ++ line_of m ≡ dump_text (messages ++ m ∷ [])
-    text-snoc messages = flat_map_more line_of [] messages m
+    text-snoc : (messages : List Message) → dump_text mode messages ++ line_of mode m ≡ dump_text mode (messages ++ m ∷ [])
+    text-snoc messages = flat_map_more (line_of mode) [] messages m
 
     any-snoc : (messages : List Message)
         → (list_any is_refused messages || is_refused m) ≡ list_any is_refused (messages ++ m ∷ [])

@@ -1,5 +1,6 @@
 -- What the dump of a capture finds.
-use Rattle.std.specs.Prelude.{ℕ, ◌≡◌, ◌++◌, All, Bool, List, [], Option, Some, None, Result, codes, length}
+use Rattle.std.specs.Prelude.{ℕ, ◌≡◌, ◌++◌, All, Bool, false, List, [], Option, Some, None, Result, codes}
+use Rattle.std.specs.Prelude.{length}
 use Rattle.std.specs.Fmt.{decimal}
 use Rattle.std.specs.Io.KnownBytes.{Appends}
 use Rattle.std.specs.List.{flat_map, list_any}
@@ -7,12 +8,16 @@ use Rattle.std.specs.Result.{is_err}
 use Rattle.output.specs.Begun.{AppendsBeginning}
 use Rattle.payload.specs.Reading.{reading}
 use Rattle.payload.specs.declared.fault.PackFault.{PackFault}
+use Rattle.payload.specs.declared.mode.Mode.{Mode}
+use Rattle.payload.specs.declared.mode.Mode.TheVariants.{Differential, Full}
 use Rattle.payload.specs.declared.packet.Packet.{Packet}
 use Rattle.message.specs.Capture.{capture}
 use Rattle.message.specs.Cut.{IsMessage}
+use Rattle.message.specs.Header.{IsHeader, IsMarked, header_bytes}
+use Rattle.message.specs.declared.header.Header.{Header}
 use Rattle.message.specs.declared.message.Message.{Message}
 use Rattle.message.specs.declared.fault.MessageFault.{MessageFault}
-use Rattle.captures.specs.NoMessage.{BeginsNone}
+use Rattle.captures.specs.NoMessage.{BeginsNone, BeginsNoHeader}
 use Rattle.captures.specs.PacketText.{reading_text}
 
 -- The payload of a message is no packet.
@@ -25,34 +30,65 @@ Ends count rest None = rest ≡ []
 Ends count rest (Some fault) = (fault.0 ≡ count) × BeginsNone rest fault.1
 
 -- The line of a message whose payload gives this: the hart's number, the message's, and what the payload is.
-abbrev pub line_with : Message → Result Packet PackFault → List ℕ
-line_with message read =
-    decimal message.hart ++ (codes " " ++ (decimal message.number ++ (codes " " ++ (reading_text read ++ codes "\n"))))
+abbrev pub line_with : Mode → Message → Result Packet PackFault → List ℕ
+line_with told message read =
+    decimal message.hart ++
+    (codes " " ++ (decimal message.number ++ (codes " " ++ (reading_text told read ++ codes "\n"))))
 
 -- The line of a message.
-abbrev pub line_of : Message → List ℕ
-line_of message = line_with message (reading message.payload)
+abbrev pub line_of : Mode → Message → List ℕ
+line_of told message = line_with told message (reading message.payload)
 
 -- The lines of messages.
-abbrev pub dump_text : List Message → List ℕ
-dump_text messages = flat_map line_of messages
+abbrev pub dump_text : Mode → List Message → List ℕ
+dump_text told messages = flat_map (line_of told) messages
 
--- The bytes are the capture of messages and some rest, before which the dump ends. The lines of the messages were
--- appended, and it tells whether a payload is bad.
-pub record IsDump (bytes : List ℕ) (bad : Bool) (fault : Option (ℕ × MessageFault))
-    (old new : Option (List ℕ)) : Type 0 where
+-- The name of a mode.
+abbrev pub mode_text : Mode → List ℕ
+mode_text Differential = codes "diff"
+mode_text Full = codes "full"
+
+-- The line of a header.
+abbrev pub header_line : Header → List ℕ
+header_line header =
+    codes "capture 2 mode=" ++
+    (mode_text header.mode ++
+    (codes " period=" ++ (decimal header.period ++ (codes " harts=" ++ (decimal header.harts ++ codes "\n")))))
+
+-- The bytes are those of messages and some rest, before which the dump ends. The text is the lines of the messages, whose
+-- address fields are named by the mode that was told, and it is told whether a payload is bad.
+pub record AreMessagesDumped (told : Mode) (bytes : List ℕ) (bad : Bool) (fault : Option (ℕ × MessageFault))
+    (text : List ℕ) : Type 0 where
   pub messages : List Message
   pub rest : List ℕ
   pub ranges : All IsMessage messages
   pub whole : bytes ≡ capture messages ++ rest
   pub refused : bad ≡ list_any is_refused messages
-  pub text : Appends old new (dump_text messages)
+  pub lines : text ≡ dump_text told messages
   pub ends : Ends (length messages) rest fault
 
--- A beginning was appended of what the dump of the bytes into an empty place has.
-pub record BeginsDump (bytes : List ℕ) (old new : Option (List ℕ)) : Type 0 where
+-- The text is the dump of a capture. Bytes of version 1, which do not begin with the mark, are messages; those of version
+-- 2 are a header, which has a line of its own, and messages; and where the header is cut short or bad, there is no line.
+pub data IsDump (bytes : List ℕ) (bad : Bool) (fault : Option (ℕ × MessageFault)) (text : List ℕ) : Type 0 where
+  Version1 : ¬ IsMarked bytes → AreMessagesDumped Differential bytes bad fault text → IsDump bytes bad fault text
+  Version2 : (header : Header) (rest lines : List ℕ) → IsHeader header → bytes ≡ header_bytes header ++ rest
+      → AreMessagesDumped header.mode rest bad fault lines → text ≡ header_line header ++ lines
+      → IsDump bytes bad fault text
+  NoHeader : (why : MessageFault) → BeginsNoHeader bytes why → fault ≡ Some (0, why) → bad ≡ false → text ≡ []
+      → IsDump bytes bad fault text
+
+-- A text was appended that is a dump by this relation.
+pub record AppendsDump (IsText : Bool → Option (ℕ × MessageFault) → List ℕ → Type 0) (bad : Bool)
+    (fault : Option (ℕ × MessageFault)) (old new : Option (List ℕ)) : Type 0 where
+  pub text : List ℕ
+  pub dumped : IsText bad fault text
+  pub appended : Appends old new text
+
+-- A beginning was appended of such a text.
+pub record BeginsDump (IsText : Bool → Option (ℕ × MessageFault) → List ℕ → Type 0) (old new : Option (List ℕ))
+    : Type 0 where
   pub text : List ℕ
   pub bad : Bool
   pub fault : Option (ℕ × MessageFault)
-  pub dumped : IsDump bytes bad fault (Some []) (Some text)
+  pub dumped : IsText bad fault text
   pub begun : AppendsBeginning text old new

@@ -1,5 +1,6 @@
 pub mod HexLines
 pub mod Messages
+pub mod Versions
 pub mod NoMessage
 pub mod Decoded
 pub mod Returned

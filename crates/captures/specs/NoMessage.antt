@@ -1,6 +1,7 @@
--- Bytes that begin no message.
+-- Bytes that begin no message, or no capture.
 use Rattle.std.specs.Prelude.{ℕ, List}
 use Rattle.message.specs.Cut.{IsCut, HasBadLength}
+use Rattle.message.specs.Header.{HasBadHeader, IsCutHeader}
 use Rattle.message.specs.declared.fault.MessageFault.{MessageFault}
 use Rattle.message.specs.declared.fault.MessageFault.TheVariants as fault
 
@@ -11,3 +12,9 @@ BeginsNone bytes fault.BadLength = HasBadLength bytes
 BeginsNone bytes fault.Read = ⊥
 BeginsNone bytes fault.Write = ⊥
 BeginsNone bytes fault.BadHeader = ⊥
+
+-- Why these bytes, which begin as a capture of version 2 does, begin with no header.
+abbrev pub BeginsNoHeader : List ℕ → MessageFault → Type 0
+BeginsNoHeader bytes fault.Short = IsCutHeader bytes
+BeginsNoHeader bytes fault.BadHeader = HasBadHeader bytes
+BeginsNoHeader bytes other = ⊥

@@ -54,18 +54,25 @@ abbrev pub where_text : ℕ → ℕ → Bool → List ℕ
 where_text address privilege taken =
     codes "=" ++ (hex address ++ (codes " priv=" ++ (hex privilege ++ (codes " branch=" ++ branch_text taken))))
 
--- The kind of a packet, and its fields by name.
-abbrev pub packet_text : Packet → List ℕ
-packet_text (packet.Sync taken privilege address) = codes "sync addr" ++ where_text address privilege taken
-packet_text (packet.Trap taken privilege cause interrupt handler address tval) =
+-- The name of an address field, by the mode that is told before all messages.
+abbrev pub field_text : Mode → List ℕ
+field_text Differential = codes "diff"
+field_text Full = codes "addr"
+
+-- The kind of a packet, and its fields by name, where this mode is told before all messages.
+abbrev pub packet_text : Mode → Packet → List ℕ
+packet_text told (packet.Sync taken privilege address) = codes "sync addr" ++ where_text address privilege taken
+packet_text told (packet.Trap taken privilege cause interrupt handler address tval) =
     codes "trap " ++
     (cause_text interrupt cause tval ++ (codes " " ++ (place_text handler ++ where_text address privilege taken)))
-packet_text (packet.Support kind) = support_text kind
-packet_text (packet.Address outcomes delta why) =
-    codes "address diff=" ++ (hex delta ++ (codes " map=" ++ (map_text outcomes ++ (codes " " ++ report_text why))))
-packet_text (packet.Map outcomes) = codes "map " ++ map_text outcomes
+packet_text told (packet.Support kind) = support_text kind
+packet_text told (packet.Address outcomes delta why) =
+    codes "address " ++
+    (field_text told ++
+    (codes "=" ++ (hex delta ++ (codes " map=" ++ (map_text outcomes ++ (codes " " ++ report_text why))))))
+packet_text told (packet.Map outcomes) = codes "map " ++ map_text outcomes
 
--- The text of what a payload is: that of its packet, or why it is none.
-abbrev pub reading_text : Result Packet PackFault → List ℕ
-reading_text (Ok packet) = packet_text packet
-reading_text (Err why) = codes "bad " ++ pack_fault_text why
+-- The text of what a payload is, where this mode is told before all messages: that of its packet, or why it is none.
+abbrev pub reading_text : Mode → Result Packet PackFault → List ℕ
+reading_text told (Ok packet) = packet_text told packet
+reading_text told (Err why) = codes "bad " ++ pack_fault_text why

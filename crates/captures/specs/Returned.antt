@@ -5,24 +5,32 @@ use Rattle.rvclass.specs.Image.{Image}
 use Rattle.legalpath.specs.ProgramLog.{ProgramLog, IsLegalLog}
 use Rattle.payload.specs.declared.mode.Mode.{Mode}
 use Rattle.decoder.specs.declared.fault.DecodeFault.TheVariants.{Memory}
-use Rattle.message.specs.Capture.{capture}
-use Rattle.captures.specs.Messages.{messages_of_harts}
+use Rattle.message.specs.declared.header.Version.{Version}
+use Rattle.message.specs.declared.header.Version.TheVariants.{One, Two}
+use Rattle.captures.specs.Versions.{MayStart, capture_of, header_of}
 use Rattle.captures.specs.declared.outcome.CaptureFault.{CaptureFault}
 use Rattle.captures.specs.declared.outcome.CaptureFault.TheVariants as fault
 
--- The bytes are the capture of all messages of legal logs of a program, of one hart after the other, at this period and
--- in this mode.
-pub record IsCaptureOf (program : Image) (period : ℕ) (mode : Mode) (logs : List ProgramLog)
+-- The bytes are the capture of this version of all messages of legal logs of a program, of one hart after the other, at
+-- this period and in this mode.
+pub record IsCaptureOf (program : Image) (version : Version) (period : ℕ) (mode : Mode) (logs : List ProgramLog)
     (bytes : List ℕ) : Type 0 where
   pub legal : All IsLegalLog logs
   pub same : All (λ (log : ProgramLog). log.program ≡ program) logs
-  pub whole : bytes ≡ capture (messages_of_harts period mode 0 logs)
+  pub start : MayStart version (header_of period mode logs)
+  pub whole : bytes ≡ capture_of version period mode logs
+
+-- The harts that are asked for are those of the logs. Captures of version 2 tell of themselves how many there are.
+abbrev pub AreAskedFor : Version → ℕ → List ProgramLog → Type 0
+AreAskedFor One harts logs = length logs ≡ harts
+AreAskedFor Two harts logs = Unit {0}
 
 -- Decoding stopped for want of memory.
 abbrev pub IsMemory : CaptureFault → Type 0
 IsMemory (fault.Message why) = ⊥
 IsMemory (fault.Demux why) = ⊥
 IsMemory (fault.Decode why) = why ≡ Memory
+IsMemory fault.Mode = ⊥
 
 -- Decoding stopped for want of memory, or the lists are the logs, and every hart is closed.
 abbrev pub AreReturned : List ProgramLog → List (List Event) → List Bool → Option (ℕ × CaptureFault) → Type 0

@@ -1,26 +1,29 @@
 //! From the bytes of a capture to the events of its harts.
 
-ghost use Rattle.std.specs.Prelude.{ℕ, ◌≡◌, List, [], IfOk, length};
+ghost use Rattle.std.specs.Prelude.{ℕ, ◌≡◌, List, [], false, IfOk, Some, length, replicate};
 ghost use Rattle.rvclass.specs.Fetch.{words_of};
 ghost use Rattle.legalpath.specs.ProgramLog.{ProgramLog};
-ghost use Rattle.payload.specs.declared.mode.Mode.{Mode};
+ghost use Rattle.payload.specs.declared.mode.Mode.{Mode as AnyMode};
+ghost use Rattle.message.specs.declared.header.Version.{Version};
 ghost use Rattle.receiver.specs.Holds.{HasReceived};
 ghost use Rattle.receiver.specs.Received.{events_in};
-ghost use Rattle.captures.specs.Decoded.{IsDecoded};
-ghost use Rattle.captures.specs.Returned.{AreReturned, IsCaptureOf};
-ghost use Rattle.captures.specs.steps.Collecting.{HasCollected, told};
+ghost use Rattle.captures.specs.Decoded.{AreMessagesDecoded, IsDecoded};
+ghost use Rattle.captures.specs.Returned.{AreAskedFor, AreReturned, IsCaptureOf};
+ghost use Rattle.captures.specs.steps.Collecting.{HasCollected, told_as};
 
 use crate::outcome::{CaptureFault, CaptureOutcome};
 use message::Messages;
+use payload::Mode;
 use receiver::{ReceiveFault, Receiver};
 use rvclass::Program;
 use std::alloc::{AllocError, Allocator};
 
 /// Reads the messages of a capture, parts them by hart, and decodes each hart's, up to the first fault.
 ///
-/// The harts are those below `harts`. After a fault the outcome holds what was decoded before, of every hart; a packet
-/// for whose events room was refused is such a fault too. An error comes only where room for the outcome itself was
-/// refused.
+/// The harts are those below the count that the header of a capture of version 2 tells, and else those below `harts`. No
+/// packet of version 2 opens a trace in another mode than its header tells. After a fault the outcome holds what was
+/// decoded before, of every hart, which is nothing where the header is cut short or bad; a packet for whose events room
+/// was refused is such a fault too. An error comes only where room for the outcome itself was refused.
 pub fn decode_capture<A: Allocator + Copy>(
     alloc: A,
     program: &Program,
@@ -31,17 +34,39 @@ pub fn decode_capture<A: Allocator + Copy>(
         IsDecoded (words_of program.now) harts bytes.now (events_in outcome.harts.items) outcome.closed.items
         outcome.fault) }
 
-    // The capture of all messages of legal logs, in either mode, gives the logs back, unless room was refused.
-    ensures whole { (period : ℕ) (mode : Mode) (logs : List ProgramLog)
-        → IsCaptureOf program.now period mode logs bytes.now
-        → length logs ≡ harts
+    // The capture of all messages of legal logs, in either version and mode, gives the logs back, unless room was refused.
+    ensures whole { (version : Version) (period : ℕ) (mode : AnyMode) (logs : List ProgramLog)
+        → IsCaptureOf program.now version period mode logs bytes.now
+        → AreAskedFor version harts logs
         → IfOk result (λ outcome. AreReturned logs (events_in outcome.harts.items) outcome.closed.items outcome.fault) }
+{
+    let mut messages = Messages::new(bytes);
+    match messages.header() {
+        Ok(Some(header)) => {
+            decode_messages(alloc, program, header.harts, Some(header.mode), messages)
+        }
+        Ok(None) => decode_messages(alloc, program, harts, None, messages),
+        Err(fault) => decode_nothing(alloc, harts, CaptureFault::Message(fault)),
+    }
+}
+
+/// What messages of so many harts decode to, where this mode is told before them.
+fn decode_messages<A: Allocator + Copy>(
+    alloc: A,
+    program: &Program,
+    harts: u16,
+    told: Option<Mode>,
+    messages: Messages<'_>,
+) -> Result<CaptureOutcome<A>, AllocError>
+    ensures { IfOk result (λ outcome.
+        AreMessagesDecoded (words_of program.now) harts told messages.entry (events_in outcome.harts.items)
+        outcome.closed.items outcome.fault) }
 {
     let mut receiver = match Receiver::new(alloc, harts) {
         Ok(receiver) => receiver,
         Err(fault) => return Err(fault),
     };
-    let fault = collect(&mut receiver, program, bytes);
+    let fault = collect(&mut receiver, program, told, messages);
     let (harts, closed) = receiver.into_parts();
     Ok(CaptureOutcome {
         harts,
@@ -50,16 +75,38 @@ pub fn decode_capture<A: Allocator + Copy>(
     })
 }
 
-/// Receives the messages of a capture, and tells where that stops before its end.
+/// The outcome of so many harts of which nothing is decoded.
+fn decode_nothing<A: Allocator + Copy>(
+    alloc: A,
+    harts: u16,
+    fault: CaptureFault,
+) -> Result<CaptureOutcome<A>, AllocError>
+    ensures { IfOk result (λ outcome.
+        (events_in outcome.harts.items ≡ replicate harts []) × (outcome.closed.items ≡ replicate harts false)
+        × (outcome.fault ≡ Some (0, fault))) }
+{
+    let receiver = match Receiver::new(alloc, harts) {
+        Ok(receiver) => receiver,
+        Err(fault) => return Err(fault),
+    };
+    let (harts, closed) = receiver.into_parts();
+    Ok(CaptureOutcome {
+        harts,
+        closed,
+        fault: Some((0, fault)),
+    })
+}
+
+/// Receives messages, where this mode is told before them, and tells where that stops before their end.
 fn collect<A: Allocator + Copy>(
     receiver: &mut Receiver<A>,
     program: &Program,
-    bytes: &[u8],
+    told: Option<Mode>,
+    mut messages: Messages<'_>,
 ) -> Option<(u64, CaptureFault)>
     ensures { (harts : ℕ) → HasReceived (λ hart. words_of program.now) harts [] receiver.old
-        → HasCollected (words_of program.now) harts bytes.now receiver.new result }
+        → HasCollected (words_of program.now) harts told messages.entry receiver.new result }
 {
-    let mut messages = Messages::new(bytes);
     let mut number = 0;
     loop {
         let message = match messages.next() {
@@ -67,19 +114,20 @@ fn collect<A: Allocator + Copy>(
             Ok(None) => return None,
             Err(fault) => return Some((number, CaptureFault::Message(fault))),
         };
-        match receiver.receive(program, &message) {
+        match receiver.receive(program, told, &message) {
             Ok(()) => number += 1,
-            Err(fault) => return Some((number, told(fault))),
+            Err(fault) => return Some((number, told_as(fault))),
         }
     }
 }
 
 /// What is told of a capture whose next message is not received.
-fn told(fault: ReceiveFault) -> CaptureFault
-    ensures { result ≡ told fault }
+fn told_as(fault: ReceiveFault) -> CaptureFault
+    ensures { result ≡ told_as fault }
 {
     match fault {
         ReceiveFault::Demux(why) => CaptureFault::Demux(why),
+        ReceiveFault::Mode => CaptureFault::Mode,
         ReceiveFault::Decode(why) => CaptureFault::Decode(why),
     }
 }

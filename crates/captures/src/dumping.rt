@@ -3,12 +3,14 @@
 ghost use Rattle.std.specs.Prelude.{◌≡◌, IfErr, IfOk, OnErr, OnOk};
 ghost use Rattle.std.specs.Io.KnownBytes.{Appends};
 ghost use Rattle.output.specs.Begun.{AppendsBeginning};
-ghost use Rattle.captures.specs.Dump.{BeginsDump, IsDump, is_refused, line_of};
+ghost use Rattle.message.specs.steps.Filling.{AreBytes};
+ghost use Rattle.captures.specs.Dump.{AppendsDump, AreMessagesDumped, BeginsDump, IsDump, header_line, is_refused};
+ghost use Rattle.captures.specs.Dump.{line_of, mode_text};
 
 use crate::packet_text::ReadingText;
-use message::{Message, MessageFault, Messages};
+use message::{Header, Message, MessageFault, Messages};
 use output::write_text;
-use payload::unpack;
+use payload::{Mode, unpack};
 use retire::WriteFault;
 use std::io::Write;
 
@@ -21,25 +23,86 @@ pub struct Dumped {
     pub fault: Option<(u64, MessageFault)>,
 }
 
-/// Writes a line for each message of a capture: the hart's number and the message's, both decimal, and the text of its
-/// packet, whose numbers are in lower-case hexadecimal, or `bad` and the reason where the payload is no packet.
+/// Writes a capture as text. A capture of version 2 begins with a line that tells its header, the numbers decimal:
+/// `capture 2 mode=diff period=N harts=N`, or `mode=full`. Then comes a line for each message: the hart's number and the
+/// message's, both decimal, and the text of its packet, whose numbers are in lower-case hexadecimal, or `bad` and the
+/// reason where the payload is no packet. An address field is named `addr` where the header tells full addresses, and
+/// else `diff`.
 ///
 /// The lines stand in the order of the capture, and go on behind a bad payload. They end at the first place where no
-/// message stands. The only fault is [`WriteFault::Write`], where the writer failed; what was written then is a
-/// beginning of the text. No memory is taken.
+/// message stands; there are none where the header is cut short or bad. The only fault is [`WriteFault::Write`], where
+/// the writer failed; what was written then is a beginning of the text. No memory is taken.
 pub fn dump_capture<W: Write>(capture: &[u8], sink: &mut W) -> Result<Dumped, WriteFault>
-    ensures dumped { IfOk result
-        (λ dumped. IsDump capture.now dumped.bad dumped.fault (W.contents sink.old) (W.contents sink.new)) }
-    ensures begun { OnErr result (BeginsDump capture.now (W.contents sink.old) (W.contents sink.new)) }
+    ensures dumped { IfOk result (λ dumped.
+        AppendsDump (IsDump capture.now) dumped.bad dumped.fault (W.contents sink.old) (W.contents sink.new)) }
+    ensures begun { OnErr result (BeginsDump (IsDump capture.now) (W.contents sink.old) (W.contents sink.new)) }
     ensures fault { IfErr result (λ fault. fault ≡ WriteFault.Write) }
 {
     let mut messages = Messages::new(capture);
+    match messages.header() {
+        Ok(Some(header)) => {
+            match write_header_line(sink, &header) {
+                Ok(()) => {}
+                Err(fault) => return Err(fault),
+            }
+            dump_messages(messages, header.mode, sink)
+        }
+        Ok(None) => dump_messages(messages, Mode::Differential, sink),
+        Err(fault) => Ok(Dumped {
+            bad: false,
+            fault: Some((0, fault)),
+        }),
+    }
+}
+
+/// Writes the line of a header.
+fn write_header_line<W: Write>(sink: &mut W, header: &Header) -> Result<(), WriteFault>
+    ensures text { OnOk result (Appends (W.contents sink.old) (W.contents sink.new) (header_line header.now)) }
+    ensures begun { AppendsBeginning (header_line header.now) (W.contents sink.old) (W.contents sink.new) }
+    ensures fault { IfErr result (λ fault. fault ≡ WriteFault.Write) }
+{
+    let mode = mode_text(header.mode);
+    let period = header.period;
+    let harts = header.harts;
+    match write_text(
+        sink,
+        format_args!("capture 2 mode={mode} period={period} harts={harts}\n"),
+    ) {
+        Ok(()) => Ok(()),
+        Err(_) => Err(WriteFault::Write),
+    }
+}
+
+/// The name of a mode.
+fn mode_text(mode: Mode) -> &'static str
+    ensures { result.now ≡ mode_text mode }
+{
+    match mode {
+        Mode::Differential => "diff",
+        Mode::Full => "full",
+    }
+}
+
+/// Writes a line for each message, where this mode is told before all of them.
+fn dump_messages<W: Write>(
+    all: Messages<'_>,
+    told: Mode,
+    sink: &mut W,
+) -> Result<Dumped, WriteFault>
+    requires { AreBytes all }
+    ensures dumped { IfOk result (λ dumped. AppendsDump (AreMessagesDumped told all.entry) dumped.bad dumped.fault
+        (W.contents sink.old) (W.contents sink.new)) }
+    ensures begun { OnErr result
+        (BeginsDump (AreMessagesDumped told all.entry) (W.contents sink.old) (W.contents sink.new)) }
+    ensures fault { IfErr result (λ fault. fault ≡ WriteFault.Write) }
+{
+    let mut messages = all;
     let mut count = 0;
     let mut bad = false;
     loop {
         match messages.next() {
             Ok(Some(message)) => {
-                match write_message_line(sink, &message) {
+                match write_message_line(sink, told, &message) {
                     Ok(refused) => bad |= refused,
                     Err(fault) => return Err(fault),
                 }
@@ -56,20 +119,26 @@ pub fn dump_capture<W: Write>(capture: &[u8], sink: &mut W) -> Result<Dumped, Wr
     }
 }
 
-/// Writes the line of a message, and answers whether its payload is no packet.
-fn write_message_line<W: Write>(sink: &mut W, message: &Message) -> Result<bool, WriteFault>
+/// Writes the line of a message, where this mode is told before all of them, and answers whether its payload is no
+/// packet.
+fn write_message_line<W: Write>(
+    sink: &mut W,
+    told: Mode,
+    message: &Message,
+) -> Result<bool, WriteFault>
     ensures refused { IfOk result (λ refused. refused ≡ is_refused message.now) }
-    ensures text { OnOk result (Appends (W.contents sink.old) (W.contents sink.new) (line_of message.now)) }
-    ensures begun { AppendsBeginning (line_of message.now) (W.contents sink.old) (W.contents sink.new) }
+    ensures text { OnOk result (Appends (W.contents sink.old) (W.contents sink.new) (line_of told message.now)) }
+    ensures begun { AppendsBeginning (line_of told message.now) (W.contents sink.old) (W.contents sink.new) }
     ensures fault { IfErr result (λ fault. fault ≡ WriteFault.Write) }
 {
     let hart = message.hart;
     let number = message.number;
     let unpacked = unpack(message.payload.bytes());
-    match write_text(
-        sink,
-        format_args!("{hart} {number} {}\n", ReadingText(&unpacked)),
-    ) {
+    let text = ReadingText {
+        told,
+        read: &unpacked,
+    };
+    match write_text(sink, format_args!("{hart} {number} {text}\n")) {
         Ok(()) => Ok(unpacked.is_err()),
         Err(_) => Err(WriteFault::Write),
     }

@@ -4,21 +4,22 @@ ghost use Rattle.std.specs.Prelude.{◌≡◌, ◌+◌, ◌^◌, ◌≤◌, IfEr
 ghost use Rattle.std.specs.Io.KnownBytes.{Appends};
 ghost use Rattle.std.specs.List.{flat_map};
 ghost use Rattle.output.specs.Begun.{AppendsBeginning};
-ghost use Rattle.message.specs.Capture.{capture};
 ghost use Rattle.captures.specs.HexLines.{hex_text};
 ghost use Rattle.message.specs.Numbered.{messages_from};
 ghost use Rattle.captures.specs.Messages.{messages_of_harts};
+ghost use Rattle.captures.specs.Versions.{MayStart, capture_of, header_of, start_bytes};
 ghost use Rattle.encoder.specs.Payloads.{payloads};
 
 use crate::form::{Capture, Form, Lines};
 use encoder::Source;
 use legalpath::LegalLog;
-use message::{Message, MessageFault};
+use message::{Header, MOST_HARTS, Message, MessageFault, Version, write_header};
 use payload::Mode;
 use std::alloc::Allocator;
 use std::io::Write;
 
-/// Writes the capture of the messages of each hart's log, hart 0 first, numbered from 0 on.
+/// Writes the capture of the messages of each hart's log, hart 0 first, numbered from 0 on. A capture of version 2 begins
+/// with a header, which tells the mode, the period and the count of logs.
 ///
 /// The payloads are the shortest of the packets of the log, with a synchronisation at each retirement whose number the
 /// period divides. What their address fields hold, the mode says, which each hart's first message tells. The only fault
@@ -28,17 +29,42 @@ pub fn encode_capture<W: Write, A: Allocator>(
     logs: &[LegalLog<'_, A>],
     period: u16,
     mode: Mode,
+    version: Version,
     sink: &mut W,
 ) -> Result<(), MessageFault>
     requires period { 1 ≤ period }
     requires few { length logs.now ≤ 2 ^ 16 }
+    requires header { MayStart version (header_of period mode logs.now) }
     ensures capture { OnOk result (Appends (W.contents sink.old) (W.contents sink.new)
-        (capture (messages_of_harts period mode 0 logs.now))) }
-    ensures begun { AppendsBeginning (capture (messages_of_harts period mode 0 logs.now))
+        (capture_of version period mode logs.now)) }
+    ensures begun { AppendsBeginning (capture_of version period mode logs.now)
         (W.contents sink.old) (W.contents sink.new) }
     ensures fault { IfErr result (λ fault. fault ≡ MessageFault.Write) }
 {
+    let header = Header {
+        mode,
+        period,
+        harts: logs.len().min(usize::from(MOST_HARTS)) as u16,
+    };
+    write_start(sink, version, &header)?;
     encode::<Capture, W, A>(logs, period, mode, sink)
+}
+
+/// Writes what stands before the messages in this version, where this is told of all of them.
+fn write_start<W: Write>(
+    sink: &mut W,
+    version: Version,
+    header: &Header,
+) -> Result<(), MessageFault>
+    ensures written { OnOk result (Appends (W.contents sink.old) (W.contents sink.new)
+        (start_bytes version header.now)) }
+    ensures begun { AppendsBeginning (start_bytes version header.now) (W.contents sink.old) (W.contents sink.new) }
+    ensures fault { IfErr result (λ fault. fault ≡ MessageFault.Write) }
+{
+    match version {
+        Version::One => Ok(()),
+        Version::Two => write_header(sink, header),
+    }
 }
 
 /// Writes the same messages as [`encode_capture`], a line each: the hart's number and the message's, both decimal, and

@@ -19,6 +19,8 @@ pub enum CaptureFault {
     Demux(DemuxFault),
     /// The packet of the message is not decoded.
     Decode(DecodeFault),
+    /// The packet of the message opens a trace in another mode than the header tells.
+    Mode,
 }
 
 impl fmt::Display for CaptureFault {
@@ -29,6 +31,7 @@ impl fmt::Display for CaptureFault {
             CaptureFault::Message(fault) => write!(f, "{fault}"),
             CaptureFault::Demux(fault) => write!(f, "{fault}"),
             CaptureFault::Decode(fault) => write!(f, "{fault}"),
+            CaptureFault::Mode => f.write_str("open of another mode"),
         }
     }
 }

@@ -1,22 +1,27 @@
 //! Packets as text.
 
 ghost use Rattle.std.specs.Prelude.{◌≡◌, Some, codes};
-ghost use Rattle.captures.specs.PacketText.{branch_text, cause_text, map_text, packet_text, place_text, reading_text};
-ghost use Rattle.captures.specs.PacketText.{report_text, support_text};
+ghost use Rattle.captures.specs.PacketText.{branch_text, cause_text, field_text, map_text, packet_text};
+ghost use Rattle.captures.specs.PacketText.{place_text, reading_text, report_text, support_text};
 
 use payload::{Mode, Outcomes, PackFault, Packet, Report, Support};
 use std::fmt;
 
 /// The text of what a payload is: that of its packet, or `bad` and why it is none.
 #[derive(Clone, Copy)]
-pub(crate) struct ReadingText<'a>(pub(crate) &'a Result<Packet, PackFault>);
+pub(crate) struct ReadingText<'a> {
+    /// The mode that is told before all messages.
+    pub(crate) told: Mode,
+    pub(crate) read: &'a Result<Packet, PackFault>,
+}
 
 impl fmt::Display for ReadingText<'_> {
-    ghost output = { λ text. Some (reading_text text.0.now) };
+    ghost output = { λ text. Some (reading_text text.told text.read.now) };
 
     fn fmt<W: fmt::Write>(&self, f: &mut fmt::Formatter<W>) -> fmt::Result {
-        match self.0 {
-            Ok(packet) => write!(f, "{}", PacketText(packet)),
+        let told = self.told;
+        match self.read {
+            Ok(packet) => write!(f, "{}", PacketText { told, packet }),
             Err(why) => write!(f, "bad {why}"),
         }
     }
@@ -24,13 +29,17 @@ impl fmt::Display for ReadingText<'_> {
 
 /// The text of a packet: its kind and its fields by name, their numbers in lower-case hexadecimal.
 #[derive(Clone, Copy)]
-struct PacketText<'a>(&'a Packet);
+struct PacketText<'a> {
+    /// The mode that is told before all messages.
+    told: Mode,
+    packet: &'a Packet,
+}
 
 impl fmt::Display for PacketText<'_> {
-    ghost output = { λ text. Some (packet_text text.0.now) };
+    ghost output = { λ text. Some (packet_text text.told text.packet.now) };
 
     fn fmt<W: fmt::Write>(&self, f: &mut fmt::Formatter<W>) -> fmt::Result {
-        match *self.0 {
+        match *self.packet {
             Packet::Sync {
                 taken,
                 privilege,
@@ -71,7 +80,8 @@ impl fmt::Display for PacketText<'_> {
             } => {
                 let map = MapText(outcomes);
                 let report = report_text(report);
-                write!(f, "address diff={delta:x} map={map} {report}")
+                let field = field_text(self.told);
+                write!(f, "address {field}={delta:x} map={map} {report}")
             }
             Packet::Map(ref outcomes) => write!(f, "map {}", MapText(outcomes)),
         }
@@ -132,6 +142,16 @@ fn place_text(handler: bool) -> &'static str
     ensures { result.now ≡ place_text handler }
 {
     if handler { "handler" } else { "epc" }
+}
+
+/// The name of an address field, by the mode that is told before all messages.
+fn field_text(told: Mode) -> &'static str
+    ensures { result.now ≡ field_text told }
+{
+    match told {
+        Mode::Differential => "diff",
+        Mode::Full => "addr",
+    }
 }
 
 fn support_text(support: Support) -> &'static str

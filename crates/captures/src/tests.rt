@@ -5,6 +5,7 @@ mod changed;
 mod decoding;
 mod dumping;
 mod encoding;
+mod headers;
 mod made;
 mod returning;
 

@@ -4,10 +4,13 @@ use Rattle.std.specs.Str.Parse.{IsNumeral, digits_value, without_leading_plus}
 use Rattle.std.specs.Prelude.{Some, None, unwrap_or}
 use Rattle.clap.specs.Words.{Row, Text, all_of, fault_of, first_of, one_of, subcommand_of}
 use Rattle.cli.specs.Grammar.{program_app}
+use Rattle.message.specs.Version.{most_harts}
+use Rattle.message.specs.declared.header.Version.{Version}
+use Rattle.message.specs.declared.header.Version.TheVariants.{One, Two}
 use Rattle.payload.specs.declared.mode.Mode.{Mode}
 use Rattle.payload.specs.declared.mode.Mode.TheVariants.{Differential, Full}
 use Rattle.subcommands.specs.Kind.{IsCheck}
-use Rattle.subcommands.specs.Limits.{largest_capacity, longest_period, most_harts}
+use Rattle.subcommands.specs.Limits.{largest_capacity, longest_period}
 use Rattle.subcommands.specs.declared.words.Asked.{Asked}
 use Rattle.subcommands.specs.declared.words.Asked.TheVariants.{Bench, Check, Decode, Dump, Encode, Replay}
 
@@ -33,6 +36,15 @@ is_full Full = true
 abbrev pub IsMode : Option Text → Mode → Type 0
 IsMode value mode = IsFlag value (is_full mode)
 
+-- A capture has no header.
+abbrev pub is_one : Version → Bool
+is_one One = true
+is_one Two = false
+
+-- The version is the first exactly where the flag is set.
+abbrev pub IsVersion : Option Text → Version → Type 0
+IsVersion value version = IsFlag value (is_one version)
+
 -- The number that a decimal text is.
 abbrev pub decimal : Text → ℕ
 decimal text = digits_value 10 (without_leading_plus text)
@@ -54,9 +66,9 @@ IsPeriod = IsUpTo longest_period
 abbrev pub IsCapacity : Option Text → ℕ → Type 0
 IsCapacity = IsUpTo largest_capacity
 
--- A capture is of 1 to 64 harts.
+-- A capture is of 1 to 1024 harts.
 abbrev pub IsHarts : Option Text → ℕ → Type 0
-IsHarts = IsUpTo most_harts
+IsHarts = IsUpTo (most_harts Two)
 
 -- A subcommand of this name with these rows is what is asked.
 abbrev pub Asks : Text → List Row → Asked → Type 0
@@ -65,7 +77,7 @@ Asks name rows (Check asked) = (name ≡ codes "check")
     × (map (λ log. log.now) asked.logs.items ≡ texts_of (codes "LOG") rows)
 Asks name rows (Encode asked) = (name ≡ codes "encode")
     × (asked.base.now ≡ text_of (codes "base") rows) × IsPeriod (one_of (codes "period") rows) asked.period
-    × IsMode (one_of (codes "full") rows) asked.mode
+    × IsMode (one_of (codes "full") rows) asked.mode × IsVersion (one_of (codes "v1") rows) asked.version
     × IsFlag (one_of (codes "hex") rows) asked.hex × (asked.image.now ≡ text_of (codes "IMAGE") rows)
     × (map (λ log. log.now) asked.logs.items ≡ texts_of (codes "LOG") rows)
 Asks name rows (Dump asked) = (name ≡ codes "dump") × (asked.capture.now ≡ text_of (codes "CAPTURE") rows)

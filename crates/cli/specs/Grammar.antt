@@ -11,7 +11,9 @@ use Rattle.clap.specs.declared.builder.action.ArgAction.TheVariants.{Append, Set
 use Rattle.clap.specs.declared.builder.range.ValueRange.{ValueRange}
 use Rattle.clap.specs.declared.builder.value_parser.ValueParser.{ValueParser}
 use Rattle.clap.specs.declared.builder.value_parser.ValueParser.TheVariants.{Signed}
-use Rattle.subcommands.specs.Limits.{largest_capacity, longest_period, most_harts}
+use Rattle.message.specs.Version.{most_harts}
+use Rattle.message.specs.declared.header.Version.TheVariants.{Two}
+use Rattle.subcommands.specs.Limits.{largest_capacity, longest_period}
 
 -- `--base B`, which has to be there.
 abbrev pub base_rule : Rule
@@ -31,6 +33,11 @@ hex_rule =
 abbrev pub full_rule : Rule
 full_rule =
     record (new_rule (codes "full")) { long = Some (codes "full"); action = Some SetTrue }
+
+-- `--v1`.
+abbrev pub version_one_rule : Rule
+version_one_rule =
+    record (new_rule (codes "v1")) { long = Some (codes "v1"); action = Some SetTrue }
 
 -- IMAGE, a word of its own that has to be there.
 abbrev pub image_rule : Rule
@@ -80,9 +87,9 @@ logs_rule = record (new_rule (codes "LOG")) {
   required = true;
 }
 
--- A number from 1 to 64.
+-- A number from 1 to 1024.
 abbrev pub harts_parser : ValueParser
-harts_parser = Signed (pos 1) (pos most_harts)
+harts_parser = Signed (pos 1) (pos (most_harts Two))
 
 -- `--harts N`, which is 1 where it is not there.
 abbrev pub harts_rule : Rule
@@ -102,10 +109,10 @@ capture_rule = record (new_rule (codes "CAPTURE")) { action = Some Set; required
 abbrev pub check_app : App
 check_app = with_rule (with_rule (with_rule (new_app (codes "check")) base_rule) image_rule) logs_rule
 
--- `encode --base B [--period N] [--full] [--hex] IMAGE LOG...`.
+-- `encode --base B [--period N] [--full] [--v1] [--hex] IMAGE LOG...`.
 abbrev pub encode_app : App
-encode_app = with_rule (with_rule (with_rule (with_rule (with_rule (with_rule (new_app (codes "encode")) base_rule)
-    period_rule) full_rule) hex_rule) image_rule) logs_rule
+encode_app = with_rule (with_rule (with_rule (with_rule (with_rule (with_rule (with_rule (new_app (codes "encode"))
+    base_rule) period_rule) full_rule) version_one_rule) hex_rule) image_rule) logs_rule
 
 -- `dump CAPTURE`.
 abbrev pub dump_app : App

@@ -1,13 +1,12 @@
 //! The arguments that subcommands take, one function each.
 
 ghost use Rattle.cli.specs.Grammar.{IsReadBy, base_rule, capacity_rule, capture_rule, full_rule, harts_rule};
-ghost use Rattle.cli.specs.Grammar.{hex_rule, image_rule, logs_rule, period_rule, schedule_rule};
+ghost use Rattle.cli.specs.Grammar.{hex_rule, image_rule, logs_rule, period_rule, schedule_rule, version_one_rule};
 
 use clap::{Arg, ArgAction, value_parser};
+use message::MOST_HARTS;
 use std::alloc::Global;
-use subcommands::{
-    LARGEST_CAPACITY, LONGEST_PERIOD, MOST_HARTS, SHORTEST_PERIOD, SMALLEST_CAPACITY,
-};
+use subcommands::{LARGEST_CAPACITY, LONGEST_PERIOD, SHORTEST_PERIOD, SMALLEST_CAPACITY};
 
 pub(crate) fn base<'a>(alloc: Global) -> Arg<'a>
     ensures { IsReadBy base_rule result }
@@ -61,7 +60,7 @@ pub(crate) fn harts<'a>(alloc: Global) -> Arg<'a>
         .value_parser(value_parser!(u16).range(1..=i64::from(MOST_HARTS)))
         .default_value("1")
         .action(ArgAction::Set)
-        .help("How many harts the capture may have messages of, 1 to 64")
+        .help("How many harts a capture of version 1 may have, 1 to 1024")
 }
 
 pub(crate) fn hex<'a>(alloc: Global) -> Arg<'a>
@@ -113,4 +112,13 @@ pub(crate) fn schedule<'a>(alloc: Global) -> Arg<'a>
         .required(true)
         .action(ArgAction::Set)
         .help("File of the turns: hart numbers, and `c` for taking a message")
+}
+
+pub(crate) fn version_one<'a>(alloc: Global) -> Arg<'a>
+    ensures { IsReadBy version_one_rule result }
+{
+    Arg::new(alloc, "v1")
+        .long("v1")
+        .action(ArgAction::SetTrue)
+        .help("Write a capture of version 1, which has no header, of at most 64 logs")
 }

@@ -3,17 +3,18 @@
 ghost use Rattle.std.specs.Prelude.{◌≡◌, ◌⊎◌, IfErr, IfOk, [], codes, map, string_bytes, unwrap_or};
 ghost use Rattle.clap.specs.Words.{FailsBy, fault_of, first_value, found_of, kind_of, one_of, rows_of};
 ghost use Rattle.clap.specs.declared.error.kind.ErrorKind.TheVariants as kind;
-ghost use Rattle.cli.specs.Asking.{AreRefused, Asks, IsCapacity, IsFlag, IsHarts, IsMode, IsPeriod, WordsAsk, texts_of};
+ghost use Rattle.cli.specs.Asking.{AreRefused, Asks, IsCapacity, IsFlag, IsHarts, IsMode, IsPeriod, IsVersion, WordsAsk, texts_of};
 ghost use Rattle.cli.specs.Grammar.{IsSubcommand, program_app};
 ghost use Rattle.subcommands.specs.Limits.{IsWithinLimits};
 
 use crate::grammar::program;
 use clap::{ArgMatches, Error};
+use message::{MOST_HARTS, Version};
 use payload::Mode;
 use std::alloc::{AllocError, Global};
 use subcommands::{
-    Asked, Bench, Check, Decode, Dump, Encode, LARGEST_CAPACITY, MOST_HARTS, Replay,
-    SHORTEST_PERIOD, SMALLEST_CAPACITY,
+    Asked, Bench, Check, Decode, Dump, Encode, LARGEST_CAPACITY, Replay, SHORTEST_PERIOD,
+    SMALLEST_CAPACITY,
 };
 
 /// The period where the words give none.
@@ -81,6 +82,17 @@ fn mode<'a>(given: &ArgMatches<'a>) -> Mode
     }
 }
 
+// The version, which is the second where the words do not ask for the first.
+fn version<'a>(given: &ArgMatches<'a>) -> Version
+    ensures { IsVersion (one_of (codes "v1") (rows_of (found_of given.now))) result }
+{
+    if flag(given, "v1") {
+        Version::One
+    } else {
+        Version::Two
+    }
+}
+
 fn encode_asked<'a>(alloc: Global, given: &ArgMatches<'a>) -> Result<Asked<'a>, AllocError>
     ensures { IfOk result (Asks (codes "encode") (rows_of (found_of given.now))) }
 {
@@ -88,6 +100,7 @@ fn encode_asked<'a>(alloc: Global, given: &ArgMatches<'a>) -> Result<Asked<'a>, 
         base: text(given, "base"),
         period: period(given),
         mode: mode(given),
+        version: version(given),
         hex: flag(given, "hex"),
         image: text(given, "IMAGE"),
         logs: texts(alloc, given, "LOG")?,
@@ -102,7 +115,7 @@ fn dump_asked<'a>(given: &ArgMatches<'a>) -> Asked<'a>
     })
 }
 
-// The count of harts, 1 to 64 by the range that `clap` keeps.
+// The count of harts, 1 to 1024 by the range that `clap` keeps.
 fn harts<'a>(given: &ArgMatches<'a>) -> u16
     ensures { IsHarts (one_of (codes "harts") (rows_of (found_of given.now))) result }
 {
@@ -179,8 +192,9 @@ fn asked_of<'a>(alloc: Global, name: &str, given: &ArgMatches<'a>) -> Result<Ask
 ///
 /// `Ok` comes where `clap` finds no fault in the words by the program's grammar, and holds the texts of
 /// the subcommand's arguments as the words give them: a base is not yet a number, and no file was
-/// looked at. A period is a number from 1 to 65535, a count of harts one from 1 to 64, and a capacity one
-/// from 1 to 65536; the number is the one in the words, or 1024, 1 and 16 where they give none. An error
+/// looked at. A period is a number from 1 to 65535, a count of harts one from 1 to 1024, and a capacity one
+/// from 1 to 65536; the number is the one in the words, or 1024, 1 and 16 where they give none. A capture is
+/// of version 2 but for `--v1`. An error
 /// is `clap`'s own, calls for help among them: its `Display` is the text for the user, and its kind is
 /// `ErrorKind::OutOfMemory` where memory ran out.
 pub fn asked<'a>(alloc: Global, words: &'a [String]) -> Result<Asked<'a>, Error>

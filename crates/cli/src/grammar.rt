@@ -3,7 +3,9 @@
 ghost use Rattle.std.specs.Prelude.{IfOk};
 ghost use Rattle.cli.specs.Grammar.{HasGrammar, bench_app, check_app, decode_app, dump_app, encode_app, program_app, replay_app};
 
-use crate::arguments::{base, capacity, capture, full, harts, hex, image, logs, period, schedule};
+use crate::arguments::{
+    base, capacity, capture, full, harts, hex, image, logs, period, schedule, version_one,
+};
 use clap::Command;
 use std::alloc::{AllocError, Global};
 
@@ -26,6 +28,7 @@ fn encode<'a>(alloc: Global) -> Result<Command<'a>, AllocError>
         .arg(base(alloc))?
         .arg(period(alloc))?
         .arg(full(alloc))?
+        .arg(version_one(alloc))?
         .arg(hex(alloc))?
         .arg(image(alloc))?
         .arg(logs(alloc))?;

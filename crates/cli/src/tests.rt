@@ -25,27 +25,50 @@ fn reads_words(rt: HostRuntime) -> Result<(), Fail> {
     let cases = [
         (
             "tracebench encode --base 80000000 --hex image.bin log.csv",
-            "Encode(Encode { base: \"80000000\", period: 1024, mode: Differential, hex: true, \
+            "Encode(Encode { base: \"80000000\", period: 1024, mode: Differential, version: Two, hex: true, \
              image: \"image.bin\", logs: [\"log.csv\"] })",
         ),
         (
+            "tracebench encode --v1 --base 0 image.bin a.csv b.csv",
+            "Encode(Encode { base: \"0\", period: 1024, mode: Differential, version: One, hex: false, \
+             image: \"image.bin\", logs: [\"a.csv\", \"b.csv\"] })",
+        ),
+        (
+            "tracebench encode --base 0 --hex --full image.bin log.csv --v1",
+            "Encode(Encode { base: \"0\", period: 1024, mode: Full, version: One, hex: true, \
+             image: \"image.bin\", logs: [\"log.csv\"] })",
+        ),
+        (
+            "tracebench encode --v1 --base 0 --v1 image.bin log.csv",
+            "error: the argument '--v1' cannot be used multiple times\n\n\
+             Usage: tracebench encode [OPTIONS] --base <B> <IMAGE> <LOG>...\n\n\
+             For more information, try '--help'.\n",
+        ),
+        (
+            "tracebench replay --base 0 --v1 image.bin turns.txt log.csv",
+            "error: unexpected argument '--v1' found\n\n  \
+             tip: to pass '--v1' as a value, use '-- --v1'\n\n\
+             Usage: tracebench replay --base <B> <IMAGE> <SCHEDULE> <LOG>...\n\n\
+             For more information, try '--help'.\n",
+        ),
+        (
             "tracebench encode image.bin --base=-1 --period 65535 a.csv b.csv",
-            "Encode(Encode { base: \"-1\", period: 65535, mode: Differential, hex: false, \
+            "Encode(Encode { base: \"-1\", period: 65535, mode: Differential, version: Two, hex: false, \
              image: \"image.bin\", logs: [\"a.csv\", \"b.csv\"] })",
         ),
         (
             "tracebench encode --base 0 --period 1 image.bin log.csv",
-            "Encode(Encode { base: \"0\", period: 1, mode: Differential, hex: false, image: \"image.bin\", \
-             logs: [\"log.csv\"] })",
+            "Encode(Encode { base: \"0\", period: 1, mode: Differential, version: Two, hex: false, \
+             image: \"image.bin\", logs: [\"log.csv\"] })",
         ),
         (
             "tracebench encode --base 0 --full image.bin log.csv",
-            "Encode(Encode { base: \"0\", period: 1024, mode: Full, hex: false, image: \"image.bin\", \
-             logs: [\"log.csv\"] })",
+            "Encode(Encode { base: \"0\", period: 1024, mode: Full, version: Two, hex: false, \
+             image: \"image.bin\", logs: [\"log.csv\"] })",
         ),
         (
             "tracebench encode --hex --full image.bin --base 0 log.csv",
-            "Encode(Encode { base: \"0\", period: 1024, mode: Full, hex: true, image: \"image.bin\", \
+            "Encode(Encode { base: \"0\", period: 1024, mode: Full, version: Two, hex: true, image: \"image.bin\", \
              logs: [\"log.csv\"] })",
         ),
         (
@@ -112,6 +135,7 @@ fn reads_words(rt: HostRuntime) -> Result<(), Fail> {
              --period <N>  Retirements from one periodic synchronisation to the next, 1 to 65535 \
              [default: 1024]\n      \
              --full        Name addresses in full, not by differences\n      \
+             --v1          Write a capture of version 1, which has no header, of at most 64 logs\n      \
              --hex         Write a line of hexadecimal for each message\n  \
              -h, --help        Print help\n",
         ),
@@ -147,17 +171,17 @@ fn reads_words(rt: HostRuntime) -> Result<(), Fail> {
             "Decode(Decode { base: \"0\", harts: 1, image: \"image.bin\", capture: \"run.capture\" })",
         ),
         (
-            "tracebench decode --base 0 --harts=64 image.bin run.capture",
-            "Decode(Decode { base: \"0\", harts: 64, image: \"image.bin\", capture: \"run.capture\" })",
+            "tracebench decode --base 0 --harts=1024 image.bin run.capture",
+            "Decode(Decode { base: \"0\", harts: 1024, image: \"image.bin\", capture: \"run.capture\" })",
         ),
         (
             "tracebench decode --base 0 --harts 0 image.bin run.capture",
-            "error: invalid value '0' for '--harts <N>': 0 is not in 1..=64\n\n\
+            "error: invalid value '0' for '--harts <N>': 0 is not in 1..=1024\n\n\
              For more information, try '--help'.\n",
         ),
         (
-            "tracebench decode --base 0 --harts 65 image.bin run.capture",
-            "error: invalid value '65' for '--harts <N>': 65 is not in 1..=64\n\n\
+            "tracebench decode --base 0 --harts 1025 image.bin run.capture",
+            "error: invalid value '1025' for '--harts <N>': 1025 is not in 1..=1024\n\n\
              For more information, try '--help'.\n",
         ),
         (
@@ -229,7 +253,7 @@ fn reads_words(rt: HostRuntime) -> Result<(), Fail> {
              <CAPTURE>  File of trace messages\n\n\
              Options:\n      \
              --base <B>   Address of the image's first byte, in hexadecimal\n      \
-             --harts <N>  How many harts the capture may have messages of, 1 to 64 [default: 1]\n  \
+             --harts <N>  How many harts a capture of version 1 may have, 1 to 1024 [default: 1]\n  \
              -h, --help       Print help\n",
         ),
     ];

@@ -11,29 +11,29 @@ use Rattle.commands.specs.declared.fault.Fault.TheVariants as fault
 use Rattle.commands.specs.declared.status.Status.{Status}
 use Rattle.commands.proofs.Runs.{ends_silently}
 
-module _ (content : Content) (text : List ℕ) (image : Path) (items paths : List Path) (CanWrite : Type 0) (out : Option (List ℕ))
+module _ (content : Content) (most : ℕ) (text : List ℕ) (image : Path) (items paths : List Path) (CanWrite : Type 0) (out : Option (List ℕ))
     (base : ℕ) (why : Fault) (ended : Result Status Fault) (based : IsBase text (Ok base)) (same : paths ≡ items)
     (is : ended ≡ Err why) where
   -- The base, the count of logs and the image are looked at in this order, and then it goes on.
   abbrev Steps : (ℕ → Image → Printed → Type 0) → Printed → Type 0
-  Steps Next = First (IsBase text) (λ base. First (AreFew items) (λ _. First (IsProgram content base image) (Next base)))
+  Steps Next = First (IsBase text) (λ base. First (AreFew most items) (λ _. First (IsProgram content base image) (Next base)))
 
   -- There are too many logs.
-  pub count_ends : (Next : ℕ → Image → Printed → Type 0) → AreFew paths (Err why)
+  pub count_ends : (Next : ℕ → Image → Printed → Type 0) → AreFew most paths (Err why)
       → PrintsUnlessDenied (Steps Next) CanWrite ended out out
   count_ends Next many =
       subst (λ r. PrintsUnlessDenied (Steps Next) CanWrite r out out) (sym is)
-      (ends_silently (Steps Next) CanWrite (AreFew items (Err why)) why out (inr (subst (λ logs. AreFew logs (Err why)) same many))
+      (ends_silently (Steps Next) CanWrite (AreFew most items (Err why)) why out (inr (subst (λ logs. AreFew most logs (Err why)) same many))
       (λ many. (Ok base, based, (Err why, many, refl))))
 
-  module _ (one : Unit {0}) (few : AreFew paths (Ok one)) where
+  module _ (one : Unit {0}) (few : AreFew most paths (Ok one)) where
     -- The image makes no program.
     pub program_ends : (Next : ℕ → Image → Printed → Type 0) → (why ≡ fault.Memory) ⊎ IsProgram content base image (Err why)
         → PrintsUnlessDenied (Steps Next) CanWrite ended out out
     program_ends Next none =
         subst (λ r. PrintsUnlessDenied (Steps Next) CanWrite r out out) (sym is)
         (ends_silently (Steps Next) CanWrite (IsProgram content base image (Err why)) why out none
-        (λ none. (Ok base, based, (Ok one, subst (λ logs. AreFew logs (Ok one)) same few, (Err why, none, refl)))))
+        (λ none. (Ok base, based, (Ok one, subst (λ logs. AreFew most logs (Ok one)) same few, (Err why, none, refl)))))
 
     -- A log is not legal.
     pub logs_end : (Next : List ProgramLog → Printed → Type 0) (program : Image) (told : Content) (those : List Path) → told ≡ content
@@ -48,20 +48,20 @@ module _ (content : Content) (text : List ℕ) (image : Path) (items paths : Lis
         (λ none. (
           Ok base,
           based,
-          (Ok one, subst (λ logs. AreFew logs (Ok one)) same few, (Ok program, found, (Err why, none, refl))),
+          (Ok one, subst (λ logs. AreFew most logs (Ok one)) same few, (Ok program, found, (Err why, none, refl))),
         )))
 
 -- The steps up to the legal logs are gone, and it goes on from these.
-pub logs_found : (content told : Content) (text : List ℕ) (image : Path) (items paths those : List Path) (base : ℕ)
+pub logs_found : (content told : Content) (most : ℕ) (text : List ℕ) (image : Path) (items paths those : List Path) (base : ℕ)
     (program : Image) (one : Unit {0}) (logs : List ProgramLog)
-    → IsBase text (Ok base) → paths ≡ items → AreFew paths (Ok one) → IsProgram content base image (Ok program)
+    → IsBase text (Ok base) → paths ≡ items → AreFew most paths (Ok one) → IsProgram content base image (Ok program)
     → told ≡ content → those ≡ items → AreLegalLogs told program those (Ok logs)
     → (Next : List ProgramLog → Printed → Type 0) (printed : Printed) → Next logs printed
-    → First (IsBase text) (λ base. First (AreFew items) (λ _. First (IsProgram content base image) (λ program.
+    → First (IsBase text) (λ base. First (AreFew most items) (λ _. First (IsProgram content base image) (λ program.
     First (AreLegalLogs content program items) Next))) printed
-logs_found content told text image items paths those base program one logs based same few found kept alike legal
+logs_found content told most text image items paths those base program one logs based same few found kept alike legal
     Next printed next =
     let there = subst (λ paths. AreLegalLogs content program paths (Ok logs)) alike
     (subst (λ told. AreLegalLogs told program those (Ok logs)) kept legal) in
-    let counted = subst (λ paths. AreFew paths (Ok one)) same few in
+    let counted = subst (λ paths. AreFew most paths (Ok one)) same few in
     (Ok base, based, (Ok one, counted, (Ok program, found, (Ok logs, there, next))))

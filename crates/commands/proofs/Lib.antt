@@ -1,6 +1,7 @@
 mod Beginnings
 mod DecodedRuns
 mod ErrorLines
+mod Headers
 mod FirstSteps
 mod FromFiles
 mod Gots

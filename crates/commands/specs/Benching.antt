@@ -1,6 +1,7 @@
 -- What `bench` prints, and how it ends.
 use Rattle.std.specs.Prelude.{◌≡◌, List, Option, Ok, length, map}
 use Rattle.std.specs.declared.alloc.Global.{Global}
+use Rattle.funnel.specs.Limits.{most_ports}
 use Rattle.legalpath.specs.ProgramLog.{ProgramLog}
 use Rattle.bench.specs.Beginnings.{AreBeginnings}
 use Rattle.bench.specs.Got.{got_of}
@@ -30,8 +31,8 @@ pub record WritesOutcome (config : Config) (logs : List ProgramLog) (printed : P
 abbrev pub Benches : Content → Bench → Printed → Type 0
 Benches content asked =
     First (IsBase asked.base.now) (λ base.
-    First (AreFew asked.logs.items) (λ _.
+    First (AreFew most_ports asked.logs.items) (λ _.
     First (IsProgram content base asked.image) (λ program.
     First (AreLegalLogs content program asked.logs.items) (λ logs.
-    First (IsSetting (length asked.logs.items) (config_at asked.period asked.mode asked.capacity)) (λ _.
+    First (IsSetting most_ports (length asked.logs.items) (config_at asked.period asked.mode asked.capacity)) (λ _.
     WritesOutcome (config_at asked.period asked.mode asked.capacity) logs)))))

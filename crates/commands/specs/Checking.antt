@@ -6,6 +6,8 @@ use Rattle.legalpath.specs.FaultText.{path_fault_text}
 use Rattle.legalpath.specs.FirstFault.{IsFirstFault}
 use Rattle.legalpath.specs.Legal.{Legal}
 use Rattle.legalpath.specs.declared.fault.PathFault.{PathFault}
+use Rattle.message.specs.Version.{most_harts}
+use Rattle.message.specs.declared.header.Version.TheVariants.{Two}
 use Rattle.retire.specs.declared.event.Event.{Event}
 use Rattle.rvclass.specs.Fetch.{words_of}
 use Rattle.rvclass.specs.Image.{Image}
@@ -85,6 +87,6 @@ WritesLines content program paths printed = EndsLines content program paths prin
 abbrev pub Checks : Content → Check → Printed → Type 0
 Checks content asked =
     First (IsBase asked.base.now) (λ base.
-    First (AreFew asked.logs.items) (λ _.
+    First (AreFew (most_harts Two) asked.logs.items) (λ _.
     First (IsProgram content base asked.image) (λ program.
     WritesLines content program asked.logs.items)))

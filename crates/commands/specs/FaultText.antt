@@ -4,6 +4,8 @@ use Rattle.std.specs.Fmt.{decimal}
 use Rattle.bench.specs.SetupText.{setup_text}
 use Rattle.captures.specs.FaultText.{capture_fault_text}
 use Rattle.legalpath.specs.FaultText.{path_fault_text}
+use Rattle.message.specs.FaultText.{message_fault_text}
+use Rattle.message.specs.declared.fault.MessageFault.TheVariants.{BadHeader}
 use Rattle.retire.specs.FaultText.{log_fault_text}
 use Rattle.rvclass.specs.FaultText.{program_fault_text}
 use Rattle.schedule.specs.FaultText.{schedule_fault_text}
@@ -21,13 +23,15 @@ place_text _ = []
 abbrev pub reason_text : Fault → List ℕ
 reason_text fault.Words = codes "words cannot be read"
 reason_text fault.Base = codes "base is not a number"
-reason_text fault.ManyLogs = codes "more than 64 logs"
+reason_text fault.NoLogs = codes "no logs"
+reason_text (fault.ManyLogs most) = codes "more than " ++ (decimal most ++ codes " logs")
 reason_text (fault.Unreadable path) = codes "cannot be read"
 reason_text (fault.Image why) = program_fault_text why
 reason_text (fault.Log path why) = log_fault_text why
 reason_text (fault.Illegal path why) = path_fault_text why
 reason_text (fault.Schedule why) = codes "schedule: " ++ schedule_fault_text why
 reason_text (fault.Unsent why) = setup_text why
+reason_text fault.Header = message_fault_text BadHeader
 reason_text (fault.Message number why) = codes "message " ++ (decimal number ++ (codes ": " ++ capture_fault_text why))
 reason_text (fault.Unclosed hart) = codes "hart " ++ (decimal hart ++ codes ": no closing packet")
 reason_text fault.Output = codes "output cannot be written"

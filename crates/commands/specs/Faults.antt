@@ -6,6 +6,7 @@ use Rattle.bench.specs.declared.setup.Setup.TheVariants as setup
 use Rattle.captures.specs.declared.outcome.CaptureFault.{CaptureFault}
 use Rattle.captures.specs.declared.outcome.CaptureFault.TheVariants as capture
 use Rattle.decoder.specs.declared.fault.DecodeFault.TheVariants as decode
+use Rattle.message.specs.declared.fault.MessageFault.TheVariants.{BadHeader}
 use Rattle.retire.specs.declared.fault.LogFault.{LogFault}
 use Rattle.retire.specs.declared.fault.LogFault.TheVariants as log
 use Rattle.retire.specs.declared.fault.WriteFault.{WriteFault}
@@ -49,16 +50,19 @@ abbrev pub write_fault : WriteFault → Fault
 write_fault write.Write = fault.Output
 write_fault write.Memory = fault.Memory
 
--- What is told of a message at which decoding stopped.
+-- What is told of a message at which reading a capture stopped. A bad header is no message's.
 abbrev pub capture_fault : ℕ → CaptureFault → Fault
+capture_fault number (capture.Message BadHeader) = fault.Header
 capture_fault number (capture.Decode decode.Memory) = fault.Memory
 capture_fault number why = fault.Message number why
 
--- Files, the output and memory are the machine's, messages are the capture's, and every other fault is one of the input.
+-- Files, the output and memory are the machine's, the header and messages are the capture's, and every other fault is one
+-- of the input.
 abbrev pub status_of : Fault → Status
 status_of (fault.Unreadable path) = Machine
 status_of fault.Output = Machine
 status_of fault.Memory = Machine
+status_of fault.Header = NotWhole
 status_of (fault.Message number why) = NotWhole
 status_of (fault.Unclosed hart) = NotWhole
 status_of _ = Refused

@@ -1,5 +1,5 @@
 -- What is found of a base, of files, an image and logs.
-use Rattle.std.specs.Prelude.{◌≡◌, ℕ, ◌∷◌, ◌++◌, List, Option, Some, None, Result, Ok, Err, if◌then◌else◌, length, nat_lt}
+use Rattle.std.specs.Prelude.{◌≡◌, ◌==◌, ℕ, ◌∷◌, ◌++◌, List, Option, Some, None, Result, Ok, Err, if◌then◌else◌, length, nat_lt}
 use Rattle.std.specs.List.{AllZip}
 use Rattle.std.specs.Result.{result_map_both}
 use Rattle.legalpath.specs.FirstFault.{IsFirstFault}
@@ -12,7 +12,6 @@ use Rattle.retire.specs.declared.event.Event.{Event}
 use Rattle.rvclass.specs.Fetch.{words_of}
 use Rattle.rvclass.specs.Image.{Image}
 use Rattle.rvclass.specs.Program.{program_of}
-use Rattle.subcommands.specs.Limits.{most_harts}
 use Rattle.commands.specs.Faults.{Path, log_fault}
 use Rattle.commands.specs.Known.{Content, MayHold, MayLack}
 use Rattle.commands.specs.declared.fault.Fault.{Fault}
@@ -27,9 +26,14 @@ base_at (Some base) = Ok base
 abbrev pub IsBase : List ℕ → Result ℕ Fault → Type 0
 IsBase text found = found ≡ base_at (number_of text)
 
--- There are no more logs than there may be harts.
-abbrev pub AreFew : List Path → Result (Unit {0}) Fault → Type 0
-AreFew logs found = found ≡ (if nat_lt most_harts (length logs) then Err fault.ManyLogs else Ok tt)
+-- There is a log, and there are no more than so many, or that is told.
+abbrev pub count_at : ℕ → ℕ → Result (Unit {0}) Fault
+count_at most count =
+    if count == 0 then Err fault.NoLogs else if nat_lt most count then Err (fault.ManyLogs most) else Ok tt
+
+-- It is found whether there are logs, and no more than so many.
+abbrev pub AreFew : ℕ → List Path → Result (Unit {0}) Fault → Type 0
+AreFew most logs found = found ≡ count_at most (length logs)
 
 -- The bytes of the file at a path are found, or that it cannot be read.
 abbrev pub IsRead : Content → Path → Result (List ℕ) Fault → Type 0

@@ -1,7 +1,10 @@
 -- What a run has found once it writes.
 use Rattle.std.specs.Prelude.{ℕ, List, Ok, length}
+use Rattle.funnel.specs.Limits.{most_ports}
 use Rattle.funnel.specs.declared.turn.Turn.{Turn}
 use Rattle.legalpath.specs.ProgramLog.{ProgramLog}
+use Rattle.message.specs.Version.{most_harts}
+use Rattle.message.specs.declared.header.Version.TheVariants.{Two}
 use Rattle.rvclass.specs.Image.{Image}
 use Rattle.subcommands.specs.declared.words.Bench.{Bench}
 use Rattle.subcommands.specs.declared.words.Check.{Check}
@@ -22,13 +25,13 @@ pub record HasProgram (content : Content) (text : List ℕ) (image : Path) : Typ
   pub based : IsBase text (Ok base)
   pub found : IsProgram content base image (Ok program)
 
--- There are few enough logs, and each is legal for the program that the image makes at the base.
-pub record HasLogs (content : Content) (text : List ℕ) (image : Path) (paths : List Path) : Type 0 where
+-- There are logs, no more than so many, and each is legal for the program that the image makes at the base.
+pub record HasLogs (content : Content) (most : ℕ) (text : List ℕ) (image : Path) (paths : List Path) : Type 0 where
   pub base : ℕ
   pub program : Image
   pub logs : List ProgramLog
   pub based : IsBase text (Ok base)
-  pub few : AreFew paths (Ok tt)
+  pub few : AreFew most paths (Ok tt)
   pub found : IsProgram content base image (Ok program)
   pub legal : AreLegalLogs content program paths (Ok logs)
 
@@ -44,11 +47,11 @@ pub record HasTurns (content : Content) (harts : ℕ) (path : Path) : Type 0 whe
 
 -- `check` writes once it has the program.
 abbrev pub CanCheck : Content → Check → Type 0
-CanCheck content asked = AreFew asked.logs.items (Ok tt) × HasProgram content asked.base.now asked.image
+CanCheck content asked = AreFew (most_harts Two) asked.logs.items (Ok tt) × HasProgram content asked.base.now asked.image
 
 -- `encode` writes once it has the legal logs.
 abbrev pub CanEncode : Content → Encode → Type 0
-CanEncode content asked = HasLogs content asked.base.now asked.image asked.logs.items
+CanEncode content asked = HasLogs content (most_harts asked.version) asked.base.now asked.image asked.logs.items
 
 -- `dump` writes once it has the capture.
 abbrev pub CanDump : Content → Dump → Type 0
@@ -61,12 +64,12 @@ CanDecode content asked = HasProgram content asked.base.now asked.image × HasFi
 -- `replay` writes once it has the legal logs and the turns, and nothing stands against sending.
 abbrev pub CanReplay : Content → Replay → Type 0
 CanReplay content asked =
-    HasLogs content asked.base.now asked.image asked.logs.items
+    HasLogs content (most_harts Two) asked.base.now asked.image asked.logs.items
     × HasTurns content (length asked.logs.items) asked.schedule
-    × IsSetting (length asked.logs.items) (config_at asked.period asked.mode asked.capacity) (Ok tt)
+    × IsSetting (most_harts Two) (length asked.logs.items) (config_at asked.period asked.mode asked.capacity) (Ok tt)
 
 -- `bench` writes once it has the legal logs, and nothing stands against sending.
 abbrev pub CanBench : Content → Bench → Type 0
 CanBench content asked =
-    HasLogs content asked.base.now asked.image asked.logs.items
-    × IsSetting (length asked.logs.items) (config_at asked.period asked.mode asked.capacity) (Ok tt)
+    HasLogs content most_ports asked.base.now asked.image asked.logs.items
+    × IsSetting most_ports (length asked.logs.items) (config_at asked.period asked.mode asked.capacity) (Ok tt)

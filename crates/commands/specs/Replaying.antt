@@ -4,6 +4,8 @@ use Rattle.std.specs.Result.{result_map_both}
 use Rattle.legalpath.specs.ProgramLog.{ProgramLog}
 use Rattle.payload.specs.declared.mode.Mode.{Mode}
 use Rattle.message.specs.OfHart.{of_hart}
+use Rattle.message.specs.Version.{most_harts}
+use Rattle.message.specs.declared.header.Version.TheVariants.{Two}
 use Rattle.message.specs.declared.message.Message.{Message}
 use Rattle.funnel.specs.declared.turn.Turn.{Turn}
 use Rattle.schedule.specs.Schedule.{schedule_of}
@@ -73,9 +75,9 @@ pub record WritesReport (asked : Replay) (logs : List ProgramLog) (turns : List 
 abbrev pub Replays : Content → Replay → Printed → Type 0
 Replays content asked =
     First (IsBase asked.base.now) (λ base.
-    First (AreFew asked.logs.items) (λ _.
+    First (AreFew (most_harts Two) asked.logs.items) (λ _.
     First (IsProgram content base asked.image) (λ program.
     First (AreLegalLogs content program asked.logs.items) (λ logs.
     First (IsSchedule content (length asked.logs.items) asked.schedule) (λ turns.
-    First (IsSetting (length asked.logs.items) (config_at asked.period asked.mode asked.capacity)) (λ _.
+    First (IsSetting (most_harts Two) (length asked.logs.items) (config_at asked.period asked.mode asked.capacity)) (λ _.
     WritesReport asked logs turns))))))

@@ -19,9 +19,10 @@ abbrev pub setting_at : Option Setup → Result (Unit {0}) Fault
 setting_at None = Ok tt
 setting_at (Some why) = Err (unsent_fault why)
 
--- It is found whether anything stands against sending the logs of so many harts in this way.
-abbrev pub IsSetting : ℕ → Config → Result (Unit {0}) Fault → Type 0
-IsSetting harts config found = found ≡ setting_at (setup_fault harts config)
+-- It is found whether anything stands against sending the logs of so many harts in this way, where there may be so many
+-- at most.
+abbrev pub IsSetting : ℕ → ℕ → Config → Result (Unit {0}) Fault → Type 0
+IsSetting most harts config found = found ≡ setting_at (setup_fault most harts config)
 
 -- All logs came back whole, or not, or there was a stop.
 abbrev pub end_of_report : Option Stop → Bool → Status

@@ -2,6 +2,7 @@
 
 ghost use Rattle.std.specs.Prelude.{◌≡◌, ◌⊎◌, IfErr, IfOk, IfSome, Ok, Err, length};
 ghost use Rattle.retire.specs.Number.{number_of};
+ghost use Rattle.funnel.specs.Limits.{most_ports};
 ghost use Rattle.bench.specs.Beginnings.{AreBeginnings};
 ghost use Rattle.bench.specs.Stopping.{NamesOpen};
 ghost use Rattle.commands.specs.Begun.{IsCutOf};
@@ -18,6 +19,7 @@ use crate::inputs::{base_of, counted, legal_logs_of, program_of};
 use crate::reporting::{status_of, write_report};
 use crate::status::Status;
 use bench::{Config, Open, Outcome, run};
+use funnel::MOST_PORTS;
 use legalpath::LegalLog;
 use std::alloc::Global;
 use std::io::Write;
@@ -35,7 +37,7 @@ pub fn bench<'a, F: Files, O: Write, R: Threads + Wait + Sync>(
     asked: &Bench<'a>,
     out: &mut O,
 ) -> Result<Status, Fault<'a>>
-    ensures early { IfSome (logs_fault (number_of asked.now.base.now) (length asked.now.logs.items))
+    ensures early { IfSome (logs_fault most_ports (number_of asked.now.base.now) (length asked.now.logs.items))
         (λ fault. result ≡ Err fault) }
     ensures refused { end_of result ≡ Status.Refused → out.new ≡ out.old }
     ensures untouched { result ≡ Err Fault.Memory → out.new ≡ out.old }
@@ -44,7 +46,7 @@ pub fn bench<'a, F: Files, O: Write, R: Threads + Wait + Sync>(
     ensures cut { IsCutOf (Benches (F.content files.old) asked.now) (O.contents out.old) (O.contents out.new) }
 {
     let base = base_of(asked.base)?;
-    counted(asked.logs.as_slice())?;
+    counted(asked.logs.as_slice(), MOST_PORTS)?;
     let program = program_of(files, base, asked.image)?;
     let legal = legal_logs_of(alloc, files, &program, asked.logs.as_slice())?;
     let outcome = outcome_of(alloc, rt, legal.as_slice(), asked)?;
@@ -61,13 +63,13 @@ fn outcome_of<'a, R: Threads + Wait + Sync>(
     asked: &Bench<'a>,
 ) -> Result<Outcome, Fault<'a>>
     ensures setting { IfOk result (λ _.
-        IsSetting (length logs.now) (config_at asked.now.period asked.now.mode asked.now.capacity) (Ok tt)) }
+        IsSetting most_ports (length logs.now) (config_at asked.now.period asked.now.mode asked.now.capacity) (Ok tt)) }
     ensures count { IfOk result (λ outcome. length logs.now ≡ length outcome.harts.items) }
     ensures came { IfOk result (λ outcome.
         AreBeginnings (config_at asked.now.period asked.now.mode asked.now.capacity) logs.now outcome.harts.items) }
     ensures names { IfOk result (λ outcome. NamesOpen outcome.stop outcome.harts.items) }
     ensures fault { IfErr result (λ why. (why ≡ Fault.Memory)
-        ⊎ IsSetting (length logs.now) (config_at asked.now.period asked.now.mode asked.now.capacity) (Err why)) }
+        ⊎ IsSetting most_ports (length logs.now) (config_at asked.now.period asked.now.mode asked.now.capacity) (Err why)) }
 {
     let config = Config {
         period: asked.period,

@@ -2,6 +2,8 @@
 
 ghost use Rattle.std.specs.Prelude.{⊤, ◌≡◌, ◌⊎◌, ◌≤◌, ◌^◌, Err, IfErr, IfSome, OnOk, length};
 ghost use Rattle.std.specs.Io.KnownBytes.{Appends, Keeps};
+ghost use Rattle.message.specs.Version.{most_harts};
+ghost use Rattle.message.specs.declared.header.Version.TheVariants.{Two};
 ghost use Rattle.output.specs.Begun.{AppendsBeginning};
 ghost use Rattle.commands.specs.Begun.{AppendsFirstLines, BeginsLines, BeginsPrinted, ChecksFirst, IsCutOf, WritesFirstLines};
 ghost use Rattle.commands.specs.Checking.{Checks, IsVerdict, WritesLines, verdict_line};
@@ -16,6 +18,7 @@ use crate::files::Files;
 use crate::inputs::{base_of, counted, log_of, program_of};
 use crate::status::Status;
 use legalpath::PathFault;
+use message::MOST_HARTS;
 use output::{write_bytes, write_text};
 use retire::Event;
 use rvclass::Program;
@@ -31,7 +34,7 @@ pub fn check<'a, F: Files, O: Write>(
     asked: &Check<'a>,
     out: &mut O,
 ) -> Result<Status, Fault<'a>>
-    ensures early { IfSome (logs_fault (number_of asked.now.base.now) (length asked.now.logs.items))
+    ensures early { IfSome (logs_fault (most_harts Two) (number_of asked.now.base.now) (length asked.now.logs.items))
         (λ fault. result ≡ Err fault) }
     ensures printed { PrintsUnlessDenied (Checks (F.content files.old) asked.now) (CanCheck (F.content files.old) asked.now) result
         (O.contents out.old) (O.contents out.new) }
@@ -40,7 +43,7 @@ pub fn check<'a, F: Files, O: Write>(
     ensures cut { IsCutOf (ChecksFirst (F.content files.old) asked.now) (O.contents out.old) (O.contents out.new) }
 {
     let base = base_of(asked.base)?;
-    counted(asked.logs.as_slice())?;
+    counted(asked.logs.as_slice(), MOST_HARTS)?;
     let program = program_of(files, base, asked.image)?;
     let ended = judge_all(alloc, files, &program, asked.logs.as_slice(), out);
     out.flush().map_err(|_| Fault::Output)?;

@@ -15,8 +15,8 @@ use captures::{CaptureFault, Dumped, dump_capture};
 use std::io::Write;
 use subcommands::Dump;
 
-/// Writes a line for each message of a capture, up to the first place where no message stands, and
-/// answers whether all messages have packets.
+/// Writes the line of a capture's header, where it has one, and a line for each message, up to the first place where
+/// none stands, and answers whether all messages have packets.
 pub fn dump<'a, F: Files, O: Write>(
     files: &mut F,
     asked: &Dump<'a>,
@@ -34,13 +34,13 @@ pub fn dump<'a, F: Files, O: Write>(
     ended(&dumped)
 }
 
-/// How a dump ended: at the place where no message stands, or else by whether a payload is bad.
+/// How a dump ended: at the place where no message, or no header, stands, or else by whether a payload is bad.
 fn ended<'a>(dumped: &Dumped) -> Result<Status, Fault<'a>>
     ensures value { result ≡ end_of_dump dumped.now.bad dumped.now.fault }
     ensures never_refused { end_of result ≢ Status.Refused }
 {
     match dumped.fault {
-        Some((number, why)) => Err(Fault::Message(number, CaptureFault::Message(why))),
+        Some((number, why)) => Err(Fault::of_capture(number, CaptureFault::Message(why))),
         None if dumped.bad => Ok(Status::NotWhole),
         None => Ok(Status::Whole),
     }

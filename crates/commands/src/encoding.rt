@@ -1,8 +1,8 @@
 //! The subcommand `encode`.
 
-ghost use Rattle.std.specs.Prelude.{◌≡◌, ◌≤◌, ◌^◌, Err, IfErr, IfSome, OnOk, length};
+ghost use Rattle.std.specs.Prelude.{◌≡◌, ◌≤◌, Err, IfErr, IfSome, OnOk, length};
 ghost use Rattle.std.specs.Io.KnownBytes.{Appends};
-ghost use Rattle.captures.specs.Messages.{messages_of_harts};
+ghost use Rattle.message.specs.Version.{most_harts};
 ghost use Rattle.output.specs.Begun.{AppendsBeginning};
 ghost use Rattle.commands.specs.Begun.{IsCutOf};
 ghost use Rattle.commands.specs.Encoding.{Encodes, written};
@@ -22,7 +22,8 @@ use std::alloc::Global;
 use std::io::Write;
 use subcommands::Encode;
 
-/// Writes the messages of each hart's log, once all logs are found legal.
+/// Writes the messages of each hart's log, once all logs are found legal: as a capture of the version that is asked for,
+/// which limits the count of logs, or as lines.
 pub fn encode<'a, F: Files, O: Write>(
     alloc: Global,
     files: &mut F,
@@ -30,7 +31,7 @@ pub fn encode<'a, F: Files, O: Write>(
     out: &mut O,
 ) -> Result<Status, Fault<'a>>
     requires { 1 ≤ asked.now.period }
-    ensures early { IfSome (logs_fault (number_of asked.now.base.now) (length asked.now.logs.items))
+    ensures early { IfSome (logs_fault (most_harts asked.now.version) (number_of asked.now.base.now) (length asked.now.logs.items))
         (λ fault. result ≡ Err fault) }
     ensures refused { end_of result ≡ Status.Refused → out.new ≡ out.old }
     ensures untouched { result ≡ Err Fault.Memory → out.new ≡ out.old }
@@ -39,7 +40,7 @@ pub fn encode<'a, F: Files, O: Write>(
     ensures cut { IsCutOf (Encodes (F.content files.old) asked.now) (O.contents out.old) (O.contents out.new) }
 {
     let base = base_of(asked.base)?;
-    counted(asked.logs.as_slice())?;
+    counted(asked.logs.as_slice(), asked.version.most_harts())?;
     let program = program_of(files, base, asked.image)?;
     let legal = legal_logs_of(alloc, files, &program, asked.logs.as_slice())?;
     write_messages(asked, legal.as_slice(), out)?;
@@ -48,22 +49,25 @@ pub fn encode<'a, F: Files, O: Write>(
 }
 
 /// Writes the messages of legal logs.
+#[tactic(auto, using(crate::proofs::Headers::may_start))]
 fn write_messages<'a, O: Write>(
     asked: &Encode<'a>,
     logs: &[LegalLog<'_>],
     out: &mut O,
 ) -> Result<(), Fault<'a>>
     requires period { 1 ≤ asked.now.period }
-    requires few { length logs.now ≤ 64 }
+    requires some { 1 ≤ length logs.now }
+    requires few { length logs.now ≤ most_harts asked.now.version }
     ensures fault { IfErr result (λ fault. fault ≡ Fault.Output) }
     ensures text { OnOk result (Appends (O.contents out.old) (O.contents out.new)
-        (written asked.now.hex (messages_of_harts asked.now.period asked.now.mode 0 logs.now))) }
-    ensures begun { AppendsBeginning (written asked.now.hex (messages_of_harts asked.now.period asked.now.mode 0 logs.now))
-        (O.contents out.old) (O.contents out.new) }
+        (written asked.now logs.now)) }
+    ensures begun { AppendsBeginning (written asked.now logs.now) (O.contents out.old) (O.contents out.new) }
 {
     if asked.hex {
         encode_hex(logs, asked.period, asked.mode, out).map_err(|_| Fault::Output)
     } else {
-        encode_capture(logs, asked.period, asked.mode, out).map_err(|_| Fault::Output)
+        encode_capture(logs, asked.period, asked.mode, asked.version, out).map_err(
+            |_| Fault::Output,
+        )
     }
 }

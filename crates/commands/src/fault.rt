@@ -13,6 +13,7 @@ use bench::Setup;
 use captures::CaptureFault;
 use decoder::DecodeFault;
 use legalpath::PathFault;
+use message::MessageFault;
 use retire::{LogFault, WriteFault};
 use rvclass::ProgramFault;
 use schedule::ScheduleFault;
@@ -27,8 +28,10 @@ pub enum Fault<'a> {
     Words,
     /// The base is not spelt as a number of a log.
     Base,
-    /// More logs are given than there may be harts.
-    ManyLogs,
+    /// No log is given. Words come to no such fault.
+    NoLogs,
+    /// More logs are given than this, which is how many harts there may be.
+    ManyLogs(u16),
     /// The file at this path was not read.
     Unreadable(&'a str),
     /// The image makes no program at the base.
@@ -39,8 +42,10 @@ pub enum Fault<'a> {
     Illegal(&'a str, PathFault),
     /// The schedule is none.
     Schedule(ScheduleFault),
-    /// Nothing is sent through the funnel. Words within their limits, with one log at least, come to no such fault.
+    /// Nothing is sent through the funnel. Words within their limits come to no such fault.
     Unsent(Setup),
+    /// The capture begins as one of version 2 does, with a header that is not valid.
+    Header,
     /// The message of the capture with this number, counted from 0 over all harts, is refused.
     Message(u64, CaptureFault),
     /// The capture ends before the closing packet of this hart.
@@ -73,12 +78,13 @@ impl<'a> Fault<'a> {
         }
     }
 
-    /// Why decoding stops at this message of a capture.
+    /// Why reading a capture stops at this message.
     pub(crate) fn of_capture(number: u64, why: CaptureFault) -> Fault<'a>
         ensures value { result ≡ capture_fault number why }
         ensures never_refused { status_of result ≢ Status.Refused }
     {
         match why {
+            CaptureFault::Message(MessageFault::BadHeader) => Fault::Header,
             CaptureFault::Decode(DecodeFault::Memory) => Fault::Memory,
             _ => Fault::Message(number, why),
         }
@@ -130,13 +136,14 @@ impl<'a> Fault<'a> {
         match self {
             Fault::Words
             | Fault::Base
-            | Fault::ManyLogs
+            | Fault::NoLogs
+            | Fault::ManyLogs(_)
             | Fault::Image(_)
             | Fault::Log(..)
             | Fault::Illegal(..)
             | Fault::Schedule(_)
             | Fault::Unsent(_) => Status::Refused,
-            Fault::Message(..) | Fault::Unclosed(_) => Status::NotWhole,
+            Fault::Header | Fault::Message(..) | Fault::Unclosed(_) => Status::NotWhole,
             Fault::Unreadable(_) | Fault::Output | Fault::Memory => Status::Machine,
         }
     }
@@ -158,13 +165,15 @@ impl fmt::Display for Reason<'_, '_> {
         match self.of {
             Fault::Words => f.write_str("words cannot be read"),
             Fault::Base => f.write_str("base is not a number"),
-            Fault::ManyLogs => f.write_str("more than 64 logs"),
+            Fault::NoLogs => f.write_str("no logs"),
+            Fault::ManyLogs(most) => write!(f, "more than {most} logs"),
             Fault::Unreadable(_) => f.write_str("cannot be read"),
             Fault::Image(why) => write!(f, "{why}"),
             Fault::Log(_, why) => write!(f, "{why}"),
             Fault::Illegal(_, why) => write!(f, "{why}"),
             Fault::Schedule(why) => write!(f, "schedule: {why}"),
             Fault::Unsent(why) => write!(f, "{why}"),
+            Fault::Header => write!(f, "{}", MessageFault::BadHeader),
             Fault::Message(number, why) => write!(f, "message {number}: {why}"),
             Fault::Unclosed(hart) => write!(f, "hart {hart}: no closing packet"),
             Fault::Output => f.write_str("output cannot be written"),

@@ -2,6 +2,7 @@
 
 ghost use Rattle.std.specs.Prelude.{◌≡◌, ◌⊎◌, ◌≤◌, ◌<◌, ◌^◌, IfErr, IfOk, Err, Ok, length, vec_len};
 ghost use Rattle.commands.specs.Faults.{status_of};
+ghost use Rattle.commands.specs.declared.fault.Fault.TheVariants as fault;
 ghost use Rattle.commands.specs.Found.{AreFew, AreLegalLogs, IsBase, IsLegalLogAt, IsLog, IsProgram, IsRead};
 ghost use Rattle.retire.specs.Number.{number_of};
 
@@ -12,16 +13,20 @@ use legalpath::LegalLog;
 use retire::{Event, number, read_log_from_slice};
 use rvclass::Program;
 use std::alloc::Global;
-use subcommands::MOST_HARTS;
 
-/// Whether there are no more logs than there may be harts.
-pub(crate) fn counted<'a>(logs: &[&'a str]) -> Result<(), Fault<'a>>
-    ensures found { AreFew logs.now result }
-    ensures few { IfOk result (λ _. length logs.now ≤ 64) }
-    ensures many { IfErr result (λ fault. (fault ≡ Fault.ManyLogs) × (64 < length logs.now)) }
+/// Whether there are logs, and no more than so many.
+pub(crate) fn counted<'a>(logs: &[&'a str], most: u16) -> Result<(), Fault<'a>>
+    ensures found { AreFew most logs.now result }
+    ensures some { IfOk result (λ _. 1 ≤ length logs.now) }
+    ensures few { IfOk result (λ _. length logs.now ≤ most) }
+    ensures fault { IfErr result (λ why. ((why ≡ Fault.NoLogs) × (length logs.now ≡ 0))
+        ⊎ ((why ≡ fault.ManyLogs most) × (1 ≤ length logs.now) × (most < length logs.now))) }
 {
-    if logs.len() > usize::from(MOST_HARTS) {
-        return Err(Fault::ManyLogs);
+    if logs.is_empty() {
+        return Err(Fault::NoLogs);
+    }
+    if logs.len() > usize::from(most) {
+        return Err(Fault::ManyLogs(most));
     }
     Ok(())
 }

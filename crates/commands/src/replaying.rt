@@ -2,6 +2,8 @@
 
 ghost use Rattle.std.specs.Prelude.{◌≡◌, ◌⊎◌, IfErr, IfOk, IfSome, Ok, Err, length, map};
 ghost use Rattle.retire.specs.Number.{number_of};
+ghost use Rattle.message.specs.Version.{most_harts};
+ghost use Rattle.message.specs.declared.header.Version.TheVariants.{Two};
 ghost use Rattle.bench.specs.Got.{got_of};
 ghost use Rattle.bench.specs.Replayed.{replayed};
 ghost use Rattle.commands.specs.Begun.{IsCutOf};
@@ -20,6 +22,7 @@ use crate::status::Status;
 use bench::{Config, Outcome};
 use funnel::Turn;
 use legalpath::LegalLog;
+use message::MOST_HARTS;
 use schedule::read_schedule;
 use std::alloc::Global;
 use std::io::Write;
@@ -34,7 +37,7 @@ pub fn replay<'a, F: Files, O: Write>(
     asked: &Replay<'a>,
     out: &mut O,
 ) -> Result<Status, Fault<'a>>
-    ensures early { IfSome (logs_fault (number_of asked.now.base.now) (length asked.now.logs.items))
+    ensures early { IfSome (logs_fault (most_harts Two) (number_of asked.now.base.now) (length asked.now.logs.items))
         (λ fault. result ≡ Err fault) }
     ensures refused { end_of result ≡ Status.Refused → out.new ≡ out.old }
     ensures untouched { result ≡ Err Fault.Memory → out.new ≡ out.old }
@@ -43,7 +46,7 @@ pub fn replay<'a, F: Files, O: Write>(
     ensures cut { IsCutOf (Replays (F.content files.old) asked.now) (O.contents out.old) (O.contents out.new) }
 {
     let base = base_of(asked.base)?;
-    counted(asked.logs.as_slice())?;
+    counted(asked.logs.as_slice(), MOST_HARTS)?;
     let program = program_of(files, base, asked.image)?;
     let legal = legal_logs_of(alloc, files, &program, asked.logs.as_slice())?;
     let turns = turns_of(alloc, files, asked.logs.len() as u16, asked.schedule)?;
@@ -78,13 +81,13 @@ fn outcome_of<'a>(
     turns: &[Turn],
 ) -> Result<Outcome, Fault<'a>>
     ensures setting { IfOk result (λ _.
-        IsSetting (length logs.now) (config_at asked.now.period asked.now.mode asked.now.capacity) (Ok tt)) }
+        IsSetting (most_harts Two) (length logs.now) (config_at asked.now.period asked.now.mode asked.now.capacity) (Ok tt)) }
     ensures count { IfOk result (λ outcome. length logs.now ≡ length outcome.harts.items) }
     ensures came { IfOk result (λ outcome. AreGot asked.now.period asked.now.mode logs.now
         (replayed asked.now.period asked.now.mode asked.now.capacity logs.now turns.now).taken outcome.stop
         (map got_of outcome.harts.items)) }
     ensures fault { IfErr result (λ why. (why ≡ Fault.Memory)
-        ⊎ IsSetting (length logs.now) (config_at asked.now.period asked.now.mode asked.now.capacity) (Err why)) }
+        ⊎ IsSetting (most_harts Two) (length logs.now) (config_at asked.now.period asked.now.mode asked.now.capacity) (Err why)) }
 {
     let config = Config {
         period: asked.period,

@@ -4,8 +4,10 @@ pub mod OnOneWord
 pub mod WalkFinding
 pub mod PassesByStep
 pub mod Retraces
+pub mod WritesAsFound
 pub mod WalkBound
 pub mod PassesFindWalks
+pub mod FoundAsTold
 pub mod UniqueLemmas
 pub mod ModeTold
 pub mod ExtendingLemmas
@@ -14,6 +16,8 @@ pub mod AfterWaiting
 pub mod NoTrapFits
 pub mod StretchEnds
 pub mod PlanFollows
+pub mod BothWritten
 pub mod NextPacket
 pub mod StandsForOneMore
 pub mod NotOpenedTold
+pub mod BeginsAnew

@@ -10,7 +10,7 @@ use Rattle.decoder.specs.steps.WalkSteps.{Move, Stop, Last, On, advance, follow,
 use Rattle.decoder.specs.steps.Walks.{event_of, Carries}
 use Rattle.decoder.specs.declared.stepping.Here.{Here}
 
-one_move : (words : Words) (n : ℕ) (e : Event) (taken : List Bool) (end : End) (mv : Move) →
+pub one_move : (words : Words) (n : ℕ) (e : Event) (taken : List Bool) (end : End) (mv : Move) →
     mv ≡ advance words e taken end → walk_within words (suc n) e taken end ≡ follow mv
     (λ f left. walk_within words n f left end)
 unfolding walk_within
@@ -29,7 +29,7 @@ plus_one i e f (Some w) = let more : i + suc (length w) ≡ i + 1 + length w = o
     ap (λ n. Some (n, last_or (Some f) w)) more
 
 -- How many steps are ahead after `done` of `limit`.
-one_less : (done limit : ℕ) → done < limit → limit - done ≡ suc (limit - (done + 1))
+pub one_less : (done limit : ℕ) → done < limit → limit - done ≡ suc (limit - (done + 1))
 one_less done limit h = omega arith
 
 module _ (words : Words) (end : End) (from : Event) (taken : List Bool) (limit done : ℕ) (here : Event)

@@ -7,5 +7,6 @@ pub mod Pieces
 pub mod Describes
 pub mod SettledPieces
 pub mod Stands
+pub mod Resuming
 pub mod FaultText
 pub mod steps

@@ -1,6 +1,7 @@
 -- In which order packets come.
 use Rattle.std.specs.Prelude.{◌≡◌, true, false, List, [], ◌∷◌, Option, Some, None}
 use Rattle.payload.specs.Closing.{is_closing_packet}
+use Rattle.payload.specs.declared.mode.Mode.{Mode}
 use Rattle.payload.specs.declared.packet.Packet.{Packet}
 use Rattle.payload.specs.declared.packet.Packet.TheVariants as packet
 use Rattle.payload.specs.declared.packet.Support.TheVariants as support
@@ -22,6 +23,10 @@ MayPrecede packet (Some next) = (is_closing_packet packet ≡ false) × MayFollo
 abbrev pub first : List Packet → Option Packet → Option Packet
 first [] next = next
 first (packet ∷ packets) next = Some packet
+
+-- The packet that opens a trace in this mode.
+abbrev pub opening : Mode → Packet
+opening mode = packet.Support (support.Open mode)
 
 -- The packet opens a trace.
 abbrev pub IsOpen : Packet → Type 0

@@ -4,6 +4,7 @@ pub mod Leads
 pub mod Walks
 pub mod WalkSteps
 pub mod Retracing
+pub mod WritingAsFound
 pub mod Stretches
 pub mod Reporting
 pub mod Planning

@@ -1,36 +1,43 @@
 //! The decoder.
 
-ghost use Rattle.std.specs.Prelude.{◌≡◌, ◌↔◌, ◌⊎◌, ◌+◌, ◌*◌, ◌/◌, ◌^◌, ◌≤◌, ◌<◌, List, [], ◌∷◌, ◌++◌, true, Some, Ok};
-ghost use Rattle.std.specs.Prelude.{Err, length, vec_len, vec_capacity, IfErr, OnOk, IsTrue};
+ghost use Rattle.std.specs.Prelude.{◌≡◌, ◌↔◌, ◌⊎◌, ◌+◌, ◌*◌, ◌/◌, ◌^◌, ◌≤◌, ◌<◌, List, [], ◌∷◌, ◌++◌, true, false};
+ghost use Rattle.std.specs.Prelude.{Some, Ok, Err, length, vec_len, vec_capacity, IfErr, OnOk, IsTrue, Option, None};
+ghost use Rattle.std.specs.Option.{unwrap_or};
 ghost use Rattle.retire.specs.declared.event.Event.{Event};
 ghost use Rattle.rvclass.specs.Fetch.{words_of};
 ghost use Rattle.rvclass.specs.Words.{Words, IsProgram};
+ghost use Rattle.payload.specs.Closing.{is_closing_packet};
 ghost use Rattle.payload.specs.Ended.{has_ended};
+ghost use Rattle.payload.specs.declared.mode.Mode.{Mode as AnyMode};
 ghost use Rattle.payload.specs.declared.packet.Packet.{Packet};
 ghost use Rattle.decoder.specs.Describes.{Describes};
-ghost use Rattle.decoder.specs.Order.{IsOpen};
-ghost use Rattle.decoder.specs.steps.Stretches.{stretch_count, Suits, SuitsNone};
+ghost use Rattle.decoder.specs.Order.{IsOpen, opening};
+ghost use Rattle.decoder.specs.Resuming.{IsSync, PassesOver, IsClosed, HasMode};
+ghost use Rattle.decoder.specs.steps.Stretches.{stretch_count, Suits, SuitsNone, AddsSoFar, AddsBoth};
 ghost use Rattle.decoder.specs.steps.Planning.{MayCome, FitsWaiting, Plans, PlansNone, admitted, decoder_after};
-ghost use Rattle.decoder.specs.steps.Planning.{mode_past, reported_past};
-ghost use Rattle.decoder.specs.Stands.{Stands, phase_after, waiting_after};
+ghost use Rattle.decoder.specs.steps.Planning.{passed_over};
+ghost use Rattle.decoder.specs.Stands.{Stands};
 ghost use Rattle.decoder.specs.declared.fault.DecodeFault.TheVariants.{NotOpened, AfterClose, Memory};
 
 use crate::fault::DecodeFault;
+use crate::remembering::{mode_past, phase_after, reported_past, told_past, waiting_after};
 use crate::settling::{Waiting, own, settle};
 use crate::stretch::Stretch;
-use crate::walking::program_kept;
-use payload::{Mode, Packet, Report, Support};
+use crate::walking::{Progress, program_kept};
+use payload::{Mode, Packet, Support};
 use retire::Event;
 use rvclass::Program;
 use std::alloc::Allocator;
 
 /// How far a trace has come.
 #[derive(Clone, Copy, Debug, PartialEq, Eq)]
-enum Phase {
+pub(crate) enum Phase {
     /// No packet came.
     Unopened,
     /// The trace was opened.
     Running,
+    /// Packets were lost: those that come are passed over until a synchronisation.
+    PassingOver,
     /// The trace was closed.
     Closed,
 }
@@ -40,61 +47,19 @@ enum Phase {
 /// An address packet with plain bits is not settled before the next packet, so the events of such a packet come with
 /// the one that follows it. The events of all other packets come at once. What address fields hold, the packet that
 /// opens the trace tells.
+///
+/// Where packets were lost, [`Decoder::resume`] lets the decoder go on with a stretch by itself: it passes over packets
+/// until a synchronisation comes, and from there on stands for the packets that a trace would have which began with it.
 #[derive(Clone, Copy, Debug)]
 pub struct Decoder {
     phase: Phase,
     waiting: Option<Waiting>,
     last: Option<Event>,
+    /// What address fields hold.
     mode: Mode,
+    /// What the packet told that opened the trace, where it came.
+    told: Option<Mode>,
     reported: u64,
-}
-
-/// The phase after a packet.
-fn phase_after(packet: &Packet) -> Phase
-    ensures { result ≡ phase_after (Some packet.now) }
-{
-    if packet.is_closing() {
-        Phase::Closed
-    } else {
-        Phase::Running
-    }
-}
-
-/// What waits after a packet.
-fn waiting_after(packet: &Packet) -> Option<Waiting>
-    ensures { result ≡ waiting_after (Some packet.now) }
-{
-    match packet {
-        Packet::Address {
-            outcomes,
-            delta,
-            report: Report::Plain,
-        } => Some(Waiting {
-            outcomes: *outcomes,
-            delta: *delta,
-        }),
-        _ => None,
-    }
-}
-
-/// The mode after a packet: the one that it tells, where it opens a trace, or else this one.
-fn mode_past(packet: &Packet, mode: Mode) -> Mode
-    ensures { result ≡ mode_past packet.now mode }
-{
-    match packet {
-        Packet::Support(Support::Open(told)) => *told,
-        _ => mode,
-    }
-}
-
-/// The last reported address after a packet, where this is the place of its last event.
-fn reported_past(packet: &Packet, reported: u64, at: u64) -> u64
-    ensures { result ≡ reported_past packet.now reported at }
-{
-    match packet {
-        Packet::Map(_) => reported,
-        _ => at,
-    }
 }
 
 /// Whether a packet opens a trace.
@@ -104,33 +69,68 @@ fn is_open(packet: &Packet) -> bool
     matches!(packet, Packet::Support(Support::Open(_)))
 }
 
+/// Whether a packet is a synchronisation.
+fn is_sync(packet: &Packet) -> bool
+    ensures { IsTrue result ↔ IsSync packet.now }
+{
+    matches!(packet, Packet::Sync { .. })
+}
+
 impl Decoder {
     /// A decoder before the first packet.
     pub fn new() -> Decoder
-        ensures { (words : Words) → Stands words [] [] result }
+        ensures stands { (words : Words) → Stands words [] [] result }
+        ensures untold { HasMode None result }
     {
         Decoder {
             phase: Phase::Unopened,
             waiting: None,
             last: None,
             mode: Mode::Differential,
+            told: None,
             reported: 0,
         }
     }
 
     /// Whether the packet that closes the trace came.
     pub fn is_closed(&self) -> bool
-        ensures { (words : Words) (packets : List Packet) (log : List Event) → Stands words packets log self.now
+        ensures ended { (words : Words) (packets : List Packet) (log : List Event) → Stands words packets log self.now
             → result ≡ has_ended packets }
+        ensures closed { IsTrue result ↔ IsClosed self.now }
     {
         self.phase == Phase::Closed
+    }
+
+    /// Goes on after packets that were lost: a packet that waits is dropped and the last event forgotten, and until the
+    /// next synchronisation each packet is Ok and adds nothing, but one that closes the trace closes it. The
+    /// synchronisation begins a stretch as if it came right after the packet that opens a trace. Hand in an empty list
+    /// for each stretch, since events that a list has already belong to none of its packets.
+    ///
+    /// The stretch is read in the mode that the packet told which opened the trace, or, where this packet did not come,
+    /// in the mode handed in. A decoder that is closed stays as it is. Takes no memory.
+    pub fn resume(&mut self, mode: Mode)
+        ensures passes_over { (told : Option AnyMode) → HasMode told self.old → ¬ IsClosed self.old
+            → PassesOver (unwrap_or told mode) self.new }
+        ensures mode_kept { (told : Option AnyMode) → HasMode told self.old → HasMode told self.new }
+        ensures stays_closed { IsClosed self.old → self.new ≡ self.old }
+    {
+        if self.phase != Phase::Closed {
+            *self = Decoder {
+                phase: Phase::PassingOver,
+                waiting: None,
+                last: None,
+                mode: self.told.unwrap_or(mode),
+                told: self.told,
+                reported: 0,
+            };
+        }
     }
 
     /// Takes the next packet, and adds to the log the events that are known by it. The program is the one of the
     /// packets before, and the log the one that they gave.
     ///
-    /// Room for all of them is reserved first, so that a fault leaves the decoder and the log as they were: the packet
-    /// may be fed again where memory was refused.
+    /// A fault leaves the decoder and the log as they were: the packet may be fed again where memory was refused. What was
+    /// written by then is cut off again, and the log grows only where it lacks the room.
     pub fn feed<A: Allocator>(
         &mut self,
         program: &Program,
@@ -157,13 +157,46 @@ impl Decoder {
             → (other : List Event) × Describes (words_of program.now) (packets ++ packet.now ∷ []) other
             × (vec_capacity log.old < length other) }
         ensures short { vec_len log.new ≤ vec_len log.old + 2 * (32 * (length program.now.bytes / 2)) + 2 }
+
+        // Of a decoder that is closed, and of the mode that the packet tells which opens the trace.
+        ensures after_close { (result ≡ Err AfterClose) ↔ IsClosed self.old }
+        ensures told { (mode : AnyMode) → packet.now ≡ opening mode
+            → Stands (words_of program.now) [] [] self.old → OnOk result (HasMode (Some mode) self.new) }
+        ensures mode_kept { (mode : Option AnyMode) → HasMode mode self.old → ¬ IsOpen packet.now
+            → HasMode mode self.new }
+
+        // Of a decoder that passes over packets. The events of the synchronisation come behind those that the list has.
+        ensures passed_over { (mode : AnyMode) → PassesOver mode self.old → ¬ IsSync packet.now
+            → is_closing_packet packet.now ≡ false
+            → (result ≡ Ok tt) × (self.new ≡ self.old) × (log.new.items ≡ log.old.items) }
+        ensures closes { (mode : AnyMode) → PassesOver mode self.old → is_closing_packet packet.now ≡ true
+            → (result ≡ Ok tt) × IsClosed self.new × (log.new.items ≡ log.old.items) }
+        ensures begins { (mode : AnyMode) → PassesOver mode self.old → IsSync packet.now
+            → (stretch : List Event) → log.new.items ≡ log.old.items ++ stretch
+            → OnOk result (Stands (words_of program.now) (opening mode ∷ packet.now ∷ []) stretch
+            self.new) }
+        ensures begins_none { (mode : AnyMode) → PassesOver mode self.old → IsSync packet.now
+            → IfErr result (λ fault. (fault ≡ Memory) ⊎ ((other : List Event)
+            → ¬ Describes (words_of program.now) (opening mode ∷ packet.now ∷ []) other)) }
+        ensures begins_memory { (mode : AnyMode) → PassesOver mode self.old → IsSync packet.now
+            → result ≡ Err Memory → (other : List Event)
+            × Describes (words_of program.now) (opening mode ∷ packet.now ∷ []) other
+            × (vec_capacity log.old < vec_len log.old + length other) }
+        ensures never_unopened { (mode : AnyMode) → PassesOver mode self.old → ¬ (result ≡ Err NotOpened) }
     {
+        if self.phase == Phase::PassingOver && !is_sync(packet) {
+            self.pass_over(packet);
+            return Ok(());
+        }
+        let count = log.len();
         let mut settled = Stretch::Nothing;
         let mut own = Stretch::Nothing;
-        if let Err(fault) = self.plan(program, packet, &mut settled, &mut own) {
+        if let Err(fault) = self.plan(program, packet, &mut settled, &mut own, log) {
+            log.truncate(count);
             return Err(fault);
         }
-        if log.reserve(settled.count() + own.count()).is_err() {
+        if log.reserve(settled.left() + own.left()).is_err() {
+            log.truncate(count);
             return Err(DecodeFault::Memory);
         }
         settled.write(program, log);
@@ -172,20 +205,35 @@ impl Decoder {
         Ok(())
     }
 
-    /// Finds what the next packet adds to a log: first the events of the packet that waited, then its own.
+    /// Passes over a packet that is no synchronisation: one that closes the trace closes it.
+    fn pass_over(&mut self, packet: &Packet)
+        ensures { self.new ≡ passed_over self.old packet.now }
+    {
+        if packet.is_closing() {
+            self.phase = Phase::Closed;
+        }
+    }
+
+    /// Finds what the next packet adds to a log: first the events of the packet that waited, then its own. Walks are
+    /// written as they are found, as far as there is room, and are not taken back at a fault.
     #[inline]
-    fn plan(
+    fn plan<A: Allocator>(
         &self,
         program: &Program,
         packet: &Packet,
         first: &mut Stretch,
         second: &mut Stretch,
+        log: &mut Vec<Event, A>,
     ) -> Result<(), DecodeFault>
         ensures found { OnOk result (Plans (words_of program.now) self.now packet.now first.new second.new) }
         ensures none { IfErr result (λ fault. PlansNone (words_of program.now) self.now packet.now fault) }
         ensures admitted { OnOk result (admitted self.now.phase packet.now ≡ Ok tt) }
         ensures short { OnOk result (stretch_count first.new + stretch_count second.new
             ≤ 2 * (32 * (length program.now.bytes / 2)) + 2) }
+        ensures written { OnOk result
+            (AddsBoth (words_of program.now) first.new second.new log.old.items log.new.items) }
+        ensures behind { (rest : List Event) × (log.new.items ≡ log.old.items ++ rest) }
+        ensures room { vec_capacity log.new ≡ vec_capacity log.old }
         ensures words { IsProgram (words_of program.now) }
         ensures small { length program.now.bytes ≤ 2 ^ 24 }
     {
@@ -193,7 +241,7 @@ impl Decoder {
         if let Err(fault) = self.admit(packet) {
             return Err(fault);
         }
-        if let Err(fault) = self.settled(program, packet, first) {
+        if let Err(fault) = self.settled(program, packet, first, log) {
             return Err(fault);
         }
         if !self.may_come(packet) {
@@ -201,7 +249,16 @@ impl Decoder {
         }
         let last = first.last(&self.last);
         let reported = first.place(self.reported);
-        own(program, self.mode, &last, reported, packet, second)
+        own(
+            program,
+            self.mode,
+            &last,
+            reported,
+            packet,
+            first.progress(),
+            second,
+            log,
+        )
     }
 
     /// Tests that the packet comes neither before the one that opens the trace nor after the one that closes it.
@@ -217,7 +274,7 @@ impl Decoder {
                     Err(DecodeFault::NotOpened)
                 }
             }
-            Phase::Running => Ok(()),
+            Phase::Running | Phase::PassingOver => Ok(()),
             Phase::Closed => Err(DecodeFault::AfterClose),
         }
     }
@@ -237,11 +294,12 @@ impl Decoder {
 
     /// The events of the packet that waits, if one does, before this packet.
     #[inline]
-    fn settled(
+    fn settled<A: Allocator>(
         &self,
         program: &Program,
         packet: &Packet,
         stretch: &mut Stretch,
+        log: &mut Vec<Event, A>,
     ) -> Result<(), DecodeFault>
         ensures found { OnOk result (Suits (words_of program.now) self.now.last
             (FitsWaiting (words_of program.now) self.now.mode self.now.last self.now.reported self.now.waiting
@@ -252,6 +310,10 @@ impl Decoder {
             packet.now)
             fault) }
         ensures short { OnOk result (stretch_count stretch.new ≤ 32 * (length program.now.bytes / 2)) }
+        ensures written { OnOk result (AddsSoFar (words_of program.now) Progress.Written stretch.new log.old.items
+            log.new.items) }
+        ensures behind { (rest : List Event) × (log.new.items ≡ log.old.items ++ rest) }
+        ensures room { vec_capacity log.new ≡ vec_capacity log.old }
     {
         match &self.waiting {
             Some(waiting) => {
@@ -263,6 +325,7 @@ impl Decoder {
                     addr,
                     packet,
                     stretch,
+                    log,
                 )
             }
             None => {
@@ -283,6 +346,7 @@ impl Decoder {
             waiting: waiting_after(packet),
             last: own.last(&settled.last(&self.last)),
             mode: mode_past(packet, self.mode),
+            told: told_past(packet, self.told),
             reported: reported_past(packet, reported, own.place(reported)),
         }
     }

@@ -1,13 +1,18 @@
 //! What the definition of described logs promises.
 
-ghost use Rattle.std.specs.Prelude.{ℕ, ◌≡◌, ◌≤◌, ◌*◌, ◌/◌, ◌++◌, Bool, List, Some, length};
+ghost use Rattle.std.specs.Prelude.{ℕ, ◌≡◌, ◌↔◌, ◌≤◌, ◌*◌, ◌/◌, ◌++◌, Bool, true, List, Some, length};
 ghost use Rattle.retire.specs.declared.event.Event.{Event};
 ghost use Rattle.rvclass.specs.Words.{Words, IsProgram, LiesIn};
+ghost use Rattle.payload.specs.Ended.{has_ended};
+ghost use Rattle.payload.specs.declared.mode.Mode.{Mode};
 ghost use Rattle.payload.specs.declared.packet.Packet.{Packet};
 ghost use Rattle.legalpath.specs.Join.{join};
 ghost use Rattle.legalpath.specs.Legal.{FollowOn};
+ghost use Rattle.decoder.specs.declared.decoding.Decoder.{Decoder};
 ghost use Rattle.decoder.specs.Describes.{Describes};
+ghost use Rattle.decoder.specs.Resuming.{PassesOver, IsClosed};
 ghost use Rattle.decoder.specs.SettledPieces.{settled_pieces};
+ghost use Rattle.decoder.specs.Stands.{Stands};
 ghost use Rattle.decoder.specs.Walk.{End, IsWalk};
 
 /// The same packets describe one log at most.
@@ -37,4 +42,17 @@ pub fn walks_are_short()
         IsProgram words → LiesIn words base count → length taken ≤ 31 →
         IsWalk words before taken end walk → FollowOn words (Some before) walk →
         length walk ≤ 32 * (count / 2) }
+{}
+
+/// A decoder that stands for packets is closed exactly where they have ended.
+pub fn closed_where_packets_ended()
+    ensures { (words : Words) (packets : List Packet) (log : List Event) (decoder : Decoder) →
+        Stands words packets log decoder → IsClosed decoder ↔ (has_ended packets ≡ true) }
+{}
+
+/// A decoder that passes over packets is not closed, and stands for nothing.
+pub fn passing_over_stands_for_nothing()
+    ensures { (mode : Mode) (decoder : Decoder) → PassesOver mode decoder →
+        (¬ IsClosed decoder) ×
+        ((words : Words) (packets : List Packet) (log : List Event) → ¬ Stands words packets log decoder) }
 {}

@@ -5,6 +5,7 @@
 mod decoding;
 mod fault;
 mod laws;
+mod remembering;
 mod reporting;
 mod retracing;
 mod settling;
@@ -15,7 +16,8 @@ mod walking;
 pub use decoding::Decoder;
 pub use fault::DecodeFault;
 pub use laws::{
-    first_packets_describe_a_beginning, more_packets_describe_a_longer_log, one_log_is_described,
+    closed_where_packets_ended, first_packets_describe_a_beginning,
+    more_packets_describe_a_longer_log, one_log_is_described, passing_over_stands_for_nothing,
     walks_are_short,
 };
 

@@ -7,13 +7,15 @@ ghost use Rattle.legalpath.specs.Legal.{FollowOn};
 ghost use Rattle.legalpath.specs.Step.{MayStandAfter};
 ghost use Rattle.decoder.specs.steps.Faults.{IsOnTheWay};
 ghost use Rattle.decoder.specs.Fits.{AfterRetirement, FitsSync};
-ghost use Rattle.decoder.specs.steps.Stretches.{RightBefore, Suits, SuitsOne, SuitsNone, stretch_count};
+ghost use Rattle.decoder.specs.steps.Stretches.{RightBefore, Suits, SuitsOne, SuitsNone};
+ghost use Rattle.decoder.specs.steps.Stretches.{stretch_count, stretch_progress};
 ghost use Rattle.decoder.specs.steps.Reporting as reporting;
 ghost use Rattle.decoder.specs.steps.Walks.{event_of, IsHere};
 
 use crate::fault::DecodeFault;
 use crate::stepping::{Course, Goal, Here, may_stay, type_of};
 use crate::stretch::Stretch;
+use crate::walking::Progress;
 use legalpath::{Next, Why, check, leads, may_stand_at, successor};
 use payload::Outcomes;
 use retire::{Event, is_privilege};
@@ -206,6 +208,7 @@ fn trap_alone(
     ensures none { IfErr result (λ fault. SuitsNone (words_of program.now) before
         (reporting.FitsTold (words_of program.now) before told cause false) fault) }
     ensures short { IfOk result (λ stretch. stretch_count stretch ≤ 2) }
+    ensures pending { IfOk result (λ stretch. stretch_progress stretch ≡ Progress.Pending) }
 {
     if told.taken {
         return Err(DecodeFault::Branches);
@@ -259,6 +262,7 @@ fn trap_and_handler(
     ensures none { IfErr result (λ fault. SuitsNone (words_of program.now) before
         (reporting.FitsTold (words_of program.now) before told cause true) fault) }
     ensures short { IfOk result (λ stretch. stretch_count stretch ≤ 2) }
+    ensures pending { IfOk result (λ stretch. stretch_progress stretch ≡ Progress.Pending) }
 {
     let trap = match trap_handled(program, before, cause) {
         Ok(trap) => trap,
@@ -284,6 +288,7 @@ pub fn trap(
     ensures none { IfErr result (λ fault. SuitsNone (words_of program.now) before.now
         (reporting.FitsTold (words_of program.now) before.now told cause handler) fault) }
     ensures short { OnOk result (stretch_count stretch.new ≤ 2) }
+    ensures pending { OnOk result (stretch_progress stretch.new ≡ Progress.Pending) }
 {
     let found = if handler {
         trap_and_handler(program, *before, told, cause)

@@ -1,9 +1,10 @@
 //! The events that each packet adds, after the event before and the last reported address.
 
-ghost use Rattle.std.specs.Prelude.{◌≡◌, ◌+◌, ◌*◌, ◌/◌, ◌≤◌, None, Some, length, IfErr, OnOk};
+ghost use Rattle.std.specs.Prelude.{◌≡◌, ◌+◌, ◌*◌, ◌/◌, ◌≤◌, List, ◌++◌, None, Some, length, vec_capacity, IfErr, OnOk};
+ghost use Rattle.retire.specs.declared.event.Event.{Event as AnyEvent};
 ghost use Rattle.rvclass.specs.Fetch.{words_of};
 ghost use Rattle.decoder.specs.Fits.{Fits, FitsAddress, FitsSync};
-ghost use Rattle.decoder.specs.steps.Stretches.{Suits, SuitsNone, stretch_count};
+ghost use Rattle.decoder.specs.steps.Stretches.{AddsSoFar, Suits, SuitsNone, stretch_count, stretch_progress};
 ghost use Rattle.decoder.specs.Settling.{makes_explicit, settled, settled_by};
 ghost use Rattle.decoder.specs.Walk.{IsWalkFrom};
 ghost use Rattle.decoder.specs.steps.Walks.{end_of};
@@ -11,11 +12,12 @@ ghost use Rattle.decoder.specs.steps.Walks.{end_of};
 use crate::fault::DecodeFault;
 use crate::reporting::{Cause, Told, reported, start, trap};
 use crate::stepping::Goal;
-use crate::stretch::{MeasuredWalk, Stretch};
-use crate::walking::measure;
+use crate::stretch::{FoundWalk, Stretch};
+use crate::walking::{Progress, measure, write_found};
 use payload::{Mode, Outcomes, Packet, Report, Support};
 use retire::Event;
 use rvclass::Program;
+use std::alloc::Allocator;
 
 /// An address packet with plain bits, which waits for the packet that follows it.
 #[derive(Clone, Copy, Debug)]
@@ -28,26 +30,47 @@ pub struct Waiting {
 
 /// The walk of these outcomes to this goal, after the event before.
 #[inline(never)]
-fn walk(
+fn walk<A: Allocator>(
     program: &Program,
     before: &Option<Event>,
     outcomes: &Outcomes,
     goal: Goal,
+    ahead: Progress,
     stretch: &mut Stretch,
+    log: &mut Vec<Event, A>,
 ) -> Result<(), DecodeFault>
     ensures found { OnOk result (Suits (words_of program.now) before.now
         (IsWalkFrom (words_of program.now) before.now outcomes.now (end_of goal)) stretch.new) }
     ensures none { IfErr result (λ fault. SuitsNone (words_of program.now) before.now
         (IsWalkFrom (words_of program.now) before.now outcomes.now (end_of goal)) fault) }
     ensures short { OnOk result (stretch_count stretch.new ≤ 32 * (length program.now.bytes / 2)) }
+    ensures written { OnOk result (AddsSoFar (words_of program.now) ahead stretch.new log.old.items log.new.items) }
+    ensures behind { (rest : List AnyEvent) × (log.new.items ≡ log.old.items ++ rest) }
+    ensures room { vec_capacity log.new ≡ vec_capacity log.old }
 {
     let from = match start(program, before) {
         Ok(from) => from,
         Err(fault) => return Err(fault),
     };
+    match ahead {
+        Progress::Written => match write_found(program, from, outcomes, goal, log) {
+            Ok(Some(walked)) => {
+                *stretch = Stretch::Walk(FoundWalk {
+                    from,
+                    outcomes: *outcomes,
+                    goal,
+                    walked,
+                });
+                return Ok(());
+            }
+            Ok(None) => {}
+            Err(fault) => return Err(fault),
+        },
+        Progress::Pending => {}
+    }
     match measure(program, from, outcomes, goal) {
         Ok(walked) => {
-            *stretch = Stretch::Walk(MeasuredWalk {
+            *stretch = Stretch::Walk(FoundWalk {
                 from,
                 outcomes: *outcomes,
                 goal,
@@ -71,13 +94,14 @@ fn makes_explicit(packet: &Packet) -> bool
 
 /// The events of a packet that waits, with these outcomes and this address, before the packet that settles it.
 #[inline(always)]
-pub fn settle(
+pub fn settle<A: Allocator>(
     program: &Program,
     before: &Option<Event>,
     outcomes: &Outcomes,
     addr: u64,
     packet: &Packet,
     stretch: &mut Stretch,
+    log: &mut Vec<Event, A>,
 ) -> Result<(), DecodeFault>
     ensures found { OnOk result (Suits (words_of program.now) before.now
         (FitsAddress (words_of program.now) before.now outcomes.now addr (settled_by (Some packet.now)))
@@ -85,30 +109,47 @@ pub fn settle(
     ensures none { IfErr result (λ fault. SuitsNone (words_of program.now) before.now
         (FitsAddress (words_of program.now) before.now outcomes.now addr (settled_by (Some packet.now))) fault) }
     ensures short { OnOk result (stretch_count stretch.new ≤ 32 * (length program.now.bytes / 2)) }
+    ensures written { OnOk result (AddsSoFar (words_of program.now) Progress.Written stretch.new log.old.items
+        log.new.items) }
+    ensures behind { (rest : List AnyEvent) × (log.new.items ≡ log.old.items ++ rest) }
+    ensures room { vec_capacity log.new ≡ vec_capacity log.old }
 {
     let goal = if makes_explicit(packet) {
         Goal::Address(addr)
     } else {
         Goal::Target(addr)
     };
-    walk(program, before, outcomes, goal, stretch)
+    walk(
+        program,
+        before,
+        outcomes,
+        goal,
+        Progress::Written,
+        stretch,
+        log,
+    )
 }
 
 /// The events of an address packet at its address, as long as no other follows.
 #[inline]
-fn address(
+fn address<A: Allocator>(
     program: &Program,
     before: &Option<Event>,
     outcomes: &Outcomes,
     addr: u64,
     report: Report,
+    ahead: Progress,
     stretch: &mut Stretch,
+    log: &mut Vec<Event, A>,
 ) -> Result<(), DecodeFault>
     ensures found { OnOk result (Suits (words_of program.now) before.now
         (FitsAddress (words_of program.now) before.now outcomes.now addr (settled report None)) stretch.new) }
     ensures none { IfErr result (λ fault. SuitsNone (words_of program.now) before.now
         (FitsAddress (words_of program.now) before.now outcomes.now addr (settled report None)) fault) }
     ensures short { OnOk result (stretch_count stretch.new ≤ 32 * (length program.now.bytes / 2)) }
+    ensures written { OnOk result (AddsSoFar (words_of program.now) ahead stretch.new log.old.items log.new.items) }
+    ensures behind { (rest : List AnyEvent) × (log.new.items ≡ log.old.items ++ rest) }
+    ensures room { vec_capacity log.new ≡ vec_capacity log.old }
 {
     match report {
         Report::Plain => match before {
@@ -118,8 +159,24 @@ fn address(
             }
             _ => Err(DecodeFault::WrongPlace),
         },
-        Report::Updiscon => walk(program, before, outcomes, Goal::Target(addr), stretch),
-        Report::Notify => walk(program, before, outcomes, Goal::Address(addr), stretch),
+        Report::Updiscon => walk(
+            program,
+            before,
+            outcomes,
+            Goal::Target(addr),
+            ahead,
+            stretch,
+            log,
+        ),
+        Report::Notify => walk(
+            program,
+            before,
+            outcomes,
+            Goal::Address(addr),
+            ahead,
+            stretch,
+            log,
+        ),
     }
 }
 
@@ -135,6 +192,7 @@ fn sync(
     ensures none { IfErr result (λ fault. SuitsNone (words_of program.now) before.now
         (FitsSync told.taken told.privilege told.addr) fault) }
     ensures short { OnOk result (stretch_count stretch.new ≤ 2) }
+    ensures pending { OnOk result (stretch_progress stretch.new ≡ Progress.Pending) }
 {
     match reported(program, *before, told) {
         Ok(event) => {
@@ -147,19 +205,24 @@ fn sync(
 
 /// The events of a packet of a trace in this mode, as long as no other follows.
 #[inline(always)]
-pub fn own(
+pub fn own<A: Allocator>(
     program: &Program,
     mode: Mode,
     before: &Option<Event>,
     last_reported: u64,
     packet: &Packet,
+    ahead: Progress,
     stretch: &mut Stretch,
+    log: &mut Vec<Event, A>,
 ) -> Result<(), DecodeFault>
     ensures found { OnOk result (Suits (words_of program.now) before.now
         (Fits (words_of program.now) mode before.now last_reported packet.now None) stretch.new) }
     ensures none { IfErr result (λ fault. SuitsNone (words_of program.now) before.now
         (Fits (words_of program.now) mode before.now last_reported packet.now None) fault) }
     ensures short { OnOk result (stretch_count stretch.new ≤ 32 * (length program.now.bytes / 2) + 2) }
+    ensures written { OnOk result (AddsSoFar (words_of program.now) ahead stretch.new log.old.items log.new.items) }
+    ensures behind { (rest : List AnyEvent) × (log.new.items ≡ log.old.items ++ rest) }
+    ensures room { vec_capacity log.new ≡ vec_capacity log.old }
 {
     match packet {
         Packet::Sync {
@@ -195,8 +258,10 @@ pub fn own(
             report,
         } => {
             let addr = mode.aim(last_reported, *delta);
-            address(program, before, outcomes, addr, *report, stretch)
+            address(
+                program, before, outcomes, addr, *report, ahead, stretch, log,
+            )
         }
-        Packet::Map(outcomes) => walk(program, before, outcomes, Goal::Branch, stretch),
+        Packet::Map(outcomes) => walk(program, before, outcomes, Goal::Branch, ahead, stretch, log),
     }
 }

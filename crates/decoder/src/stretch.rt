@@ -3,25 +3,26 @@
 ghost use Rattle.std.specs.Prelude.{◌≡◌, vec_len, vec_capacity};
 ghost use Rattle.rvclass.specs.Fetch.{words_of};
 ghost use Rattle.rvclass.specs.Words.{IsProgram};
-ghost use Rattle.decoder.specs.steps.Stretches.{stretch_count, stretch_last, stretch_place, HasRoomFor, AddsStretch};
+ghost use Rattle.decoder.specs.steps.Stretches.{left_of, stretch_count, stretch_last, stretch_place, stretch_progress};
+ghost use Rattle.decoder.specs.steps.Stretches.{HasRoomFor, AddsStretch};
 
 use crate::stepping::{Goal, Here};
-use crate::walking::{Walked, write};
+use crate::walking::{Progress, Walked, write};
 use payload::Outcomes;
 use retire::Event;
 use rvclass::Program;
 use std::alloc::Allocator;
 
-/// A walk that was measured.
+/// A walk that was found.
 #[derive(Clone, Copy)]
-pub struct MeasuredWalk {
+pub struct FoundWalk {
     /// The retirement that it starts from.
     pub from: Here,
     /// The outcomes of its branches.
     pub outcomes: Outcomes,
     /// Where it ends.
     pub goal: Goal,
-    /// What was measured.
+    /// What was found of it.
     pub walked: Walked,
 }
 
@@ -35,20 +36,35 @@ pub enum Stretch {
     /// A trap, and the first retirement of its handler.
     Two(Event, Event),
     /// The retirements of a walk.
-    Walk(MeasuredWalk),
+    Walk(FoundWalk),
 }
 
 impl Stretch {
-    /// How many events there are.
+    /// Whether they are in the list.
     #[inline]
-    pub fn count(&self) -> usize
-        ensures { result ≡ stretch_count self.now }
+    pub fn progress(&self) -> Progress
+        ensures { result ≡ stretch_progress self.now }
+    {
+        match self {
+            Stretch::Nothing => Progress::Written,
+            Stretch::One(_) | Stretch::Two(_, _) => Progress::Pending,
+            Stretch::Walk(walk) => walk.walked.progress,
+        }
+    }
+
+    /// How many events are to be written.
+    #[inline]
+    pub fn left(&self) -> usize
+        ensures { result ≡ stretch_count (left_of self.now) }
     {
         match self {
             Stretch::Nothing => 0,
             Stretch::One(_) => 1,
             Stretch::Two(_, _) => 2,
-            Stretch::Walk(walk) => walk.walked.count,
+            Stretch::Walk(walk) => match walk.walked.progress {
+                Progress::Written => 0,
+                Progress::Pending => walk.walked.count,
+            },
         }
     }
 
@@ -76,11 +92,13 @@ impl Stretch {
         }
     }
 
-    /// Writes them into room that was reserved.
+    /// Writes those that are to be written into room that was reserved.
+    #[inline]
     pub fn write<A: Allocator>(&self, program: &Program, log: &mut Vec<Event, A>)
         requires program { IsProgram (words_of program.now) }
-        requires room { HasRoomFor (words_of program.now) self.now (vec_len log.old) (vec_capacity log.old) }
-        ensures adds { AddsStretch (words_of program.now) self.now log.old.items log.new.items }
+        requires room { HasRoomFor (words_of program.now) (left_of self.now) (vec_len log.old)
+            (vec_capacity log.old) }
+        ensures adds { AddsStretch (words_of program.now) (left_of self.now) log.old.items log.new.items }
         ensures room { vec_capacity log.new ≡ vec_capacity log.old }
     {
         match self {
@@ -90,10 +108,13 @@ impl Stretch {
                 log.push_reserved(*trap);
                 log.push_reserved(*event);
             }
-            Stretch::Walk(walk) => {
-                let count = walk.walked.count;
-                write(program, walk.from, &walk.outcomes, walk.goal, count, log);
-            }
+            Stretch::Walk(walk) => match walk.walked.progress {
+                Progress::Written => {}
+                Progress::Pending => {
+                    let count = walk.walked.count;
+                    write(program, walk.from, &walk.outcomes, walk.goal, count, log);
+                }
+            },
         }
     }
 }

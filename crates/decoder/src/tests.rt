@@ -3,6 +3,7 @@
 mod faults;
 mod memory;
 mod order;
+mod resuming;
 mod rows;
 mod walks;
 

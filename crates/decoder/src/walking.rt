@@ -1,11 +1,14 @@
-//! Walks, in two passes: the first measures, the second writes.
+//! Walks: written as they are found, where there is room, or else in two passes: the first measures, the second writes.
 
-ghost use Rattle.std.specs.Prelude.{◌≡◌, ◌+◌, ◌*◌, ◌/◌, ◌^◌, ◌≤◌, length, vec_len, vec_capacity, IsOk, IfOk, IfErr};
+ghost use Rattle.std.specs.Prelude.{◌≡◌, ◌+◌, ◌*◌, ◌/◌, ◌^◌, ◌≤◌, List, ◌++◌, length, vec_len, vec_capacity, IsOk};
+ghost use Rattle.std.specs.Prelude.{IfOk, IfErr};
+ghost use Rattle.retire.specs.declared.event.Event.{Event as AnyEvent};
 ghost use Rattle.rvclass.specs.Fetch.{words_of};
 ghost use Rattle.rvclass.specs.Words.{IsProgram, LiesIn};
 ghost use Rattle.decoder.specs.steps.Faults.{IsOnTheWay};
 ghost use Rattle.decoder.specs.steps.Retracing.{HasRoomWithin, AddsWithin};
 ghost use Rattle.decoder.specs.steps.WalkSteps as steps;
+ghost use Rattle.decoder.specs.steps.WritingAsFound.{AddsTold, FindsTold, IsTold, NoneTold, ShortTold, KeptTold};
 ghost use Rattle.decoder.specs.steps.Walks.{event_of, end_of, Carries, IsHere, Finds, FindsNone, HasRoom, Adds};
 
 use crate::fault::DecodeFault;
@@ -16,17 +19,53 @@ use retire::Event;
 use rvclass::Program;
 use std::alloc::Allocator;
 
-/// How many retirements a walk has, and the last of them.
+/// Whether events are in the list already.
+#[derive(Clone, Copy)]
+pub enum Progress {
+    /// They are.
+    Written,
+    /// They are to be written.
+    Pending,
+}
+
+/// How many retirements a walk has, the last of them, and whether they are written.
 #[derive(Clone, Copy)]
 pub struct Walked {
     /// How many retirements it has.
     pub count: usize,
     /// The last of them.
     pub last: Event,
+    /// Whether they are written.
+    pub progress: Progress,
+}
+
+/// Writes the walk from a retirement as it is found; or tells the first thing on the way that no walk has, behind what
+/// was written up to it. There is none where the room is too small, and the list is as it was.
+#[inline(always)]
+pub fn write_found<A: Allocator>(
+    program: &Program,
+    from: Here,
+    outcomes: &Outcomes,
+    goal: Goal,
+    log: &mut Vec<Event, A>,
+) -> Result<Option<Walked>, DecodeFault>
+    requires { IsHere (words_of program.now) from }
+    ensures found { FindsTold (words_of program.now) from outcomes.now (end_of goal) result }
+    ensures adds { AddsTold (Adds (words_of program.now) from outcomes.now (end_of goal) log.old.items log.new.items)
+        result }
+    ensures kept { KeptTold log.old.items log.new.items result }
+    ensures short { ShortTold (32 * (length program.now.bytes / 2)) result }
+    ensures none { NoneTold (words_of program.now) from outcomes.now (end_of goal) result }
+    ensures named { IfErr result IsOnTheWay }
+    ensures behind { (rest : List AnyEvent) × (log.new.items ≡ log.old.items ++ rest) }
+    ensures room { vec_capacity log.new ≡ vec_capacity log.old }
+{
+    let course = Course::new(outcomes, goal);
+    write_found_within(program, longest(program), from, &course, log)
 }
 
 /// The walk from a retirement, measured; or the first thing on the way that no walk has.
-#[inline]
+#[inline(never)]
 pub fn measure(
     program: &Program,
     from: Here,
@@ -37,6 +76,7 @@ pub fn measure(
     ensures found { IfOk result
         (λ walked. Finds (words_of program.now) from outcomes.now (end_of goal) walked) }
     ensures short { IfOk result (λ walked. walked.count ≤ 32 * (length program.now.bytes / 2)) }
+    ensures pending { IfOk result (λ walked. walked.progress ≡ Progress.Pending) }
     ensures none { IfErr result
         (λ fault. FindsNone (words_of program.now) from outcomes.now (end_of goal)) }
     ensures named { IfErr result IsOnTheWay }
@@ -50,7 +90,7 @@ pub fn measure(
 }
 
 /// Writes a walk of so many retirements, which was measured, into room that was reserved.
-#[inline]
+#[inline(never)]
 pub fn write<A: Allocator>(
     program: &Program,
     from: Here,
@@ -99,6 +139,7 @@ fn measure_within(
     requires course { steps.IsCourse course.now }
     ensures told { steps.summary_of result ≡ steps.summary (event_of from)
         (steps.walk_within (words_of program.now) limit (event_of from) course.now.outcomes (end_of course.now.goal)) }
+    ensures pending { IfOk result (λ walked. walked.progress ≡ Progress.Pending) }
     ensures named { IfErr result IsOnTheWay }
 {
     let mut here = from;
@@ -110,12 +151,57 @@ fn measure_within(
                 return Ok(Walked {
                     count: done + 1,
                     last: event(here),
+                    progress: Progress::Pending,
                 });
             }
             Step::Fails(fault) => return Err(fault),
         }
     }
     Err(DecodeFault::WrongPlace)
+}
+
+/// Writes a walk of at most so many steps as it is found, as far as there is room.
+#[inline(always)]
+fn write_found_within<A: Allocator>(
+    program: &Program,
+    limit: usize,
+    from: Here,
+    course: &Course,
+    log: &mut Vec<Event, A>,
+) -> Result<Option<Walked>, DecodeFault>
+    requires program { IsProgram (words_of program.now) }
+    requires from { Carries (words_of program.now) from }
+    requires course { steps.IsCourse course.now }
+    ensures told { IsTold (steps.summary (event_of from) (steps.walk_within (words_of program.now) limit (event_of from)
+        course.now.outcomes (end_of course.now.goal))) result }
+    ensures adds { AddsTold (AddsWithin (words_of program.now) limit (event_of from) course.now.outcomes
+        (end_of course.now.goal) log.old.items log.new.items) result }
+    ensures kept { KeptTold log.old.items log.new.items result }
+    ensures named { IfErr result IsOnTheWay }
+    ensures behind { (rest : List AnyEvent) × (log.new.items ≡ log.old.items ++ rest) }
+    ensures room { vec_capacity log.new ≡ vec_capacity log.old }
+{
+    let count = log.len();
+    let room = log.capacity() - count;
+    let mut here = from;
+    let mut used = 0;
+    for done in 0..limit.min(room) {
+        match step_from(program, &mut here, &mut used, course) {
+            Step::Goes => log.push_reserved(event(here)),
+            Step::Ends => {
+                let last = event(here);
+                log.push_reserved(last);
+                return Ok(Some(Walked {
+                    count: done + 1,
+                    last,
+                    progress: Progress::Written,
+                }));
+            }
+            Step::Fails(fault) => return Err(fault),
+        }
+    }
+    log.truncate(count);
+    Ok(None)
 }
 
 /// Writes so many retirements of a walk that has no more.

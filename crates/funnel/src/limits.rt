@@ -5,8 +5,8 @@ ghost use Rattle.funnel.specs.Limits.{limit_fault};
 
 use crate::fault::OpenFault;
 
-/// The most harts of a funnel.
-pub const MOST_HARTS: u16 = 64;
+/// The most ports of a channel.
+pub const MOST_PORTS: u16 = 64;
 
 /// The most messages that a funnel holds.
 pub const MOST_CAPACITY: u32 = 65_536;
@@ -14,14 +14,15 @@ pub const MOST_CAPACITY: u32 = 65_536;
 /// The most messages that a hart sends.
 pub(crate) const MOST_MESSAGES: u64 = 1 << 32;
 
-/// The first fault of these numbers of harts and of messages that a funnel is to hold, where there is one.
-pub(crate) fn fault_of(harts: u16, capacity: u32) -> Option<OpenFault>
-    ensures { result ≡ limit_fault harts capacity }
+/// The first fault of these numbers of harts, which may be so many at most, and of messages that a funnel is to hold,
+/// where there is one.
+pub(crate) fn fault_of(most: u16, harts: u16, capacity: u32) -> Option<OpenFault>
+    ensures { result ≡ limit_fault most harts capacity }
 {
     if harts == 0 {
         return Some(OpenFault::NoHarts);
     }
-    if harts > MOST_HARTS {
+    if harts > most {
         return Some(OpenFault::TooManyHarts);
     }
     if capacity == 0 || capacity > MOST_CAPACITY {

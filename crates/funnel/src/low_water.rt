@@ -10,7 +10,8 @@ use std::sync::atomic::{AtomicU64, AtomicUsize, Ordering};
 use std::sync::{Arc, Wait};
 use std::time::Duration;
 
-/// How many milliseconds a port sleeps at most. It is woken before, unless the outlet stops taking above the mark.
+/// How many milliseconds a port sleeps at most. Mostly it is called before: one port at each mark, and all of them where
+/// no message waits.
 const LONGEST: u64 = 10;
 
 /// How often a port looks for room before it waits, longer each time, where each message that is taken reaches the mark:

@@ -2,12 +2,12 @@
 ghost use Rattle.std.specs.Prelude.{◌≡◌, ◌+◌, ◌<◌, [], Some, None, Err, IfOk, IfErr, All};
 ghost use Rattle.crossbeam_channel.specs.Claims.{IsSeatAt};
 ghost use Rattle.crossbeam_channel.specs.Ends.{sends_on};
-ghost use Rattle.funnel.specs.Limits.{limit_fault};
+ghost use Rattle.funnel.specs.Limits.{limit_fault, most_ports};
 ghost use Rattle.funnel.specs.declared.fault.OpenFault.{OpenFault as AnyFault};
 ghost use Rattle.funnel.specs.Ends.{new_port, AreNewPorts};
 ghost use Rattle.funnel.specs.steps.Passes.{id_of, knows, taken_of, IsOutlet};
 
-use crate::limits::fault_of;
+use crate::limits::{MOST_PORTS, fault_of};
 use crate::low_water::{Drain, LowWater};
 use crate::rule::{HandOut, Law, Sender, Ticket, View};
 use crate::{OpenFault, Outlet, Port};
@@ -16,7 +16,8 @@ use message::Message;
 use std::alloc::{AllocError, Allocator};
 use std::sync::Arc;
 
-/// Opens a funnel over a channel that holds so many messages, with a port for each hart at the hart's place.
+/// Opens a funnel over a channel that holds so many messages, 1 to 65,536, with a port for each hart, 1 to 64, at the
+/// hart's place.
 #[tactic(auto, using(crate::proofs::NewPorts::new_ports_each))]
 pub fn open<A: Allocator + Clone>(
     alloc: A,
@@ -28,10 +29,10 @@ pub fn open<A: Allocator + Clone>(
     ensures room { IfOk result (λ opened. opened.1.room ≡ capacity) }
     ensures nothing_taken { IfOk result (λ opened. opened.1.taken ≡ []) }
     ensures each { IfOk result (λ opened. All (λ port. (port.funnel ≡ opened.1.funnel) × (port.sent ≡ [])) opened.0.items) }
-    ensures refused { (fault : AnyFault) → limit_fault harts capacity ≡ Some fault → result ≡ Err fault }
-    ensures memory { limit_fault harts capacity ≡ None → IfErr result (λ fault. fault ≡ OpenFault.Memory) }
+    ensures refused { (fault : AnyFault) → limit_fault most_ports harts capacity ≡ Some fault → result ≡ Err fault }
+    ensures memory { limit_fault most_ports harts capacity ≡ None → IfErr result (λ fault. fault ≡ OpenFault.Memory) }
 {
-    if let Some(fault) = fault_of(harts, capacity) {
+    if let Some(fault) = fault_of(MOST_PORTS, harts, capacity) {
         return Err(fault);
     }
     match opened(alloc, harts, capacity) {

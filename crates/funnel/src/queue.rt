@@ -4,13 +4,13 @@ ghost use Rattle.std.specs.Prelude.{◌≡◌, ◌++◌, ◌<◌, nat_lt, not, i
 ghost use Rattle.std.specs.Option.{option_to_list};
 ghost use Rattle.std.specs.VecDeque.{deque_capacity};
 ghost use Rattle.funnel.specs.Held.{Held, IsHeld};
-ghost use Rattle.funnel.specs.Limits.{limit_fault};
+ghost use Rattle.funnel.specs.Limits.{limit_fault, most_harts};
 ghost use Rattle.funnel.specs.Machine.{Funnel, send, take_front};
 ghost use Rattle.funnel.specs.declared.fault.OpenFault.{OpenFault as AnyFault};
 
 use crate::fault::OpenFault;
 use crate::limits::fault_of;
-use message::Message;
+use message::{MOST_HARTS, Message};
 use std::alloc::{Allocator, Global};
 use std::collections::VecDeque;
 use std::marker::Model;
@@ -33,13 +33,14 @@ impl<A: Allocator> Model for Core<A> {
 }
 
 impl<A: Allocator> Core<A> {
-    /// An empty queue of messages of the harts below `harts`, with room for `capacity` messages.
+    /// An empty queue of messages of the harts below `harts`, which is 1 to 1,024, with room for `capacity` messages, 1 to
+    /// 65,536. A fault leaves nothing taken.
     pub fn new(alloc: A, harts: u16, capacity: u32) -> Result<Core<A>, OpenFault>
         ensures made { IfOk result (λ core. core ≡ record { harts = harts; capacity = capacity; queue = [] }) }
-        ensures refused { (fault : AnyFault) → limit_fault harts capacity ≡ Some fault → result ≡ Err fault }
-        ensures memory { limit_fault harts capacity ≡ None → IfErr result (λ fault. fault ≡ OpenFault.Memory) }
+        ensures refused { (fault : AnyFault) → limit_fault most_harts harts capacity ≡ Some fault → result ≡ Err fault }
+        ensures memory { limit_fault most_harts harts capacity ≡ None → IfErr result (λ fault. fault ≡ OpenFault.Memory) }
     {
-        if let Some(fault) = fault_of(harts, capacity) {
+        if let Some(fault) = fault_of(MOST_HARTS, harts, capacity) {
             return Err(fault);
         }
         match VecDeque::with_capacity(alloc, capacity as usize) {

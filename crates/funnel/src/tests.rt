@@ -1,5 +1,5 @@
 //! The funnel in one thread against a plain list; ports, outlet and receipts at work, in one thread, in several, and
-//! where ends are dropped; the limits of both, and memory that is refused.
+//! where ends are dropped; when ports that wait are called; the limits of both, and memory that is refused.
 
 mod dropped;
 mod limits;
@@ -8,6 +8,7 @@ mod one_thread;
 mod plain;
 mod port_memory;
 mod room;
+mod waking;
 mod workers;
 
 ghost use Rattle.std.specs.Prelude.{◌≡◌, IfOk, IfSome};

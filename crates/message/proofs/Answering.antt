@@ -15,14 +15,20 @@ use Rattle.message.specs.declared.fault.DemuxFault.{DemuxFault}
 use Rattle.message.specs.declared.fault.DemuxFault.TheVariants as fault
 
 -- The next number of an open hart answers its packet.
+pub answer-open : (h : Hart) (m : Message) (packet : Packet) → is_over h ≡ false → m.number ≡ h.expected
+    → reading m.payload ≡ Ok packet
+    → answer h m ≡ Ok packet
+answer-open h m packet going next read =
+    let low = le-ltb m.number h.expected (omega (arith, next)) in
+    let high = le-ltb h.expected m.number (omega (arith, next)) in
+    rw (going, low, high, read) refl
+
 pub answer-next : (h : Hart) (m : Message) (packet : Packet) → h.closed ≡ false → h.expected < 2 ^ 63
     → m.number ≡ h.expected → reading m.payload ≡ Ok packet
     → answer h m ≡ Ok packet
 answer-next h m packet going few next read =
     let few_yet = lt-ltb h.expected (2 ^ 63) few in
-    let low = le-ltb m.number h.expected (omega (arith, next)) in
-    let high = le-ltb h.expected m.number (omega (arith, next)) in
-    rw (going, few_yet, low, high, read) refl
+    answer-open h m packet (rw (going, few_yet) refl) next read
 
 abbrev Answer : Type 0
 Answer = Result Packet DemuxFault
@@ -49,11 +55,11 @@ by_tests h m P over low high next =
         let down = ltb-false h.expected m.number r in
         next p (omega (arith, up, down))
 
-not_both : (b : Bool) → b ≡ true → b ≡ false → ⊥
+pub not_both : (b : Bool) → b ≡ true → b ≡ false → ⊥
 not_both b p q = cc
 
 -- The place of an answer among its kinds.
-abbrev kind : Answer → ℕ
+abbrev pub kind : {T : Type 0} → Result T DemuxFault → ℕ
 kind (Ok packet) = 0
 kind (Err fault.Stranger) = 1
 kind (Err fault.AfterClose) = 2
@@ -61,7 +67,7 @@ kind (Err fault.Repeat) = 3
 kind (Err (fault.Gap expected)) = 4
 kind (Err (fault.Packet why)) = 5
 
-apart : (a b : Answer) → (kind a < kind b) ⊎ (kind b < kind a) → a ≡ b → ⊥
+pub apart : {T : Type 0} (a b : Result T DemuxFault) → (kind a < kind b) ⊎ (kind b < kind a) → a ≡ b → ⊥
 apart a b less e = let same = ap kind e in omega (arith, same, less)
 
 kind-packet_or_fault : (r : Result Packet PackFault) → (kind (packet_or_fault r) ≡ 0) ⊎ (kind (packet_or_fault r) ≡ 5)
@@ -75,7 +81,7 @@ unpacked_apart a (Ok packet) p q e = p (sym (ap kind e))
 unpacked_apart a (Err why) p q e = q (sym (ap kind e))
 
 -- The hart is open.
-abbrev Going : Hart → Type 0
+abbrev pub Going : Hart → Type 0
 Going h = is_over h ≡ false
 
 after_close : (h : Hart) (m : Message) → (answer h m ≡ Err fault.AfterClose) ↔ (is_over h ≡ true)
@@ -99,7 +105,7 @@ repeat h m = by_tests h m (λ r. (r ≡ Err fault.Repeat) ↔ (Going h × (m.num
     ))
 
 -- The number that a gap tells.
-abbrev gap_of : Answer → ℕ
+abbrev pub gap_of : {T : Type 0} → Result T DemuxFault → ℕ
 gap_of (Ok packet) = 0
 gap_of (Err fault.Stranger) = 0
 gap_of (Err fault.AfterClose) = 0

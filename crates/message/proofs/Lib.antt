@@ -2,12 +2,14 @@ pub mod AcceptedLemmas
 pub mod HartMessages
 pub mod OfHartLemmas
 pub mod Answering
+pub mod AnsweringLossy
 pub mod BadHeaders
 pub mod Cuts
 pub mod Fronts
 pub mod Heads
 pub mod LittleBytes
 pub mod Moving
+pub mod MovingLossy
 pub mod Passed
 pub mod ReadBack
 pub mod SettingsRead

@@ -20,7 +20,7 @@ use Rattle.message.specs.declared.message.Message.{Message}
 use Rattle.message.proofs.ReadBack.{message_only, not_bad, not_cut}
 
 -- No bytes begin with a message and with the mark.
-never_both : (m : Message) (xs ys : List ℕ) → IsMessage m → message_bytes m ++ xs ≡ mark ++ ys → ⊥
+pub never_both : (m : Message) (xs ys : List ℕ) → IsMessage m → message_bytes m ++ xs ≡ mark ++ ys → ⊥
 never_both m xs ys is same =
     let some = is.some in
     let none : length m.payload ≡ 0 = ap (λ l. slice_index l 10) same in
@@ -34,7 +34,7 @@ same_mode Full Differential e = absurd (omega (arith, e))
 same_mode Full Full e = refl
 
 -- Bytes that begin with a header begin with no other.
-header_only : (h k : Header) (xs ys : List ℕ) → IsHeader h → IsHeader k
+pub header_only : (h k : Header) (xs ys : List ℕ) → IsHeader h → IsHeader k
     → header_bytes h ++ xs ≡ header_bytes k ++ ys → h ≡ k
 header_only h k xs ys is also same =
     let few = is.harts in

@@ -11,7 +11,7 @@ Harts = List Hart
 abbrev pub newcomer : Hart
 newcomer = record { expected = 0; closed = false }
 
--- Nothing more of the hart is accepted: its closing packet was, or 2^63 of its messages were.
+-- Nothing more of the hart is accepted: its closing packet was, or the number that is expected is 2^63.
 abbrev pub is_over : Hart → Bool
 is_over h = h.closed || not (nat_lt h.expected (2 ^ 63))
 

@@ -3,9 +3,11 @@ pub mod Numbered
 pub mod Capture
 pub mod Cut
 pub mod Header
+pub mod Version
 pub mod Started
 pub mod Harts
 pub mod Accepting
 pub mod Accepted
+pub mod Lossy
 pub mod FaultText
 pub mod steps

@@ -1,7 +1,9 @@
 //! The demultiplexer.
-ghost use Rattle.std.specs.Prelude.{◌≡◌, ◌↔◌, ◌≤◌, ◌<◌, ℕ, length, replicate, slice_set, Some, OnErr, IfOk, Err, Ok};
+ghost use Rattle.std.specs.Prelude.{◌≡◌, ◌↔◌, ◌≤◌, ◌<◌, ◌+◌, ◌^◌, ℕ, length, replicate, slice_set, Some, OnErr, IfOk};
+ghost use Rattle.std.specs.Prelude.{Err, Ok};
 ghost use Rattle.message.specs.Harts.{Harts, newcomer, Expects, IsOver, has_closed};
 ghost use Rattle.message.specs.Accepting.{accepting, harts_after, next_of};
+ghost use Rattle.message.specs.Lossy.{accepting_lossy, harts_after_lossy};
 ghost use Rattle.payload.specs.Reading.{reading};
 ghost use Rattle.payload.specs.declared.fault.PackFault.{PackFault as AnyFault};
 ghost use Rattle.payload.specs.declared.packet.Packet.{Packet as AnyPacket};
@@ -69,6 +71,46 @@ impl<A: Allocator> Demux<A> {
             return Err(DemuxFault::Stranger);
         }
         self.harts[at].accept(message)
+    }
+
+    /// The packet of the message, and how many messages of its hart were missed before it: the message may be the next
+    /// of a hart that is known and open, or a later one. The one after it is then the next.
+    ///
+    /// A gap is told of a number of 2^63 or more alone. A refusal changes nothing. Takes no memory.
+    pub fn accept_lossy(&mut self, message: &Message) -> Result<(Packet, u64), DemuxFault>
+        ensures accepted { (packet : AnyPacket) (missed : ℕ) → (result ≡ Ok (packet, missed))
+            ↔ (Expects self.old message.now.hart (λ expected. (expected + missed ≡ message.now.number)
+            × (message.now.number < 2 ^ 63)) × (reading message.now.payload ≡ Ok packet)) }
+        ensures stranger { (result ≡ Err DemuxFault.Stranger) ↔ (length self.old ≤ message.now.hart) }
+        ensures after_close { (result ≡ Err DemuxFault.AfterClose) ↔ IsOver self.old message.now.hart }
+        ensures repeat { (result ≡ Err DemuxFault.Repeat)
+            ↔ Expects self.old message.now.hart (λ expected. message.now.number < expected) }
+        ensures gap { (k : ℕ) → (result ≡ Err (DemuxFault.Gap k))
+            ↔ Expects self.old message.now.hart (λ expected. (expected ≡ k) × (2 ^ 63 ≤ message.now.number)) }
+        ensures bad_packet { (why : AnyFault) → (result ≡ Err (DemuxFault.Packet why))
+            ↔ (Expects self.old message.now.hart (λ expected. (expected ≤ message.now.number)
+            × (message.now.number < 2 ^ 63)) × (reading message.now.payload ≡ Err why)) }
+
+        ensures moves { IfOk result
+            (λ taken. self.new ≡ slice_set self.old message.now.hart (next_of message.now.number taken.0)) }
+        ensures refused { OnErr result (self.new ≡ self.old) }
+
+        // What is answered and what is expected then are functions of the message and of what was expected.
+        ensures value { result ≡ accepting_lossy self.old message.now }
+        ensures state { self.new ≡ harts_after_lossy self.old message.now }
+    {
+        self.accept_lossy_by_hart(message)
+    }
+
+    fn accept_lossy_by_hart(&mut self, message: &Message) -> Result<(Packet, u64), DemuxFault>
+        ensures value { result ≡ accepting_lossy self.old message.now }
+        ensures state { self.new ≡ harts_after_lossy self.old message.now }
+    {
+        let at = usize::from(message.hart);
+        if at >= self.harts.len() {
+            return Err(DemuxFault::Stranger);
+        }
+        self.harts[at].accept_lossy(message)
     }
 
     /// Whether the hart's closing packet was accepted. It is false for a hart that the demultiplexer does not know.

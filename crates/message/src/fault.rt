@@ -43,11 +43,11 @@ impl Error for MessageFault {}
 pub enum DemuxFault {
     /// The demultiplexer does not know the hart.
     Stranger,
-    /// The hart's closing packet was accepted, or 2^63 of its messages were.
+    /// The hart's closing packet was accepted, or the number that it expects is 2^63.
     AfterClose,
     /// The number is below the one that is expected.
     Repeat,
-    /// The number is above the one that is expected.
+    /// The number is above the one that is expected, or, where messages may be lost, 2^63 or more.
     Gap {
         /// The number that is expected.
         expected: u64,

@@ -1,6 +1,8 @@
 //! What a demultiplexer expects of one hart.
-ghost use Rattle.std.specs.Prelude.{◌≡◌};
+ghost use Rattle.std.specs.Prelude.{◌≡◌, ◌<◌, ◌^◌, IsFalse};
 ghost use Rattle.message.specs.Accepting.{answer, state_after};
+ghost use Rattle.message.specs.Harts.{is_over};
+ghost use Rattle.message.specs.Lossy.{answer_lossy, state_after_lossy};
 
 use crate::{DemuxFault, Message};
 use payload::{Packet, unpack};
@@ -24,12 +26,20 @@ impl Hart {
         closed: false,
     };
 
+    /// Nothing more of the hart is accepted.
+    fn is_over(&self) -> bool
+        ensures value { result ≡ is_over self.now }
+        ensures few { IsFalse result → self.now.expected < 2 ^ 63 }
+    {
+        self.closed || self.expected >= MOST
+    }
+
     /// The packet of the hart's next message.
     pub(crate) fn accept(&mut self, message: &Message) -> Result<Packet, DemuxFault>
         ensures result { result ≡ answer self.old message.now }
         ensures state { self.new ≡ state_after self.old message.now }
     {
-        if self.closed || self.expected >= MOST {
+        if self.is_over() {
             return Err(DemuxFault::AfterClose);
         }
         if message.number < self.expected {
@@ -45,6 +55,32 @@ impl Hart {
                 self.expected += 1;
                 self.closed = packet.is_closing();
                 Ok(packet)
+            }
+            Err(fault) => Err(DemuxFault::Packet(fault)),
+        }
+    }
+
+    /// The packet of the message, and how many messages of the hart were missed before it.
+    pub(crate) fn accept_lossy(&mut self, message: &Message) -> Result<(Packet, u64), DemuxFault>
+        ensures result { result ≡ answer_lossy self.old message.now }
+        ensures state { self.new ≡ state_after_lossy self.old message.now }
+    {
+        if self.is_over() {
+            return Err(DemuxFault::AfterClose);
+        }
+        let Some(missed) = message.number.checked_sub(self.expected) else {
+            return Err(DemuxFault::Repeat);
+        };
+        if message.number >= MOST {
+            return Err(DemuxFault::Gap {
+                expected: self.expected,
+            });
+        }
+        match unpack(message.payload.bytes()) {
+            Ok(packet) => {
+                self.expected = message.number + 1;
+                self.closed = packet.is_closing();
+                Ok((packet, missed))
             }
             Err(fault) => Err(DemuxFault::Packet(fault)),
         }

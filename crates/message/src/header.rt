@@ -1,14 +1,39 @@
 //! What a capture begins with.
 ghost use Rattle.std.specs.Prelude.{◌≡◌, ◌≢◌, IfSome, None, length};
 ghost use Rattle.message.specs.Header.{IsHeader, setting_bytes};
+ghost use Rattle.message.specs.Version.{most_harts};
 ghost use Rattle.message.specs.declared.header.Header.{Header as AnyHeader};
 
 use crate::Message;
 use byteorder::{ByteOrder, LittleEndian};
 use payload::Mode;
 
-/// The most harts of a capture.
+/// The most harts of a capture, and of the logs of one command.
 pub const MOST_HARTS: u16 = 1024;
+
+/// The most harts of a capture that has no header.
+const MOST_HARTS_WITHOUT_HEADER: u16 = 64;
+
+/// What the format of a capture is called.
+#[derive(Clone, Copy, Debug, PartialEq, Eq)]
+pub enum Version {
+    /// Messages alone, of at most 64 harts.
+    One,
+    /// A header and then messages, of at most 1,024 harts.
+    Two,
+}
+
+impl Version {
+    /// The most harts of a capture of this version.
+    pub fn most_harts(self) -> u16
+        ensures { result ≡ most_harts self }
+    {
+        match self {
+            Version::One => MOST_HARTS_WITHOUT_HEADER,
+            Version::Two => MOST_HARTS,
+        }
+    }
+}
 
 /// What a capture of version 2 tells of all its messages.
 #[derive(Clone, Copy, Debug, PartialEq, Eq)]

@@ -20,7 +20,7 @@ mod writing;
 
 pub use demux::Demux;
 pub use fault::{DemuxFault, MessageFault};
-pub use header::{Header, MOST_HARTS, Start};
+pub use header::{Header, MOST_HARTS, Start, Version};
 pub use in_memory::Messages;
 pub use message::Message;
 pub use reading::{read_message, read_start};

@@ -82,8 +82,8 @@ ended_rep = 1
 abbrev pub ended_ntr : ℕ
 ended_ntr = 3
 
--- The `ioptions` of a trace whose address fields hold differences, and of one whose address fields hold addresses, which
--- is this project's profile; and of a support packet that closes a trace.
+-- The `ioptions` of a trace whose address fields hold differences, and of one whose address fields hold addresses,
+-- which is this project's profile; and of a support packet that closes a trace.
 abbrev pub differential : ℕ
 differential = 0
 

@@ -7,7 +7,7 @@ use Rattle.payload.specs.declared.packet.Packet.TheVariants as packet
 abbrev pub IsPrivilege : ℕ → Type 0
 IsPrivilege p = (p < 4) × (p ≢ 2)
 
--- An address of an instruction, or a difference of two: even.
+-- An address of an instruction, or what the address field of an address packet holds: even.
 abbrev pub IsAddress : ℕ → Type 0
 IsAddress a = (a < 2 ^ 64) × (a % 2 ≡ 0)
 

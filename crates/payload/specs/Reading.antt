@@ -15,7 +15,7 @@ use Rattle.payload.specs.declared.packet.Report.{Report}
 use Rattle.payload.specs.declared.packet.Report.TheVariants as report
 use Rattle.payload.specs.declared.fault.PackFault.{PackFault}
 
--- The mode of `ioptions`.
+-- The mode of `ioptions`, which are those of one of the two modes where there is no fault.
 abbrev pub mode_from : ℕ → Mode
 mode_from options = if options == layout.full then mode.Full else mode.Differential
 

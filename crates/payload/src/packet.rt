@@ -38,8 +38,8 @@ pub enum Packet {
     Address {
         /// The outcomes of the branches since the last packet that told of them, the oldest first.
         outcomes: Outcomes,
-        /// What names the address, even: its difference from the last reported one, modulo 2^64, or in full-address mode the
-        /// address itself.
+        /// What names the address, even: its difference from the last reported one, modulo 2^64, or in full-address mode
+        /// the address itself.
         delta: u64,
         /// Why the address is reported.
         report: Report,
@@ -74,7 +74,7 @@ impl Packet {
     ghost use Rattle.payload.specs.Closing.{is_closing_packet};
     ghost use Rattle.payload.specs.Profile.{InProfile};
 
-    /// Whether the packet is one of this project's profile: addresses and differences even, privilege 0, 1 or 3,
+    /// Whether the packet is one of this project's profile: what address fields hold even, privilege 0, 1 or 3,
     /// a cause below 64, no trap value with an interrupt, a map of exactly 31 outcomes.
     pub fn in_profile(&self) -> bool
         ensures { IsTrue result ↔ InProfile self.now }

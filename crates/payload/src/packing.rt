@@ -152,7 +152,7 @@ fn address_bits(delta: u64, report: Report) -> u128
     u128::from(delta >> 1) + (u128::from(report_bits(delta, report)) << NOTIFY_BIT)
 }
 
-/// The bits notify, updiscon and irreport, which follow the address field of this difference.
+/// The bits notify, updiscon and irreport, which follow an address field that holds this.
 fn report_bits(delta: u64, report: Report) -> u8
     ensures value { result ≡ joined (report_fields (delta / 2 ^ 63) report) }
     ensures below { result < 8 }

@@ -8,6 +8,7 @@ use Rattle.retire.specs.declared.event.Event.{Event}
 use Rattle.rvclass.specs.Words.{Words}
 use Rattle.payload.specs.Ended.{has_ended}
 use Rattle.payload.specs.Reading.{reading}
+use Rattle.payload.specs.declared.mode.Mode.{Mode}
 use Rattle.payload.specs.declared.packet.Packet.{Packet}
 use Rattle.decoder.specs.Describes.{Describes}
 use Rattle.decoder.specs.Order.{IsOpen}
@@ -24,6 +25,7 @@ use Rattle.message.specs.OfHart.{packets_of}
 use Rattle.message.specs.declared.fault.DemuxFault.{DemuxFault}
 use Rattle.message.specs.declared.hart.Hart.{Hart}
 use Rattle.message.specs.declared.message.Message.{Message}
+use Rattle.receiver.specs.Agreeing.{Agrees, opens_another}
 use Rattle.receiver.specs.Holds.{HasAccepted}
 use Rattle.receiver.specs.Received.{IsSameHart, Received}
 use Rattle.receiver.specs.Refused.{IsNotDecoded}
@@ -140,3 +142,10 @@ same_packet a b is = cc
 pub same_fault : (a b : DecodeFault) → ◌≡◌ {A = Result Unit ReceiveFault} (Err (fault.Decode a)) (Err (fault.Decode b))
     → a ≡ b
 same_fault a b is = cc
+
+-- A message agrees with the mode that was told where the packet of its payload does.
+pub agrees_by : (told : Option Mode) (message : Message) (packet : Packet) → reading message.payload ≡ Ok packet
+    → opens_another told packet ≡ false → Agrees told message
+agrees_by told message packet read same other is =
+    let one : packet ≡ other = cc in
+    subst (λ p. opens_another told p ≡ false) one same

@@ -1,3 +1,4 @@
 pub mod Received
 pub mod Holds
+pub mod Agreeing
 pub mod Refused

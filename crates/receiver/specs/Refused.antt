@@ -1,8 +1,9 @@
 -- Why a message is not received.
-use Rattle.std.specs.Prelude.{ℕ, ◌⊎◌, ◌≡◌, ◌<◌, ◌↔◌, ◌++◌, true, false, List, [], ◌∷◌, Ok, Err, length}
+use Rattle.std.specs.Prelude.{ℕ, ◌⊎◌, ◌≡◌, ◌<◌, ◌↔◌, ◌++◌, true, false, List, [], ◌∷◌, Option, Ok, Err, length}
 use Rattle.retire.specs.declared.event.Event.{Event}
 use Rattle.rvclass.specs.Words.{Words}
 use Rattle.payload.specs.Ended.{has_ended}
+use Rattle.payload.specs.declared.mode.Mode.{Mode}
 use Rattle.payload.specs.declared.packet.Packet.{Packet}
 use Rattle.decoder.specs.Describes.{Describes}
 use Rattle.decoder.specs.Order.{IsOpen}
@@ -12,6 +13,7 @@ use Rattle.message.specs.Accepted.{expected_after, newcomers}
 use Rattle.message.specs.Accepting.{accepting}
 use Rattle.message.specs.OfHart.{packets_of}
 use Rattle.message.specs.declared.message.Message.{Message}
+use Rattle.receiver.specs.Agreeing.{Agrees, opens_another}
 use Rattle.receiver.specs.declared.fault.ReceiveFault.{ReceiveFault}
 use Rattle.receiver.specs.declared.fault.ReceiveFault.TheVariants as fault
 
@@ -33,8 +35,16 @@ pub record IsUndecoded (words : Words) (harts : ℕ) (messages : List Message) (
   pub not_ended : has_ended (packets_of message.hart messages) ≡ false
   pub not_decoded : IsNotDecoded words (packets_of message.hart messages) packet why
 
--- Why a message is not received after these messages, by the program of its hart.
-abbrev pub IsRefused : Words → ℕ → List Message → Message → ReceiveFault → Type 0
-IsRefused words harts messages message (fault.Demux why) =
+-- The message is accepted after these messages, and its packet opens a trace in another mode than was told.
+pub record IsOfAnotherMode (harts : ℕ) (told : Option Mode) (messages : List Message) (message : Message) : Type 0 where
+  pub packet : Packet
+  pub accepted : accepting (expected_after (newcomers harts) messages) message ≡ Ok packet
+  pub another : opens_another told packet ≡ true
+
+-- Why a message is not received after these messages, by the program of its hart, where this mode was told before.
+abbrev pub IsRefused : Words → ℕ → Option Mode → List Message → Message → ReceiveFault → Type 0
+IsRefused words harts told messages message (fault.Demux why) =
     accepting (expected_after (newcomers harts) messages) message ≡ Err why
-IsRefused words harts messages message (fault.Decode why) = IsUndecoded words harts messages message why
+IsRefused words harts told messages message fault.Mode = IsOfAnotherMode harts told messages message
+IsRefused words harts told messages message (fault.Decode why) =
+    IsUndecoded words harts messages message why × Agrees told message

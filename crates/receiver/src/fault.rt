@@ -10,6 +10,9 @@ pub enum ReceiveFault {
     /// The demultiplexer refuses the message.
     #[error("{0}")]
     Demux(DemuxFault),
+    /// The packet of the message opens a trace in another mode than was told before.
+    #[error("open of another mode")]
+    Mode,
     /// The packet of the message is not decoded.
     #[error("{0}")]
     Decode(DecodeFault),

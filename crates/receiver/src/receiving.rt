@@ -16,6 +16,7 @@ ghost use Rattle.message.specs.Accepting.{accepting, harts_after};
 ghost use Rattle.message.specs.OfHart.{packets_of};
 ghost use Rattle.message.specs.declared.fault.DemuxFault.{DemuxFault as AnyDemuxFault};
 ghost use Rattle.message.specs.declared.message.Message.{Message as AnyMessage};
+ghost use Rattle.receiver.specs.Agreeing.{Agrees, opens_another};
 ghost use Rattle.receiver.specs.Holds.{AreDecoded, HasAccepted, HasReceived, Holds, HoldsHart};
 ghost use Rattle.receiver.specs.Received.{Received, IsReceived, IsSameHart, events_in};
 ghost use Rattle.receiver.specs.Refused.{IsNotDecoded, IsRefused};
@@ -23,7 +24,7 @@ ghost use Rattle.receiver.specs.Refused.{IsNotDecoded, IsRefused};
 use crate::fault::ReceiveFault;
 use decoder::{DecodeFault, Decoder};
 use message::{Demux, DemuxFault, Message};
-use payload::Packet;
+use payload::{Mode, Packet, Support};
 use retire::Event;
 use rvclass::Program;
 use std::alloc::{AllocError, Allocator, Global};
@@ -142,9 +143,15 @@ impl<A: Allocator + Copy> Receiver<A> {
         list.reserve(total.saturating_sub(list.len()))
     }
 
-    /// Accepts the message and decodes its packet, where the program is that of its hart. A fault leaves the lists and
-    /// the flags as they were; of the hart whose packet is not decoded the next message is accepted then.
-    pub fn receive(&mut self, program: &Program, message: &Message) -> Result<(), ReceiveFault>
+    /// Accepts the message and decodes its packet, where the program is that of its hart. Where a mode was told before,
+    /// by the header of a capture, no packet opens a trace in another one. A fault leaves the lists and the flags as they
+    /// were; of the hart whose packet is not decoded the next message is accepted then.
+    pub fn receive(
+        &mut self,
+        program: &Program,
+        told: Option<Mode>,
+        message: &Message,
+    ) -> Result<(), ReceiveFault>
         ensures received { (programs : ℕ → Words) (harts : ℕ) (messages : List AnyMessage)
             → programs message.now.hart ≡ words_of program.now → HasReceived programs harts messages self.old
             → OnOk result (HasReceived programs harts (messages ++ message.now ∷ []) self.new) }
@@ -159,7 +166,12 @@ impl<A: Allocator + Copy> Receiver<A> {
         ensures not_accepted { (why : AnyDemuxFault) → result ≡ Err (ReceiveFault.Demux why) → self.new ≡ self.old }
         ensures refused { (programs : ℕ → Words) (harts : ℕ) (messages : List AnyMessage)
             → programs message.now.hart ≡ words_of program.now → HasReceived programs harts messages self.old
-            → IfErr result (λ fault. IsRefused (words_of program.now) harts messages message.now fault) }
+            → IfErr result (λ fault. IsRefused (words_of program.now) harts told messages message.now fault) }
+        // It is refused for its mode exactly where it is accepted and opens a trace in another one than was told.
+        ensures mode { (result ≡ Err ReceiveFault.Mode)
+            ↔ ((packet : AnyPacket) × (accepting self.old.expected message.now ≡ Ok packet)
+            × (opens_another told packet ≡ true)) }
+        ensures agrees { OnOk result (Agrees told message.now) }
         ensures undecoded { (programs : ℕ → Words) (harts : ℕ) (messages : List AnyMessage) (packet : AnyPacket)
             (why : AnyDecodeFault) → programs message.now.hart ≡ words_of program.now → Holds programs harts messages self.old
             → accepting self.old.expected message.now ≡ Ok packet → result ≡ Err (ReceiveFault.Decode why)
@@ -174,6 +186,9 @@ impl<A: Allocator + Copy> Receiver<A> {
             Ok(packet) => packet,
             Err(fault) => return Err(ReceiveFault::Demux(fault)),
         };
+        if opens_another(told, &packet) {
+            return Err(ReceiveFault::Mode);
+        }
         match self.decode(program, message.hart, &packet) {
             Ok(()) => Ok(()),
             Err(fault) => Err(ReceiveFault::Decode(fault)),
@@ -203,6 +218,16 @@ impl<A: Allocator + Copy> Receiver<A> {
             → AreDecoded programs harts messages (events_in result.0.items) result.1.items }
     {
         (self.lists, self.closed)
+    }
+}
+
+/// Whether a packet opens a trace in another mode than the one that was told, if one was.
+fn opens_another(told: Option<Mode>, packet: &Packet) -> bool
+    ensures { result ≡ opens_another told packet.now }
+{
+    match (told, packet) {
+        (Some(told), Packet::Support(Support::Open(mode))) => told != *mode,
+        _ => false,
     }
 }
 

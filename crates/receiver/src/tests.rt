@@ -114,7 +114,7 @@ fn messages_by_table(rt: HostRuntime) -> Result<(), Fail> {
     let program = Program::new(BASE, Vec::from_slice(rt.alloc(), &NOPS)?)?;
     let mut receiver = Receiver::new(rt.alloc(), 2)?;
     for (row, (hart, number, payload, fault, counts)) in table.into_iter().enumerate() {
-        let answer = receiver.receive(&program, &message(hart, number, payload)?);
+        let answer = receiver.receive(&program, None, &message(hart, number, payload)?);
         assert_eq!(rt; answer.err(), fault, "row {row}");
         for (list, count) in receiver.lists().iter().zip(counts) {
             assert_eq!(rt; list.as_slice(), &BOTH[..count.min(2)], "row {row}");
@@ -166,7 +166,7 @@ fn received<A: Allocator + Copy>(
 ) -> Result<(usize, Option<ReceiveFault>), AllocError> {
     let mut receiver = Receiver::new(alloc, 1)?;
     for message in messages {
-        match receiver.receive(program, message) {
+        match receiver.receive(program, None, message) {
             Ok(()) => {}
             Err(why) => return Ok((count_of(&receiver), Some(why))),
         }

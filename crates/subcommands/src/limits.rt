@@ -11,6 +11,3 @@ pub const SMALLEST_CAPACITY: u32 = 1;
 
 /// The most messages that the funnel may hold.
 pub const LARGEST_CAPACITY: u32 = 65_536;
-
-/// The most harts of one command; each log is one hart's.
-pub const MOST_HARTS: u16 = 64;

@@ -1,5 +1,6 @@
 //! What a command line may ask for.
 
+use message::Version;
 use payload::Mode;
 
 /// `check --base B IMAGE LOG...`: whether the log of each hart is legal.
@@ -13,7 +14,7 @@ pub struct Check<'a> {
     pub logs: Vec<&'a str>,
 }
 
-/// `encode --base B [--period N] [--full] [--hex] IMAGE LOG...`: the messages of the log of each hart.
+/// `encode --base B [--period N] [--full] [--v1] [--hex] IMAGE LOG...`: the messages of the log of each hart.
 #[derive(Debug, PartialEq, Eq, Drop)]
 pub struct Encode<'a> {
     /// The address of the image's first byte, not yet read as a number.
@@ -22,6 +23,8 @@ pub struct Encode<'a> {
     pub period: u16,
     /// Whether packets name addresses by differences or in full.
     pub mode: Mode,
+    /// Which format the capture has. It limits the count of logs also where lines are wanted.
+    pub version: Version,
     /// Whether the messages are wanted as lines of hexadecimal.
     pub hex: bool,
     /// The path of the image.
@@ -42,7 +45,7 @@ pub struct Dump<'a> {
 pub struct Decode<'a> {
     /// The address of the image's first byte, not yet read as a number.
     pub base: &'a str,
-    /// How many harts the capture may have messages of, 1 to 64.
+    /// How many harts a capture with no header may have messages of, 1 to 1024.
     pub harts: u16,
     /// The path of the image.
     pub image: &'a str,

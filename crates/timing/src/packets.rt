@@ -3,6 +3,7 @@
 use crate::fault::Fault;
 use crate::least::Phase;
 use encoder::Encoder;
+use message::Version;
 use payload::{Mode, Packet, Payload, pack, unpack};
 use retire::Event;
 use rvclass::Program;
@@ -13,6 +14,9 @@ pub(crate) const PERIOD: u16 = 1024;
 
 /// Packets name addresses by differences.
 pub(crate) const MODE: Mode = Mode::Differential;
+
+/// The version of captures: messages alone.
+pub(crate) const VERSION: Version = Version::One;
 
 /// The packets of a log.
 pub(crate) fn packets_of(

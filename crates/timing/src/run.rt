@@ -5,7 +5,7 @@ use crate::fault::Fault;
 use crate::input::Input;
 use crate::least::measure;
 use crate::logs::{self, Judging, Reading, Writing};
-use crate::packets::{MODE, PERIOD, Packing, Unpacking, packets_of, payloads_of};
+use crate::packets::{MODE, PERIOD, Packing, Unpacking, VERSION, packets_of, payloads_of};
 use crate::replaying::{Replaying, measure_runs, rounds};
 use crate::sending::{Bare, IN_ONE_THREAD, OneThread, Senders, measure_senders};
 use crate::whole_captures::{CaptureDecoding, CaptureWriting};
@@ -153,7 +153,7 @@ fn measure_captures<'a, 'p, R: Clock + AllocGlobal, E: Write>(
     let program = logs[0].program();
     let count = logs[0].events().len();
     let mut capture = Vec::new(alloc);
-    encode_capture(logs, PERIOD, MODE, &mut capture).map_err(|_| Fault::Log)?;
+    encode_capture(logs, PERIOD, MODE, VERSION, &mut capture).map_err(|_| Fault::Log)?;
     let writing = CaptureWriting {
         logs,
         capture: Vec::with_capacity(alloc, capture.len())?,

@@ -2,7 +2,7 @@
 
 use crate::fault::Fault;
 use crate::least::Phase;
-use crate::packets::{MODE, PERIOD};
+use crate::packets::{MODE, PERIOD, VERSION};
 use captures::{decode_capture, encode_capture};
 use legalpath::LegalLog;
 use rvclass::Program;
@@ -19,7 +19,7 @@ impl Phase for CaptureWriting<'_, '_> {
     fn run(&mut self) -> Result<u64, Fault> {
         self.capture.clear();
         let logs = self.logs;
-        encode_capture(logs, PERIOD, MODE, &mut self.capture).map_err(|_| Fault::Log)?;
+        encode_capture(logs, PERIOD, MODE, VERSION, &mut self.capture).map_err(|_| Fault::Log)?;
         Ok(self.capture.len() as u64)
     }
 }

@@ -1,8 +1,9 @@
 //! Logs through the funnel by schedules of turns.
 
-use super::made::{WHOLE, logs, program, text_of, turns};
-use crate::{Config, Turn, replay};
+use super::made::{WHOLE, kinds, logs, program, text_of, turns};
+use crate::{Config, Setup, Turn, is_whole, replay};
 use payload::Mode;
+use std::alloc::{AllocError, Global};
 use std::test::Fail;
 
 /// One message at a time, in this mode.
@@ -40,5 +41,37 @@ fn full_funnel(rt: HostRuntime) -> Result<(), Fail> {
         hart 1: 4 events, 0 packets, 0 payload bytes, decoded 0, beginning\n\
         result: not whole\n";
     assert!(rt; text.as_slice() == want.as_bytes());
+    Ok(())
+}
+
+/// Turns by which each of five messages of each hart is taken at once, a message of each hart before the next.
+fn rounds(alloc: Global, harts: u16) -> Result<Vec<Turn>, AllocError> {
+    let mut turns = Vec::new(alloc);
+    for _ in 0..5u32 {
+        for hart in 0..harts {
+            turns.push(Turn::Hart(hart))?;
+            turns.push(Turn::Collect)?;
+        }
+    }
+    Ok(turns)
+}
+
+// There are up to 1,024 harts.
+#[test]
+fn most_harts(rt: HostRuntime) -> Result<(), Fail> {
+    let alloc = rt.alloc();
+    let program = program(alloc)?;
+    let logs = kinds(alloc, &program, 1024)?;
+    for mode in [Mode::Differential, Mode::Full] {
+        let turns = rounds(alloc, 1024)?;
+        let outcome = replay(alloc, logs.as_slice(), config(mode), turns.as_slice())?;
+        if outcome.harts.len() != logs.len() {
+            return Err(Fail::new("another number of harts"));
+        }
+        assert!(rt; is_whole(&outcome, logs.as_slice()), "{mode:?}");
+        let more = kinds(alloc, &program, 1025)?;
+        let fault = replay(alloc, more.as_slice(), config(mode), turns.as_slice()).err();
+        assert_eq!(rt; fault, Some(Setup::TooManyHarts));
+    }
     Ok(())
 }

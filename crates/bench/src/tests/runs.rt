@@ -182,6 +182,9 @@ fn sixty_four_harts(rt: HostRuntime) -> Result<(), Fail> {
             );
         }
     }
+    let more = kinds(alloc, &program, 65)?;
+    let fault = run(alloc, alloc, more.as_slice(), CONFIG, &Open, &rt).err();
+    assert_eq!(rt; fault, Some(Setup::TooManyHarts));
     Ok(())
 }
 

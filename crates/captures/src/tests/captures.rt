@@ -1,10 +1,11 @@
-//! Small captures to events.
+//! Small captures to events, in both versions.
 
+use super::headers::{HEADER, header_of};
 use super::made::{BASE, image_of};
 use crate::{CaptureFault, CaptureOutcome, decode_capture};
 use decoder::DecodeFault;
 use message::{DemuxFault, Message, MessageFault, write_message};
-use payload::{PackFault, Payload};
+use payload::{Mode, PackFault, Payload};
 use retire::Event;
 use rvclass::Program;
 use std::alloc::Global;
@@ -13,8 +14,8 @@ use std::test::Fail;
 /// Two words `nop`.
 pub(super) const NOPS: [u32; 2] = [0x0000_0013; 2];
 
-/// The capture of a hart that retires both.
-const WORKED: [u8; 52] = [
+/// The messages of a hart that retires both, which are its capture of version 1.
+pub(super) const WORKED: [u8; 52] = [
     0, 0, 0, 0, 0, 0, 0, 0, 0, 0, 1, 0x1f, //
     0, 0, 1, 0, 0, 0, 0, 0, 0, 0, 5, 0x73, 0, 0, 0, 0x20, //
     0, 0, 2, 0, 0, 0, 0, 0, 0, 0, 1, 0x0a, //
@@ -22,7 +23,7 @@ const WORKED: [u8; 52] = [
 ];
 
 /// Its events.
-const BOTH: [Event; 2] = [
+pub(super) const BOTH: [Event; 2] = [
     Event::Retire {
         addr: BASE,
         itype: 0,
@@ -39,6 +40,8 @@ const BOTH: [Event; 2] = [
 
 pub(super) const OPEN: &[u8] = &[0x1f];
 
+pub(super) const OPEN_FULL: &[u8] = &[0x1f, 0x01];
+
 pub(super) const FIRST: &[u8] = &[0x73, 0, 0, 0, 0x20];
 
 pub(super) const SECOND: &[u8] = &[0x0a];
@@ -51,9 +54,9 @@ const PLACES: [usize; 5] = [0, 12, 28, 40, 52];
 /// A message of a hart: its hart, its number and its payload.
 pub(super) type Sent = (u16, u64, &'static [u8]);
 
-/// The capture of these messages.
-pub(super) fn capture_of(alloc: Global, messages: &[Sent]) -> Result<Vec<u8>, Fail> {
-    let mut bytes = Vec::new(alloc);
+/// The capture of these messages behind what stands before them.
+pub(super) fn capture_of(alloc: Global, start: &[u8], messages: &[Sent]) -> Result<Vec<u8>, Fail> {
+    let mut bytes = start.to_vec(alloc)?;
     for (hart, number, payload) in messages {
         let message = Message {
             hart: *hart,
@@ -65,10 +68,15 @@ pub(super) fn capture_of(alloc: Global, messages: &[Sent]) -> Result<Vec<u8>, Fa
     Ok(bytes)
 }
 
-/// What the capture of these messages of so many harts decodes to, over two words `nop`.
-fn decoded(alloc: Global, harts: u16, messages: &[Sent]) -> Result<CaptureOutcome, Fail> {
+/// What the capture of these messages behind what stands before them decodes to, over two words `nop`.
+pub(super) fn decoded(
+    alloc: Global,
+    start: &[u8],
+    harts: u16,
+    messages: &[Sent],
+) -> Result<CaptureOutcome, Fail> {
     let program = Program::new(BASE, image_of(alloc, &NOPS)?)?;
-    let bytes = capture_of(alloc, messages)?;
+    let bytes = capture_of(alloc, start, messages)?;
     Ok(decode_capture(alloc, &program, harts, &bytes)?)
 }
 
@@ -91,11 +99,13 @@ fn first_message_tells_full_addresses(rt: HostRuntime) -> Result<(), Fail> {
         (0, 2, &[0x0a, 0, 0, 0, 0x01]),
         (0, 3, END),
     ];
-    let outcome = decoded(rt.alloc(), 1, &messages)?;
-    assert_eq!(rt; outcome.harts.len(), 1);
-    assert_eq!(rt; outcome.fault, None);
-    assert_eq!(rt; outcome.harts[0].as_slice(), BOTH.as_slice());
-    assert_eq!(rt; outcome.closed.as_slice(), [true].as_slice());
+    for start in [&[][..], &header_of(Mode::Full, 1)] {
+        let outcome = decoded(rt.alloc(), start, 1, &messages)?;
+        assert_eq!(rt; outcome.harts.len(), 1);
+        assert_eq!(rt; outcome.fault, None);
+        assert_eq!(rt; outcome.harts[0].as_slice(), BOTH.as_slice());
+        assert_eq!(rt; outcome.closed.as_slice(), [true].as_slice());
+    }
     Ok(())
 }
 
@@ -107,36 +117,40 @@ fn whole_messages(length: usize) -> usize {
 #[test]
 fn worked_capture_cut_to_each_length(rt: HostRuntime) -> Result<(), Fail> {
     let program = Program::new(BASE, image_of(rt.alloc(), &NOPS)?)?;
-    for length in 0..53 {
-        let outcome = decode_capture(rt.alloc(), &program, 1, &WORKED[..length])?;
-        let count = whole_messages(length);
-        let fault = if PLACES.contains(&length) {
-            None
-        } else {
-            Some((count as u64, CaptureFault::Message(MessageFault::Short)))
-        };
-        let events = match count {
-            0 | 1 => 0,
-            2 | 3 => 1,
-            _ => 2,
-        };
-        assert_eq!(rt; outcome.fault, fault, "{length}");
-        assert_eq!(rt; outcome.harts[0].as_slice(), &BOTH[..events], "{length}");
-        assert_eq!(rt;
-            outcome.closed.as_slice(),
-            [length == 52].as_slice(),
-            "{length}"
-        );
+    for start in [&[][..], &HEADER] {
+        for length in 0..53 {
+            let mut bytes = start.to_vec(rt.alloc())?;
+            bytes.extend_from_slice(&WORKED[..length])?;
+            let outcome = decode_capture(rt.alloc(), &program, 1, &bytes)?;
+            let count = whole_messages(length);
+            let fault = if PLACES.contains(&length) {
+                None
+            } else {
+                Some((count as u64, CaptureFault::Message(MessageFault::Short)))
+            };
+            let events = match count {
+                0 | 1 => 0,
+                2 | 3 => 1,
+                _ => 2,
+            };
+            assert_eq!(rt; outcome.fault, fault, "{length}");
+            assert_eq!(rt; outcome.harts[0].as_slice(), &BOTH[..events], "{length}");
+            assert_eq!(rt;
+                outcome.closed.as_slice(),
+                [length == 52].as_slice(),
+                "{length}"
+            );
+        }
     }
     Ok(())
 }
 
 #[test]
 fn no_harts(rt: HostRuntime) -> Result<(), Fail> {
-    let empty = decoded(rt.alloc(), 0, &[])?;
+    let empty = decoded(rt.alloc(), &[], 0, &[])?;
     assert!(rt; empty.harts.is_empty() && empty.closed.is_empty());
     assert_eq!(rt; empty.fault, None);
-    let stranger = decoded(rt.alloc(), 0, &[(0, 0, OPEN)])?;
+    let stranger = decoded(rt.alloc(), &[], 0, &[(0, 0, OPEN)])?;
     assert!(rt; stranger.harts.is_empty());
     assert_eq!(rt;
         stranger.fault,
@@ -148,13 +162,22 @@ fn no_harts(rt: HostRuntime) -> Result<(), Fail> {
 /// Many harts, of which none sends anything, or the last one sends messages, or one behind the last does.
 #[test]
 fn many_harts(rt: HostRuntime) -> Result<(), Fail> {
-    for harts in [65u16, 65_535] {
-        let empty = decoded(rt.alloc(), harts, &[])?;
+    let few = header_of(Mode::Differential, 65);
+    let most = header_of(Mode::Differential, 1024);
+    let cases: [(&[u8], u16); 4] = [(&[], 65), (&[], 65_535), (&few, 65), (&most, 1024)];
+    for (start, harts) in cases {
+        let asked = if start.is_empty() { harts } else { 7 };
+        let empty = decoded(rt.alloc(), start, asked, &[])?;
         assert_eq!(rt; empty.harts.len(), usize::from(harts));
         assert_eq!(rt; empty.closed.len(), usize::from(harts));
         assert_eq!(rt; empty.fault, None);
         let last = harts.saturating_sub(1);
-        let one = decoded(rt.alloc(), harts, &[(last, 0, OPEN), (last, 1, FIRST)])?;
+        let one = decoded(
+            rt.alloc(),
+            start,
+            asked,
+            &[(last, 0, OPEN), (last, 1, FIRST)],
+        )?;
         assert_eq!(rt; one.harts.len(), usize::from(harts));
         assert_eq!(rt; one.fault, None);
         assert_eq!(rt; one.harts.iter().filter(|list| !list.is_empty()).count(), 1);
@@ -162,7 +185,7 @@ fn many_harts(rt: HostRuntime) -> Result<(), Fail> {
             Some(list) => assert_eq!(rt; list.as_slice(), &BOTH[..1], "{harts}"),
             None => return Err(Fail::from("the last hart has no list")),
         }
-        let stranger = decoded(rt.alloc(), harts, &[(harts, 0, OPEN)])?;
+        let stranger = decoded(rt.alloc(), start, asked, &[(harts, 0, OPEN)])?;
         assert_eq!(rt;
             stranger.fault,
             Some((0, CaptureFault::Demux(DemuxFault::Stranger)))
@@ -230,20 +253,22 @@ fn stops_at_the_first_fault(rt: HostRuntime) -> Result<(), Fail> {
             CaptureFault::Decode(DecodeFault::WrongPlace),
         ),
     ];
-    for (messages, number, events, fault) in &cases {
-        let outcome = decoded(rt.alloc(), 1, messages)?;
-        assert_eq!(rt; outcome.harts.len(), 1, "{fault}");
-        assert_eq!(rt; outcome.fault, Some((*number, *fault)), "{fault}");
-        assert_eq!(rt;
-            outcome.harts[0].as_slice(),
-            &BOTH[..(*events).min(2)],
-            "{fault}"
-        );
-        assert_eq!(rt;
-            outcome.closed.as_slice(),
-            [*events == 2].as_slice(),
-            "{fault}"
-        );
+    for (start, asked) in [(&[][..], 1), (HEADER.as_slice(), 2)] {
+        for (messages, number, events, fault) in &cases {
+            let outcome = decoded(rt.alloc(), start, asked, messages)?;
+            assert_eq!(rt; outcome.harts.len(), 1, "{fault}");
+            assert_eq!(rt; outcome.fault, Some((*number, *fault)), "{fault}");
+            assert_eq!(rt;
+                outcome.harts[0].as_slice(),
+                &BOTH[..(*events).min(2)],
+                "{fault}"
+            );
+            assert_eq!(rt;
+                outcome.closed.as_slice(),
+                [*events == 2].as_slice(),
+                "{fault}"
+            );
+        }
     }
     Ok(())
 }
@@ -279,16 +304,18 @@ fn fault_leaves_all_harts(rt: HostRuntime) -> Result<(), Fail> {
         (0, 2, OPEN),
         (1, 1, FIRST),
     ];
-    let outcome = decoded(rt.alloc(), 3, &messages)?;
-    assert_eq!(rt;
-        outcome.fault,
-        Some((7, CaptureFault::Decode(DecodeFault::WrongPlace)))
-    );
-    assert_eq!(rt; outcome.harts.len(), 3);
-    assert_eq!(rt; outcome.harts[0].as_slice(), &BOTH[..1]);
-    assert!(rt; outcome.harts[1].is_empty());
-    assert_eq!(rt; outcome.harts[2].as_slice(), BOTH.as_slice());
-    assert_eq!(rt; outcome.closed.as_slice(), [false, false, true].as_slice());
+    for start in [&[][..], &header_of(Mode::Differential, 3)] {
+        let outcome = decoded(rt.alloc(), start, 3, &messages)?;
+        assert_eq!(rt;
+            outcome.fault,
+            Some((7, CaptureFault::Decode(DecodeFault::WrongPlace)))
+        );
+        assert_eq!(rt; outcome.harts.len(), 3);
+        assert_eq!(rt; outcome.harts[0].as_slice(), &BOTH[..1]);
+        assert!(rt; outcome.harts[1].is_empty());
+        assert_eq!(rt; outcome.harts[2].as_slice(), BOTH.as_slice());
+        assert_eq!(rt; outcome.closed.as_slice(), [false, false, true].as_slice());
+    }
     Ok(())
 }
 
@@ -308,6 +335,11 @@ fn faults_as_text(rt: HostRuntime) -> Result<(), Fail> {
             "not decoded: WrongPlace",
         ),
         (CaptureFault::Decode(DecodeFault::Memory), "out of memory"),
+        (
+            CaptureFault::Message(MessageFault::BadHeader),
+            "capture header is not valid",
+        ),
+        (CaptureFault::Mode, "open of another mode"),
     ];
     for (fault, text) in &cases {
         let written = format!(in rt.alloc(); "{fault}")?;

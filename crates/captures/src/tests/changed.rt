@@ -1,4 +1,4 @@
-//! Captures with one byte changed.
+//! Captures of version 1 with one byte changed.
 
 use super::captures::{END, FIRST, NOPS, OPEN, SECOND, Sent, capture_of};
 use super::made::{BASE, image_of};
@@ -93,7 +93,7 @@ fn change(
 /// Sets each byte of the capture of these messages to each value.
 fn change_each_byte(alloc: Global, words: &[u32], messages: &[Sent]) -> Result<(), Fail> {
     let program = Program::new(BASE, image_of(alloc, words)?)?;
-    let capture = capture_of(alloc, messages)?;
+    let capture = capture_of(alloc, &[], messages)?;
     let mut begins = 0usize;
     for (_, count, payload) in messages {
         let before = decode_capture(alloc, &program, 1, capture.get(..begins).unwrap_or(&[]))?;

@@ -1,15 +1,16 @@
-//! Captures as text: worked lines, bad payloads, captures that end inside a message.
+//! Captures as text: worked lines, bad payloads, captures that end inside a message or a header.
 
 use super::encoding::FailingWriter;
+use super::headers::{Beginning, HEADER, beginning_of, header_of};
 use crate::{Dumped, dump_capture};
 use message::{Message, MessageFault, write_message};
-use payload::Payload;
+use payload::{Mode, Payload};
 use retire::WriteFault;
 use std::alloc::Global;
 use std::test::Fail;
 
 /// Payloads and the texts of their packets.
-const TEXTS: [(&[u8], &str); 27] = [
+const TEXTS: [(&[u8], &str); 28] = [
     (b"\x1f", "open"),
     (b"\x1f\x01", "open full"),
     (b"\x4f", "close ended_rep"),
@@ -33,6 +34,10 @@ const TEXTS: [(&[u8], &str); 27] = [
     (
         b"\xf7\x45\x40\x00\x00\x20",
         "trap exception cause=b tval=0 handler=80000100 priv=3 branch=1",
+    ),
+    (
+        b"\xf7\xdf",
+        "trap exception cause=3f tval=ffffffffffffffff handler=fffffffffffffffe priv=3 branch=1",
     ),
     (
         b"\xa7\x1f\x01\x00\x00\x20\x00\x00\x00\xc0\xbb\x6f\xab\x37",
@@ -76,6 +81,9 @@ const WORKED: [&[u8]; 5] = [
     b"\xcf\x00",
 ];
 
+/// The line of the header that all captures of version 2 here begin with where nothing else is said.
+const FIRST_LINE: &str = "capture 2 mode=diff period=1024 harts=1\n";
+
 const WORKED_TEXT: &str = "\
     0 0 open\n\
     0 1 sync addr=80000000 priv=3 branch=1\n\
@@ -100,33 +108,130 @@ fn append(capture: &mut Vec<u8>, hart: u16, number: u64, bytes: &[u8]) -> Result
     Ok(())
 }
 
-/// The capture of the worked payloads, of hart 0.
-fn worked(alloc: Global) -> Result<Vec<u8>, Fail> {
-    let mut capture = Vec::new(alloc);
+/// The capture of the worked payloads, of hart 0, behind what stands before them.
+fn worked(alloc: Global, start: &[u8]) -> Result<Vec<u8>, Fail> {
+    let mut capture = start.to_vec(alloc)?;
     for (number, bytes) in WORKED.iter().enumerate() {
         append(&mut capture, 0, number as u64, bytes)?;
     }
     Ok(capture)
 }
 
+/// Behind no header, one of differences and one of full addresses, whatever the packets open.
 #[test]
 fn text_of_each_packet(rt: HostRuntime) -> Result<(), Fail> {
-    for (bytes, text) in TEXTS {
-        let mut capture = Vec::new(rt.alloc());
-        append(&mut capture, 65535, u64::MAX, bytes)?;
+    let starts: [(&[u8], &str, &str); 3] = [
+        (&[], "", "diff"),
+        (&HEADER, FIRST_LINE, "diff"),
+        (
+            &header_of(Mode::Full, 1),
+            "capture 2 mode=full period=1024 harts=1\n",
+            "addr",
+        ),
+    ];
+    for (start, first, field) in starts {
+        for (bytes, text) in TEXTS {
+            let mut capture = start.to_vec(rt.alloc())?;
+            append(&mut capture, 65535, u64::MAX, bytes)?;
+            let mut told = Vec::new(rt.alloc());
+            let dumped = dump_capture(capture.as_slice(), &mut told)?;
+            let line = match text.strip_prefix("address diff=") {
+                Some(rest) => {
+                    format!(in rt.alloc();
+                        "{first}65535 18446744073709551615 address {field}={rest}\n"
+                    )?
+                }
+                None => format!(in rt.alloc(); "{first}65535 18446744073709551615 {text}\n")?,
+            };
+            assert_eq!(rt; told.as_slice(), line.as_bytes(), "{text}");
+            assert_eq!(rt; dumped.bad, text.starts_with("bad "), "{text}");
+            assert_eq!(rt; dumped.fault, None, "{text}");
+        }
+    }
+    Ok(())
+}
+
+#[test]
+fn line_of_each_header(rt: HostRuntime) -> Result<(), Fail> {
+    let table: [([u8; 5], &str); 5] = [
+        ([0, 0x00, 0x04, 0x01, 0x00], FIRST_LINE),
+        (
+            [1, 0x00, 0x04, 0x01, 0x00],
+            "capture 2 mode=full period=1024 harts=1\n",
+        ),
+        (
+            [0, 0x01, 0x00, 0x00, 0x04],
+            "capture 2 mode=diff period=1 harts=1024\n",
+        ),
+        (
+            [1, 0xff, 0xff, 0x00, 0x01],
+            "capture 2 mode=full period=65535 harts=256\n",
+        ),
+        (
+            [0, 0x34, 0x12, 0x21, 0x03],
+            "capture 2 mode=diff period=4660 harts=801\n",
+        ),
+    ];
+    for (settings, line) in table {
+        let mut capture = HEADER[..11].to_vec(rt.alloc())?;
+        capture.extend_from_slice(&settings)?;
         let mut told = Vec::new(rt.alloc());
-        let dumped = dump_capture(capture.as_slice(), &mut told)?;
-        let line = format!(in rt.alloc(); "65535 18446744073709551615 {text}\n")?;
-        assert_eq!(rt; told.as_slice(), line.as_bytes(), "{text}");
-        assert_eq!(rt; dumped.bad, text.starts_with("bad "), "{text}");
-        assert_eq!(rt; dumped.fault, None, "{text}");
+        assert_eq!(rt;
+            dump_capture(capture.as_slice(), &mut told),
+            Ok(ALL_GOOD),
+            "{line}"
+        );
+        assert_eq!(rt; told.as_slice(), line.as_bytes(), "{line}");
+    }
+    Ok(())
+}
+
+/// Whether a header with one byte changed, or cut short, is told as what it is, and nothing else is written.
+fn is_told(alloc: Global, header: &[u8]) -> Result<bool, Fail> {
+    let mut told = Vec::new(alloc);
+    let dumped = dump_capture(header, &mut told)?;
+    let fault = match beginning_of(header) {
+        Beginning::Unmarked if header.is_empty() => None,
+        Beginning::Unmarked if header.len() < 11 => Some(MessageFault::Short),
+        Beginning::Unmarked => Some(MessageFault::BadLength),
+        Beginning::Cut => Some(MessageFault::Short),
+        Beginning::Bad => Some(MessageFault::BadHeader),
+        Beginning::Header(mode, period, harts) => {
+            let mode = match mode {
+                Mode::Differential => "diff",
+                Mode::Full => "full",
+            };
+            let line = format!(in alloc; "capture 2 mode={mode} period={period} harts={harts}\n")?;
+            return Ok(dumped == ALL_GOOD && told.as_slice() == line.as_bytes());
+        }
+    };
+    let wanted = Dumped {
+        bad: false,
+        fault: fault.map(|why| (0, why)),
+    };
+    Ok(dumped == wanted && told.is_empty())
+}
+
+/// A header cut to each length, and each of its bytes set to each value, but for the 0 before the settings, where a
+/// message of version 1 has its length.
+#[test]
+fn headers_cut_and_changed(rt: HostRuntime) -> Result<(), Fail> {
+    for length in 0..16 {
+        assert!(rt; is_told(rt.alloc(), &HEADER[..length])?, "{length}");
+    }
+    for place in [0usize, 1, 2, 3, 4, 5, 6, 7, 8, 9, 11, 12, 13, 14, 15] {
+        let mut header = HEADER;
+        for value in 0..=u8::MAX {
+            header[place] = value;
+            assert!(rt; is_told(rt.alloc(), &header)?, "{place} {value}");
+        }
     }
     Ok(())
 }
 
 #[test]
 fn worked_dump(rt: HostRuntime) -> Result<(), Fail> {
-    let capture = worked(rt.alloc())?;
+    let capture = worked(rt.alloc(), &[])?;
     let mut told = Vec::new(rt.alloc());
     assert_eq!(rt; dump_capture(capture.as_slice(), &mut told), Ok(ALL_GOOD));
     assert_eq!(rt; told.as_slice(), WORKED_TEXT.as_bytes());
@@ -160,7 +265,7 @@ fn no_bytes_are_no_lines(rt: HostRuntime) -> Result<(), Fail> {
 
 #[test]
 fn cut_capture_is_told_up_to_the_cut(rt: HostRuntime) -> Result<(), Fail> {
-    let capture = worked(rt.alloc())?;
+    let capture = worked(rt.alloc(), &[])?;
     assert_eq!(rt; capture.len(), 78);
     for length in 0..capture.len() {
         // How many whole messages there are, and how many bytes and bytes of text they take.
@@ -215,8 +320,9 @@ fn bad_length_ends_the_dump(rt: HostRuntime) -> Result<(), Fail> {
 
 #[test]
 fn writer_of_a_dump_fails_at_each_call(rt: HostRuntime) -> Result<(), Fail> {
-    let capture = worked(rt.alloc())?;
-    let text = WORKED_TEXT.as_bytes();
+    let capture = worked(rt.alloc(), &HEADER)?;
+    let whole = format!(in rt.alloc(); "{FIRST_LINE}{WORKED_TEXT}")?;
+    let text = whole.as_bytes();
     for calls in 0..text.len() + 1 {
         let mut sink = FailingWriter {
             held: Vec::new(rt.alloc()),

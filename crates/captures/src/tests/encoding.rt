@@ -1,11 +1,12 @@
-//! Logs and their messages, as captures and as lines.
+//! Logs and their messages, as captures of both versions and as lines.
 
+use super::headers::{Beginning, HEADER, beginning_of, header_of};
 use super::made::{BASE, WORDS, image_of, log_of};
 use super::{MODES, PERIODS, legal_log};
 use crate::{encode_capture, encode_hex};
 use encoder::Encoder;
 use legalpath::LegalLog;
-use message::MessageFault;
+use message::{MessageFault, Version};
 use payload::{Mode, Packet};
 use retire::Event;
 use rvclass::{Class, Program};
@@ -86,8 +87,24 @@ fn capture_of_one_hart(rt: HostRuntime) -> Result<(), Fail> {
     let program = Program::new(BASE, image_of(rt.alloc(), &NOPS)?)?;
     let logs = logs_of(rt.alloc(), &program)?;
     let mut bytes = Vec::new(rt.alloc());
-    encode_capture(&logs[..1], 1024, Mode::Differential, &mut bytes)?;
+    encode_capture(
+        &logs[..1],
+        1024,
+        Mode::Differential,
+        Version::One,
+        &mut bytes,
+    )?;
     assert_eq!(rt; bytes.as_slice(), FIRST_CAPTURE.as_slice());
+    let mut headed = Vec::new(rt.alloc());
+    encode_capture(
+        &logs[..1],
+        1024,
+        Mode::Differential,
+        Version::Two,
+        &mut headed,
+    )?;
+    assert_eq!(rt; headed.len(), 68);
+    assert!(rt; headed.starts_with(&HEADER) && headed.ends_with(&FIRST_CAPTURE));
     Ok(())
 }
 
@@ -97,8 +114,13 @@ fn capture_in_full_address_mode(rt: HostRuntime) -> Result<(), Fail> {
     let program = Program::new(BASE, image_of(rt.alloc(), &NOPS)?)?;
     let logs = logs_of(rt.alloc(), &program)?;
     let mut bytes = Vec::new(rt.alloc());
-    encode_capture(&logs[..1], 1024, Mode::Full, &mut bytes)?;
+    encode_capture(&logs[..1], 1024, Mode::Full, Version::One, &mut bytes)?;
     assert_eq!(rt; bytes.as_slice(), FULL_CAPTURE.as_slice());
+    let mut headed = Vec::new(rt.alloc());
+    encode_capture(&logs[..1], 1024, Mode::Full, Version::Two, &mut headed)?;
+    assert_eq!(rt; headed.len(), 73);
+    assert!(rt; headed.starts_with(&header_of(Mode::Full, 1)));
+    assert!(rt; headed.ends_with(&FULL_CAPTURE));
     let mut lines = Vec::new(rt.alloc());
     encode_hex(&logs[..1], 1024, Mode::Full, &mut lines)?;
     assert_eq!(rt;
@@ -108,12 +130,42 @@ fn capture_in_full_address_mode(rt: HostRuntime) -> Result<(), Fail> {
     Ok(())
 }
 
+/// The header tells the period, the mode and the count of logs.
+#[test]
+fn headers_tell_what_was_asked_for(rt: HostRuntime) -> Result<(), Fail> {
+    let program = Program::new(BASE, image_of(rt.alloc(), &NOPS)?)?;
+    let logs = logs_of(rt.alloc(), &program)?;
+    for mode in MODES {
+        for period in PERIODS {
+            for count in 1..3usize {
+                let mut bytes = Vec::new(rt.alloc());
+                encode_capture(
+                    &logs[..count],
+                    period.max(1),
+                    mode,
+                    Version::Two,
+                    &mut bytes,
+                )?;
+                let told = Beginning::Header(mode, usize::from(period), count);
+                assert!(rt; beginning_of(&bytes) == told, "{period} {count}");
+            }
+        }
+    }
+    Ok(())
+}
+
 #[test]
 fn no_logs_are_no_bytes(rt: HostRuntime) -> Result<(), Fail> {
     let program = Program::new(BASE, image_of(rt.alloc(), &NOPS)?)?;
     let logs = logs_of(rt.alloc(), &program)?;
     let mut bytes = Vec::new(rt.alloc());
-    encode_capture(&logs[..0], 1024, Mode::Differential, &mut bytes)?;
+    encode_capture(
+        &logs[..0],
+        1024,
+        Mode::Differential,
+        Version::One,
+        &mut bytes,
+    )?;
     encode_hex(&logs[..0], 1024, Mode::Differential, &mut bytes)?;
     assert!(rt; bytes.is_empty());
     Ok(())
@@ -133,16 +185,26 @@ fn is_cut(told: Result<(), MessageFault>, held: &[u8], calls: usize, whole: &[u8
 fn capture_of_two_harts_to_writers_that_fail(rt: HostRuntime) -> Result<(), Fail> {
     let program = Program::new(BASE, image_of(rt.alloc(), &NOPS)?)?;
     let logs = logs_of(rt.alloc(), &program)?;
-    let mut whole = Vec::new(rt.alloc());
-    whole.extend_from_slice(&FIRST_CAPTURE)?;
-    whole.extend_from_slice(&SECOND_CAPTURE)?;
-    for calls in 0..95 {
-        let mut sink = FailingWriter {
-            held: Vec::new(rt.alloc()),
-            calls,
-        };
-        let told = encode_capture(&logs, 1024, Mode::Differential, &mut sink);
-        assert!(rt; is_cut(told, &sink.held, calls, &whole), "{calls}");
+    let header = header_of(Mode::Differential, 2);
+    for (version, start) in [(Version::One, &[][..]), (Version::Two, &header[..])] {
+        let mut whole = start.to_vec(rt.alloc())?;
+        whole.extend_from_slice(&FIRST_CAPTURE)?;
+        whole.extend_from_slice(&SECOND_CAPTURE)?;
+        for calls in 0..111 {
+            let mut sink = FailingWriter {
+                held: Vec::new(rt.alloc()),
+                calls,
+            };
+            let told = match version {
+                Version::One => {
+                    encode_capture(&logs, 1024, Mode::Differential, Version::One, &mut sink)
+                }
+                Version::Two => {
+                    encode_capture(&logs, 1024, Mode::Differential, Version::Two, &mut sink)
+                }
+            };
+            assert!(rt; is_cut(told, &sink.held, calls, &whole), "{calls}");
+        }
     }
     Ok(())
 }

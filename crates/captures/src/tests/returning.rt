@@ -1,4 +1,4 @@
-//! Logs that come back from their captures.
+//! Logs that come back from their captures, in both versions.
 
 use super::legal_log;
 use super::made::{BASE, WORDS, image_of, log_of};
@@ -6,7 +6,7 @@ use crate::{CaptureFault, CaptureOutcome, decode_capture, encode_capture};
 use decoder::DecodeFault;
 use legalpath::LegalLog;
 use linked_list_allocator::LocalHeap;
-use message::{Messages, write_message};
+use message::{Messages, Version, write_message};
 use payload::Mode;
 use rvclass::Program;
 use std::alloc::{Allocator, Global};
@@ -26,18 +26,26 @@ fn logs_of<'p>(
     Ok(logs)
 }
 
-/// The capture of these logs.
+/// The capture of these logs, 1 to 1,024 of them.
 fn capture_of(
     alloc: Global,
     logs: &[LegalLog<'_>],
     period: u16,
     mode: Mode,
+    version: Version,
 ) -> Result<Vec<u8>, Fail> {
-    if logs.len() > 1 << 16 {
-        return Err(Fail::new("too many logs"));
+    if logs.is_empty() || logs.len() > 1024 {
+        return Err(Fail::new("no logs or too many"));
     }
     let mut bytes = Vec::new(alloc);
-    encode_capture(logs, period.max(1), mode, &mut bytes)?;
+    match version {
+        Version::One => {
+            encode_capture(logs, period.max(1), mode, Version::One, &mut bytes)?;
+        }
+        Version::Two => {
+            encode_capture(logs, period.max(1), mode, Version::Two, &mut bytes)?;
+        }
+    }
     Ok(bytes)
 }
 
@@ -84,7 +92,7 @@ fn compared<A: Allocator>(
 fn memory_is_refused(rt: HostRuntime) -> Result<(), Fail> {
     let program = Program::new(BASE, image_of(rt.alloc(), &WORDS)?)?;
     let logs = logs_of(rt.alloc(), &program, 2, 100)?;
-    let bytes = capture_of(rt.alloc(), &logs, 31, Mode::Differential)?;
+    let bytes = capture_of(rt.alloc(), &logs, 31, Mode::Differential, Version::Two)?;
     let mut nothing = 0usize;
     let mut beginnings = 0usize;
     let mut all = 0usize;
@@ -109,25 +117,41 @@ fn memory_is_refused(rt: HostRuntime) -> Result<(), Fail> {
     Ok(())
 }
 
-/// Whether the logs of so many harts, of ten thousand events each, come back whole in a mode, which nobody tells the
-/// decoder.
-fn come_back(alloc: Global, harts: u16, mode: Mode) -> Result<bool, Fail> {
+/// Whether the logs of so many harts, of so many events each, come back whole in a mode, which nobody tells the
+/// decoder. In version 2 nobody tells it the count of harts either.
+fn come_back(
+    alloc: Global,
+    harts: u16,
+    count: usize,
+    mode: Mode,
+    version: Version,
+) -> Result<bool, Fail> {
     let program = Program::new(BASE, image_of(alloc, &WORDS)?)?;
-    let logs = logs_of(alloc, &program, u64::from(harts), 10_000)?;
-    let bytes = capture_of(alloc, &logs, 1024, mode)?;
-    let outcome = decode_capture(alloc, &program, harts, &bytes)?;
+    let logs = logs_of(alloc, &program, u64::from(harts), count)?;
+    let bytes = capture_of(alloc, &logs, 1024, mode, version)?;
+    let asked = match version {
+        Version::One => harts,
+        Version::Two => 0,
+    };
+    let outcome = decode_capture(alloc, &program, asked, &bytes)?;
     Ok(compared(&outcome, &logs)? == Came::All)
 }
 
 #[test]
-fn sixty_four_logs(rt: HostRuntime) -> Result<(), Fail> {
-    assert!(rt; come_back(rt.alloc(), 64, Mode::Differential)?);
-    Ok(())
-}
-
-#[test]
-fn logs_in_full_address_mode(rt: HostRuntime) -> Result<(), Fail> {
-    assert!(rt; come_back(rt.alloc(), 8, Mode::Full)?);
+fn logs_come_back(rt: HostRuntime) -> Result<(), Fail> {
+    for (harts, count, mode, version) in [
+        (64, 10_000, Mode::Differential, Version::One),
+        (8, 10_000, Mode::Full, Version::One),
+        (1, 10_000, Mode::Full, Version::Two),
+        (100, 33, Mode::Differential, Version::Two),
+        (1024, 100, Mode::Differential, Version::Two),
+        (1024, 0, Mode::Full, Version::Two),
+    ] {
+        assert!(rt;
+            come_back(rt.alloc(), harts, count, mode, version)?,
+            "{harts} {count}"
+        );
+    }
     Ok(())
 }
 
@@ -145,8 +169,8 @@ fn harts_in_turn(rt: HostRuntime) -> Result<(), Fail> {
     let program = Program::new(BASE, image_of(rt.alloc(), &WORDS)?)?;
     let logs = logs_of(rt.alloc(), &program, 2, 1_000)?;
     let alone = logs_of(rt.alloc(), &program, 1, 1_000)?;
-    let first = capture_of(rt.alloc(), &alone, 31, Mode::Full)?;
-    let both = capture_of(rt.alloc(), &logs, 31, Mode::Full)?;
+    let first = capture_of(rt.alloc(), &alone, 31, Mode::Full, Version::One)?;
+    let both = capture_of(rt.alloc(), &logs, 31, Mode::Full, Version::One)?;
     let mut in_turn = Vec::new(rt.alloc());
     let mut of_first = Messages::new(&first);
     let mut of_second = Messages::new(&both[first.len().min(both.len())..]);

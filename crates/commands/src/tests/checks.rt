@@ -142,12 +142,12 @@ fn tells_each_log(rt: HostRuntime) -> Result<(), Fail> {
     Ok(())
 }
 
-// 64 logs are the most; the count is told after the base and before the image.
+// 1,024 logs are the most; the count is told after the base and before the image.
 #[test]
 fn counts_the_logs(rt: HostRuntime) -> Result<(), Fail> {
     let mut logs = "".to_string(rt.alloc())?;
     let mut lines = "".to_string(rt.alloc())?;
-    for _ in 0..64 {
+    for _ in 0..1024 {
         logs.push_str(" log.csv")?;
         lines.push_str("log.csv: legal, 2 events\n")?;
     }
@@ -163,7 +163,7 @@ fn counts_the_logs(rt: HostRuntime) -> Result<(), Fail> {
             "80000000",
             "no.bin",
             "no.csv",
-            (2, "", "tracebench: more than 64 logs\n"),
+            (2, "", "tracebench: more than 1024 logs\n"),
         ),
         (
             "zz",

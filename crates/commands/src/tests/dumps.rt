@@ -29,6 +29,37 @@ fn dumps_a_capture(rt: HostRuntime) -> Result<(), Fail> {
     Ok(())
 }
 
+// The line of the header comes first, and its mode names the address field, whatever the messages tell.
+#[test]
+fn dumps_a_capture_with_a_header(rt: HostRuntime) -> Result<(), Fail> {
+    let messages = capture_of(
+        rt.alloc(),
+        &[
+            (0, 0, b"\x1f\x01"),
+            (0, 1, b"\x0a\0\0\0\0\0\0\0\xfc"),
+            (9, 7, b"\x1f"),
+        ],
+    )?;
+    for (settings, written) in [
+        (
+            b"\x00\x00\x04\x01\x00",
+            "capture 2 mode=diff period=1024 harts=1\n0 0 open full\n0 1 address diff=4 map=- updiscon\n9 7 open\n",
+        ),
+        (
+            b"\x01\xff\xff\x00\x04",
+            "capture 2 mode=full period=65535 harts=1024\n0 0 open full\n0 1 address addr=4 map=- updiscon\n9 7 open\n",
+        ),
+    ] {
+        let mut capture = Vec::from_slice(rt.alloc(), b"\xff\xffrvtrace2\0")?;
+        capture.extend_from_slice(settings)?;
+        capture.extend_from_slice(messages.as_slice())?;
+        let mut files = Table::new(rt.alloc());
+        files.add("log.capture", capture.as_slice())?;
+        ends(&rt, &mut files, DUMP, (0, written, ""))?;
+    }
+    Ok(())
+}
+
 // Messages are dumped as they stand, whatever their harts and numbers.
 #[test]
 fn dumps_each_kind(rt: HostRuntime) -> Result<(), Fail> {

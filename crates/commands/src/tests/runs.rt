@@ -251,27 +251,97 @@ fn encodes_harts(rt: HostRuntime) -> Result<(), Fail> {
     Ok(())
 }
 
-/// There are up to 64 harts.
+/// So many paths of an empty log.
+fn empty_logs(alloc: Global, count: u16) -> Result<String, AllocError> {
+    let mut logs = String::new(alloc);
+    for _ in 0..count {
+        logs.push_str(" none.csv")?;
+    }
+    Ok(logs)
+}
+
+/// There are up to 1,024 harts, and up to 64 where version 1 is asked for, also of the lines, which have no header.
 #[test]
-fn encodes_64_harts(rt: HostRuntime) -> Result<(), Fail> {
+fn encodes_the_most_harts(rt: HostRuntime) -> Result<(), Fail> {
     let mut files = Table::new(rt.alloc());
     files.add("image.bin", &NOP)?;
     files.add("none.csv", HEADER.as_bytes())?;
-    let mut logs = String::new(rt.alloc());
+    for (is_one, most, told) in [
+        (false, 1024u16, "tracebench: more than 1024 logs\n"),
+        (true, 64, "tracebench: more than 64 logs\n"),
+    ] {
+        let mut written = String::new(rt.alloc());
+        for hart in 0..most {
+            written.push_str(format!(in rt.alloc(); "{hart} 0 1f\n{hart} 1 cf00\n")?.as_str())?;
+        }
+        for (count, wanted) in [
+            (most, (0, written.as_str(), "")),
+            (most.saturating_add(1), (2, "", told)),
+        ] {
+            let logs = empty_logs(rt.alloc(), count)?;
+            let request = if is_one {
+                Request::HexOne("80000000", 1024, "image.bin", logs.as_str())
+            } else {
+                Request::Hex("80000000", 1024, "image.bin", logs.as_str())
+            };
+            ends(&rt, &mut files, request, wanted)?;
+        }
+        let logs = empty_logs(rt.alloc(), most.saturating_add(1))?;
+        let request = if is_one {
+            Request::EncodeOne("80000000", 1024, "no.bin", logs.as_str())
+        } else {
+            Request::Encode("80000000", 1024, "no.bin", logs.as_str())
+        };
+        ends(&rt, &mut files, request, (2, "", told))?;
+    }
+    Ok(())
+}
+
+/// Each of 1,024 harts sends its two messages, each of which is taken at once.
+#[test]
+fn replays_the_most_harts(rt: HostRuntime) -> Result<(), Fail> {
+    let mut files = Table::new(rt.alloc());
+    files.add("image.bin", &NOP)?;
+    files.add("none.csv", HEADER.as_bytes())?;
+    let mut turns = String::new(rt.alloc());
+    let mut written = String::new(rt.alloc());
+    for hart in 0..1024u16 {
+        turns.push_str(format!(in rt.alloc(); "{hart} c {hart} c\n")?.as_str())?;
+        written.push_str(format!(in rt.alloc();
+            "hart {hart}: 0 events, 2 packets, 3 payload bytes, decoded 0, whole\n"
+        )?.as_str())?;
+    }
+    written.push_str("result: whole\n")?;
+    files.add("turns.txt", turns.as_bytes())?;
+    let logs = empty_logs(rt.alloc(), 1024)?;
+    let request = Request::Replay("80000000", "image.bin", "turns.txt", logs.as_str());
+    ends(&rt, &mut files, request, (0, written.as_str(), ""))?;
+    let logs = empty_logs(rt.alloc(), 1025)?;
+    let request = Request::Replay("80000000", "image.bin", "turns.txt", logs.as_str());
+    let told = "tracebench: more than 1024 logs\n";
+    ends(&rt, &mut files, request, (2, "", told))?;
+    Ok(())
+}
+
+/// A run over threads has up to 64 harts; the count is told before the image.
+#[test]
+fn benches_64_harts(rt: HostRuntime) -> Result<(), Fail> {
+    let mut files = Table::new(rt.alloc());
+    files.add("image.bin", &NOP)?;
+    files.add("none.csv", HEADER.as_bytes())?;
     let mut written = String::new(rt.alloc());
     for hart in 0..64u16 {
-        logs.push_str(" none.csv")?;
-        written.push_str(format!(in rt.alloc(); "{hart} 0 1f\n{hart} 1 cf00\n")?.as_str())?;
+        written.push_str(format!(in rt.alloc();
+            "hart {hart}: 0 events, 2 packets, 3 payload bytes, decoded 0, whole\n"
+        )?.as_str())?;
     }
-    let request = Request::Hex("80000000", 1024, "image.bin", logs.as_str());
+    written.push_str("result: whole\n")?;
+    let logs = empty_logs(rt.alloc(), 64)?;
+    let request = Request::Bench("80000000", 16, "image.bin", logs.as_str());
     ends(&rt, &mut files, request, (0, written.as_str(), ""))?;
-    logs.push_str(" none.csv")?;
-    let request = Request::Hex("80000000", 1024, "image.bin", logs.as_str());
-    ends(
-        &rt,
-        &mut files,
-        request,
-        (2, "", "tracebench: more than 64 logs\n"),
-    )?;
+    let logs = empty_logs(rt.alloc(), 65)?;
+    let request = Request::Bench("80000000", 16, "no.bin", logs.as_str());
+    let told = "tracebench: more than 64 logs\n";
+    ends(&rt, &mut files, request, (2, "", told))?;
     Ok(())
 }

@@ -5,6 +5,7 @@ ghost use Rattle.commands.specs.Known.{content_in};
 ghost use Rattle.subcommands.specs.Limits.{IsWithinLimits};
 
 use crate::{FileFault, Files, carry_out, tell};
+use message::Version;
 use payload::Mode;
 use std::alloc::{AllocError, Global};
 use std::io::Write;
@@ -61,8 +62,14 @@ pub(super) enum Request<'a> {
     Check(&'a str, &'a str, &'a str),
     /// `encode` without `--hex`.
     Encode(&'a str, u16, &'a str, &'a str),
+    /// `encode --v1`.
+    EncodeOne(&'a str, u16, &'a str, &'a str),
+    /// `encode --full`.
+    EncodeFull(&'a str, u16, &'a str, &'a str),
     /// `encode --hex`.
     Hex(&'a str, u16, &'a str, &'a str),
+    /// `encode --v1 --hex`.
+    HexOne(&'a str, u16, &'a str, &'a str),
     /// `dump`.
     Dump(&'a str),
     /// `decode`.
@@ -82,12 +89,12 @@ fn parted(alloc: Global, text: &str) -> Result<Vec<&str>, AllocError> {
     Ok(parts)
 }
 
-/// The run of `encode` that is asked for.
+/// The run of `encode` that is asked for, in this form.
 fn encode_asked<'a>(
     alloc: Global,
     base: &'a str,
     period: u16,
-    hex: bool,
+    form: (Mode, Version, bool),
     files: (&'a str, &'a str),
 ) -> Result<Asked<'a>, AllocError>
     ensures { IfOk result IsWithinLimits }
@@ -95,8 +102,9 @@ fn encode_asked<'a>(
     Ok(Asked::Encode(Encode {
         base,
         period: period.max(1),
-        mode: Mode::Differential,
-        hex,
+        mode: form.0,
+        version: form.1,
+        hex: form.2,
         image: files.0,
         logs: parted(alloc, files.1)?,
     }))
@@ -113,15 +121,29 @@ fn asked_of<'a>(alloc: Global, request: Request<'a>) -> Result<Asked<'a>, AllocE
             logs: parted(alloc, logs)?,
         })),
         Request::Encode(base, period, image, logs) => {
-            encode_asked(alloc, base, period, false, (image, logs))
+            let form = (Mode::Differential, Version::Two, false);
+            encode_asked(alloc, base, period, form, (image, logs))
+        }
+        Request::EncodeOne(base, period, image, logs) => {
+            let form = (Mode::Differential, Version::One, false);
+            encode_asked(alloc, base, period, form, (image, logs))
+        }
+        Request::EncodeFull(base, period, image, logs) => {
+            let form = (Mode::Full, Version::Two, false);
+            encode_asked(alloc, base, period, form, (image, logs))
         }
         Request::Hex(base, period, image, logs) => {
-            encode_asked(alloc, base, period, true, (image, logs))
+            let form = (Mode::Differential, Version::Two, true);
+            encode_asked(alloc, base, period, form, (image, logs))
+        }
+        Request::HexOne(base, period, image, logs) => {
+            let form = (Mode::Differential, Version::One, true);
+            encode_asked(alloc, base, period, form, (image, logs))
         }
         Request::Dump(capture) => Ok(Asked::Dump(Dump { capture })),
         Request::Decode(base, harts, image, capture) => Ok(Asked::Decode(Decode {
             base,
-            harts: harts.clamp(1, 64),
+            harts: harts.clamp(1, 1024),
             image,
             capture,
         })),

@@ -15,6 +15,9 @@ const WHOLE: [u8; 52] = [
     0x00, 0x00, 0x03, 0x00, 0x00, 0x00, 0x00, 0x00, 0x00, 0x00, 0x01, 0x4f,
 ];
 
+/// The header of the same capture of version 2, at a period of 1024 and with differences.
+const START: [u8; 16] = *b"\xff\xffrvtrace2\0\0\x00\x04\x01\x00";
+
 /// What is decoded of it, and of its first two messages.
 const BOTH: &str = "hart 0\naddr,itype,priv,cause,tval\n80000000,0,3,,\n80000004,0,3,,\n";
 
@@ -40,9 +43,119 @@ fn writes_a_capture(rt: HostRuntime) -> Result<(), Fail> {
         "log.csv",
         b"addr,itype,priv,cause,tval\n80000000,0,3,,\n80000004,0,3,,\n",
     )?;
-    let request = Request::Encode("80000000", 1024, "image.bin", "log.csv");
+    let request = Request::EncodeOne("80000000", 1024, "image.bin", "log.csv");
     let capture = writes(&rt, &mut files, request, 0, "")?;
     assert!(rt; capture.as_slice() == WHOLE.as_slice());
+    let request = Request::Encode("80000000", 1024, "image.bin", "log.csv");
+    let capture = writes(&rt, &mut files, request, 0, "")?;
+    assert!(rt; capture.as_slice() == headed(rt.alloc(), &START, &WHOLE)?.as_slice());
+    Ok(())
+}
+
+/// A header and messages.
+fn headed(alloc: Global, start: &[u8], messages: &[u8]) -> Result<Vec<u8>, AllocError> {
+    let mut capture = Vec::from_slice(alloc, start)?;
+    capture.extend_from_slice(messages)?;
+    Ok(capture)
+}
+
+// The capture of version 2, of 68 bytes, cut to each length: below 11 bytes it is no capture of version 2, and then a
+// cut header is told, as message 0.
+#[test]
+fn reads_cut_captures_with_a_header(rt: HostRuntime) -> Result<(), Fail> {
+    let capture = headed(rt.alloc(), &START, &WHOLE)?;
+    for length in 0..69usize {
+        let (whole, clean) = match length {
+            0 | 16 => (0, true),
+            1..=15 | 17..=27 => (0, false),
+            28 => (1, true),
+            29..=43 => (1, false),
+            44 => (2, true),
+            45..=55 => (2, false),
+            56 => (3, true),
+            57..=67 => (3, false),
+            _ => (4, true),
+        };
+        let written = match whole {
+            0 | 1 => NONE,
+            2 | 3 => FIRST,
+            _ => BOTH,
+        };
+        let told = if whole == 4 {
+            "".to_string(rt.alloc())?
+        } else if clean {
+            "tracebench: hart 0: no closing packet\n".to_string(rt.alloc())?
+        } else {
+            format!(in rt.alloc();
+                "tracebench: message {whole}: the capture ends inside a message\n"
+            )?
+        };
+        let status = if whole == 4 { 0 } else { 1 };
+        let mut files = files_of(
+            rt.alloc(),
+            NOPS,
+            &capture.as_slice()[..length.min(capture.len())],
+        )?;
+        ends(&rt, &mut files, DECODE, (status, written, told.as_str()))?;
+    }
+    Ok(())
+}
+
+// A header that is not valid is told, and so is a message that opens a trace in another mode.
+#[test]
+fn names_faults_of_a_header(rt: HostRuntime) -> Result<(), Fail> {
+    let header = "tracebench: capture header is not valid\n";
+    let other = "tracebench: message 0: open of another mode\n";
+    let cases: [(usize, u8, &str, &str); 6] = [
+        (11, 2, header, ""),
+        (11, 255, header, ""),
+        (13, 0, header, ""),
+        (14, 0, header, ""),
+        (15, 5, header, ""),
+        (
+            11,
+            1,
+            other,
+            "capture 2 mode=full period=1024 harts=1\n0 0 open\n\
+             0 1 sync addr=80000000 priv=3 branch=1\n0 2 address addr=4 map=- plain\n0 3 close ended_rep\n",
+        ),
+    ];
+    for (place, byte, told, dumped) in cases {
+        let mut capture = headed(rt.alloc(), &START, &WHOLE)?;
+        if place < capture.len() {
+            capture.as_mut_slice()[place] = byte;
+        }
+        let mut files = files_of(rt.alloc(), NOPS, capture.as_slice())?;
+        ends(&rt, &mut files, DECODE, (1, NONE, told))?;
+        let request = Request::Dump("log.capture");
+        let (status, told) = if dumped.is_empty() {
+            (1, header)
+        } else {
+            (0, "")
+        };
+        ends(&rt, &mut files, request, (status, dumped, told))?;
+    }
+    Ok(())
+}
+
+// The header tells how many harts there are, whatever the words say; of a faulty one the words do.
+#[test]
+fn counts_the_harts_of_a_header(rt: HostRuntime) -> Result<(), Fail> {
+    let mut start = START;
+    let lists = "hart 0\naddr,itype,priv,cause,tval\n80000000,0,3,,\n80000004,0,3,,\n\
+        hart 1\naddr,itype,priv,cause,tval\n";
+    let none = "hart 0\naddr,itype,priv,cause,tval\nhart 1\naddr,itype,priv,cause,tval\n\
+        hart 2\naddr,itype,priv,cause,tval\n";
+    let request = Request::Decode("80000000", 3, "image.bin", "log.capture");
+    for (harts, written, told) in [
+        (2u8, lists, "tracebench: hart 1: no closing packet\n"),
+        (0, none, "tracebench: capture header is not valid\n"),
+    ] {
+        start[14] = harts;
+        let capture = headed(rt.alloc(), &start, &WHOLE)?;
+        let mut files = files_of(rt.alloc(), NOPS, capture.as_slice())?;
+        ends(&rt, &mut files, request, (1, written, told))?;
+    }
     Ok(())
 }
 
@@ -190,23 +303,23 @@ fn parts_harts(rt: HostRuntime) -> Result<(), Fail> {
     Ok(())
 }
 
-// A capture of 64 harts, none of which retired anything, and the one of the same harts that ends
+// A capture of 1,024 harts with no header, none of which retired anything, and the one of the same harts that ends
 // before the last closing packet.
 #[test]
-fn decodes_64_harts(rt: HostRuntime) -> Result<(), Fail> {
+fn decodes_the_most_harts(rt: HostRuntime) -> Result<(), Fail> {
     let mut capture = Vec::new(rt.alloc());
     let mut written = String::new(rt.alloc());
-    for hart in 0..64u16 {
+    for hart in 0..1024u16 {
         add_message(&mut capture, hart, 0, b"\x1f")?;
         add_message(&mut capture, hart, 1, b"\xcf\0")?;
         written.push_str(format!(in rt.alloc(); "hart {hart}\n{HEADER}")?.as_str())?;
     }
-    let request = Request::Decode("80000000", 64, "image.bin", "log.capture");
+    let request = Request::Decode("80000000", 1024, "image.bin", "log.capture");
     let mut files = files_of(rt.alloc(), &NOP, capture.as_slice())?;
     ends(&rt, &mut files, request, (0, written.as_str(), ""))?;
     capture.truncate(capture.len().saturating_sub(13));
     let mut files = files_of(rt.alloc(), &NOP, capture.as_slice())?;
-    let told = "tracebench: hart 63: no closing packet\n";
+    let told = "tracebench: hart 1023: no closing packet\n";
     ends(&rt, &mut files, request, (1, written.as_str(), told))?;
     Ok(())
 }

@@ -1,11 +1,12 @@
 -- What a decoder plans to do with a packet.
-use Rattle.std.specs.Prelude.{◌≡◌, ℕ, true, List, [], Option, Some, None, is_some, Result, Ok, Err}
+use Rattle.std.specs.Prelude.{◌≡◌, ℕ, Bool, true, false, List, [], Option, Some, None, is_some, Result, Ok, Err}
 use Rattle.std.specs.List.{last_or}
 use Rattle.retire.specs.declared.event.Event.{Event}
 use Rattle.rvclass.specs.Words.{Words}
 use Rattle.legalpath.specs.LastPlace.{last_place}
 use Rattle.legalpath.specs.Legal.{FollowOn}
 use Rattle.payload.specs.AddressField.{aim}
+use Rattle.payload.specs.Closing.{is_closing_packet}
 use Rattle.payload.specs.declared.mode.Mode.{Mode}
 use Rattle.payload.specs.declared.packet.Packet.{Packet}
 use Rattle.payload.specs.declared.packet.Packet.TheVariants as packet
@@ -17,7 +18,7 @@ use Rattle.decoder.specs.Settling.{settled_by}
 use Rattle.decoder.specs.Stands.{phase_after, waiting_after}
 use Rattle.decoder.specs.declared.decoding.Decoder.{Decoder}
 use Rattle.decoder.specs.declared.decoding.Phase.{Phase}
-use Rattle.decoder.specs.declared.decoding.Phase.TheVariants.{Unopened, Running, Closed}
+use Rattle.decoder.specs.declared.decoding.Phase.TheVariants.{Unopened, Running, PassingOver, Closed}
 use Rattle.decoder.specs.declared.fault.DecodeFault.{DecodeFault}
 use Rattle.decoder.specs.declared.fault.DecodeFault.TheVariants.{NotOpened, AfterClose}
 use Rattle.decoder.specs.declared.stretch.Stretch.{Stretch}
@@ -38,6 +39,7 @@ admitted_first other = Err NotOpened
 abbrev pub admitted : Phase → Packet → Result Unit DecodeFault
 admitted Unopened packet = admitted_first packet
 admitted Running packet = Ok tt
+admitted PassingOver packet = Ok tt
 admitted Closed packet = Err AfterClose
 
 -- These are the events of what waits, if anything does, before this packet, in this mode.
@@ -72,12 +74,28 @@ abbrev pub mode_past : Packet → Mode → Mode
 mode_past (packet.Support (support.Open told)) mode = told
 mode_past other mode = mode
 
+-- What the packet told that opened the trace, after the packet: the mode that this one tells, where it opens the trace,
+-- or else what was told before.
+abbrev pub told_past : Packet → Option Mode → Option Mode
+told_past (packet.Support (support.Open told)) before = Some told
+told_past other before = before
+
+-- The phase after a packet that is passed over, which closes the trace where this says so.
+abbrev pub passing_or_closed : Bool → Phase → Phase
+passing_or_closed true phase = Closed
+passing_or_closed false phase = phase
+
+-- The decoder after a packet that is passed over.
+abbrev pub passed_over : Decoder → Packet → Decoder
+passed_over decoder packet = record decoder { phase = passing_or_closed (is_closing_packet packet) decoder.phase }
+
 -- The decoder after the packet, with these stretches.
 abbrev pub decoder_after : Decoder → Packet → Stretch → Stretch → Decoder
 decoder_after decoder packet settled own = record {
   phase = phase_after (Some packet);
   waiting = waiting_after (Some packet);
   mode = mode_past packet decoder.mode;
+  told = told_past packet decoder.told;
   last = stretch_last (stretch_last decoder.last settled) own;
   reported =
       reported_past packet (stretch_place decoder.reported settled)

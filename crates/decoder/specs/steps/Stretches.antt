@@ -11,6 +11,9 @@ use Rattle.decoder.specs.steps.Walks.{event_of, end_of, IsHere, WalksOn}
 use Rattle.decoder.specs.declared.fault.DecodeFault.{DecodeFault}
 use Rattle.decoder.specs.declared.stretch.Stretch.{Stretch}
 use Rattle.decoder.specs.declared.stretch.Stretch.TheVariants.{Nothing, One, Two, Walk}
+use Rattle.decoder.specs.declared.walking.Progress.{Progress}
+use Rattle.decoder.specs.declared.walking.Progress.TheVariants.{Written, Pending}
+use Rattle.decoder.specs.steps.WritingAsFound.{AddsAs}
 
 -- How many events the stretch has.
 abbrev pub stretch_count : Stretch → ℕ
@@ -32,6 +35,22 @@ stretch_place at Nothing = at
 stretch_place at (One event) = place event
 stretch_place at (Two trap event) = place event
 stretch_place at (Walk walk) = place walk.walked.last
+
+-- Whether the events of the stretch are in the list.
+abbrev pub stretch_progress : Stretch → Progress
+stretch_progress Nothing = Written
+stretch_progress (One event) = Pending
+stretch_progress (Two trap event) = Pending
+stretch_progress (Walk walk) = walk.walked.progress
+
+-- The stretch where it is to be written, or else nothing.
+abbrev pub if_pending : Progress → Stretch → Stretch
+if_pending Written stretch = Nothing
+if_pending Pending stretch = stretch
+
+-- What of the stretch is to be written.
+abbrev pub left_of : Stretch → Stretch
+left_of stretch = if_pending (stretch_progress stretch) stretch
 
 -- These are the events of the stretch.
 abbrev pub Gives : Words → Stretch → List Event → Type 0
@@ -72,3 +91,16 @@ HasRoomFor words stretch len capacity =
 -- The events of the stretch were added.
 abbrev pub AddsStretch : Words → Stretch → List Event → List Event → Type 0
 AddsStretch words stretch old new = (events : List Event) → Gives words stretch events → new ≡ old ++ events
+
+-- A walk that is written was added, and only where what stands before it is in the list; of any other stretch nothing
+-- was added.
+abbrev pub AddsSoFar : Words → Progress → Stretch → List Event → List Event → Type 0
+AddsSoFar words ahead (Walk walk) old new =
+    AddsAs ahead walk.walked.progress (AddsStretch words (Walk walk) old new) (new ≡ old)
+AddsSoFar words ahead other old new = new ≡ old
+
+-- Of two stretches, one behind the other, what is written was added.
+abbrev pub AddsBoth : Words → Stretch → Stretch → List Event → List Event → Type 0
+AddsBoth words first second old new =
+    (between : List Event) × AddsSoFar words Written first old between ×
+    AddsSoFar words (stretch_progress first) second between new

@@ -2,8 +2,8 @@
 
 use super::{
     BACK_JUMP, BACK_JUMP_TWICE, BASE, BEQ, BRANCH_LOOP, ECALL, ENDED_NTR, ENDED_REP, JUMP_LOOP,
-    MRET, NOP, OPEN, RET, SRET, address, fed, full_map, notify, plain, program_of, start, sync,
-    trap_packet, updiscon,
+    MRET, NOP, OPEN, OPEN_FULL, RET, SRET, address, fed, full_map, notify, plain, program_of,
+    start, sync, trap_packet, updiscon,
 };
 use crate::DecodeFault::{
     AfterClose, Branches, MissedNotify, NotOpened, OffProgram, WrongPlace, WrongPrivilege,
@@ -144,6 +144,7 @@ fn wrong_place_by_the_kind(rt: HostRuntime) -> Result<(), Fail> {
     let alloc = rt.alloc();
     refuses(alloc, &[NOP], &[OPEN], OPEN, WrongPlace)?;
     refuses(alloc, &[NOP], &[OPEN, start()], OPEN, WrongPlace)?;
+    refuses(alloc, &[NOP], &[OPEN, start()], OPEN_FULL, WrongPlace)?;
     refuses(alloc, &[NOP], &[OPEN], plain(0), WrongPlace)?;
     refuses(alloc, &[NOP], &[OPEN], full_map(), WrongPlace)?;
     refuses(

@@ -59,6 +59,79 @@ fn messages_by_table(rt: HostRuntime) -> Result<(), Fail> {
 }
 
 #[test]
+fn messages_after_losses_by_table(rt: HostRuntime) -> Result<(), Fail> {
+    const FAR: u64 = 1 << 63;
+    // In order: hart, number, payload, how many were missed or why it is not accepted.
+    let table: [(u16, u64, &[u8], Result<u64, DemuxFault>); 22] = [
+        (2, 0, OPEN, Err(DemuxFault::Stranger)),
+        (65535, FAR, RESERVED, Err(DemuxFault::Stranger)),
+        (0, FAR, OPEN, Err(DemuxFault::Gap { expected: 0 })),
+        (0, u64::MAX, RESERVED, Err(DemuxFault::Gap { expected: 0 })),
+        (0, 0, OPEN, Ok(0)),
+        (0, 0, OPEN, Err(DemuxFault::Repeat)),
+        (0, 1, SYNC, Ok(0)),
+        (0, 1, SYNC, Err(DemuxFault::Repeat)),
+        (
+            0,
+            5,
+            RESERVED,
+            Err(DemuxFault::Packet(PackFault::BadPrivilege)),
+        ),
+        (0, 0, RESERVED, Err(DemuxFault::Repeat)),
+        (0, 3, MAP, Ok(1)),
+        (0, 2, SYNC, Err(DemuxFault::Repeat)),
+        (0, 8, SYNC, Ok(4)),
+        (0, FAR, ENDED, Err(DemuxFault::Gap { expected: 9 })),
+        (0, 9, ENDED, Ok(0)),
+        (0, 10, ENDED, Err(DemuxFault::AfterClose)),
+        (0, 9, ENDED, Err(DemuxFault::AfterClose)),
+        (0, FAR, RESERVED, Err(DemuxFault::AfterClose)),
+        (1, FAR - 1, SYNC, Ok(FAR - 1)),
+        (1, FAR, ENDED, Err(DemuxFault::AfterClose)),
+        (1, FAR - 1, SYNC, Err(DemuxFault::AfterClose)),
+        (1, 0, RESERVED, Err(DemuxFault::AfterClose)),
+    ];
+    let mut demux = Demux::new(rt.alloc(), 2)?;
+    for (row, (hart, number, bytes, answer)) in table.into_iter().enumerate() {
+        let message = message(hart, number, bytes)?;
+        match answer {
+            Ok(missed) => {
+                let packet = payload::unpack(bytes)?;
+                assert_eq!(rt;
+                    demux.accept_lossy(&message),
+                    Ok((packet, missed)),
+                    "row {row}"
+                );
+            }
+            Err(fault) => assert_eq!(rt; demux.accept_lossy(&message), Err(fault), "row {row}"),
+        }
+        assert_eq!(rt; demux.is_closed(0), row >= 14, "row {row}");
+        assert!(rt; !demux.is_closed(1) && !demux.is_closed(2));
+    }
+    assert_eq!(rt;
+        demux.accept(&message(1, FAR, OPEN)?),
+        Err(DemuxFault::AfterClose)
+    );
+    Ok(())
+}
+
+// Without losses both calls answer the same, and one may be called after the other.
+#[test]
+fn next_messages_of_both_calls(rt: HostRuntime) -> Result<(), Fail> {
+    let mut demux = Demux::new(rt.alloc(), 1)?;
+    let open = Packet::Support(Support::Open(Mode::Differential));
+    assert_eq!(rt; demux.accept(&message(0, 0, OPEN)?), Ok(open));
+    assert_eq!(rt; demux.accept_lossy(&message(0, 2, OPEN)?), Ok((open, 1)));
+    assert_eq!(rt;
+        demux.accept(&message(0, 2, OPEN)?),
+        Err(DemuxFault::Repeat)
+    );
+    assert_eq!(rt; demux.accept(&message(0, 3, OPEN)?), Ok(open));
+    assert_eq!(rt; demux.accept_lossy(&message(0, 4, OPEN)?), Ok((open, 0)));
+    Ok(())
+}
+
+#[test]
 fn no_more_than_2_to_the_63(rt: HostRuntime) -> Result<(), Fail> {
     let last = (1 << 63) - 1;
     let mut hart = Hart {

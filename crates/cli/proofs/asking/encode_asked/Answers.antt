@@ -11,6 +11,7 @@ returns c =
       c.text.ensures ∙ ap none_or (first_value-rows given (codes "base")),
       c.period.ensures,
       c.mode.ensures,
+      c.version.ensures,
       c.flag.ensures,
       c.text-2.ensures ∙ ap none_or (first_value-rows given (codes "IMAGE")),
       c.in_ok-texts.ensures,

@@ -14,7 +14,7 @@ returns c =
       (λ text value tells.
           let reads = c.get_one.ensures.value text (one_text-rows given (codes "harts") ∙ value) in
           let told = c.unwrap_or.ensures
-          ∙ read_as_told 16 (λ t r. ExplainsUnsignedError 10 t r) (λ t r. HasUnsignedDigitsIfOk t r) 64 text c.get_one.result 1
+          ∙ read_as_told 16 (λ t r. ExplainsUnsignedError 10 t r) (λ t r. HasUnsignedDigitsIfOk t r) 1024 text c.get_one.result 1
           (omega arith) reads tells in
           omega (arith, is, told, tells.1, tells.2)),
     )

@@ -10,6 +10,7 @@ returns c =
     let bare : HasGrammar (new_app (codes "encode")) c.about.result =
     (ap app_of_fields c.about.ensures ∙ c.new.ensures.app, ap (λ f. f.has_globals) c.about.ensures ∙ c.new.ensures.local) in
     adds_rule _ _ _ _ _ (adds_rule _ _ _ _ _ (adds_rule _ _ _ _ _ (adds_rule _ _ _ _ _ (adds_rule _ _ _ _ _
-    (adds_rule _ _ _ _ _ bare c.base.ensures c.in_ok-arg.ensures) c.period.ensures c.in_ok-arg-2.ensures)
-    c.full.ensures c.in_ok-arg-3.ensures) c.hex.ensures c.in_ok-arg-4.ensures)
-    c.image.ensures c.in_ok-arg-5.ensures) c.logs.ensures c.in_ok-command.ensures
+    (adds_rule _ _ _ _ _ (adds_rule _ _ _ _ _ bare c.base.ensures c.in_ok-arg.ensures)
+    c.period.ensures c.in_ok-arg-2.ensures) c.full.ensures c.in_ok-arg-3.ensures)
+    c.version_one.ensures c.in_ok-arg-4.ensures) c.hex.ensures c.in_ok-arg-5.ensures)
+    c.image.ensures c.in_ok-arg-6.ensures) c.logs.ensures c.in_ok-command.ensures

@@ -9,6 +9,7 @@ use Rattle.bench.specs.Got.{got_of}
 use Rattle.bench.specs.Beginnings.{AreBeginnings}
 use Rattle.bench.specs.Report.{is_whole, report_text}
 use Rattle.subcommands.specs.declared.words.Bench.{Bench}
+use Rattle.funnel.specs.Limits.{most_ports}
 use Rattle.commands.specs.Found.{AreLegalLogs}
 use Rattle.commands.specs.Inputs.{CanBench}
 use Rattle.commands.specs.Printed.{First, Printed, PrintsUnlessDenied, silent}
@@ -23,7 +24,7 @@ use Rattle.commands.proofs.benching.bench.Goals as goal
 -- What is printed once the logs are found legal.
 abbrev Reports : Bench → List ProgramLog → Printed → Type 0
 Reports asked logs =
-    First (IsSetting (length asked.logs.items) (config_at asked.period asked.mode asked.capacity)) (λ _.
+    First (IsSetting most_ports (length asked.logs.items) (config_at asked.period asked.mode asked.capacity)) (λ _.
     WritesOutcome (config_at asked.period asked.mode asked.capacity) logs)
 
 pub returns-in_err-counted-clause-printed : goal.returns-in_err-counted-clause-printed
@@ -31,7 +32,7 @@ returns-in_err-counted-clause-printed g c =
     let content = g.F.Files.content c.args.files.now in
     let asked = c.args.asked.now in
     let is : c.from_residual-in_err-counted.result ≡ Err c.in_err-counted.field-0.0 = grind (arith, common_steps) in
-    count_ends content asked.base.now asked.image asked.logs.items c.as_slice.result.now (CanBench content asked)
+    count_ends content most_ports asked.base.now asked.image asked.logs.items c.as_slice.result.now (CanBench content asked)
     (g.O.Write.contents c.args.out.now) c.in_ok-base.base c.in_err-counted.field-0.0 c.from_residual-in_err-counted.result
     c.in_ok-base.ensures.found c.as_slice.ensures.value is
     (λ _ program. First (AreLegalLogs content program asked.logs.items) (Reports asked))
@@ -42,7 +43,7 @@ returns-in_err-program-clause-printed g c =
     let content = g.F.Files.content c.args.files.now in
     let asked = c.args.asked.now in
     let is : c.from_residual-in_err-program.result ≡ Err c.in_err-program.field-0.0 = grind (arith, common_steps) in
-    program_ends content asked.base.now asked.image asked.logs.items c.as_slice.result.now (CanBench content asked)
+    program_ends content most_ports asked.base.now asked.image asked.logs.items c.as_slice.result.now (CanBench content asked)
     (g.O.Write.contents c.args.out.now) c.in_ok-base.base c.in_err-program.field-0.0 c.from_residual-in_err-program.result
     c.in_ok-base.ensures.found c.as_slice.ensures.value is c.in_ok-counted.field-0 c.in_ok-counted.ensures.found
     (λ _ program. First (AreLegalLogs content program asked.logs.items) (Reports asked))
@@ -53,7 +54,7 @@ returns-in_err-legal-clause-printed g c =
     let content = g.F.Files.content c.args.files.now in
     let asked = c.args.asked.now in
     let is : c.from_residual-in_err-legal.result ≡ Err c.in_err-legal.field-0.0 = grind (arith, common_steps) in
-    logs_end content asked.base.now asked.image asked.logs.items c.as_slice.result.now (CanBench content asked)
+    logs_end content most_ports asked.base.now asked.image asked.logs.items c.as_slice.result.now (CanBench content asked)
     (g.O.Write.contents c.args.out.now) c.in_ok-base.base c.in_err-legal.field-0.0 c.from_residual-in_err-legal.result
     c.in_ok-base.ensures.found c.as_slice.ensures.value is c.in_ok-counted.field-0 c.in_ok-counted.ensures.found
     (Reports asked)
@@ -71,7 +72,7 @@ returns-in_err-outcome-clause-printed g c =
     let logs = c.in_ok-legal.legal.items in
     let why = c.in_err-outcome.field-0.0 in
     let is : c.from_residual-in_err-outcome.result ≡ Err why = grind (arith, common_steps) in
-    let goes_on = logs_found content (g.F.Files.content c.program_of.new.files) asked.base.now asked.image
+    let goes_on = logs_found content (g.F.Files.content c.program_of.new.files) most_ports asked.base.now asked.image
     asked.logs.items c.as_slice.result.now c.as_slice-2.result.now c.in_ok-base.base c.in_ok-program.program
     c.in_ok-counted.field-0 logs c.in_ok-base.ensures.found c.as_slice.ensures.value c.in_ok-counted.ensures.found
     c.in_ok-program.ensures.program c.in_ok-program.ensures.kept c.as_slice-2.ensures.value
@@ -79,11 +80,11 @@ returns-in_err-outcome-clause-printed g c =
     let paths = ap length c.as_slice-2.ensures.value in
     let count : length logs ≡ length asked.logs.items =
     omega (arith, c.in_ok-legal.legal.ok.0, c.in_ok-legal.ensures.count, paths) in
-    let stands = subst (λ harts. (why ≡ fault.Memory) ⊎ IsSetting harts config (Err why)) count
-    (subst (λ logs. (why ≡ fault.Memory) ⊎ IsSetting (length logs) config (Err why)) c.as_slice-3.ensures.value
+    let stands = subst (λ harts. (why ≡ fault.Memory) ⊎ IsSetting most_ports harts config (Err why)) count
+    (subst (λ logs. (why ≡ fault.Memory) ⊎ IsSetting most_ports (length logs) config (Err why)) c.as_slice-3.ensures.value
     c.in_err-outcome.ensures.fault) in
     subst (λ r. PrintsUnlessDenied run can r out out) (sym is)
-    (ends_silently run can (IsSetting (length asked.logs.items) config (Err why)) why out stands
+    (ends_silently run can (IsSetting most_ports (length asked.logs.items) config (Err why)) why out stands
     (λ none. goes_on (Reports asked) (silent why) (Err why, none, refl)))
 
 pub returns-clause-printed : goal.returns-clause-printed
@@ -95,7 +96,7 @@ returns-clause-printed g c =
     let logs = c.in_ok-legal.legal.items in
     let outcome = c.in_ok-outcome.outcome in
     let gots = map got_of outcome.harts.items in
-    let goes_on = logs_found content (g.F.Files.content c.program_of.new.files) asked.base.now asked.image
+    let goes_on = logs_found content (g.F.Files.content c.program_of.new.files) most_ports asked.base.now asked.image
     asked.logs.items c.as_slice.result.now c.as_slice-2.result.now c.in_ok-base.base c.in_ok-program.program
     c.in_ok-counted.field-0 logs c.in_ok-base.ensures.found c.as_slice.ensures.value c.in_ok-counted.ensures.found
     c.in_ok-program.ensures.program c.in_ok-program.ensures.kept c.as_slice-2.ensures.value
@@ -103,8 +104,8 @@ returns-clause-printed g c =
     let paths = ap length c.as_slice-2.ensures.value in
     let count : length logs ≡ length asked.logs.items =
     omega (arith, c.in_ok-legal.legal.ok.0, c.in_ok-legal.ensures.count, paths) in
-    let stands = subst (λ harts. IsSetting harts config (Ok tt)) count
-    (subst (λ logs. IsSetting (length logs) config (Ok tt)) c.as_slice-3.ensures.value c.in_ok-outcome.ensures.setting) in
+    let stands = subst (λ harts. IsSetting most_ports harts config (Ok tt)) count
+    (subst (λ logs. IsSetting most_ports (length logs) config (Ok tt)) c.as_slice-3.ensures.value c.in_ok-outcome.ensures.setting) in
     let came = subst (λ logs. AreBeginnings config logs outcome.harts.items) c.as_slice-3.ensures.value
     c.in_ok-outcome.ensures.came in
     let text = subst (λ logs. Appends (contents c.args.out.now) (contents c.write_report.new.out) (report_text outcome.stop gots logs))
@@ -137,7 +138,7 @@ returns-in_err-write_report-clause-cut g c =
     let logs = c.in_ok-legal.legal.items in
     let outcome = c.in_ok-outcome.outcome in
     let gots = map got_of outcome.harts.items in
-    let goes_on = logs_found content (g.F.Files.content c.program_of.new.files) asked.base.now asked.image
+    let goes_on = logs_found content (g.F.Files.content c.program_of.new.files) most_ports asked.base.now asked.image
     asked.logs.items c.as_slice.result.now c.as_slice-2.result.now c.in_ok-base.base c.in_ok-program.program
     c.in_ok-counted.field-0 logs c.in_ok-base.ensures.found c.as_slice.ensures.value c.in_ok-counted.ensures.found
     c.in_ok-program.ensures.program c.in_ok-program.ensures.kept c.as_slice-2.ensures.value
@@ -145,8 +146,8 @@ returns-in_err-write_report-clause-cut g c =
     let paths = ap length c.as_slice-2.ensures.value in
     let count : length logs ≡ length asked.logs.items =
     omega (arith, c.in_ok-legal.legal.ok.0, c.in_ok-legal.ensures.count, paths) in
-    let stands = subst (λ harts. IsSetting harts config (Ok tt)) count
-    (subst (λ logs. IsSetting (length logs) config (Ok tt)) c.as_slice-3.ensures.value c.in_ok-outcome.ensures.setting) in
+    let stands = subst (λ harts. IsSetting most_ports harts config (Ok tt)) count
+    (subst (λ logs. IsSetting most_ports (length logs) config (Ok tt)) c.as_slice-3.ensures.value c.in_ok-outcome.ensures.setting) in
     let came = subst (λ logs. AreBeginnings config logs outcome.harts.items) c.as_slice-3.ensures.value
     c.in_ok-outcome.ensures.came in
     let text = report_text outcome.stop gots logs in
@@ -180,7 +181,7 @@ returns-in_err-map_err-clause-cut g c =
     let logs = c.in_ok-legal.legal.items in
     let outcome = c.in_ok-outcome.outcome in
     let gots = map got_of outcome.harts.items in
-    let goes_on = logs_found content (g.F.Files.content c.program_of.new.files) asked.base.now asked.image
+    let goes_on = logs_found content (g.F.Files.content c.program_of.new.files) most_ports asked.base.now asked.image
     asked.logs.items c.as_slice.result.now c.as_slice-2.result.now c.in_ok-base.base c.in_ok-program.program
     c.in_ok-counted.field-0 logs c.in_ok-base.ensures.found c.as_slice.ensures.value c.in_ok-counted.ensures.found
     c.in_ok-program.ensures.program c.in_ok-program.ensures.kept c.as_slice-2.ensures.value
@@ -188,8 +189,8 @@ returns-in_err-map_err-clause-cut g c =
     let paths = ap length c.as_slice-2.ensures.value in
     let count : length logs ≡ length asked.logs.items =
     omega (arith, c.in_ok-legal.legal.ok.0, c.in_ok-legal.ensures.count, paths) in
-    let stands = subst (λ harts. IsSetting harts config (Ok tt)) count
-    (subst (λ logs. IsSetting (length logs) config (Ok tt)) c.as_slice-3.ensures.value c.in_ok-outcome.ensures.setting) in
+    let stands = subst (λ harts. IsSetting most_ports harts config (Ok tt)) count
+    (subst (λ logs. IsSetting most_ports (length logs) config (Ok tt)) c.as_slice-3.ensures.value c.in_ok-outcome.ensures.setting) in
     let came = subst (λ logs. AreBeginnings config logs outcome.harts.items) c.as_slice-3.ensures.value
     c.in_ok-outcome.ensures.came in
     let text = report_text outcome.stop gots logs in

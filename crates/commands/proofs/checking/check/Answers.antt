@@ -2,6 +2,8 @@
 use Rattle.std.proofs.Common.{◌≡◌, inr, subst, arith, Ok, Err}
 use Rattle.std.proofs.lemmas.Grind.{common_steps}
 use Rattle.std.specs.Prelude.{⊤}
+use Rattle.message.specs.Version.{most_harts}
+use Rattle.message.specs.declared.header.Version.TheVariants.{Two}
 use Rattle.commands.specs.Begun.{AppendsFirstLines, BeginsPrinted, ChecksFirst, WritesFirstLines}
 use Rattle.commands.specs.Checking.{Checks, WritesLines}
 use Rattle.commands.specs.Found.{AreFew}
@@ -17,7 +19,7 @@ returns-in_err-counted-clause-printed g c =
     let content = g.F.Files.content c.args.files.now in
     let asked = c.args.asked.now in
     let is : c.from_residual-in_err-counted.result ≡ Err c.in_err-counted.field-0.0 = grind (arith, common_steps) in
-    count_ends content asked.base.now asked.image asked.logs.items c.as_slice.result.now (CanCheck content asked)
+    count_ends content (most_harts Two) asked.base.now asked.image asked.logs.items c.as_slice.result.now (CanCheck content asked)
     (g.O.Write.contents c.args.out.now) c.in_ok-base.base c.in_err-counted.field-0.0 c.from_residual-in_err-counted.result
     c.in_ok-base.ensures.found c.as_slice.ensures.value is
     (λ _ program. WritesLines content program asked.logs.items)
@@ -28,7 +30,7 @@ returns-in_err-program-clause-printed g c =
     let content = g.F.Files.content c.args.files.now in
     let asked = c.args.asked.now in
     let is : c.from_residual-in_err-program.result ≡ Err c.in_err-program.field-0.0 = grind (arith, common_steps) in
-    program_ends content asked.base.now asked.image asked.logs.items c.as_slice.result.now (CanCheck content asked)
+    program_ends content (most_harts Two) asked.base.now asked.image asked.logs.items c.as_slice.result.now (CanCheck content asked)
     (g.O.Write.contents c.args.out.now) c.in_ok-base.base c.in_err-program.field-0.0 c.from_residual-in_err-program.result
     c.in_ok-base.ensures.found c.as_slice.ensures.value is c.in_ok-counted.field-0 c.in_ok-counted.ensures.found
     (λ _ program. WritesLines content program asked.logs.items)
@@ -41,7 +43,7 @@ returns-clause-printed g c =
     let content = g.F.Files.content c.args.files.now in
     let program = c.in_ok-program.program in
     let counted = Ok c.in_ok-counted.field-0 in
-    let few = subst (λ logs. AreFew logs counted) c.as_slice.ensures.value c.in_ok-counted.ensures.found in
+    let few = subst (λ logs. AreFew (most_harts Two) logs counted) c.as_slice.ensures.value c.in_ok-counted.ensures.found in
     let ended = c.judge_all-ended.result in
     let mid = contents c.judge_all-ended.new.out in
     let lines = subst (λ logs. PrintsUnlessDenied (WritesLines content program logs) ⊤ ended (contents c.args.out.now) mid) c.as_slice-2.ensures.value

@@ -1,5 +1,5 @@
 -- The prover tries no chain of steps by itself: what each step found is handed to it, in order.
-use Rattle.std.proofs.Common.{◌≡◌, ◌⊎◌, inr, refl, subst, sym, arith, Ok, Err, IfOk}
+use Rattle.std.proofs.Common.{◌≡◌, ◌⊎◌, inl, inr, refl, subst, sym, arith, Ok, Err, IfOk}
 use Rattle.std.proofs.lemmas.Grind.{common_steps}
 use Rattle.std.specs.Io.KnownBytes.{Appends}
 use Rattle.receiver.specs.Received.{events_in}
@@ -8,7 +8,7 @@ use Rattle.rvclass.specs.Fetch.{words_of}
 use Rattle.output.specs.Begun.{AppendsBeginning}
 use Rattle.commands.specs.Decoded.{Decodes, harts_text}
 use Rattle.commands.specs.Found.{IsProgram, IsRead}
-use Rattle.commands.specs.Inputs.{CanDecode}
+use Rattle.commands.specs.Inputs.{CanDecode, HasFile, HasProgram}
 use Rattle.commands.specs.Printed.{PrintsUnlessDenied}
 use Rattle.commands.specs.declared.fault.Fault.TheVariants as fault
 use Rattle.commands.proofs.DecodedRuns.{decode_begun, decodes, whole_begun}
@@ -138,3 +138,22 @@ returns-in_err-map_err-clause-cut g c =
     inr (decode_begun content asked c.in_ok-base.base program bytes lists outcome.closed.items outcome.fault
     c.in_ok-base.ensures.found c.in_ok-program.ensures.program read decoded old new
     (whole_begun (harts_text 0 lists) old mid new text c.flush.ensures.bytes))
+
+pub returns-in_err-map_err-clause-printed : goal.returns-in_err-map_err-clause-printed
+returns-in_err-map_err-clause-printed g c =
+    let content = g.F.Files.content c.args.files.now in
+    let asked = c.args.asked.now in
+    let is : c.from_residual-in_err-map_err.result ≡ Err fault.Output = grind (arith, common_steps) in
+    let program : HasProgram content asked.base.now asked.image = record {
+      base = c.in_ok-base.base;
+      program = c.in_ok-program.program;
+      based = c.in_ok-base.ensures.found;
+      found = c.in_ok-program.ensures.program;
+    } in
+    let file : HasFile content asked.capture = record {
+      bytes = c.in_ok-bytes.bytes.items;
+      read = subst (λ told. IsRead told asked.capture (Ok c.in_ok-bytes.bytes.items)) c.in_ok-program.ensures.kept
+          c.in_ok-bytes.ensures.held;
+    } in
+    subst (λ r. PrintsUnlessDenied (Decodes content asked) (CanDecode content asked) r (g.O.Write.contents c.args.out.now)
+    (g.O.Write.contents c.flush.new.self)) (sym is) (inl (inr (refl, (program, file))))

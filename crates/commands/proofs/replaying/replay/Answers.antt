@@ -9,6 +9,8 @@ use Rattle.bench.specs.Got.{got_of}
 use Rattle.bench.specs.Replayed.{replayed}
 use Rattle.bench.specs.Report.{is_whole, report_text}
 use Rattle.subcommands.specs.declared.words.Replay.{Replay}
+use Rattle.message.specs.Version.{most_harts}
+use Rattle.message.specs.declared.header.Version.TheVariants.{Two}
 use Rattle.commands.specs.Found.{AreLegalLogs}
 use Rattle.commands.specs.Inputs.{CanReplay}
 use Rattle.commands.specs.Known.{Content}
@@ -25,7 +27,7 @@ use Rattle.commands.proofs.replaying.replay.Goals as goal
 abbrev Reports : Content → Replay → List ProgramLog → Printed → Type 0
 Reports content asked logs =
     First (IsSchedule content (length asked.logs.items) asked.schedule) (λ turns.
-    First (IsSetting (length asked.logs.items) (config_at asked.period asked.mode asked.capacity)) (λ _.
+    First (IsSetting (most_harts Two) (length asked.logs.items) (config_at asked.period asked.mode asked.capacity)) (λ _.
     WritesReport asked logs turns))
 
 pub returns-in_err-counted-clause-printed : goal.returns-in_err-counted-clause-printed
@@ -33,7 +35,7 @@ returns-in_err-counted-clause-printed g c =
     let content = g.F.Files.content c.args.files.now in
     let asked = c.args.asked.now in
     let is : c.from_residual-in_err-counted.result ≡ Err c.in_err-counted.field-0.0 = grind (arith, common_steps) in
-    count_ends content asked.base.now asked.image asked.logs.items c.as_slice.result.now (CanReplay content asked)
+    count_ends content (most_harts Two) asked.base.now asked.image asked.logs.items c.as_slice.result.now (CanReplay content asked)
     (g.O.Write.contents c.args.out.now) c.in_ok-base.base c.in_err-counted.field-0.0 c.from_residual-in_err-counted.result
     c.in_ok-base.ensures.found c.as_slice.ensures.value is
     (λ _ program. First (AreLegalLogs content program asked.logs.items) (Reports content asked))
@@ -44,7 +46,7 @@ returns-in_err-program-clause-printed g c =
     let content = g.F.Files.content c.args.files.now in
     let asked = c.args.asked.now in
     let is : c.from_residual-in_err-program.result ≡ Err c.in_err-program.field-0.0 = grind (arith, common_steps) in
-    program_ends content asked.base.now asked.image asked.logs.items c.as_slice.result.now (CanReplay content asked)
+    program_ends content (most_harts Two) asked.base.now asked.image asked.logs.items c.as_slice.result.now (CanReplay content asked)
     (g.O.Write.contents c.args.out.now) c.in_ok-base.base c.in_err-program.field-0.0 c.from_residual-in_err-program.result
     c.in_ok-base.ensures.found c.as_slice.ensures.value is c.in_ok-counted.field-0 c.in_ok-counted.ensures.found
     (λ _ program. First (AreLegalLogs content program asked.logs.items) (Reports content asked))
@@ -55,7 +57,7 @@ returns-in_err-legal-clause-printed g c =
     let content = g.F.Files.content c.args.files.now in
     let asked = c.args.asked.now in
     let is : c.from_residual-in_err-legal.result ≡ Err c.in_err-legal.field-0.0 = grind (arith, common_steps) in
-    logs_end content asked.base.now asked.image asked.logs.items c.as_slice.result.now (CanReplay content asked)
+    logs_end content (most_harts Two) asked.base.now asked.image asked.logs.items c.as_slice.result.now (CanReplay content asked)
     (g.O.Write.contents c.args.out.now) c.in_ok-base.base c.in_err-legal.field-0.0 c.from_residual-in_err-legal.result
     c.in_ok-base.ensures.found c.as_slice.ensures.value is c.in_ok-counted.field-0 c.in_ok-counted.ensures.found
     (Reports content asked)
@@ -72,7 +74,7 @@ returns-in_err-turns-clause-printed g c =
     let logs = c.in_ok-legal.legal.items in
     let why = c.in_err-turns.field-0.0 in
     let is : c.from_residual-in_err-turns.result ≡ Err why = grind (arith, common_steps) in
-    let goes_on = logs_found content (g.F.Files.content c.program_of.new.files) asked.base.now asked.image
+    let goes_on = logs_found content (g.F.Files.content c.program_of.new.files) (most_harts Two) asked.base.now asked.image
     asked.logs.items c.as_slice.result.now c.as_slice-2.result.now c.in_ok-base.base c.in_ok-program.program
     c.in_ok-counted.field-0 logs c.in_ok-base.ensures.found c.as_slice.ensures.value c.in_ok-counted.ensures.found
     c.in_ok-program.ensures.program c.in_ok-program.ensures.kept c.as_slice-2.ensures.value
@@ -96,7 +98,7 @@ returns-in_err-outcome-clause-printed g c =
     let turns = c.in_ok-turns.turns.items in
     let why = c.in_err-outcome.field-0.0 in
     let is : c.from_residual-in_err-outcome.result ≡ Err why = grind (arith, common_steps) in
-    let goes_on = logs_found content (g.F.Files.content c.program_of.new.files) asked.base.now asked.image
+    let goes_on = logs_found content (g.F.Files.content c.program_of.new.files) (most_harts Two) asked.base.now asked.image
     asked.logs.items c.as_slice.result.now c.as_slice-2.result.now c.in_ok-base.base c.in_ok-program.program
     c.in_ok-counted.field-0 logs c.in_ok-base.ensures.found c.as_slice.ensures.value c.in_ok-counted.ensures.found
     c.in_ok-program.ensures.program c.in_ok-program.ensures.kept c.as_slice-2.ensures.value
@@ -109,11 +111,11 @@ returns-in_err-outcome-clause-printed g c =
     let count : length logs ≡ length asked.logs.items =
     omega (arith, c.in_ok-legal.legal.ok.0, c.in_ok-legal.ensures.count, paths) in
     let config = config_at asked.period asked.mode asked.capacity in
-    let stands = subst (λ harts. (why ≡ fault.Memory) ⊎ IsSetting harts config (Err why)) count
-    (subst (λ logs. (why ≡ fault.Memory) ⊎ IsSetting (length logs) config (Err why)) c.as_slice-3.ensures.value
+    let stands = subst (λ harts. (why ≡ fault.Memory) ⊎ IsSetting (most_harts Two) harts config (Err why)) count
+    (subst (λ logs. (why ≡ fault.Memory) ⊎ IsSetting (most_harts Two) (length logs) config (Err why)) c.as_slice-3.ensures.value
     c.in_err-outcome.ensures.fault) in
     subst (λ r. PrintsUnlessDenied run can r out out) (sym is)
-    (ends_silently run can (IsSetting (length asked.logs.items) config (Err why)) why out stands
+    (ends_silently run can (IsSetting (most_harts Two) (length asked.logs.items) config (Err why)) why out stands
     (λ none. goes_on (Reports content asked) (silent why) (Ok turns, told, (Err why, none, refl))))
 
 pub returns-clause-printed : goal.returns-clause-printed
@@ -125,7 +127,7 @@ returns-clause-printed g c =
     let turns = c.in_ok-turns.turns.items in
     let outcome = c.in_ok-outcome.outcome in
     let gots = map got_of outcome.harts.items in
-    let goes_on = logs_found content (g.F.Files.content c.program_of.new.files) asked.base.now asked.image
+    let goes_on = logs_found content (g.F.Files.content c.program_of.new.files) (most_harts Two) asked.base.now asked.image
     asked.logs.items c.as_slice.result.now c.as_slice-2.result.now c.in_ok-base.base c.in_ok-program.program
     c.in_ok-counted.field-0 logs c.in_ok-base.ensures.found c.as_slice.ensures.value c.in_ok-counted.ensures.found
     c.in_ok-program.ensures.program c.in_ok-program.ensures.kept c.as_slice-2.ensures.value
@@ -138,8 +140,8 @@ returns-clause-printed g c =
     let count : length logs ≡ length asked.logs.items =
     omega (arith, c.in_ok-legal.legal.ok.0, c.in_ok-legal.ensures.count, paths) in
     let config = config_at asked.period asked.mode asked.capacity in
-    let stands = subst (λ harts. IsSetting harts config (Ok tt)) count
-    (subst (λ logs. IsSetting (length logs) config (Ok tt)) c.as_slice-3.ensures.value c.in_ok-outcome.ensures.setting) in
+    let stands = subst (λ harts. IsSetting (most_harts Two) harts config (Ok tt)) count
+    (subst (λ logs. IsSetting (most_harts Two) (length logs) config (Ok tt)) c.as_slice-3.ensures.value c.in_ok-outcome.ensures.setting) in
     let came = subst (λ turns. AreGot asked.period asked.mode logs
     (replayed asked.period asked.mode asked.capacity logs turns).taken outcome.stop gots)
     c.as_slice-4.ensures.value
@@ -180,7 +182,7 @@ returns-in_err-write_report-clause-cut g c =
     let turns = c.in_ok-turns.turns.items in
     let outcome = c.in_ok-outcome.outcome in
     let gots = map got_of outcome.harts.items in
-    let goes_on = logs_found content (g.F.Files.content c.program_of.new.files) asked.base.now asked.image
+    let goes_on = logs_found content (g.F.Files.content c.program_of.new.files) (most_harts Two) asked.base.now asked.image
     asked.logs.items c.as_slice.result.now c.as_slice-2.result.now c.in_ok-base.base c.in_ok-program.program
     c.in_ok-counted.field-0 logs c.in_ok-base.ensures.found c.as_slice.ensures.value c.in_ok-counted.ensures.found
     c.in_ok-program.ensures.program c.in_ok-program.ensures.kept c.as_slice-2.ensures.value
@@ -193,8 +195,8 @@ returns-in_err-write_report-clause-cut g c =
     let count : length logs ≡ length asked.logs.items =
     omega (arith, c.in_ok-legal.legal.ok.0, c.in_ok-legal.ensures.count, paths) in
     let config = config_at asked.period asked.mode asked.capacity in
-    let stands = subst (λ harts. IsSetting harts config (Ok tt)) count
-    (subst (λ logs. IsSetting (length logs) config (Ok tt)) c.as_slice-3.ensures.value c.in_ok-outcome.ensures.setting) in
+    let stands = subst (λ harts. IsSetting (most_harts Two) harts config (Ok tt)) count
+    (subst (λ logs. IsSetting (most_harts Two) (length logs) config (Ok tt)) c.as_slice-3.ensures.value c.in_ok-outcome.ensures.setting) in
     let came = subst (λ turns. AreGot asked.period asked.mode logs (replayed asked.period asked.mode asked.capacity logs turns).taken outcome.stop gots)
     c.as_slice-4.ensures.value
     (subst (λ logs. AreGot asked.period asked.mode logs
@@ -234,7 +236,7 @@ returns-in_err-map_err-clause-cut g c =
     let turns = c.in_ok-turns.turns.items in
     let outcome = c.in_ok-outcome.outcome in
     let gots = map got_of outcome.harts.items in
-    let goes_on = logs_found content (g.F.Files.content c.program_of.new.files) asked.base.now asked.image
+    let goes_on = logs_found content (g.F.Files.content c.program_of.new.files) (most_harts Two) asked.base.now asked.image
     asked.logs.items c.as_slice.result.now c.as_slice-2.result.now c.in_ok-base.base c.in_ok-program.program
     c.in_ok-counted.field-0 logs c.in_ok-base.ensures.found c.as_slice.ensures.value c.in_ok-counted.ensures.found
     c.in_ok-program.ensures.program c.in_ok-program.ensures.kept c.as_slice-2.ensures.value
@@ -247,8 +249,8 @@ returns-in_err-map_err-clause-cut g c =
     let count : length logs ≡ length asked.logs.items =
     omega (arith, c.in_ok-legal.legal.ok.0, c.in_ok-legal.ensures.count, paths) in
     let config = config_at asked.period asked.mode asked.capacity in
-    let stands = subst (λ harts. IsSetting harts config (Ok tt)) count
-    (subst (λ logs. IsSetting (length logs) config (Ok tt)) c.as_slice-3.ensures.value c.in_ok-outcome.ensures.setting) in
+    let stands = subst (λ harts. IsSetting (most_harts Two) harts config (Ok tt)) count
+    (subst (λ logs. IsSetting (most_harts Two) (length logs) config (Ok tt)) c.as_slice-3.ensures.value c.in_ok-outcome.ensures.setting) in
     let came = subst (λ turns. AreGot asked.period asked.mode logs (replayed asked.period asked.mode asked.capacity logs turns).taken outcome.stop gots)
     c.as_slice-4.ensures.value
     (subst (λ logs. AreGot asked.period asked.mode logs

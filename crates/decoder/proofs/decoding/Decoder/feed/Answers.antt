@@ -1,11 +1,17 @@
 -- No search finds what the packets and the stretches stand for, from what the plan ensures.
-use Rattle.std.proofs.Common.{[], ◌∷◌, ◌++◌, ◌≡◌, arith, Result, true, is_err, Ok, Err, OnErr, vec_capacity, inr, sym}
-use Rattle.std.proofs.Common.{ap, subst, ◌∙◌, append_assoc}
+use Rattle.std.proofs.Common.{[], ◌∷◌, ◌++◌, ◌≡◌, arith, Result, true, is_err, Ok, Err, OnErr, vec_len, vec_capacity}
+use Rattle.std.proofs.Common.{inr, sym, OnOk, false, ap, subst, ◌∙◌, append-nil, length, length-append}
 use Rattle.rvclass.specs.Fetch.{words_of}
+use Rattle.std.proofs.lemmas.List.{append_cancel_left}
+use Rattle.decoder.proofs.BeginsAnew.{passing_right, begins_stretch, begins_longer, begins_only}
+use Rattle.decoder.proofs.BothWritten.{both_counted, both_added, room_second, cut_back}
 use Rattle.decoder.proofs.NotOpenedTold.{named_not_opened}
 use Rattle.decoder.proofs.StandsForOneMore.{stands_right, stands_more, stands_longer, stands_only}
+use Rattle.decoder.proofs.StretchEnds.{stretch_count-gives}
 use Rattle.decoder.proofs.UniqueLemmas.{one_log}
 use Rattle.decoder.specs.steps.Planning.{admitted, decoder_after, IsNamed}
+use Rattle.decoder.specs.Order.{opening}
+use Rattle.decoder.specs.steps.Stretches.{left_of, AddsStretch}
 use Rattle.decoder.specs.Stands.{Stands}
 use Rattle.decoder.proofs.decoding.Decoder.feed.Goals as goal
 
@@ -29,16 +35,25 @@ where_err : {T E : Type 0} {P : Type 0} (result : Result T E) → true ≡ is_er
 where_err (Ok value) is said = cc
 where_err (Err error) is said = said
 
+-- What is said of success holds where there is no error.
+where_ok : {T E : Type 0} {P : Type 0} (result : Result T E) → false ≡ is_err result → OnOk result P → P
+where_ok (Ok value) is said = said
+where_ok (Err error) is said = cc
+
 pub returns-then-is_err-clause-memory : goal.returns-then-is_err-clause-memory
 returns-then-is_err-clause-memory g c = λ packets s is.
     let w = words_of c.args.program.now in
     let log = c.args.log.now in
+    let first = c.plan.new.first in
+    let second = c.plan.new.second in
     let found = c.in_default.ensures.found in
     let can = found.can (stands_right w packets log.items c.args.self.now s) in
     let full = where_err c.reserve.result c.if-is_err.ensures.value c.reserve.ensures.full in
-    stands_longer w packets log.items c.args.self.now c.args.packet.now c.plan.new.first c.plan.new.second found.settled
-    found.own (vec_capacity log) s found.gives_settled found.gives_own can
-    (omega (arith, full, log.ok.0, c.count.ensures, c.count-2.ensures))
+    let all = both_counted w first second found.settled found.own found.gives_settled found.gives_own log.items
+    c.plan.new.log.items c.in_default.ensures.written in
+    stands_longer w packets log.items c.args.self.now c.args.packet.now first second found.settled found.own
+    (vec_capacity log) s found.gives_settled found.gives_own can
+    (omega (arith, full, all, c.plan.ensures.room, log.ok.0, c.plan.new.log.ok.0, c.left.ensures, c.left-2.ensures))
 
 pub returns-clause-stands : goal.returns-clause-stands
 returns-clause-stands g c = λ packets s.
@@ -52,14 +67,110 @@ returns-clause-stands g c = λ packets s.
     let can = found.can (stands_right w packets log d s) in
     let new = stands_more w packets log d p first second found.settled found.own s found.gives_settled found.gives_own
     can in
-    let one = c.write.ensures.adds found.settled found.gives_settled ∙ ap (λ l. l ++ found.settled)
-    c.reserve.ensures.items in
-    let two = c.write-2.ensures.adds found.own found.gives_own ∙ ap (λ l. l ++ found.own) one
-    ∙ append_assoc log found.settled found.own in
-    let logs = subst (λ l. Stands w (packets ++ p ∷ []) l (decoder_after d p first second)) (sym two) new in
+    let adds = subst (λ l. AddsStretch w (left_of first) l c.write.new.log.items) c.reserve.ensures.items
+    c.write.ensures.adds in
+    let all = both_added w first second found.settled found.own found.gives_settled found.gives_own log
+    c.plan.new.log.items c.in_default.ensures.written c.write.new.log.items adds c.write-2.new.log.items
+    c.write-2.ensures.adds in
+    let logs = subst (λ l. Stands w (packets ++ p ∷ []) l (decoder_after d p first second)) (sym all) new in
     subst (λ x. Stands w (packets ++ p ∷ []) c.write-2.new.log.items x) (sym c.after.ensures) logs
 
 pub returns-clause-only : goal.returns-clause-only
 returns-clause-only g c = λ packets s other all.
     one_log (words_of c.args.program.now) c.plan.ensures.words (packets ++ c.args.packet.now ∷ []) other
     c.write-2.new.log.items all (returns-clause-stands g c packets s).described
+
+pub returns-then-is_err-clause-goes_on : goal.returns-then-is_err-clause-goes_on
+returns-then-is_err-clause-goes_on g c =
+    let log = c.args.log.now in
+    let grown = c.reserve.ensures.items ∙ c.plan.ensures.behind.1 in
+    let back = cut_back log.items c.reserve.new.self.items c.plan.ensures.behind.0 c.len-count.result
+    (omega (arith, c.len-count.ensures, log.ok.0)) grown in
+    ([], c.truncate-then-is_err.ensures.items ∙ back ∙ sym (append-nil log.items))
+
+pub write-requires-2-clause-room : goal.write-requires-2-clause-room
+write-requires-2-clause-room g c =
+    let w = words_of c.args.program.now in
+    let first = c.plan.new.first in
+    let second = c.plan.new.second in
+    let found = c.in_default.ensures.found in
+    let adds = subst (λ l. AddsStretch w (left_of first) l c.write.new.log.items) c.reserve.ensures.items
+    c.write.ensures.adds in
+    let fits = where_ok c.reserve.result c.if-is_err.ensures.value c.reserve.ensures.ok in
+    room_second w first second found.settled found.own found.gives_settled found.gives_own c.args.log.now.items
+    c.plan.new.log.items c.in_default.ensures.written c.write.new.log.items adds _ _
+    (omega (arith, c.write.new.log.ok.0))
+    (omega (
+      arith,
+      fits,
+      c.reserve.ensures.len,
+      c.plan.new.log.ok.0,
+      c.write.ensures.room,
+      c.left.ensures,
+      c.left-2.ensures,
+    ))
+
+pub returns-clause-goes_on : goal.returns-clause-goes_on
+returns-clause-goes_on g c =
+    let found = c.in_default.ensures.found in
+    let adds = subst (λ l. AddsStretch (words_of c.args.program.now) (left_of c.plan.new.first) l
+    c.write.new.log.items) c.reserve.ensures.items c.write.ensures.adds in (
+      found.settled ++ found.own,
+      both_added (words_of c.args.program.now) c.plan.new.first c.plan.new.second found.settled found.own
+          found.gives_settled found.gives_own c.args.log.now.items c.plan.new.log.items c.in_default.ensures.written
+          c.write.new.log.items adds c.write-2.new.log.items c.write-2.ensures.adds,
+    )
+
+pub returns-clause-short : goal.returns-clause-short
+unfolding returns-clause-goes_on
+returns-clause-short g c =
+    let w = words_of c.args.program.now in
+    let log = c.args.log.now in
+    let found = c.in_default.ensures.found in
+    let one = stretch_count-gives w c.plan.new.first found.settled found.gives_settled in
+    let two = stretch_count-gives w c.plan.new.second found.own found.gives_own in
+    let all = ap length (returns-clause-goes_on g c).1 ∙ length-append log.items (found.settled ++ found.own) in
+    let both = length-append found.settled found.own in
+    omega (arith, one, two, all, both, c.in_default.ensures.short, log.ok.0, c.write-2.new.log.ok.0)
+
+pub returns-then-is_err-clause-begins_memory : goal.returns-then-is_err-clause-begins_memory
+returns-then-is_err-clause-begins_memory g c = λ mode over sync is.
+    let w = words_of c.args.program.now in
+    let log = c.args.log.now in
+    let first = c.plan.new.first in
+    let second = c.plan.new.second in
+    let found = c.in_default.ensures.found in
+    let can = found.can (passing_right w mode c.args.self.now over) in
+    let full = where_err c.reserve.result c.if-is_err.ensures.value c.reserve.ensures.full in
+    let all = both_counted w first second found.settled found.own found.gives_settled found.gives_own log.items
+    c.plan.new.log.items c.in_default.ensures.written in
+    begins_longer w mode c.args.self.now over c.args.packet.now first second found.settled found.own (vec_len log)
+    (vec_capacity log) sync found.gives_settled found.gives_own can
+    (omega (arith, full, all, c.plan.ensures.room, log.ok.0, c.plan.new.log.ok.0, c.left.ensures, c.left-2.ensures))
+
+pub returns-in-Err-clause-begins_none : goal.returns-in-Err-clause-begins_none
+returns-in-Err-clause-begins_none g c = λ mode over sync. inr (λ other all.
+    let w = words_of c.args.program.now in
+    let one = begins_only w mode c.args.self.now over c.plan.ensures.words c.args.packet.now other sync all in
+    c.in-Err.ensures.none.none (passing_right w mode c.args.self.now over) one.0 one.1 one.2)
+
+pub returns-clause-begins : goal.returns-clause-begins
+returns-clause-begins g c = λ mode over sync stretch is.
+    let w = words_of c.args.program.now in
+    let log = c.args.log.now.items in
+    let d = c.args.self.now in
+    let p = c.args.packet.now in
+    let first = c.plan.new.first in
+    let second = c.plan.new.second in
+    let found = c.in_default.ensures.found in
+    let can = found.can (passing_right w mode d over) in
+    let new = begins_stretch w mode d over p first second found.settled found.own sync found.gives_settled
+    found.gives_own can in
+    let adds = subst (λ l. AddsStretch w (left_of first) l c.write.new.log.items) c.reserve.ensures.items
+    c.write.ensures.adds in
+    let all = both_added w first second found.settled found.own found.gives_settled found.gives_own log
+    c.plan.new.log.items c.in_default.ensures.written c.write.new.log.items adds c.write-2.new.log.items
+    c.write-2.ensures.adds in
+    let same = append_cancel_left log (found.settled ++ found.own) stretch (sym all ∙ is) in
+    let logs = subst (λ l. Stands w (opening mode ∷ p ∷ []) l (decoder_after d p first second)) same new in
+    subst (λ x. Stands w (opening mode ∷ p ∷ []) stretch x) (sym c.after.ensures) logs

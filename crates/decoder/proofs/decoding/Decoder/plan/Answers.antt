@@ -9,7 +9,7 @@ use Rattle.decoder.specs.steps.Planning.{admitted}
 use Rattle.decoder.proofs.decoding.Decoder.plan.Goals as goal
 
 pub returns-clause-found : goal.returns-clause-found
-returns-clause-found c =
+returns-clause-found g c =
     let w = words_of c.args.program.now in
     let d = c.args.self.now in
     let p = c.args.packet.now in
@@ -25,7 +25,7 @@ returns-clause-found c =
     own'
 
 pub returns-clause-none : goal.returns-clause-none
-returns-clause-none c =
+returns-clause-none g c =
     let w = words_of c.args.program.now in
     let d = c.args.self.now in
     let p = c.args.packet.now in

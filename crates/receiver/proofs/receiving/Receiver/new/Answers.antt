@@ -33,4 +33,4 @@ returns g c = λ programs.
       closed = replicate harts false;
     } in
     let same : made ≡ wanted = cc in
-    subst (HasReceived programs harts []) (sym same) (received_none programs harts decoder c.new-2.ensures)
+    subst (HasReceived programs harts []) (sym same) (received_none programs harts decoder c.new-2.ensures.stands)

@@ -3,7 +3,7 @@ use Rattle.std.proofs.Common.{◌≡◌, refl, sym, subst, ◌∙◌}
 use Rattle.rvclass.specs.Fetch.{words_of}
 use Rattle.decoder.specs.Describes.{Describes}
 use Rattle.message.specs.OfHart.{packets_of}
-use Rattle.receiver.proofs.AcceptLemmas.{accepted_answer, accepts_kept, going, not_decoded, same_fault, same_packet}
+use Rattle.receiver.proofs.AcceptLemmas.{accepted_answer, accepts_kept, agrees_by, going, not_decoded, same_fault, same_packet}
 use Rattle.receiver.proofs.HoldLemmas.{holds_kept, list_of, same_hart_twice}
 use Rattle.receiver.specs.Holds.{Holds, HoldsHart}
 use Rattle.receiver.specs.Refused.{IsNotDecoded}
@@ -19,6 +19,10 @@ returns-in-Ok-decode-clause-received g c = λ programs harts messages program gi
       holds = c.in-Ok-decode.ensures.decoded programs harts messages c.args.message.now program refl
           c.in-Ok.ensures.packet holds;
     }
+
+pub returns-then-opens_another-clause-held : goal.returns-then-opens_another-clause-held
+returns-then-opens_another-clause-held g c = λ programs harts messages given.
+    holds_kept programs harts messages c.args.self.now c.accept.new.self _ given.holds c.accept.ensures.state
 
 pub returns-in-Err-decode-clause-held : goal.returns-in-Err-decode-clause-held
 returns-in-Err-decode-clause-held g c = λ programs harts messages given.
@@ -56,16 +60,19 @@ returns-in-Err-decode-clause-refused g c = λ programs harts messages program gi
     let message = c.args.message.now in
     let packet = c.in-Ok.packet in
     let own = sym c.accept.ensures.value ∙ c.in-Ok.is in
-    let answer = accepted_answer harts messages c.args.self.now message packet given.accepts own in
-    record {
-      packet = packet;
-      accepted = answer;
-      not_ended = going harts messages message packet given.accepts.accepted answer;
-      not_decoded =
-          returns-in-Err-decode-clause-undecoded g c programs harts messages packet c.in-Err-decode.fault program
-          given.holds
-          own refl;
-    }
+    let answer = accepted_answer harts messages c.args.self.now message packet given.accepts own in (
+      record {
+        packet = packet;
+        accepted = answer;
+        not_ended = going harts messages message packet given.accepts.accepted answer;
+        not_decoded =
+            returns-in-Err-decode-clause-undecoded g c programs harts messages packet c.in-Err-decode.fault program
+            given.holds
+            own refl;
+      },
+      agrees_by c.args.told message packet c.in-Ok.ensures.packet
+          (sym c.opens_another.ensures ∙ c.if-opens_another.false),
+    )
 
 pub returns-in-Ok-decode-clause-others : goal.returns-in-Ok-decode-clause-others
 returns-in-Ok-decode-clause-others g c = λ other apart.

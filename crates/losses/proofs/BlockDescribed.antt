@@ -1,0 +1,174 @@
+-- The packets of a block describe its stretch.
+use Rattle.std.proofs.Common.{◌≡◌, ℕ, zero, suc, List, [], ◌∷◌, ◌++◌, drop, take, Option, Some, None, refl, sym, ap}
+use Rattle.std.proofs.Common.{subst}
+use Rattle.std.proofs.Common.{◌∙◌}
+use Rattle.std.proofs.lemmas.List.{take-append-drop}
+use Rattle.std.specs.List.{last_or}
+use Rattle.retire.specs.declared.event.Event.{Event}
+use Rattle.rvclass.specs.Words.{Words, IsProgram}
+use Rattle.legalpath.proofs.FollowOnLemmas.{follow_on_split}
+use Rattle.legalpath.specs.Join.{join}
+use Rattle.legalpath.specs.LastPlace.{last_place}
+use Rattle.legalpath.specs.Legal.{FollowOn, Legal}
+use Rattle.payload.specs.declared.mode.Mode.{Mode}
+use Rattle.payload.specs.declared.packet.Packet.{Packet}
+use Rattle.payload.specs.declared.packet.Packet.TheVariants as packet
+use Rattle.payload.specs.declared.packet.Support.TheVariants as support
+use Rattle.encoder.specs.Packets.{packets}
+use Rattle.decoder.proofs.ExtendingLemmas.{front_describes}
+use Rattle.decoder.specs.Describes.{Describes}
+use Rattle.decoder.specs.Order.{MayPrecede, first}
+use Rattle.decoder.specs.Pieces.{Pieces, reported_after}
+use Rattle.roundtrip.proofs.FirstPackets.{join-stretches, packets_have_stretches}
+use Rattle.roundtrip.specs.Reach.{stretches}
+use Rattle.losses.specs.Blocks.{Block}
+use Rattle.losses.specs.Parts.{stretch_of, stretch_of_block}
+use Rattle.losses.specs.steps.Traces.{from_start, DescribesFrom}
+
+-- Events that follow on another are legal by themselves.
+legal_alone : (words : Words) (before : Option Event) (events : List Event) → FollowOn words before events
+    → Legal words events
+legal_alone words before [] follows = tt
+legal_alone words before (event ∷ events) follows = (follows.0, tt, follows.2)
+
+-- Where the first packet opens a trace, nothing comes before, and it tells this mode.
+abbrev pub IsOpening : Mode → Option Event → ℕ → List Packet → Type 0
+IsOpening mode before reported ps =
+    (told : Mode) → first ps None ≡ Some (packet.Support (support.Open told)) →
+    (before ≡ None) × (reported ≡ 0) × (told ≡ mode)
+
+-- The last packets of a log with their pieces.
+pub record Rest (words : Words) (mode : Mode) (ps : List Packet) (pieces : List (List Event)) : Type 0 where
+  pub before : Option Event
+  pub reported : ℕ
+  pub each : Pieces words mode before reported ps None pieces
+  pub follows : FollowOn words before (join pieces)
+  pub opening : IsOpening mode before reported ps
+
+module _ (words : Words) (mode : Mode) where
+  -- The pieces from a synchronisation packet on need nothing of what came before.
+  sync_restarts : (before : Option Event) (reported : ℕ) (p : Packet) (ps : List Packet) (piece : List Event)
+      (pieces : List (List Event)) (event : Event) → piece ≡ event ∷ []
+      → Pieces words mode (last_or before piece) (last_place reported piece) ps None pieces
+      → Pieces words mode (last_or None piece) (last_place 0 piece) ps None pieces
+  sync_restarts before reported p ps piece pieces event one later =
+      let last : last_or before piece ≡ last_or None piece = ap (last_or before) one ∙ sym (ap (last_or None) one) in
+      let place : last_place reported piece ≡ last_place 0 piece =
+      ap (last_place reported) one ∙ sym (ap (last_place 0) one) in
+      let by_last = subst (λ b. Pieces words mode b (last_place reported piece) ps None pieces) last later in
+      subst (λ r. Pieces words mode (last_or None piece) r ps None pieces) place by_last
+
+  -- No packet behind another opens a trace.
+  none_opens : (p : Packet) (ps : List Packet) (before : Option Event) (reported : ℕ) → MayPrecede p (first ps None)
+      → IsOpening mode before reported ps
+  none_opens p ps before reported precedes = λ told is.
+      let may : MayPrecede p (Some (packet.Support (support.Open told))) = subst (MayPrecede p) is precedes in
+      absurd may.1
+
+  -- Behind the first of the last packets come the others.
+  pub rest_behind : (p : Packet) (ps : List Packet) (piece : List Event) (pieces : List (List Event))
+      → Rest words mode (p ∷ ps) (piece ∷ pieces) → Rest words mode ps pieces
+  rest_behind p ps piece pieces r = record {
+    before = last_or r.before piece;
+    reported = reported_after p r.reported piece;
+    each = r.each.2;
+    follows = (follow_on_split words r.before piece (join pieces) r.follows).1;
+    opening = none_opens p ps (last_or r.before piece) (reported_after p r.reported piece) r.each.0;
+  }
+
+  pub rest_drop : (count : ℕ) (ps : List Packet) (pieces : List (List Event)) → Rest words mode ps pieces
+      → Rest words mode (drop count ps) (drop count pieces)
+  rest_drop zero ps pieces r = r
+  rest_drop (suc count) [] [] r = r
+  rest_drop (suc count) [] (piece ∷ pieces) r = absurd r.each
+  rest_drop (suc count) (p ∷ ps) [] r = absurd r.each
+  rest_drop (suc count) (p ∷ ps) (piece ∷ pieces) r = rest_drop count ps pieces (rest_behind p ps piece pieces r)
+
+  -- From a synchronisation on.
+  from_sync : (taken : _) (priv address : ℕ) (ps more : List Packet) (piece : List Event) (pieces : List (List Event))
+      → Rest words mode (packet.Sync taken priv address ∷ ps ++ more) (piece ∷ pieces)
+      → Describes words (packet.Support (support.Open mode) ∷ packet.Sync taken priv address ∷ ps)
+      (stretch_of (packet.Sync taken priv address ∷ ps) (piece ∷ pieces))
+  from_sync taken priv address ps more piece pieces r =
+      let sync = packet.Sync taken priv address in
+      let open_packet = packet.Support (support.Open mode) in
+      let fits = r.each.1 in
+      let later = sync_restarts r.before r.reported sync (ps ++ more) piece pieces fits.0 fits.1 r.each.2 in
+      let all : Describes words ((open_packet ∷ sync ∷ ps) ++ more) (join (piece ∷ pieces)) = record {
+        begins = tt;
+        pieces = [] ∷ piece ∷ pieces;
+        whole = refl;
+        legal = legal_alone words r.before (join (piece ∷ pieces)) r.follows;
+        each = ((refl, tt), refl, (r.each.0, fits, later));
+      } in
+      (front_describes words (open_packet ∷ sync ∷ ps) more (join (piece ∷ pieces)) all).0
+
+  -- From the packet on that opens the trace.
+  from_open : (told : Mode) (ps more : List Packet) (piece : List Event) (pieces : List (List Event))
+      → Rest words mode (packet.Support (support.Open told) ∷ ps ++ more) (piece ∷ pieces)
+      → Describes words (packet.Support (support.Open told) ∷ ps)
+      (stretch_of (packet.Support (support.Open told) ∷ ps) (piece ∷ pieces))
+  from_open told ps more piece pieces r =
+      let opens = packet.Support (support.Open told) in
+      let is = r.opening told refl in
+      let by_mode = subst (λ m. Pieces words m r.before r.reported (opens ∷ ps ++ more) None (piece ∷ pieces))
+      (sym is.2) r.each in
+      let by_before = subst (λ b. Pieces words told b r.reported (opens ∷ ps ++ more) None (piece ∷ pieces))
+      is.0 by_mode in
+      let each = subst (λ a. Pieces words told None a (opens ∷ ps ++ more) None (piece ∷ pieces)) is.1 by_before in
+      let all : Describes words ((opens ∷ ps) ++ more) (join (piece ∷ pieces)) = record {
+        begins = tt;
+        pieces = piece ∷ pieces;
+        whole = refl;
+        legal = legal_alone words r.before (join (piece ∷ pieces)) r.follows;
+        each = each;
+      } in
+      (front_describes words (opens ∷ ps) more (join (piece ∷ pieces)) all).0
+
+  -- Some of the last packets describe their stretch.
+  pub stretch_described : (ps more : List Packet) (pieces : List (List Event)) → Rest words mode (ps ++ more) pieces
+      → DescribesFrom words mode (from_start ps) (stretch_of ps pieces)
+  stretch_described [] more pieces r = refl
+  stretch_described (p ∷ ps) more [] r = absurd r.each
+  stretch_described (packet.Sync taken priv address ∷ ps) more (piece ∷ pieces) r =
+      from_sync taken priv address ps more piece pieces r
+  stretch_described (packet.Trap taken priv cause interrupt handler address tval ∷ ps) more (piece ∷ pieces) r =
+      stretch_described ps more pieces (rest_behind _ (ps ++ more) piece pieces r)
+  stretch_described (packet.Support (support.Open told) ∷ ps) more (piece ∷ pieces) r =
+      from_open told ps more piece pieces r
+  stretch_described (packet.Support support.EndedRep ∷ ps) more (piece ∷ pieces) r =
+      stretch_described ps more pieces (rest_behind _ (ps ++ more) piece pieces r)
+  stretch_described (packet.Support support.EndedNtr ∷ ps) more (piece ∷ pieces) r =
+      stretch_described ps more pieces (rest_behind _ (ps ++ more) piece pieces r)
+  stretch_described (packet.Address taken delta report ∷ ps) more (piece ∷ pieces) r =
+      stretch_described ps more pieces (rest_behind _ (ps ++ more) piece pieces r)
+  stretch_described (packet.Map taken ∷ ps) more (piece ∷ pieces) r =
+      stretch_described ps more pieces (rest_behind _ (ps ++ more) piece pieces r)
+
+-- The packets of a legal log, with its stretches.
+pub rest_of_log : (words : Words) → IsProgram words → (period : ℕ) (mode : Mode) (log : List Event) → Legal words log
+    → Rest words mode (packets words period mode log) (stretches words period log)
+rest_of_log words program period mode log legal = record {
+  before = None;
+  reported = 0;
+  each = packets_have_stretches words program period mode log legal;
+  follows = subst (FollowOn words None) (sym (join-stretches words program period mode log legal)) legal;
+  opening = λ told is. (refl, refl, same told is);
+}
+  where
+    same : (told : Mode) → Some (packet.Support (support.Open mode)) ≡ Some (packet.Support (support.Open told))
+        → told ≡ mode
+    same told is = cc
+
+-- The packets of a block of a legal log describe its stretch.
+pub block_described : (words : Words) → IsProgram words → (period : ℕ) (mode : Mode) (log : List Event)
+    → Legal words log → (block : Block)
+    → DescribesFrom words mode (from_start (take block.count (drop block.first (packets words period mode log))))
+    (stretch_of_block (packets words period mode log) (stretches words period log) block)
+block_described words program period mode log legal block =
+    let all = drop block.first (packets words period mode log) in
+    let pieces = drop block.first (stretches words period log) in
+    let rest = rest_drop words mode block.first (packets words period mode log) (stretches words period log)
+    (rest_of_log words program period mode log legal) in
+    stretch_described words mode (take block.count all) (drop block.count all) pieces
+    (subst (λ l. Rest words mode l pieces) (sym (take-append-drop block.count all)) rest)

@@ -1,0 +1,12 @@
+pub mod WorkedLosses
+pub mod BlockDescribed
+pub mod TraceLemmas
+pub mod Feeding
+pub mod BlockLemmas
+pub mod TraceSteps
+pub mod NextMessage
+pub mod AllHarts
+pub mod InTurn
+pub mod Ending
+pub mod Collected
+pub mod StretchesApart

@@ -1,0 +1,23 @@
+-- The messages before this one are taken and collected.
+use Rattle.std.proofs.Common.{◌≡◌, ℕ, List, drop, take, length}
+use Rattle.legalpath.specs.ProgramLog.{ProgramLog}
+use Rattle.message.specs.Accepted.{newcomers}
+use Rattle.losses.specs.Taken.{AreTaken, expected_lossy}
+use Rattle.losses.specs.steps.Collecting.{FollowsAll}
+use Rattle.losses.proofs.collecting.take_all.Given as goal
+
+abbrev pub invariant-loop-place : goal.invariant-loop-place
+invariant-loop-place g l = record {
+  traces : length l.collection.traces.items ≡ length l.fn.collection.traces.items;
+  pieces : length l.collection.pieces.items ≡ length l.fn.collection.pieces.items;
+  demux : length l.collection.demux ≡ length l.fn.collection.demux;
+  follows : (period : ℕ) (logs : List ProgramLog)
+      → FollowsAll l.program period l.mode logs l.messages l.messages l.fn.collection.demux
+      l.fn.collection.traces.items l.fn.collection.pieces.items
+      → FollowsAll l.program period l.mode logs l.messages (drop l.place l.messages) l.collection.demux
+      l.collection.traces.items l.collection.pieces.items;
+  taken : (harts : ℕ) → l.fn.collection.demux ≡ newcomers harts
+      → AreTaken (newcomers harts) (take l.place l.messages);
+  expected : (harts : ℕ) → l.fn.collection.demux ≡ newcomers harts
+      → l.collection.demux ≡ expected_lossy (newcomers harts) (take l.place l.messages);
+}

@@ -1,0 +1,16 @@
+-- Stretches of a log that lie apart, in its order.
+use Rattle.std.specs.Prelude.{ℕ, ◌≡◌, ◌≤◌, ◌+◌, ◌++◌, List, [], ◌∷◌}
+use Rattle.retire.specs.declared.event.Event.{Event}
+use Rattle.losses.specs.Parts.{LogPart, Events, Missing}
+
+-- Each of the numbers is this one or above, and each is above the one before it.
+abbrev pub AreRising : ℕ → List ℕ → Type 0
+AreRising from [] = Unit {0}
+AreRising from (number ∷ numbers) = (from ≤ number) × AreRising (number + 1) numbers
+
+-- The stretches among the parts stand one behind the other in the log.
+abbrev pub StandApart : List LogPart → List Event → Type 0
+StandApart [] log = Unit {0}
+StandApart (Missing count ∷ parts) log = StandApart parts log
+StandApart (Events events ∷ parts) log =
+    (before : List Event) × (after : List Event) × (log ≡ before ++ (events ++ after)) × StandApart parts after

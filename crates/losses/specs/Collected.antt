@@ -1,0 +1,24 @@
+-- What is collected of harts' messages.
+use Rattle.std.specs.Prelude.{ℕ, ◌≡◌, List, Some, length, slice_get}
+use Rattle.rvclass.specs.Fetch.{words_of}
+use Rattle.rvclass.specs.Image.{Image}
+use Rattle.legalpath.specs.ProgramLog.{ProgramLog}
+use Rattle.payload.specs.Ended.{has_ended}
+use Rattle.payload.specs.declared.mode.Mode.{Mode}
+use Rattle.message.specs.OfHart.{packets_of}
+use Rattle.message.specs.declared.message.Message.{Message}
+use Rattle.losses.specs.Losses.{numbers_of}
+use Rattle.losses.specs.Parts.{parts}
+use Rattle.losses.specs.PartsIn.{parts_in}
+use Rattle.losses.specs.declared.part.HartPieces.{HartPieces}
+
+-- Of each hart are collected the parts of its log by the numbers of its messages, and the hart is closed exactly where
+-- its closing packet is among theirs.
+pub record AreCollected {A : Type 0} (program : Image) (period : ℕ) (mode : Mode) (logs : List ProgramLog)
+    (messages : List Message) (harts : List (HartPieces A)) : Type 0 where
+  pub count : length harts ≡ length logs
+  pub parts : (hart : ℕ) (log : ProgramLog) (pieces : HartPieces A) → slice_get logs hart ≡ Some log
+      → slice_get harts hart ≡ Some pieces
+      → parts_in pieces.parts.items ≡ parts (words_of program) period mode log.events (numbers_of hart messages)
+  pub closed : (hart : ℕ) (pieces : HartPieces A) → slice_get harts hart ≡ Some pieces
+      → pieces.closed ≡ has_ended (packets_of hart messages)

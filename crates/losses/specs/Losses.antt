@@ -1,0 +1,31 @@
+-- Messages of harts' logs of which some are lost.
+use Rattle.std.specs.Prelude.{ℕ, ◌≡◌, ◌⊎◌, ◌<◌, All, List, [], ◌∷◌, Some, length, map, slice_get}
+use Rattle.rvclass.specs.Image.{Image}
+use Rattle.legalpath.specs.ProgramLog.{ProgramLog, IsLegalLog}
+use Rattle.payload.specs.declared.mode.Mode.{Mode}
+use Rattle.encoder.specs.Payloads.{payloads}
+use Rattle.message.specs.Numbered.{messages_from}
+use Rattle.message.specs.OfHart.{of_hart}
+use Rattle.message.specs.declared.message.Message.{Message}
+
+-- Messages are some of those that were sent, in their order: the first is the first that was sent and the others are
+-- some of those behind it, or all are some of those behind it.
+abbrev pub AreSomeOf : List Message → List Message → Type 0
+AreSomeOf [] sent = Unit {0}
+AreSomeOf (message ∷ messages) [] = ⊥
+AreSomeOf (message ∷ messages) (first ∷ sent) =
+    ((message ≡ first) × AreSomeOf messages sent) ⊎ AreSomeOf (message ∷ messages) sent
+
+-- The numbers of a hart's messages among these.
+abbrev pub numbers_of : ℕ → List Message → List ℕ
+numbers_of hart messages = map (λ (message : Message). message.number) (of_hart hart messages)
+
+-- The messages are of legal logs of a program, one log a hart, at this period and in this mode: of each hart some of
+-- the messages of its log, in their order, however those of different harts are mixed.
+pub record AreOfLogs (program : Image) (period : ℕ) (mode : Mode) (logs : List ProgramLog)
+    (messages : List Message) : Type 0 where
+  pub legal : All IsLegalLog logs
+  pub same : All (λ (log : ProgramLog). log.program ≡ program) logs
+  pub known : All (λ (message : Message). message.hart < length logs) messages
+  pub some : (hart : ℕ) (log : ProgramLog) → slice_get logs hart ≡ Some log
+      → AreSomeOf (of_hart hart messages) (messages_from hart 0 (payloads period mode log))

@@ -1,0 +1,4 @@
+pub mod Traces
+pub mod Following
+pub mod DecoderSteps
+pub mod Collecting

@@ -1,0 +1,49 @@
+-- What the packets of a block give a decoder.
+use Rattle.std.specs.Prelude.{◌≡◌, ℕ, zero, suc, List, [], ◌∷◌, Option}
+use Rattle.std.specs.Option.{unwrap_or}
+use Rattle.retire.specs.declared.event.Event.{Event}
+use Rattle.rvclass.specs.Words.{Words}
+use Rattle.payload.specs.declared.mode.Mode.{Mode}
+use Rattle.payload.specs.declared.packet.Packet.{Packet}
+use Rattle.payload.specs.declared.packet.Packet.TheVariants as packet
+use Rattle.payload.specs.declared.packet.Support.TheVariants as support
+use Rattle.decoder.specs.Describes.{Describes}
+use Rattle.decoder.specs.Resuming.{HasMode, IsClosed, PassesOver}
+use Rattle.decoder.specs.Stands.{Stands}
+use Rattle.decoder.specs.declared.decoding.Decoder.{Decoder}
+use Rattle.losses.specs.Parts.{begins_stretch, here_or_later}
+
+-- The packets from the first on that begins a stretch.
+abbrev pub from_start : List Packet → List Packet
+from_start [] = []
+from_start (packet ∷ packets) = here_or_later (begins_stretch packet) (packet ∷ packets) (from_start packets)
+
+-- The trace that packets from such a one on stand for: a synchronisation packet stands behind one that opens the trace
+-- in this mode.
+abbrev pub trace_of : Mode → List Packet → List Packet
+trace_of mode (packet.Sync taken priv address ∷ packets) =
+    packet.Support (support.Open mode) ∷ packet.Sync taken priv address ∷ packets
+trace_of mode other = other
+
+-- The packets from the start of a stretch on describe these events; where there are none, there is no event.
+abbrev pub DescribesFrom : Words → Mode → List Packet → List Event → Type 0
+DescribesFrom words mode [] events = events ≡ []
+DescribesFrom words mode (packet ∷ packets) events = Describes words (trace_of mode (packet ∷ packets)) events
+
+-- What a decoder stands for within a block with this first number, by the packets that came from the start of its
+-- stretch on: before the first packet of the trace for none; and it passes over packets before a stretch begins.
+abbrev pub StandsFrom : Words → Mode → List Packet → ℕ → List Event → Decoder → Type 0
+StandsFrom words mode [] zero events decoder = Stands words [] [] decoder × (events ≡ [])
+StandsFrom words mode [] (suc first) events decoder = PassesOver mode decoder × (events ≡ [])
+StandsFrom words mode (packet ∷ packets) first events decoder =
+    Stands words (trace_of mode (packet ∷ packets)) events decoder
+
+-- A decoder follows a block of which these packets came and gave these events: it is open, and another mode than this
+-- was not told.
+pub record FollowsBlock (words : Words) (mode : Mode) (first : ℕ) (packets : List Packet) (events : List Event)
+    (decoder : Decoder) : Type 0 where
+  pub told : Option Mode
+  pub has_mode : HasMode told decoder
+  pub right : unwrap_or told mode ≡ mode
+  pub not_closed : ¬ IsClosed decoder
+  pub stands : StandsFrom words mode (from_start packets) first events decoder

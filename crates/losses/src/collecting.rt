@@ -1,0 +1,276 @@
+//! From the messages of several harts to what is left of each hart's log.
+
+ghost use Rattle.std.specs.Prelude.{ℕ, ◌≡◌, ◌≢◌, ◌+◌, All, List, [], ◌∷◌, Ok, IsOk, IfErr, IfOk, OnOk, drop, length};
+ghost use Rattle.std.specs.Prelude.{replicate};
+ghost use Rattle.retire.specs.declared.event.Event.{Event as AnyEvent};
+ghost use Rattle.rvclass.specs.Fetch.{words_of};
+ghost use Rattle.rvclass.specs.Words.{IsProgram};
+ghost use Rattle.legalpath.specs.Legal.{Legal};
+ghost use Rattle.legalpath.specs.ProgramLog.{ProgramLog};
+ghost use Rattle.payload.specs.Closing.{is_closing_packet};
+ghost use Rattle.payload.specs.declared.packet.Packet.{Packet as AnyPacket};
+ghost use Rattle.encoder.specs.Packets.{packets};
+ghost use Rattle.message.specs.Accepted.{newcomers};
+ghost use Rattle.message.specs.Lossy.{accepting_lossy, harts_after_lossy};
+ghost use Rattle.message.specs.declared.message.Message.{Message as AnyMessage};
+ghost use Rattle.losses.specs.Collected.{AreCollected};
+ghost use Rattle.losses.specs.Losses.{AreOfLogs};
+ghost use Rattle.losses.specs.PartsIn.{parts_in};
+ghost use Rattle.losses.specs.Taken.{AreTaken, StopsBy};
+ghost use Rattle.losses.specs.steps.Collecting.{AreEnded, FollowsAll, IsNewPieces, IsNewTrace, IsNotCollected};
+ghost use Rattle.losses.specs.steps.Collecting.{IsNotTaken};
+ghost use Rattle.losses.specs.steps.Following.{FollowsTrace};
+
+use crate::fault::LossyFault;
+use crate::hart_trace::HartTrace;
+use crate::part::HartPieces;
+use decoder::DecodeFault;
+use message::{Demux, Message};
+use payload::{Mode, Packet};
+use rvclass::Program;
+use std::alloc::{AllocError, Allocator};
+
+/// Nothing under way for so many harts.
+fn new_traces<A: Allocator + Copy>(
+    alloc: A,
+    count: usize,
+) -> Result<Vec<HartTrace<A>, A>, AllocError>
+    ensures count { IfOk result (λ traces. length traces.items ≡ count) }
+    ensures new { IfOk result (λ traces. All IsNewTrace traces.items) }
+{
+    let mut traces = Vec::with_capacity(alloc, count)?;
+    for _ in 0..count {
+        traces.push_reserved(HartTrace::new(alloc));
+    }
+    Ok(traces)
+}
+
+/// Nothing collected of so many harts.
+fn new_pieces<A: Allocator + Copy>(
+    alloc: A,
+    count: usize,
+) -> Result<Vec<HartPieces<A>, A>, AllocError>
+    ensures count { IfOk result (λ pieces. length pieces.items ≡ count) }
+    ensures new { IfOk result (λ pieces. All IsNewPieces pieces.items) }
+{
+    let mut pieces = Vec::with_capacity(alloc, count)?;
+    for _ in 0..count {
+        pieces.push_reserved(HartPieces {
+            parts: Vec::new(alloc),
+            closed: false,
+        });
+    }
+    Ok(pieces)
+}
+
+/// What is told of a message at this place whose packet is not taken.
+fn told(place: usize, fault: DecodeFault) -> LossyFault
+    ensures fault { IsNotTaken place result }
+    ensures memory { fault ≡ DecodeFault.Memory → result ≡ LossyFault.Memory }
+{
+    match fault {
+        DecodeFault::Memory => LossyFault::Memory,
+        why => LossyFault::Decode(place, why),
+    }
+}
+
+/// Takes a hart's next packet, before which so many messages were missed. The message stands at this place.
+fn take_packet<A: Allocator + Copy>(
+    alloc: A,
+    program: &Program,
+    mode: Mode,
+    place: usize,
+    packet: &Packet,
+    missed: u64,
+    trace: &mut HartTrace<A>,
+    pieces: &mut HartPieces<A>,
+) -> Result<(), LossyFault>
+    ensures taken { (period : ℕ) (log : List AnyEvent) (numbers left : List ℕ) (next number : ℕ)
+        (later : List AnyPacket) → IsProgram (words_of program.now) → Legal (words_of program.now) log
+        → number ≡ next + missed → drop number (packets (words_of program.now) period mode log) ≡ packet.now ∷ later
+        → FollowsTrace (words_of program.now) period mode log numbers next (number ∷ left) trace.old.decoder
+        (parts_in pieces.old.parts.items) trace.old.stretch.items
+        → OnOk result (FollowsTrace (words_of program.now) period mode log numbers (number + 1) left trace.new.decoder
+        (parts_in pieces.new.parts.items) trace.new.stretch.items) }
+    ensures memory { (period : ℕ) (log : List AnyEvent) (numbers left : List ℕ) (next number : ℕ)
+        (later : List AnyPacket) → IsProgram (words_of program.now) → Legal (words_of program.now) log
+        → number ≡ next + missed → drop number (packets (words_of program.now) period mode log) ≡ packet.now ∷ later
+        → FollowsTrace (words_of program.now) period mode log numbers next (number ∷ left) trace.old.decoder
+        (parts_in pieces.old.parts.items) trace.old.stretch.items
+        → IfErr result (λ fault. fault ≡ LossyFault.Memory) }
+    ensures closed { OnOk result (pieces.new.closed ≡ is_closing_packet packet.now) }
+    ensures fault { IfErr result (λ fault. IsNotTaken place fault) }
+{
+    match trace.take(alloc, program, mode, packet, missed, &mut pieces.parts) {
+        Ok(()) => {}
+        Err(fault) => return Err(told(place, fault)),
+    }
+    pieces.closed = packet.is_closing();
+    Ok(())
+}
+
+/// What is collected of several harts.
+#[derive(Drop)]
+struct Collection<A: Allocator> {
+    demux: Demux<A>,
+    /// What is under way of each hart.
+    traces: Vec<HartTrace<A>, A>,
+    /// What is left of each hart's log.
+    pieces: Vec<HartPieces<A>, A>,
+}
+
+impl<A: Allocator + Copy> Collection<A> {
+    /// Nothing is collected of the harts below `harts`.
+    fn new(alloc: A, harts: u16) -> Result<Collection<A>, AllocError>
+        ensures demux { IfOk result (λ collection. collection.demux ≡ newcomers harts) }
+        ensures traces_count { IfOk result (λ collection. length collection.traces.items ≡ harts) }
+        ensures pieces_count { IfOk result (λ collection. length collection.pieces.items ≡ harts) }
+        ensures traces { IfOk result (λ collection. All IsNewTrace collection.traces.items) }
+        ensures pieces { IfOk result (λ collection. All IsNewPieces collection.pieces.items) }
+    {
+        let count = usize::from(harts);
+        Ok(Collection {
+            demux: Demux::new(alloc, harts)?,
+            traces: new_traces(alloc, count)?,
+            pieces: new_pieces(alloc, count)?,
+        })
+    }
+
+    /// Takes the message that stands at this place.
+    fn take(
+        &mut self,
+        alloc: A,
+        program: &Program,
+        mode: Mode,
+        place: usize,
+        message: &Message,
+    ) -> Result<(), LossyFault>
+        requires traces { length self.old.traces.items ≡ length self.old.demux }
+        requires pieces { length self.old.pieces.items ≡ length self.old.demux }
+        ensures traces_count { length self.new.traces.items ≡ length self.old.traces.items }
+        ensures pieces_count { length self.new.pieces.items ≡ length self.old.pieces.items }
+        ensures expected { self.new.demux ≡ harts_after_lossy self.old.demux message.now }
+        ensures accepted { OnOk result (IsOk (accepting_lossy self.old.demux message.now)) }
+        ensures fault { IfErr result (λ fault. IsNotCollected self.old.demux message.now place fault) }
+        ensures taken { (period : ℕ) (logs : List ProgramLog) (messages left : List AnyMessage)
+            → FollowsAll program.now period mode logs messages (message.now ∷ left) self.old.demux self.old.traces.items
+            self.old.pieces.items
+            → OnOk result (FollowsAll program.now period mode logs messages left self.new.demux self.new.traces.items
+            self.new.pieces.items) }
+        ensures memory { (period : ℕ) (logs : List ProgramLog) (messages left : List AnyMessage)
+            → FollowsAll program.now period mode logs messages (message.now ∷ left) self.old.demux self.old.traces.items
+            self.old.pieces.items
+            → IfErr result (λ fault. fault ≡ LossyFault.Memory) }
+    {
+        let (packet, missed) = match self.demux.accept_lossy(message) {
+            Ok(taken) => taken,
+            Err(why) => return Err(LossyFault::Demux(place, why)),
+        };
+        let hart = usize::from(message.hart);
+        take_packet(
+            alloc,
+            program,
+            mode,
+            place,
+            &packet,
+            missed,
+            &mut self.traces[hart],
+            &mut self.pieces[hart],
+        )
+    }
+}
+
+/// Takes the messages in turn, up to the first fault.
+fn take_all<A: Allocator + Copy>(
+    alloc: A,
+    program: &Program,
+    mode: Mode,
+    messages: &[Message],
+    collection: &mut Collection<A>,
+) -> Result<(), LossyFault>
+    requires traces { length collection.old.traces.items ≡ length collection.old.demux }
+    requires pieces { length collection.old.pieces.items ≡ length collection.old.demux }
+    ensures traces_count { length collection.new.traces.items ≡ length collection.old.traces.items }
+    ensures pieces_count { length collection.new.pieces.items ≡ length collection.old.pieces.items }
+    ensures taken { (period : ℕ) (logs : List ProgramLog)
+        → FollowsAll program.now period mode logs messages.now messages.now collection.old.demux
+        collection.old.traces.items collection.old.pieces.items
+        → OnOk result (FollowsAll program.now period mode logs messages.now [] collection.new.demux
+        collection.new.traces.items collection.new.pieces.items) }
+    ensures memory { (period : ℕ) (logs : List ProgramLog)
+        → FollowsAll program.now period mode logs messages.now messages.now collection.old.demux
+        collection.old.traces.items collection.old.pieces.items
+        → IfErr result (λ fault. fault ≡ LossyFault.Memory) }
+    ensures accepted { (harts : ℕ) → collection.old.demux ≡ newcomers harts
+        → OnOk result (AreTaken (newcomers harts) messages.now) }
+    ensures stops { (harts : ℕ) → collection.old.demux ≡ newcomers harts
+        → IfErr result (λ fault. StopsBy harts messages.now fault) }
+{
+    for (place, message) in messages.iter().enumerate() {
+        match collection.take(alloc, program, mode, place, message) {
+            Ok(()) => {}
+            Err(fault) => return Err(fault),
+        }
+    }
+    Ok(())
+}
+
+/// Ends the stretch of each hart.
+fn end_all<A: Allocator + Copy>(
+    alloc: A,
+    traces: &mut Vec<HartTrace<A>, A>,
+    pieces: &mut Vec<HartPieces<A>, A>,
+) -> Result<(), AllocError>
+    requires { length traces.old.items ≡ length pieces.old.items }
+    ensures { OnOk result (AreEnded traces.old.items pieces.old.items pieces.new.items) }
+{
+    for hart in 0..pieces.len() {
+        match traces[hart].end_stretch(alloc, &mut pieces[hart].parts) {
+            Ok(()) => {}
+            Err(fault) => return Err(fault),
+        }
+    }
+    Ok(())
+}
+
+/// Collects of several harts, whose logs are of this program, what is left where messages are lost: of each hart the
+/// stretches of its log that its messages still tell, and how many messages are missing before and between them.
+///
+/// The harts are those below `harts`, which has one value for each. A message may have any number above those of its
+/// hart's messages before it and below 2^63; with a number as it was expected or lower it is refused. The mode is that
+/// of a hart whose packet that opens the trace is lost. A stretch that would be empty is left out, a gap is told before
+/// each run of messages without one, and messages lost at the end are not told but by a hart that is not closed.
+pub fn collect_lossy<A: Allocator + Copy>(
+    alloc: A,
+    program: &Program,
+    harts: u16,
+    mode: Mode,
+    messages: &[Message],
+) -> Result<Vec<HartPieces<A>, A>, LossyFault>
+    // Of messages of legal logs, some of them lost, each hart's parts are those of its log, and only memory is refused.
+    ensures parts { (period : ℕ) (logs : List ProgramLog) → AreOfLogs program.now period mode logs messages.now
+        → length logs ≡ harts
+        → IfOk result (λ pieces. AreCollected program.now period mode logs messages.now pieces.items) }
+    ensures memory { (period : ℕ) (logs : List ProgramLog) → AreOfLogs program.now period mode logs messages.now
+        → length logs ≡ harts → IfErr result (λ fault. fault ≡ LossyFault.Memory) }
+
+    // Of any messages.
+    ensures count { IfOk result (λ pieces. length pieces.items ≡ harts) }
+    ensures accepted { OnOk result (AreTaken (newcomers harts) messages.now) }
+    ensures stops { IfErr result (λ fault. StopsBy harts messages.now fault) }
+{
+    let mut collection = match Collection::new(alloc, harts) {
+        Ok(collection) => collection,
+        Err(_) => return Err(LossyFault::Memory),
+    };
+    match take_all(alloc, program, mode, messages, &mut collection) {
+        Ok(()) => {}
+        Err(fault) => return Err(fault),
+    }
+    let mut traces = collection.traces;
+    let mut pieces = collection.pieces;
+    match end_all(alloc, &mut traces, &mut pieces) {
+        Ok(()) => Ok(pieces),
+        Err(_) => Err(LossyFault::Memory),
+    }
+}

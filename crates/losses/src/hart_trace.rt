@@ -1,0 +1,138 @@
+//! What is under way of one hart.
+
+ghost use Rattle.std.specs.Prelude.{ℕ, ◌≡◌, ◌+◌, ◌++◌, List, [], ◌∷◌, None, IfErr, OnOk, drop};
+ghost use Rattle.retire.specs.declared.event.Event.{Event as AnyEvent};
+ghost use Rattle.rvclass.specs.Fetch.{words_of};
+ghost use Rattle.rvclass.specs.Words.{Words, IsProgram};
+ghost use Rattle.legalpath.specs.Legal.{Legal};
+ghost use Rattle.payload.specs.Closing.{is_closing_packet};
+ghost use Rattle.payload.specs.declared.packet.Packet.{Packet as AnyPacket};
+ghost use Rattle.encoder.specs.Packets.{packets};
+ghost use Rattle.decoder.specs.Resuming.{HasMode};
+ghost use Rattle.decoder.specs.Stands.{Stands};
+ghost use Rattle.losses.specs.Parts.{Missing, stretch};
+ghost use Rattle.losses.specs.PartsIn.{parts_in};
+ghost use Rattle.losses.specs.steps.DecoderSteps.{Resumes};
+ghost use Rattle.losses.specs.steps.Following.{FollowsTrace};
+
+use crate::part::{HartPieces, Part};
+use decoder::{DecodeFault, Decoder};
+use payload::{Mode, Packet};
+use retire::Event;
+use rvclass::Program;
+use std::alloc::{AllocError, Allocator};
+use std::mem;
+
+/// A hart's decoder, and the events so far of the stretch that is under way.
+#[derive(Drop)]
+pub struct HartTrace<A: Allocator> {
+    pub decoder: Decoder,
+    pub stretch: Vec<Event, A>,
+}
+
+impl<A: Allocator + Copy> HartTrace<A> {
+    /// Nothing is under way. Takes no memory.
+    pub fn new(alloc: A) -> HartTrace<A>
+        ensures stands { (words : Words) → Stands words [] [] result.decoder }
+        ensures untold { HasMode None result.decoder }
+        ensures stretch { result.stretch.items ≡ [] }
+    {
+        HartTrace {
+            decoder: Decoder::new(),
+            stretch: Vec::new(alloc),
+        }
+    }
+
+    /// Ends the stretch that is under way: it is a part, where it has an event.
+    pub fn end_stretch(&mut self, alloc: A, parts: &mut Vec<Part<A>, A>) -> Result<(), AllocError>
+        ensures parts { OnOk result (parts_in parts.new.items ≡ parts_in parts.old.items ++ stretch
+            self.old.stretch.items) }
+        ensures empty { OnOk result (self.new.stretch.items ≡ []) }
+        ensures decoder { self.new.decoder ≡ self.old.decoder }
+    {
+        if self.stretch.is_empty() {
+            return Ok(());
+        }
+        if parts.reserve(1).is_err() {
+            return Err(AllocError);
+        }
+        let events = mem::replace(&mut self.stretch, Vec::new(alloc));
+        parts.push_reserved(Part::Stretch(events));
+        Ok(())
+    }
+
+    /// Goes on after so many messages that were missed.
+    fn lose(
+        &mut self,
+        alloc: A,
+        mode: Mode,
+        missed: u64,
+        parts: &mut Vec<Part<A>, A>,
+    ) -> Result<(), AllocError>
+        ensures parts { OnOk result (parts_in parts.new.items
+            ≡ (parts_in parts.old.items ++ stretch self.old.stretch.items) ++ Missing missed ∷ []) }
+        ensures empty { OnOk result (self.new.stretch.items ≡ []) }
+        ensures resumes { OnOk result (Resumes mode self.old.decoder self.new.decoder) }
+    {
+        if self.end_stretch(alloc, parts).is_err() || parts.reserve(1).is_err() {
+            return Err(AllocError);
+        }
+        parts.push_reserved(Part::Gap(missed));
+        self.decoder.resume(mode);
+        Ok(())
+    }
+
+    /// Goes on to a message of this hart, before which so many were missed.
+    fn go_on(
+        &mut self,
+        alloc: A,
+        mode: Mode,
+        missed: u64,
+        parts: &mut Vec<Part<A>, A>,
+    ) -> Result<(), AllocError>
+        ensures { (words : Words) (period : ℕ) (log : List AnyEvent) (numbers left : List ℕ) (next number : ℕ)
+            (packet : AnyPacket) (later : List AnyPacket) → IsProgram words → Legal words log → number ≡ next + missed
+            → drop number (packets words period mode log) ≡ packet ∷ later
+            → FollowsTrace words period mode log numbers next (number ∷ left) self.old.decoder
+            (parts_in parts.old.items) self.old.stretch.items
+            → OnOk result (FollowsTrace words period mode log numbers number (number ∷ left) self.new.decoder
+            (parts_in parts.new.items) self.new.stretch.items) }
+    {
+        if missed == 0 {
+            return Ok(());
+        }
+        self.lose(alloc, mode, missed, parts)
+    }
+
+    /// Takes the hart's next packet, before which so many messages were missed.
+    pub fn take(
+        &mut self,
+        alloc: A,
+        program: &Program,
+        mode: Mode,
+        packet: &Packet,
+        missed: u64,
+        parts: &mut Vec<Part<A>, A>,
+    ) -> Result<(), DecodeFault>
+        ensures taken { (period : ℕ) (log : List AnyEvent) (numbers left : List ℕ) (next number : ℕ)
+            (later : List AnyPacket) → IsProgram (words_of program.now) → Legal (words_of program.now) log
+            → number ≡ next + missed → drop number (packets (words_of program.now) period mode log) ≡ packet.now ∷ later
+            → FollowsTrace (words_of program.now) period mode log numbers next (number ∷ left) self.old.decoder
+            (parts_in parts.old.items) self.old.stretch.items
+            → OnOk result (FollowsTrace (words_of program.now) period mode log numbers (number + 1) left
+            self.new.decoder
+            (parts_in parts.new.items) self.new.stretch.items) }
+        ensures memory { (period : ℕ) (log : List AnyEvent) (numbers left : List ℕ) (next number : ℕ)
+            (later : List AnyPacket) → IsProgram (words_of program.now) → Legal (words_of program.now) log
+            → number ≡ next + missed → drop number (packets (words_of program.now) period mode log) ≡ packet.now ∷ later
+            → FollowsTrace (words_of program.now) period mode log numbers next (number ∷ left) self.old.decoder
+            (parts_in parts.old.items) self.old.stretch.items
+            → IfErr result (λ fault. fault ≡ DecodeFault.Memory) }
+    {
+        match self.go_on(alloc, mode, missed, parts) {
+            Ok(()) => {}
+            Err(_) => return Err(DecodeFault::Memory),
+        }
+        self.decoder.feed(program, packet, &mut self.stretch)
+    }
+}

@@ -1,0 +1,20 @@
+//! What is left of harts' logs where messages are lost.
+//!
+//! [`collect_lossy`] takes the messages of several harts of which some are missing, and gives of each hart the parts of
+//! its log that can still be told, as [`HartPieces`]: stretches of events one after the other, and how many messages
+//! are missing before them and between them. A stretch begins at the packet that opens the trace or at a
+//! synchronisation, and holds all that the packets up to the next loss settle.
+#![tactic(auto)]
+
+mod collecting;
+mod fault;
+mod hart_trace;
+mod laws;
+mod part;
+#[cfg(test)]
+mod tests;
+
+pub use collecting::collect_lossy;
+pub use fault::LossyFault;
+pub use laws::stretches_stand_apart;
+pub use part::{HartPieces, Part};

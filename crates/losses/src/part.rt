@@ -1,0 +1,22 @@
+//! What is left of a hart's log.
+
+use retire::Event;
+use std::alloc::{Allocator, Global};
+
+/// A part of what is left of a hart's log.
+#[derive(Debug, Drop)]
+pub enum Part<A: Allocator = Global> {
+    /// Events that follow one another in the log, one at least.
+    Stretch(Vec<Event, A>),
+    /// So many messages are missing, one at least.
+    Gap(u64),
+}
+
+/// What is left of a hart's log.
+#[derive(Debug, Drop)]
+pub struct HartPieces<A: Allocator = Global> {
+    /// The parts, in the order of the log.
+    pub parts: Vec<Part<A>, A>,
+    /// Whether the hart's closing packet came.
+    pub closed: bool,
+}

@@ -1,0 +1,50 @@
+-- What a demultiplexer answers to a message where messages before it may be lost, and what it expects then.
+use Rattle.std.specs.Prelude.{ℕ, ◌-◌, ◌^◌, nat_lt, if◌then◌else◌, Option, Some, None, Result, Ok, Err, slice_get}
+use Rattle.std.specs.Prelude.{slice_set}
+use Rattle.payload.specs.Reading.{reading}
+use Rattle.payload.specs.declared.packet.Packet.{Packet}
+use Rattle.payload.specs.declared.fault.PackFault.{PackFault}
+use Rattle.message.specs.Accepting.{next_of}
+use Rattle.message.specs.Harts.{Harts, is_over}
+use Rattle.message.specs.declared.hart.Hart.{Hart}
+use Rattle.message.specs.declared.message.Message.{Message}
+use Rattle.message.specs.declared.fault.DemuxFault.{DemuxFault}
+use Rattle.message.specs.declared.fault.DemuxFault.TheVariants as fault
+
+-- A packet with how many messages were missed before it, or why the bytes are none.
+abbrev pub packet_after_loss : ℕ → Result Packet PackFault → Result (Packet × ℕ) DemuxFault
+packet_after_loss missed (Ok packet) = Ok (packet, missed)
+packet_after_loss missed (Err why) = Err (fault.Packet why)
+
+-- What is answered to a message of a hart, of which this is expected: the first fault, or else the packet and how many
+-- numbers between the one that is expected and its own were missed.
+abbrev pub answer_lossy : Hart → Message → Result (Packet × ℕ) DemuxFault
+answer_lossy h m =
+    if is_over h then Err fault.AfterClose else
+    if nat_lt m.number h.expected then Err fault.Repeat else
+    if nat_lt m.number (2 ^ 63) then packet_after_loss (m.number - h.expected) (reading m.payload) else
+    Err (fault.Gap h.expected)
+
+abbrev pub state_by_lossy : Hart → ℕ → Result (Packet × ℕ) DemuxFault → Hart
+state_by_lossy h number (Ok taken) = next_of number taken.0
+state_by_lossy h number (Err why) = h
+
+abbrev pub answer_lossy_of : Option Hart → Message → Result (Packet × ℕ) DemuxFault
+answer_lossy_of None m = Err fault.Stranger
+answer_lossy_of (Some h) m = answer_lossy h m
+
+-- What is answered to a message.
+abbrev pub accepting_lossy : Harts → Message → Result (Packet × ℕ) DemuxFault
+accepting_lossy harts m = answer_lossy_of (slice_get harts m.hart) m
+
+-- What is expected of the hart after a message of it: the number behind the message's own, where it is taken.
+abbrev pub state_after_lossy : Hart → Message → Hart
+state_after_lossy h m = state_by_lossy h m.number (answer_lossy h m)
+
+abbrev pub harts_by_lossy : Harts → Message → Option Hart → Harts
+harts_by_lossy harts m None = harts
+harts_by_lossy harts m (Some h) = slice_set harts m.hart (state_after_lossy h m)
+
+-- What is expected after a message: of its hart alone something else.
+abbrev pub harts_after_lossy : Harts → Message → Harts
+harts_after_lossy harts m = harts_by_lossy harts m (slice_get harts m.hart)
