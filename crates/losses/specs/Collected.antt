@@ -13,7 +13,7 @@ use Rattle.losses.specs.PartsIn.{parts_in}
 use Rattle.losses.specs.declared.part.HartPieces.{HartPieces}
 
 -- Of each hart are collected the parts of its log by the numbers of its messages, and the hart is closed exactly where
--- its closing packet is among theirs.
+-- the last of them closes the trace.
 pub record AreCollected {A : Type 0} (program : Image) (period : ℕ) (mode : Mode) (logs : List ProgramLog)
     (messages : List Message) (harts : List (HartPieces A)) : Type 0 where
   pub count : length harts ≡ length logs

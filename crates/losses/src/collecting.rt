@@ -236,10 +236,11 @@ fn end_all<A: Allocator + Copy>(
 /// Collects of several harts, whose logs are of this program, what is left where messages are lost: of each hart the
 /// stretches of its log that its messages still tell, and how many messages are missing before and between them.
 ///
-/// The harts are those below `harts`, which has one value for each. A message may have any number above those of its
-/// hart's messages before it and below 2^63; with a number as it was expected or lower it is refused. The mode is that
-/// of a hart whose packet that opens the trace is lost. A stretch that would be empty is left out, a gap is told before
-/// each run of messages without one, and messages lost at the end are not told but by a hart that is not closed.
+/// The harts are those below `harts`. A message may have any number above those of its hart's messages before it and
+/// below 2^63; with the number of one of them, or a lower one than the last, it is refused. The mode is that of a hart
+/// whose packet that opens the trace is lost. A stretch that would be empty is left out. Before each run of consecutive
+/// numbers so many messages are told as are missing before it, and nothing where none is; messages lost at the end are
+/// not told but by a hart that is not closed.
 pub fn collect_lossy<A: Allocator + Copy>(
     alloc: A,
     program: &Program,
