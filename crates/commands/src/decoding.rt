@@ -25,7 +25,7 @@ use std::io::Write;
 use subcommands::Decode;
 
 /// Writes the log of each hart, as far as the messages of a capture tell it, and answers that all is
-/// done where each hart's closing packet came and no message is refused.
+/// done where its header, if it has one, is valid, no message is refused and each hart's closing packet came.
 pub fn decode<'a, F: Files, O: Write>(
     alloc: Global,
     files: &mut F,

@@ -11,20 +11,20 @@ use payload::Mode;
 /// The most harts of a capture, and of the logs of one command.
 pub const MOST_HARTS: u16 = 1024;
 
-/// The most harts of a capture that has no header.
+/// The most harts of whose logs a capture with no header is made.
 const MOST_HARTS_WITHOUT_HEADER: u16 = 64;
 
 /// What the format of a capture is called.
 #[derive(Clone, Copy, Debug, PartialEq, Eq)]
 pub enum Version {
-    /// Messages alone, of at most 64 harts.
+    /// Messages alone; of at most 64 harts' logs one is made.
     One,
-    /// A header and then messages, of at most 1,024 harts.
+    /// A header and then messages; of at most 1,024 harts' logs one is made.
     Two,
 }
 
 impl Version {
-    /// The most harts of a capture of this version.
+    /// The most harts of whose logs a capture of this version is made.
     pub fn most_harts(self) -> u16
         ensures { result ≡ most_harts self }
     {
