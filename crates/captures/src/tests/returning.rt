@@ -8,6 +8,7 @@ use legalpath::LegalLog;
 use linked_list_allocator::LocalHeap;
 use message::{Messages, Version, write_message};
 use payload::Mode;
+use retire::Event;
 use rvclass::Program;
 use std::alloc::{Allocator, Global};
 use std::test::Fail;
@@ -151,6 +152,28 @@ fn logs_come_back(rt: HostRuntime) -> Result<(), Fail> {
             come_back(rt.alloc(), harts, count, mode, version)?,
             "{harts} {count}"
         );
+    }
+    Ok(())
+}
+
+/// The log of a branch to itself that is taken 33 times, which fills a branch map on the way, in each of a hundred harts.
+#[test]
+fn copies_of_a_log_come_back(rt: HostRuntime) -> Result<(), Fail> {
+    let words = [0x0000_0013, 0x0000_0013, 0x0000_8067, 0x0000_0063];
+    let program = Program::new(BASE, image_of(rt.alloc(), &words)?)?;
+    let branch = Event::Retire {
+        addr: BASE + 12,
+        itype: 5,
+        privilege: 3,
+    };
+    let mut logs = Vec::new(rt.alloc());
+    for _ in 0..100 {
+        logs.push(legal_log(&program, vec![in rt.alloc(); branch; 33]?)?)?;
+    }
+    for mode in [Mode::Differential, Mode::Full] {
+        let bytes = capture_of(rt.alloc(), &logs, 1024, mode, Version::Two)?;
+        let outcome = decode_capture(rt.alloc(), &program, 1, &bytes)?;
+        assert!(rt; compared(&outcome, &logs)? == Came::All);
     }
     Ok(())
 }
