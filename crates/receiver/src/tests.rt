@@ -4,7 +4,7 @@ use crate::{ReceiveFault, Receiver};
 use decoder::DecodeFault;
 use linked_list_allocator::LocalHeap;
 use message::{DemuxFault, Message};
-use payload::{PackFault, Packet, Payload, Support};
+use payload::{Mode, PackFault, Packet, Payload, Support};
 use retire::Event;
 use rvclass::Program;
 use std::alloc::{AllocError, Allocator};
@@ -19,6 +19,8 @@ const NOPS: [u8; 8] = [0x13, 0, 0, 0, 0x13, 0, 0, 0];
 // The payloads of a hart that retires both.
 
 const OPEN: &[u8] = &[0x1f];
+
+const OPEN_FULL: &[u8] = &[0x1f, 0x01];
 
 const FIRST: &[u8] = &[0x73, 0, 0, 0, 0x20];
 
@@ -131,6 +133,37 @@ fn messages_by_table(rt: HostRuntime) -> Result<(), Fail> {
     Ok(())
 }
 
+/// Where a mode was told before, a message that opens a trace in another one is accepted and not decoded.
+#[test]
+fn opens_in_the_mode_that_was_told(rt: HostRuntime) -> Result<(), Fail> {
+    let another = Some(ReceiveFault::Mode);
+    let table: [(Option<Mode>, &[u8], Option<ReceiveFault>); 6] = [
+        (None, OPEN, None),
+        (None, OPEN_FULL, None),
+        (Some(Mode::Differential), OPEN, None),
+        (Some(Mode::Differential), OPEN_FULL, another),
+        (Some(Mode::Full), OPEN, another),
+        (Some(Mode::Full), OPEN_FULL, None),
+    ];
+    let repeat = Some(ReceiveFault::Demux(DemuxFault::Repeat));
+    let program = Program::new(BASE, Vec::from_slice(rt.alloc(), &NOPS)?)?;
+    for (row, (told, payload, fault)) in table.into_iter().enumerate() {
+        let mut receiver = Receiver::new(rt.alloc(), 1)?;
+        let open = message(0, 0, payload)?;
+        assert_eq!(rt;
+            receiver.receive(&program, told, &open).err(),
+            fault,
+            "row {row}"
+        );
+        assert_eq!(rt;
+            receiver.receive(&program, told, &open).err(),
+            repeat,
+            "row {row}"
+        );
+    }
+    Ok(())
+}
+
 /// Between the two calls the list waits, and a packet that was refused is decoded no more.
 #[test]
 fn accepts_and_then_decodes(rt: HostRuntime) -> Result<(), Fail> {
@@ -209,6 +242,7 @@ fn memory_is_refused(rt: HostRuntime) -> Result<(), Fail> {
 fn texts(rt: HostRuntime) -> Result<(), Fail> {
     let table = [
         (ReceiveFault::Demux(DemuxFault::Stranger), "stranger"),
+        (ReceiveFault::Mode, "open of another mode"),
         (
             ReceiveFault::Decode(DecodeFault::WrongPlace),
             "not decoded: WrongPlace",
