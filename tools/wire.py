@@ -1,4 +1,6 @@
-"""Packets and messages as bytes, worked out from docs/FORMATS.md for the scripts of this folder."""
+"""Packets, messages and headers as bytes, worked out from docs/FORMATS.md for the scripts of this folder."""
+
+DIFFERENTIAL, FULL = 0, 1
 
 
 def spell(fields):
@@ -14,11 +16,12 @@ def spell(fields):
     return signed.to_bytes(count, "little", signed=True)
 
 
-def support(enabled, status):
-    return spell([(2, 3), (2, 3), (1, enabled), (1, 0), (2, status), (5, 0)])
+def support(enabled, status, options=0):
+    return spell([(2, 3), (2, 3), (1, enabled), (1, 0), (2, status), (5, options)])
 
 
-OPEN = support(1, 0)
+OPEN = support(1, 0, DIFFERENTIAL)
+OPEN_FULL = support(1, 0, FULL)
 ENDED_REP = support(0, 1)
 ENDED_NTR = support(0, 3)
 
@@ -42,3 +45,8 @@ FULL_MAP = spell([(2, 1), (5, 0), (31, 0)])  # 31 taken branches
 
 def message(hart, number, payload):
     return hart.to_bytes(2, "little") + number.to_bytes(8, "little") + bytes([len(payload)]) + payload
+
+
+def header(harts=1, period=1024, mode=DIFFERENTIAL):
+    """The header of a capture of version 2; its numbers may be out of range."""
+    return b"\xff\xffrvtrace2\0" + bytes([mode]) + period.to_bytes(2, "little") + harts.to_bytes(2, "little")

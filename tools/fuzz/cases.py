@@ -185,6 +185,11 @@ def message(hart, number, payload):
     return hart.to_bytes(2, "little") + number.to_bytes(8, "little") + bytes([len(payload) & 0xFF]) + payload
 
 
+def header(mode, period, harts):
+    """The header of a capture of version 2."""
+    return reading.MARK + bytes([mode]) + period.to_bytes(2, "little") + harts.to_bytes(2, "little")
+
+
 def any_packet(random, program):
     """A packet that may or may not fit."""
     near = lambda: program.base + 2 * random.randrange(len(program.image) // 2 + 2)
@@ -215,14 +220,17 @@ class Maker:
         self.random = random
         self.program = reading.Program(*image(random))
         self.logs = [legal_log(random, self.program, random.choice((0, 1, 2, 5, 20, 80))) for _ in range(24)]
-        self.payloads = []
-        for log in self.logs:
-            made = packets(self.program, log, random.choice((1, 3, 8, 1024)), random.choice(reading.MODES))
-            self.payloads.append([payload_of(packet, random.choice((0, 0, 0, 1))) for packet in made])
+        self.payloads = {mode: [self.payloads_of(log, mode) for log in self.logs] for mode in reading.MODES}
 
-    def good(self, harts):
-        """The messages of a hart each, in some order that keeps each hart's."""
-        queues = [list(enumerate(self.random.choice(self.payloads))) for _ in range(harts)]
+    def payloads_of(self, log, mode):
+        """The payloads of a log in a mode, at some period; a few are longer than they have to be."""
+        made = packets(self.program, log, self.random.choice((1, 3, 8, 1024)), mode)
+        return [payload_of(packet, self.random.choice((0, 0, 0, 1))) for packet in made]
+
+    def good(self, harts, modes):
+        """The messages of a hart each, in some of these modes, in some order that keeps each hart's."""
+        random = self.random
+        queues = [list(enumerate(random.choice(self.payloads[random.choice(modes)]))) for _ in range(harts)]
         made = []
         while left := [hart for hart in range(harts) if queues[hart]]:
             hart = self.random.choice(left)
@@ -289,12 +297,34 @@ class Maker:
         return bytes(made)
 
     def capture(self, harts):
+        """A capture of about so many harts, a third of them with a header."""
+        random = self.random
+        if random.randrange(3):
+            return self.messages(harts, reading.MODES)
+        mode = random.choice(reading.MODES)
+        counted = random.choice((harts, harts, harts, harts, harts + 1, 1)) if random.randrange(100) else 1024
+        made = header(mode, random.choice((1, 8, 1024, 0xFFFF)), counted)
+        made += self.messages(harts, random.choice(((mode,), (mode,), reading.MODES)))
+        return self.with_other_header(made) if random.randrange(3) == 0 else made
+
+    def with_other_header(self, text):
+        """A capture with a header, of which a byte or two are changed, or in or behind which the capture ends."""
+        random, made = self.random, bytearray(text)
+        if random.randrange(4) == 0:
+            return bytes(made[: random.randrange(17)])
+        for _ in range(random.choice((1, 1, 2))):
+            at = random.choice((random.randrange(11), 11, 12, 13, 14, 15))
+            made[at] = random.choice((0, 1, 2, 4, made[at] ^ 1 << random.randrange(8), random.randrange(256)))
+        return bytes(made)
+
+    def messages(self, harts, modes):
+        """Messages with no header, those of good captures in some of these modes; or any bytes."""
         random, what = self.random, self.random.randrange(10)
         if what == 0:
             return random.randbytes(random.randrange(60))
         if what <= 2:
             return b"".join(message(*it) for it in self.in_order(harts))
-        made = self.good(harts)
+        made = self.good(harts, modes)
         if what <= 6:
             made = self.disturbed(made, harts)
         text = b"".join(message(*it) for it in made)

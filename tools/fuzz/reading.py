@@ -376,7 +376,8 @@ def digits(outcomes):
     return "".join("0" if taken else "1" for taken in outcomes) or "-"
 
 
-def packet_text(packet):
+def packet_text(packet, told):
+    """The text of a packet behind a header that tells this mode."""
     kind = packet[0]
     if kind == "sync":
         return f"sync addr={packet[3]:x} priv={packet[2]} branch={int(not packet[1])}"
@@ -386,7 +387,8 @@ def packet_text(packet):
         place = "handler" if handler else "epc"
         return f"trap {what} {place}={address:x} priv={privilege} branch={int(not taken)}"
     if kind == "address":
-        return f"address diff={packet[2]:x} map={digits(packet[1])} {packet[3]}"
+        name = "addr" if told == FULL else "diff"
+        return f"address {name}={packet[2]:x} map={digits(packet[1])} {packet[3]}"
     if kind == "map":
         return f"map {digits(packet[1])}"
     if kind == "open":
@@ -516,17 +518,38 @@ class Decoder:
 
 # Captures.
 
+MARK = bytes.fromhex("ffff") + b"rvtrace2" + bytes(1)
+CUT = "the capture ends inside a message"
+MOST_HARTS = 1024
 
-def messages(capture):
-    """The messages of a capture, and then the fault at which they end, if there is one."""
-    at = 0
+
+class NoHeader(Exception):
+    """The fault of a capture whose header is cut short or bad."""
+
+
+def start(capture):
+    """What the header of a capture tells, its mode, period and count of harts, or None; and where messages begin."""
+    if capture[: len(MARK)] != MARK:
+        return None, 0
+    settings = capture[len(MARK) : len(MARK) + 5]
+    if len(settings) < 5:
+        raise NoHeader(f"message 0: {CUT}")
+    mode, period = settings[0], int.from_bytes(settings[1:3], "little")
+    harts = int.from_bytes(settings[3:5], "little")
+    if mode not in MODES or period == 0 or not 1 <= harts <= MOST_HARTS:
+        raise NoHeader("capture header is not valid")
+    return (mode, period, harts), len(MARK) + 5
+
+
+def messages(capture, at):
+    """The messages of a capture from a place on, and then the fault at which they end, if there is one."""
     while at < len(capture):
         head = capture[at : at + 11]
         if len(head) == 11 and not 1 <= head[10] <= 18:
             yield "payload length is not 1 to 18"
             return
         if len(head) < 11 or at + 11 + head[10] > len(capture):
-            yield "the capture ends inside a message"
+            yield CUT
             return
         payload = capture[at + 11 : at + 11 + head[10]]
         yield int.from_bytes(head[:2], "little"), int.from_bytes(head[2:10], "little"), payload
@@ -551,15 +574,23 @@ def let_through(message, expected, decoders):
 
 
 def decode(program, harts, capture):
-    """Where decoding stops, and the decoder of each hart."""
+    """Where decoding stops, and the decoder of each hart; `harts` says how many there are where no header does."""
+    try:
+        header, at = start(capture)
+    except NoHeader as why:
+        return str(why), [Decoder(program) for _ in range(harts)]
+    if header:
+        harts = header[2]
     decoders, expected = [Decoder(program) for _ in range(harts)], [0] * harts
-    for place, message in enumerate(messages(capture)):
+    for place, message in enumerate(messages(capture, at)):
         if isinstance(message, str):
             return f"message {place}: {message}", decoders
         try:
             packet = let_through(message, expected, decoders)
         except Refused as why:
             return f"message {place}: {why}", decoders
+        if header and packet[0] == "open" and packet[1] != header[0]:
+            return f"message {place}: open of another mode", decoders
         try:
             decoders[message[0]].feed(packet)
         except Refused as why:
@@ -569,15 +600,23 @@ def decode(program, harts, capture):
 
 
 def dump(capture):
-    """The lines of a capture's messages, where they stop, and whether a payload is bad."""
-    lines, bad, stop = [], False, "dumped"
-    for place, message in enumerate(messages(capture)):
+    """The lines of a capture's header and messages, where they stop, and whether a payload is bad."""
+    try:
+        header, at = start(capture)
+    except NoHeader as why:
+        return "", str(why), False
+    lines, bad, stop, told = [], False, "dumped", DIFFERENTIAL
+    if header:
+        told, period, harts = header
+        name = "full" if told == FULL else "diff"
+        lines.append(f"capture 2 mode={name} period={period} harts={harts}\n")
+    for place, message in enumerate(messages(capture, at)):
         if isinstance(message, str):
             stop = f"message {place}: {message}"
             break
         hart, count, payload = message
         try:
-            text = packet_text(unpack(payload))
+            text = packet_text(unpack(payload), told)
         except Refused as why:
             text, bad = f"bad {why}", True
         lines.append(f"{hart} {count} {text}\n")
