@@ -46,12 +46,15 @@ use Rattle.losses.proofs.BlockDescribed.{Rest, rest_of_log, rest_drop}
 use Rattle.losses.proofs.NextMessage.{IsNext, next_of_some, packet_of_log}
 use Rattle.losses.proofs.TraceLemmas.{before_another, drop_one_more}
 
-module _ {A : Type 0} (program : Image) (period : ℕ) (mode : Mode) (logs : List ProgramLog)
+module _ {A : Type 0} (program : Image) (period : ℕ) (handed : Mode) (own_mode : ℕ → Mode) (logs : List ProgramLog)
     (messages left : List Message) (message : Message) (harts : Harts) (traces : List (HartTrace A))
     (pieces : List (HartPieces A)) (trace : HartTrace A) (collected : HartPieces A)
-    (f : FollowsAll program period mode logs messages (message ∷ left) harts traces pieces)
+    (f : FollowsAll program period handed own_mode logs messages (message ∷ left) harts traces pieces)
     (at_trace : slice_get traces message.hart ≡ Some trace)
     (at_pieces : slice_get pieces message.hart ≡ Some collected) where
+  abbrev pub mode : Mode
+  mode = own_mode message.hart
+
   known : message.hart < length logs
   known = All-head (λ (m : Message). m.hart < length logs) message left f.known
 
@@ -84,7 +87,7 @@ module _ {A : Type 0} (program : Image) (period : ℕ) (mode : Mode) (logs : Lis
   abbrev pub ps : List Packet
   ps = packets (words_of program) period mode log.events
 
-  follows : FollowsHart program period mode log message.hart messages (message ∷ left) expects trace.decoder
+  follows : FollowsHart program period handed mode log message.hart messages (message ∷ left) expects trace.decoder
       trace.stretch.items (parts_in collected.parts.items) collected.closed
   follows = f.each message.hart log expects trace collected at_log at_hart at_trace at_pieces
 
@@ -96,11 +99,11 @@ module _ {A : Type 0} (program : Image) (period : ℕ) (mode : Mode) (logs : Lis
   pub here : drop message.number ps ≡ next.packet ∷ next.later
   here = ap (λ n. drop n ps) next.number ∙ sym (drop-drop next.missed expects.expected ps) ∙ next.here
 
-  pub trace_left : FollowsTrace (words_of program) period mode log.events (numbers_of message.hart messages)
+  pub trace_left : FollowsTrace (words_of program) period handed mode log.events (numbers_of message.hart messages)
       expects.expected (message.number ∷ numbers_of message.hart left) trace.decoder (parts_in collected.parts.items)
       trace.stretch.items
   trace_left =
-      subst (λ l. FollowsTrace (words_of program) period mode log.events (numbers_of message.hart messages)
+      subst (λ l. FollowsTrace (words_of program) period handed mode log.events (numbers_of message.hart messages)
       expects.expected l trace.decoder (parts_in collected.parts.items) trace.stretch.items)
       (ap (map (λ (m : Message). m.number)) (of_hart-own message left)) follows.trace
 
@@ -145,12 +148,12 @@ module _ {A : Type 0} (program : Image) (period : ℕ) (mode : Mode) (logs : Lis
       ∙ ap (λ r. slice_set harts message.hart (state_by_lossy expects message.number r)) answered
 
   module _ (new_trace : HartTrace A) (new_pieces : HartPieces A)
-      (on : FollowsTrace (words_of program) period mode log.events (numbers_of message.hart messages)
+      (on : FollowsTrace (words_of program) period handed mode log.events (numbers_of message.hart messages)
       (message.number + 1) (numbers_of message.hart left) new_trace.decoder (parts_in new_pieces.parts.items)
       new_trace.stretch.items)
       (closed : new_pieces.closed ≡ is_closing_packet next.packet) where
     -- Of its hart it is collected.
-    own : FollowsHart program period mode log message.hart messages left (next_of message.number next.packet)
+    own : FollowsHart program period handed mode log message.hart messages left (next_of message.number next.packet)
         new_trace.decoder new_trace.stretch.items (parts_in new_pieces.parts.items) new_pieces.closed
     own =
         let number = next.number in
@@ -180,18 +183,21 @@ module _ {A : Type 0} (program : Image) (period : ℕ) (mode : Mode) (logs : Lis
 
     -- Of the others it is none.
     other : (hart : ℕ) (l : ProgramLog) (e : Hart) (t : HartTrace A) (p : HartPieces A) → message.hart ≢ hart
-        → FollowsHart program period mode l hart messages (message ∷ left) e t.decoder t.stretch.items
+        → FollowsHart program period handed (own_mode hart) l hart messages (message ∷ left) e t.decoder t.stretch.items
         (parts_in p.parts.items) p.closed
-        → FollowsHart program period mode l hart messages left e t.decoder t.stretch.items (parts_in p.parts.items)
+        → FollowsHart program period handed (own_mode hart) l hart messages left e t.decoder t.stretch.items (parts_in
+        p.parts.items)
         p.closed
     other hart l e t p apart h =
         let none = of_hart-others hart message left apart in
         record {
-          trace = subst (λ ms. FollowsTrace (words_of program) period mode l.events (numbers_of hart messages)
+          trace = subst (λ ms. FollowsTrace (words_of program) period handed (own_mode hart) l.events (numbers_of hart
+              messages)
               e.expected
               (map (λ (m : Message). m.number) ms) t.decoder (parts_in p.parts.items) t.stretch.items) none h.trace;
           sent = subst (λ ms. AreSomeOf ms (messages_from hart e.expected
-              (map payload_of (drop e.expected (packets (words_of program) period mode l.events))))) none h.sent;
+              (map payload_of (drop e.expected (packets (words_of program) period (own_mode hart) l.events))))) none
+              h.sent;
           stays = h.stays;
           ended = h.ended ∙ ap (λ ms. closed_by p.closed (packets_in ms)) none;
         }
@@ -201,7 +207,8 @@ module _ {A : Type 0} (program : Image) (period : ℕ) (mode : Mode) (logs : Lis
         → slice_get (set harts message.hart (next_of message.number next.packet)) hart ≡ Some e
         → slice_get (set traces message.hart new_trace) hart ≡ Some t
         → slice_get (set pieces message.hart new_pieces) hart ≡ Some p
-        → FollowsHart program period mode l hart messages left e t.decoder t.stretch.items (parts_in p.parts.items)
+        → FollowsHart program period handed (own_mode hart) l hart messages left e t.decoder t.stretch.items (parts_in
+        p.parts.items)
         p.closed
     each_hart hart l e t p of_log of_harts of_traces of_pieces =
         by_harts (slice_get-set harts message.hart (next_of message.number next.packet) hart e of_harts)
@@ -212,22 +219,25 @@ module _ {A : Type 0} (program : Image) (period : ℕ) (mode : Mode) (logs : Lis
             ⊎ ((message.hart ≢ hart) × (slice_get harts hart ≡ Some e))
             → ((message.hart ≡ hart) × (t ≡ new_trace)) ⊎ ((message.hart ≢ hart) × (slice_get traces hart ≡ Some t))
             → ((message.hart ≡ hart) × (p ≡ new_pieces)) ⊎ ((message.hart ≢ hart) × (slice_get pieces hart ≡ Some p))
-            → FollowsHart program period mode l hart messages left e t.decoder t.stretch.items
+            → FollowsHart program period handed (own_mode hart) l hart messages left e t.decoder t.stretch.items
             (parts_in p.parts.items) p.closed
         by_harts (inl (same, is_e)) (inl (_, is_t)) (inl (_, is_p)) =
             let here_log = subst (λ h. slice_get logs h ≡ Some l) (sym same) of_log in
             let is_l : log ≡ l = same_Some log l (sym at_log ∙ here_log) in
-            let by_l = subst (λ x. FollowsHart program period mode x message.hart messages left
+            let by_l = subst (λ x. FollowsHart program period handed mode x message.hart messages left
             (next_of message.number next.packet) new_trace.decoder new_trace.stretch.items
             (parts_in new_pieces.parts.items) new_pieces.closed) is_l own in
-            let by_h = subst (λ h. FollowsHart program period mode l h messages left
+            let by_h = subst (λ h. FollowsHart program period handed (own_mode h) l h messages left
             (next_of message.number next.packet) new_trace.decoder new_trace.stretch.items
             (parts_in new_pieces.parts.items) new_pieces.closed) same by_l in
-            let by_e = subst (λ x. FollowsHart program period mode l hart messages left x new_trace.decoder
+            let by_e = subst (λ x. FollowsHart program period handed (own_mode hart) l hart messages left x
+            new_trace.decoder
             new_trace.stretch.items (parts_in new_pieces.parts.items) new_pieces.closed) (sym is_e) by_h in
-            let by_t = subst (λ (x : HartTrace A). FollowsHart program period mode l hart messages left e x.decoder
+            let by_t = subst (λ (x : HartTrace A). FollowsHart program period handed (own_mode hart) l hart messages
+            left e x.decoder
             x.stretch.items (parts_in new_pieces.parts.items) new_pieces.closed) (sym is_t) by_e in
-            subst (λ (x : HartPieces A). FollowsHart program period mode l hart messages left e t.decoder
+            subst (λ (x : HartPieces A). FollowsHart program period handed (own_mode hart) l hart messages left e
+            t.decoder
             t.stretch.items (parts_in x.parts.items) x.closed) (sym is_p) by_t
         by_harts (inl (same, is_e)) (inl (_, is_t)) (inr (apart, is_p)) = absurd (apart same)
         by_harts (inl (same, is_e)) (inr (apart, is_t)) _ = absurd (apart same)
@@ -237,10 +247,10 @@ module _ {A : Type 0} (program : Image) (period : ℕ) (mode : Mode) (logs : Lis
             other hart l e t p apart (f.each hart l e t p of_log is_e is_t is_p)
 
     -- Of all harts it is collected.
-    pub collected_more : FollowsAll program period mode logs messages left (harts_after_lossy harts message)
+    pub collected_more : FollowsAll program period handed own_mode logs messages left (harts_after_lossy harts message)
         (set traces message.hart new_trace) (set pieces message.hart new_pieces)
     collected_more =
-        subst (λ hs. FollowsAll program period mode logs messages left hs (set traces message.hart new_trace)
+        subst (λ hs. FollowsAll program period handed own_mode logs messages left hs (set traces message.hart new_trace)
         (set pieces message.hart new_pieces)) (sym after)
         (record {
           legal = f.legal;
@@ -273,10 +283,10 @@ of_answer : (p : Packet) (k : ℕ) (q : Packet) (l : ℕ) (answer : Result (Pack
 of_answer p k q l answer one two =
     (ap (packet_in p) (sym one) ∙ ap (packet_in p) two, ap (missed_in k) (sym one) ∙ ap (missed_in k) two)
 
-module _ {A : Type 0} (program : Image) (period : ℕ) (mode : Mode) (logs : List ProgramLog)
+module _ {A : Type 0} (program : Image) (period : ℕ) (handed : Mode) (own_mode : ℕ → Mode) (logs : List ProgramLog)
     (messages left : List Message) (message : Message) (harts : Harts) (traces : List (HartTrace A))
     (pieces : List (HartPieces A))
-    (f : FollowsAll program period mode logs messages (message ∷ left) harts traces pieces) where
+    (f : FollowsAll program period handed own_mode logs messages (message ∷ left) harts traces pieces) where
   -- The next message is taken by the demultiplexer.
   pub taken_next : length traces ≡ length harts → length pieces ≡ length harts
       → (packet : Packet) × (missed : ℕ) × (accepting_lossy harts message ≡ Ok (packet, missed))
@@ -285,10 +295,10 @@ module _ {A : Type 0} (program : Image) (period : ℕ) (mode : Mode) (logs : Lis
       let count = f.harts_count in
       let t = some_at traces message.hart (omega (arith, within, count, traces_count)) in
       let p = some_at pieces message.hart (omega (arith, within, count, pieces_count)) in
-      let n = next program period mode logs messages left message harts traces pieces t.0 p.0 f t.1 p.1 in (
+      let n = next program period handed own_mode logs messages left message harts traces pieces t.0 p.0 f t.1 p.1 in (
         n.packet,
         n.missed,
-        accepted program period mode logs messages left message harts traces pieces t.0 p.0 f t.1
+        accepted program period handed own_mode logs messages left message harts traces pieces t.0 p.0 f t.1
             p.1,
       )
 
@@ -299,17 +309,23 @@ module _ {A : Type 0} (program : Image) (period : ℕ) (mode : Mode) (logs : Lis
     abbrev hart_log : ProgramLog
     hart_log = get_or logs message.hart (log_of program [])
 
+    abbrev mode_here : Mode
+    mode_here = own_mode message.hart
+
     abbrev expected : ℕ
     expected = (get_or harts message.hart newcomer).expected
 
-    abbrev n : IsNext message.hart expected (drop expected (packets (words_of program) period mode hart_log.events))
+    abbrev n : IsNext message.hart expected (drop expected (packets (words_of program) period mode_here
+        hart_log.events))
         message
         (of_hart message.hart left)
-    n = next program period mode logs messages left message harts traces pieces trace collected f at_trace at_pieces
+    n = next program period handed own_mode logs messages left message harts traces pieces trace collected f at_trace
+        at_pieces
 
     same : (packet ≡ n.packet) × (missed ≡ n.missed)
     same = of_answer packet missed n.packet n.missed (accepting_lossy harts message) value
-        (accepted program period mode logs messages left message harts traces pieces trace collected f at_trace
+        (accepted program period handed own_mode logs messages left message harts traces pieces trace collected f
+        at_trace
         at_pieces)
 
     same_packet : packet ≡ n.packet
@@ -321,62 +337,74 @@ module _ {A : Type 0} (program : Image) (period : ℕ) (mode : Mode) (logs : Lis
     number_is : message.number ≡ expected + missed
     number_is = n.number ∙ ap (λ k. expected + k) (sym same_missed)
 
-    here_is : drop message.number (packets (words_of program) period mode hart_log.events) ≡ packet ∷ n.later
+    here_is : drop message.number (packets (words_of program) period mode_here hart_log.events) ≡ packet ∷ n.later
     here_is =
-        here program period mode logs messages left message harts traces pieces trace collected f at_trace at_pieces
+        here program period handed own_mode logs messages left message harts traces pieces trace collected f at_trace
+        at_pieces
         ∙ ap (λ p. p ∷ n.later) (sym same_packet)
 
     -- What a hart's trace promises of its next packet.
-    module _ (taken : (log : List Event) (numbers later_numbers : List ℕ) (next number : ℕ) (later : List Packet)
+    module _ (taken : (own : Mode) (log : List Event) (numbers later_numbers : List ℕ) (next number : ℕ) (later : List
+        Packet)
         → IsProgram (words_of program) → Legal (words_of program) log → number ≡ next + missed
-        → drop number (packets (words_of program) period mode log) ≡ packet ∷ later
-        → FollowsTrace (words_of program) period mode log numbers next (number ∷ later_numbers) trace.decoder
+        → drop number (packets (words_of program) period own log) ≡ packet ∷ later
+        → FollowsTrace (words_of program) period handed own log numbers next (number ∷ later_numbers) trace.decoder
         (parts_in collected.parts.items) trace.stretch.items
-        → OnOk result (FollowsTrace (words_of program) period mode log numbers (number + 1) later_numbers
+        → OnOk result (FollowsTrace (words_of program) period handed own log numbers (number + 1) later_numbers
         new_trace.decoder (parts_in new_pieces.parts.items) new_trace.stretch.items))
         (closed : OnOk result (new_pieces.closed ≡ is_closing_packet packet)) where
-      pub follows_next : OnOk result (FollowsAll program period mode logs messages left (harts_after_lossy harts
+      pub follows_next : OnOk result (FollowsAll program period handed own_mode logs messages left (harts_after_lossy
+          harts
           message)
           (set traces message.hart new_trace) (set pieces message.hart new_pieces))
       follows_next = by_result result
-          (taken hart_log.events (numbers_of message.hart messages) (numbers_of message.hart left) expected
+          (taken mode_here hart_log.events (numbers_of message.hart messages) (numbers_of message.hart left) expected
           message.number
           n.later
-          (is_program program period mode logs messages left message harts traces pieces trace collected f at_trace
+          (is_program program period handed own_mode logs messages left message harts traces pieces trace collected f
+          at_trace
           at_pieces)
-          (is_legal program period mode logs messages left message harts traces pieces trace collected f at_trace
+          (is_legal program period handed own_mode logs messages left message harts traces pieces trace collected f
+          at_trace
           at_pieces)
           number_is here_is
-          (trace_left program period mode logs messages left message harts traces pieces trace collected f at_trace
+          (trace_left program period handed own_mode logs messages left message harts traces pieces trace collected f
+          at_trace
           at_pieces))
           closed
         where
           by_result : (result : Result ⊤ LossyFault)
-              → OnOk result (FollowsTrace (words_of program) period mode hart_log.events
+              → OnOk result (FollowsTrace (words_of program) period handed mode_here hart_log.events
               (numbers_of message.hart messages) (message.number + 1) (numbers_of message.hart left) new_trace.decoder
               (parts_in new_pieces.parts.items) new_trace.stretch.items)
               → OnOk result (new_pieces.closed ≡ is_closing_packet packet)
-              → OnOk result (FollowsAll program period mode logs messages left (harts_after_lossy harts message)
+              → OnOk result (FollowsAll program period handed own_mode logs messages left (harts_after_lossy harts
+              message)
               (set traces message.hart new_trace) (set pieces message.hart new_pieces))
           by_result (Err fault) on closed = tt
           by_result (Ok done) on closed =
-              collected_more program period mode logs messages left message harts traces pieces trace collected f
+              collected_more program period handed own_mode logs messages left message harts traces pieces trace
+              collected f
               at_trace at_pieces new_trace new_pieces on (closed ∙ ap is_closing_packet same_packet)
 
-    module _ (memory : (log : List Event) (numbers later_numbers : List ℕ) (next number : ℕ) (later : List Packet)
+    module _ (memory : (own : Mode) (log : List Event) (numbers later_numbers : List ℕ) (next number : ℕ) (later : List
+        Packet)
         → IsProgram (words_of program) → Legal (words_of program) log → number ≡ next + missed
-        → drop number (packets (words_of program) period mode log) ≡ packet ∷ later
-        → FollowsTrace (words_of program) period mode log numbers next (number ∷ later_numbers) trace.decoder
+        → drop number (packets (words_of program) period own log) ≡ packet ∷ later
+        → FollowsTrace (words_of program) period handed own log numbers next (number ∷ later_numbers) trace.decoder
         (parts_in collected.parts.items) trace.stretch.items
         → IfErr result (λ why. why ≡ fault.Memory)) where
       pub memory_alone : IfErr result (λ why. why ≡ fault.Memory)
       memory_alone =
-          memory hart_log.events (numbers_of message.hart messages) (numbers_of message.hart left) expected
+          memory mode_here hart_log.events (numbers_of message.hart messages) (numbers_of message.hart left) expected
           message.number n.later
-          (is_program program period mode logs messages left message harts traces pieces trace collected f at_trace
+          (is_program program period handed own_mode logs messages left message harts traces pieces trace collected f
+          at_trace
           at_pieces)
-          (is_legal program period mode logs messages left message harts traces pieces trace collected f at_trace
+          (is_legal program period handed own_mode logs messages left message harts traces pieces trace collected f
+          at_trace
           at_pieces)
           number_is here_is
-          (trace_left program period mode logs messages left message harts traces pieces trace collected f at_trace
+          (trace_left program period handed own_mode logs messages left message harts traces pieces trace collected f
+          at_trace
           at_pieces)

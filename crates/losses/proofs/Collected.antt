@@ -39,13 +39,13 @@ closed_by-all : (before : Option Packet) (ps : List Packet) → closes (last_or 
 closed_by-all before [] = refl
 closed_by-all before (p ∷ ps) = closed_by-all (Some p) ps
 
-module _ {A : Type 0} (program : Image) (period : ℕ) (mode : Mode) (logs : List ProgramLog)
+module _ {A : Type 0} (program : Image) (period : ℕ) (handed : Mode) (own : ℕ → Mode) (logs : List ProgramLog)
     (messages : List Message) where
   -- Before the first message.
   pub follows_first : (harts : ℕ) (demux : Harts) (traces : List (HartTrace A)) (pieces : List (HartPieces A))
-      → AreOfLogs program period mode logs messages → length logs ≡ harts → demux ≡ newcomers harts
+      → AreOfLogs program period handed own logs messages → length logs ≡ harts → demux ≡ newcomers harts
       → All IsNewTrace traces → All IsNewPieces pieces
-      → FollowsAll program period mode logs messages messages demux traces pieces
+      → FollowsAll program period handed own logs messages messages demux traces pieces
   follows_first harts demux traces pieces of_logs count is new_traces new_pieces = record {
     legal = of_logs.legal;
     same = of_logs.same;
@@ -57,7 +57,8 @@ module _ {A : Type 0} (program : Image) (period : ℕ) (mode : Mode) (logs : Lis
       each : (hart : ℕ) (log : ProgramLog) (expects : Hart) (trace : HartTrace A) (collected : HartPieces A)
           → slice_get logs hart ≡ Some log → slice_get demux hart ≡ Some expects → slice_get traces hart ≡ Some trace
           → slice_get pieces hart ≡ Some collected
-          → FollowsHart program period mode log hart messages messages expects trace.decoder trace.stretch.items
+          → FollowsHart program period handed (own hart) log hart messages messages expects trace.decoder
+          trace.stretch.items
           (parts_in collected.parts.items) collected.closed
       each hart log expects trace collected at_log at_hart at_trace at_pieces =
           let known = slice_get_within logs hart log at_log in
@@ -79,14 +80,17 @@ module _ {A : Type 0} (program : Image) (period : ℕ) (mode : Mode) (logs : Lis
           let stands = t.stands (words_of program) in
           let not_closed : ¬ IsClosed trace.decoder = λ closed.
           let ended = (state_laws.closed (words_of program) [] [] trace.decoder stands).0 closed in cc in
-          let first = follows_none (words_of program) is_program period mode log.events is_legal state_laws
-          (numbers_of hart messages) trace.decoder stands t.untold not_closed in
-          let by_parts = subst (λ l. FollowsTrace (words_of program) period mode log.events (numbers_of hart messages) 0
+          let first = follows_none (words_of program) is_program period handed (own hart) log.events is_legal state_laws
+          (numbers_of hart messages) trace.decoder stands t.untold not_closed (of_logs.told hart known) in
+          let by_parts = subst (λ l. FollowsTrace (words_of program) period handed (own hart) log.events (numbers_of
+          hart messages) 0
           (numbers_of hart messages) trace.decoder l []) (sym (ap parts_in p.0)) first in
-          let by_events = subst (λ l. FollowsTrace (words_of program) period mode log.events (numbers_of hart messages)
+          let by_events = subst (λ l. FollowsTrace (words_of program) period handed (own hart) log.events (numbers_of
+          hart messages)
           0
           (numbers_of hart messages) trace.decoder (parts_in collected.parts.items) l) (sym t.empty) by_parts in
-          subst (λ e. FollowsHart program period mode log hart messages messages e trace.decoder trace.stretch.items
+          subst (λ e. FollowsHart program period handed (own hart) log hart messages messages e trace.decoder
+          trace.stretch.items
           (parts_in collected.parts.items) collected.closed) new
           (record {
             trace = by_events;
@@ -97,18 +101,19 @@ module _ {A : Type 0} (program : Image) (period : ℕ) (mode : Mode) (logs : Lis
           })
         where
           sent : (l : ProgramLog) → l.program ≡ program
-              → AreSomeOf (of_hart hart messages) (messages_from hart 0 (payloads period mode l))
+              → AreSomeOf (of_hart hart messages) (messages_from hart 0 (payloads period (own hart) l))
               → AreSomeOf (of_hart hart messages)
-              (messages_from hart 0 (map payload_of (drop 0 (packets (words_of program) period mode l.events))))
+              (messages_from hart 0 (map payload_of (drop 0 (packets (words_of program) period (own hart) l.events))))
           sent l same some = subst (λ p. AreSomeOf (of_hart hart messages)
-              (messages_from hart 0 (map payload_of (packets (words_of p) period mode l.events)))) same some
+              (messages_from hart 0 (map payload_of (packets (words_of p) period (own hart) l.events)))) same some
 
   -- After the last one, where the stretches are ended.
   pub collected_last : (demux : Harts) (traces : List (HartTrace A)) (before after : List (HartPieces A))
-      → FollowsAll program period mode logs messages [] demux traces before → AreOfLogs program period mode logs
+      → FollowsAll program period handed own logs messages [] demux traces before → AreOfLogs program period handed own
+      logs
       messages
       → length traces ≡ length logs → length before ≡ length logs → AreEnded traces before after
-      → AreCollected program period mode logs messages after
+      → AreCollected program period own logs messages after
   collected_last demux traces before after f of_logs traces_count pieces_count ended = record {
     count = ended.count ∙ pieces_count;
     parts = λ hart log pieces at_log at_pieces.
@@ -121,7 +126,8 @@ module _ {A : Type 0} (program : Image) (period : ℕ) (mode : Mode) (logs : Lis
         (All-get_or (λ (l : ProgramLog). l.program ≡ program) logs hart log known of_logs.same) in
         let is_program = subst (λ p. IsProgram (words_of p)) same (words_of-IsProgram log.program legal_log.image) in
         let is_legal = subst (λ p. Legal (words_of p) log.events) same legal_log.legal in
-        e.2.parts ∙ sym (follows_all (words_of program) is_program period mode log.events is_legal state_laws
+        e.2.parts ∙ sym (follows_all (words_of program) is_program period handed (own hart) log.events is_legal
+        state_laws
         (numbers_of hart messages) _ _ _ _ h.1.trace);
     closed = λ hart pieces at_pieces.
         let e = hart_ended hart pieces at_pieces in
@@ -136,7 +142,7 @@ module _ {A : Type 0} (program : Image) (period : ℕ) (mode : Mode) (logs : Lis
       Ends hart pieces =
           (trace : HartTrace A) × (old : HartPieces A) × IsEnded trace old pieces
           × ((log : ProgramLog) → slice_get logs hart ≡ Some log → (e : Hart)
-          × FollowsHart program period mode log hart messages [] e trace.decoder trace.stretch.items
+          × FollowsHart program period handed (own hart) log hart messages [] e trace.decoder trace.stretch.items
           (parts_in old.parts.items) old.closed)
 
       hart_ended : (hart : ℕ) (pieces : HartPieces A) → slice_get after hart ≡ Some pieces → Ends hart pieces

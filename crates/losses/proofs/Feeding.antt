@@ -1,5 +1,6 @@
 -- A decoder that follows a block follows it with one packet more.
-use Rattle.std.proofs.Common.{◌≡◌, ◌↔◌, ◌⊎◌, ℕ, zero, suc, Bool, true, false, List, [], ◌∷◌, ◌++◌, Option, Some}
+use Rattle.std.proofs.Common.{◌≡◌, ◌↔◌, ◌⊎◌, inl, inr, None, ℕ, zero, suc, Bool, true, false, List, [], ◌∷◌, ◌++◌}
+use Rattle.std.proofs.Common.{Option, Some}
 use Rattle.std.proofs.Common.{refl, sym, ap, subst, ◌∙◌, ⊎_elim}
 use Rattle.std.specs.Prelude.{⊤, ◌≢◌, Result, Ok, Err, OnOk, IfErr}
 use Rattle.std.specs.Option.{unwrap_or}
@@ -31,10 +32,11 @@ pub record StateLaws : Type 0 where
 
 -- What is known then: the events are the stretch of the packets, and where the packet closes nothing the decoder
 -- follows them. It is refused for want of memory alone.
-pub record Fed (words : Words) (mode : Mode) (first : ℕ) (ps : List Packet) (closing : Bool) (stretch : List Event)
+pub record Fed (words : Words) (handed mode : Mode) (first : ℕ) (ps : List Packet) (closing : Bool) (stretch : List
+    Event)
     (new : Decoder) (after : List Event) (result : Result ⊤ DecodeFault) : Type 0 where
   pub events : OnOk result (after ≡ stretch)
-  pub follows : OnOk result (closing ≡ false → FollowsBlock words mode first ps stretch new)
+  pub follows : OnOk result (closing ≡ false → FollowsBlock words handed mode first ps stretch new)
   pub memory : IfErr result (λ fault. fault ≡ Memory)
 
 -- Where a packet stands in its log: it opens the trace, or it comes behind others and opens none.
@@ -42,18 +44,18 @@ pub data Place (mode : Mode) (p : Packet) (first : ℕ) (ps : List Packet) : Typ
   AtOpening : first ≡ 0 → ps ≡ [] → p ≡ packet.Support (support.Open mode) → Place mode p first ps
   Behind : ¬ IsOpen p → (first ≡ 0 → from_start ps ≢ []) → Place mode p first ps
 
-module _ (words : Words) (program : IsProgram words) (mode : Mode) (laws : StateLaws) (p : Packet)
+module _ (words : Words) (program : IsProgram words) (handed mode : Mode) (laws : StateLaws) (p : Packet)
     (old new : Decoder) (before after : List Event) where
   -- A stretch that has begun goes on; or the first packet of a trace comes, or a synchronisation.
   module _ (first : ℕ) (ps trace : List Packet) (stretch : List Event) (told : Option Mode)
-      (right : unwrap_or told mode ≡ mode)
+      (right : unwrap_or told handed ≡ mode)
       (described : Describes words (trace ++ p ∷ []) stretch)
       (stood : (decoder : Decoder) → Stands words (trace ++ p ∷ []) stretch decoder
       → StandsFrom words mode (from_start ps) first stretch decoder) where
     stands_on : (result : Result ⊤ DecodeFault) → OnOk result (Stands words (trace ++ p ∷ []) after new)
         → IfErr result (λ fault. (fault ≡ Memory) ⊎ ((other : List Event) → ¬ Describes words (trace ++ p ∷ []) other))
         → OnOk result (HasMode told new)
-        → Fed words mode first ps (is_closing_packet p) stretch new after result
+        → Fed words handed mode first ps (is_closing_packet p) stretch new after result
     stands_on (Err fault) on none has = record {
       events = tt;
       follows = tt;
@@ -67,7 +69,7 @@ module _ (words : Words) (program : IsProgram words) (mode : Mode) (laws : State
           follows = λ stays. record {
             told = told;
             has_mode = has;
-            right = right;
+            right = inl right;
             not_closed = λ closed.
                 let ended = (laws.closed words (trace ++ p ∷ []) stretch new stands).0 closed in
                 let is = has_ended-last trace p in
@@ -80,11 +82,11 @@ module _ (words : Words) (program : IsProgram words) (mode : Mode) (laws : State
   module _ (ps : List Packet) (stretch : List Event) (result : Result ⊤ DecodeFault)
       (feeds : Feeds words p old new before after result)
       (described : DescribesFrom words mode (from_start (ps ++ p ∷ [])) stretch)
-      (told : Option Mode) (has_mode : HasMode told old) (right : unwrap_or told mode ≡ mode) where
+      (told : Option Mode) (has_mode : HasMode told old) (right : unwrap_or told handed ≡ mode) where
     -- One packet more of a stretch that has begun.
     goes_on : (first : ℕ) (q : Packet) (qs : List Packet) → from_start ps ≡ q ∷ qs
         → Stands words (trace_of mode (q ∷ qs)) before old → ¬ IsOpen p
-        → Fed words mode first (ps ++ p ∷ []) (is_closing_packet p) stretch new after result
+        → Fed words handed mode first (ps ++ p ∷ []) (is_closing_packet p) stretch new after result
     goes_on first q qs is stands behind =
         let starts : from_start (ps ++ p ∷ []) ≡ (q ∷ qs) ++ p ∷ [] = from_start-begun ps p q qs is in
         let trace = trace_of mode (q ∷ qs) in
@@ -105,19 +107,20 @@ module _ (words : Words) (program : IsProgram words) (mode : Mode) (laws : State
     -- A packet that is passed over.
     passes : (first : ℕ) → from_start (ps ++ p ∷ []) ≡ [] → PassesOver mode old → ¬ IsSync p → ¬ IsOpen p
         → is_closing_packet p ≡ false → before ≡ []
-        → Fed words mode (suc first) (ps ++ p ∷ []) (is_closing_packet p) stretch new after result
+        → Fed words handed mode (suc first) (ps ++ p ∷ []) (is_closing_packet p) stretch new after result
     passes first starts passing no_sync no_open stays empty =
         let over = feeds.passed_over mode passing no_sync stays in
         let none : stretch ≡ [] = subst (λ l. DescribesFrom words mode l stretch) starts described in
         let decoder : old ≡ new = sym over.1 in
         let passing_on = subst (PassesOver mode) decoder passing in
-        subst (λ r. Fed words mode (suc first) (ps ++ p ∷ []) (is_closing_packet p) stretch new after r) (sym over.0)
+        subst (λ r. Fed words handed mode (suc first) (ps ++ p ∷ []) (is_closing_packet p) stretch new after r) (sym
+        over.0)
         (record {
           events = over.2 ∙ empty ∙ sym none;
           follows = λ closing. record {
             told = told;
             has_mode = feeds.mode_kept told has_mode no_open;
-            right = right;
+            right = inl right;
             not_closed = laws.passing mode new passing_on;
             stands = subst (λ l. StandsFrom words mode l (suc first) stretch new) (sym starts) (passing_on, none);
           };
@@ -126,18 +129,18 @@ module _ (words : Words) (program : IsProgram words) (mode : Mode) (laws : State
 
     -- A closing packet is passed over too.
     ends : (first : ℕ) → from_start (ps ++ p ∷ []) ≡ [] → PassesOver mode old → is_closing_packet p ≡ true → before ≡ []
-        → Fed words mode first (ps ++ p ∷ []) (is_closing_packet p) stretch new after result
+        → Fed words handed mode first (ps ++ p ∷ []) (is_closing_packet p) stretch new after result
     ends first starts passing closing empty =
         let over = feeds.closes mode passing closing in
         let none : stretch ≡ [] = subst (λ l. DescribesFrom words mode l stretch) starts described in
-        subst (λ r. Fed words mode first (ps ++ p ∷ []) (is_closing_packet p) stretch new after r) (sym over.0)
+        subst (λ r. Fed words handed mode first (ps ++ p ∷ []) (is_closing_packet p) stretch new after r) (sym over.0)
         (record { events = over.2 ∙ empty ∙ sym none; follows = λ stays. cc; memory = tt })
 
     -- A synchronisation begins a stretch.
     begins : (first : ℕ) → from_start (ps ++ p ∷ []) ≡ p ∷ []
         → trace_of mode (p ∷ []) ≡ packet.Support (support.Open mode) ∷ p ∷ [] → PassesOver mode old → IsSync p
         → ¬ IsOpen p → before ≡ []
-        → Fed words mode first (ps ++ p ∷ []) (is_closing_packet p) stretch new after result
+        → Fed words handed mode first (ps ++ p ∷ []) (is_closing_packet p) stretch new after result
     begins first starts trace passing syncs no_open empty =
         let opening = packet.Support (support.Open mode) in
         let from : DescribesFrom words mode (p ∷ []) stretch =
@@ -153,9 +156,12 @@ module _ (words : Words) (program : IsProgram words) (mode : Mode) (laws : State
         kept (Ok done) = feeds.mode_kept told has_mode no_open
         kept (Err fault) = tt
 
+  module _ (ps : List Packet) (stretch : List Event) (result : Result ⊤ DecodeFault)
+      (feeds : Feeds words p old new before after result)
+      (described : DescribesFrom words mode (from_start (ps ++ p ∷ [])) stretch) where
     -- The packet that opens the trace.
     opens : ps ≡ [] → p ≡ packet.Support (support.Open mode) → Stands words [] [] old → before ≡ []
-        → Fed words mode 0 (ps ++ p ∷ []) (is_closing_packet p) stretch new after result
+        → Fed words handed mode 0 (ps ++ p ∷ []) (is_closing_packet p) stretch new after result
     opens none is stands empty =
         let starts : from_start (ps ++ p ∷ []) ≡ p ∷ [] =
         ap (λ l. from_start (l ++ p ∷ [])) none ∙ ap (λ q. from_start (q ∷ [])) is ∙ ap (λ q. q ∷ []) (sym is) in
@@ -171,17 +177,17 @@ module _ (words : Words) (program : IsProgram words) (mode : Mode) (laws : State
   module _ (ps : List Packet) (stretch : List Event) (result : Result ⊤ DecodeFault)
       (feeds : Feeds words p old new before after result)
       (described : DescribesFrom words mode (from_start (ps ++ p ∷ [])) stretch)
-      (told : Option Mode) (has_mode : HasMode told old) (right : unwrap_or told mode ≡ mode) where
+      (told : Option Mode) (has_mode : HasMode told old) (right : unwrap_or told handed ≡ mode) where
     -- No stretch has begun.
     not_begun : (first : ℕ) → from_start ps ≡ [] → PassesOver mode old → before ≡ [] → ¬ IsOpen p
-        → Fed words mode (suc first) (ps ++ p ∷ []) (is_closing_packet p) stretch new after result
+        → Fed words handed mode (suc first) (ps ++ p ∷ []) (is_closing_packet p) stretch new after result
     not_begun first is passing empty no_open = by_kind p refl
       where
         starts : from_start (ps ++ p ∷ []) ≡ from_start (p ∷ [])
         starts = from_start-none ps p is
 
         by_kind : (q : Packet) → p ≡ q
-            → Fed words mode (suc first) (ps ++ p ∷ []) (is_closing_packet p) stretch new after result
+            → Fed words handed mode (suc first) (ps ++ p ∷ []) (is_closing_packet p) stretch new after result
         by_kind (packet.Sync taken priv address) same =
             begins ps stretch result feeds described told has_mode right (suc first)
             (starts ∙ ap (λ q. from_start (q ∷ [])) same ∙ ap (λ q. q ∷ []) (sym same))
@@ -208,26 +214,42 @@ module _ (words : Words) (program : IsProgram words) (mode : Mode) (laws : State
             (starts ∙ ap (λ q. from_start (q ∷ [])) same) passing (λ syncs. subst IsSync same syncs) no_open
             (ap is_closing_packet same) empty
 
+  -- The mode is known where packets came.
+  right_of : (ps : List Packet) (first : ℕ) (told : Option Mode)
+      → (unwrap_or told handed ≡ mode) ⊎ ((first ≡ 0) × (ps ≡ []) × (told ≡ None))
+      → (first ≡ 0 → from_start ps ≢ []) → unwrap_or told handed ≡ mode
+  right_of ps first told (inl right) begun = right
+  right_of ps first told (inr (at, none, untold)) begun = absurd (begun at (ap from_start none))
+
+  module _ (ps : List Packet) (stretch : List Event) (result : Result ⊤ DecodeFault)
+      (feeds : Feeds words p old new before after result)
+      (described : DescribesFrom words mode (from_start (ps ++ p ∷ [])) stretch)
+      (told : Option Mode) (has_mode : HasMode told old) where
     by_starts : (first : ℕ) (starts : List Packet) → from_start ps ≡ starts
         → StandsFrom words mode starts first before old → Place mode p first ps
-        → Fed words mode first (ps ++ p ∷ []) (is_closing_packet p) stretch new after result
-    by_starts first (q ∷ qs) is stands (AtOpening at none opening) =
+        → (unwrap_or told handed ≡ mode) ⊎ ((first ≡ 0) × (ps ≡ []) × (told ≡ None))
+        → Fed words handed mode first (ps ++ p ∷ []) (is_closing_packet p) stretch new after result
+    by_starts first (q ∷ qs) is stands (AtOpening at none opening) right =
         let empty : from_start ps ≡ [] = ap from_start none in cc
-    by_starts first (q ∷ qs) is stands (Behind no_open begun) =
-        goes_on ps stretch result feeds described told has_mode right first q qs is stands no_open
-    by_starts zero [] is stands (AtOpening at none opening) =
-        opens ps stretch result feeds described told has_mode right none opening stands.0 stands.1
-    by_starts zero [] is stands (Behind no_open begun) = absurd (begun refl is)
-    by_starts (suc first) [] is stands (AtOpening at none opening) = cc
-    by_starts (suc first) [] is stands (Behind no_open begun) =
-        not_begun first is stands.0 stands.1 no_open
+    by_starts first (q ∷ qs) is stands (Behind no_open begun) right =
+        goes_on ps stretch result feeds described told has_mode (right_of ps first told right begun) first q qs is
+        stands
+        no_open
+    by_starts zero [] is stands (AtOpening at none opening) right =
+        opens ps stretch result feeds described none opening stands.0 stands.1
+    by_starts zero [] is stands (Behind no_open begun) right = absurd (begun refl is)
+    by_starts (suc first) [] is stands (AtOpening at none opening) right = cc
+    by_starts (suc first) [] is stands (Behind no_open begun) right =
+        not_begun ps stretch result feeds described told has_mode (right_of ps (suc first) told right begun) first is
+        stands.0 stands.1 no_open
 
   -- A decoder that follows a block is fed one packet more of it.
   pub feeds_block : (first : ℕ) (ps : List Packet) (stretch : List Event) (result : Result ⊤ DecodeFault)
       → Feeds words p old new before after result
       → DescribesFrom words mode (from_start (ps ++ p ∷ [])) stretch
-      → FollowsBlock words mode first ps before old → Place mode p first ps
-      → Fed words mode first (ps ++ p ∷ []) (is_closing_packet p) stretch new after result
+      → FollowsBlock words handed mode first ps before old → Place mode p first ps
+      → Fed words handed mode first (ps ++ p ∷ []) (is_closing_packet p) stretch new after result
   feeds_block first ps stretch result feeds described follows place =
-      by_starts ps stretch result feeds described follows.told follows.has_mode follows.right first (from_start ps) refl
+      by_starts ps stretch result feeds described follows.told follows.has_mode first (from_start ps) refl
       follows.stands place
+      follows.right

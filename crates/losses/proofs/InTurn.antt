@@ -3,13 +3,17 @@ use Rattle.std.proofs.Common.{◌≡◌, ℕ, ◌+◌, ◌<◌, List, [], ◌∷
 use Rattle.std.proofs.Common.{refl, sym, ap, subst, ◌∙◌, arith, slice_get}
 use Rattle.std.specs.Prelude.{IsOk}
 use Rattle.std.proofs.lemmas.List.{drop_more, length-set, length-take-le, take-append-drop}
+use Rattle.rvclass.specs.Words.{Words}
+use Rattle.payload.specs.declared.mode.Mode.{Mode}
 use Rattle.message.specs.Accepted.{newcomers}
 use Rattle.message.specs.Harts.{Harts}
 use Rattle.message.specs.Lossy.{accepting_lossy, harts_after_lossy, harts_by_lossy, state_after_lossy}
 use Rattle.message.specs.declared.hart.Hart.{Hart}
 use Rattle.message.specs.declared.message.Message.{Message}
 use Rattle.losses.specs.Taken.{AreTaken, StopsBy, expected_lossy}
+use Rattle.losses.specs.Told.{TellSome}
 use Rattle.losses.specs.steps.Collecting.{IsNotCollected}
+use Rattle.losses.specs.steps.Telling.{IsNotTold}
 use Rattle.losses.specs.declared.fault.LossyFault.{LossyFault}
 use Rattle.losses.specs.declared.fault.LossyFault.TheVariants as fault
 
@@ -39,11 +43,15 @@ split_at messages place message within is =
     drop_more messages place message within ∙ ap (λ m. m ∷ drop (place + 1) messages) (sym is)
 
 -- Why collecting stops at a place.
-pub stops_at : (harts : ℕ) (messages : List Message) (place : ℕ) (message : Message) (demux : Harts)
+pub stops_at : (words : Words) (mode : Mode) (harts : ℕ) (messages : List Message) (place : ℕ) (message : Message)
+    (demux : Harts)
     → place < length messages → message ≡ get_or messages place message
     → demux ≡ expected_lossy (newcomers harts) (take place messages) → AreTaken (newcomers harts) (take place messages)
-    → (why : LossyFault) → IsNotCollected demux message place why → StopsBy harts messages why
-stops_at harts messages place message demux within is expected taken why not = by_fault why not
+    → (why : LossyFault) → IsNotCollected demux message place why
+    → IsNotTold words mode (take place messages) message why → TellSome words mode harts (take place messages)
+    → StopsBy words mode harts messages why
+stops_at words mode harts messages place message demux within is expected taken why not untold told =
+    by_fault why not untold
   where
     whole : messages ≡ take place messages ++ message ∷ drop (place + 1) messages
     whole = sym (take-append-drop place messages)
@@ -52,17 +60,19 @@ stops_at harts messages place message demux within is expected taken why not = b
     here : place ≡ length (take place messages)
     here = sym (length-take-le place messages (omega (arith, within)))
 
-    by_fault : (why : LossyFault) → IsNotCollected demux message place why → StopsBy harts messages why
-    by_fault (fault.Demux at why) (same, answer) = record {
+    by_fault : (why : LossyFault) → IsNotCollected demux message place why
+        → IsNotTold words mode (take place messages) message why → StopsBy words mode harts messages why
+    by_fault (fault.Demux at why) (same, answer) untold = record {
       front = take place messages;
       message = message;
       later = drop (place + 1) messages;
       whole = whole;
       here = same ∙ here;
       taken = taken;
+      told = told;
       refused = ap (λ hs. accepting_lossy hs message) (sym expected) ∙ answer;
     }
-    by_fault (fault.Decode at why) (same, ok, memory) = record {
+    by_fault (fault.Decode at why) (same, ok, memory) untold = record {
       front = take place messages;
       message = message;
       later = drop (place + 1) messages;
@@ -71,5 +81,7 @@ stops_at harts messages place message demux within is expected taken why not = b
       taken = taken-push (newcomers harts) (take place messages) message taken
           (subst (λ hs. IsOk (accepting_lossy hs message)) expected ok);
       not_memory = memory;
+      told = told;
+      not_decoded = untold;
     }
-    by_fault fault.Memory not = tt
+    by_fault fault.Memory not untold = tt

@@ -10,3 +10,8 @@ pub mod InTurn
 pub mod Ending
 pub mod Collected
 pub mod StretchesApart
+pub mod RunLemmas
+pub mod RunFeeding
+pub mod RunSteps
+pub mod MessageSteps
+pub mod AllRuns

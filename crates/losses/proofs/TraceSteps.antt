@@ -1,5 +1,6 @@
 -- The parts of a hart, from one of its messages to the next.
-use Rattle.std.proofs.Common.{◌≡◌, ◌≢◌, ◌↔◌, ℕ, zero, suc, ◌+◌, ◌<◌, Bool, true, false, List, [], ◌∷◌, ◌++◌, drop, take}
+use Rattle.std.proofs.Common.{◌≡◌, ◌≢◌, ◌⊎◌, inl, inr, ◌↔◌, ℕ, zero, suc, ◌+◌, ◌<◌, Bool, true, false, List, [], ◌∷◌}
+use Rattle.std.proofs.Common.{◌++◌, drop, take}
 use Rattle.std.proofs.Common.{Option, Some, None, refl, sym}
 use Rattle.std.proofs.Common.{ap, subst, ◌∙◌, arith, append_assoc}
 use Rattle.std.proofs.lemmas.List.{drop-drop}
@@ -23,6 +24,8 @@ use Rattle.decoder.specs.declared.fault.DecodeFault.TheVariants.{Memory}
 use Rattle.roundtrip.proofs.FirstPackets.{packets_have_stretches}
 use Rattle.roundtrip.specs.Reach.{stretches}
 use Rattle.losses.specs.Blocks.{Block, block_before, blocks_from}
+use Rattle.std.specs.Option.{unwrap_or}
+use Rattle.losses.specs.Losses.{BeginAtZero}
 use Rattle.losses.specs.Parts.{LogPart, Missing, gap, parts, parts_of_blocks, stretch, stretch_of_block}
 use Rattle.losses.specs.steps.DecoderSteps.{Feeds, Resumes}
 use Rattle.losses.specs.steps.Following.{FollowsTrace}
@@ -36,7 +39,14 @@ drop-none : (count : ℕ) → drop {A = Packet} count [] ≡ []
 drop-none zero = refl
 drop-none (suc count) = refl
 
-module _ (words : Words) (program : IsProgram words) (period : ℕ) (mode : Mode) (log : List Event)
+-- Where packets are left behind none that are taken, none is taken.
+count_none : (count : ℕ) (xs : List Packet) (q : Packet) (behind : List Packet) → take count xs ≡ []
+    → drop count xs ≡ q ∷ behind → count ≡ 0
+count_none zero xs q behind none more = refl
+count_none (suc count) [] q behind none more = cc
+count_none (suc count) (x ∷ xs) q behind none more = cc
+
+module _ (words : Words) (program : IsProgram words) (period : ℕ) (handed mode : Mode) (log : List Event)
     (legal : Legal words log) (laws : StateLaws) where
   abbrev ps : List Packet
   ps = packets words period mode log
@@ -46,18 +56,20 @@ module _ (words : Words) (program : IsProgram words) (period : ℕ) (mode : Mode
 
   -- Before the first message.
   pub follows_none : (numbers : List ℕ) (decoder : Decoder) → Stands words [] [] decoder → HasMode None decoder
-      → ¬ IsClosed decoder → FollowsTrace words period mode log numbers 0 numbers decoder [] []
-  follows_none numbers decoder stands has not_closed = record {
+      → ¬ IsClosed decoder → (handed ≡ mode) ⊎ BeginAtZero numbers
+      → FollowsTrace words period handed mode log numbers 0 numbers decoder [] []
+  follows_none numbers decoder stands has not_closed begins = record {
     block = block_of 0 0 0;
     done = [];
     place = omega arith;
     told = refl;
     stretch = refl;
     whole = sym (blocks_at_first ps pieces numbers);
+    begins = λ at. begins;
     decodes = λ p later is. record {
       told = None;
       has_mode = has;
-      right = refl;
+      right = inr (refl, refl, refl);
       not_closed = not_closed;
       stands = (stands, refl);
     };
@@ -65,7 +77,7 @@ module _ (words : Words) (program : IsProgram words) (period : ℕ) (mode : Mode
 
   -- After the last one.
   pub follows_all : (numbers : List ℕ) (next : ℕ) (decoder : Decoder) (seen : List LogPart) (events : List Event)
-      → FollowsTrace words period mode log numbers next [] decoder seen events
+      → FollowsTrace words period handed mode log numbers next [] decoder seen events
       → parts words period mode log numbers ≡ seen ++ stretch events
   follows_all numbers next decoder seen events f =
       f.whole ∙ parts_of_last ps pieces f.block f.done ∙ ap (λ l. l ++ stretch (stretch_of_block ps pieces f.block))
@@ -75,17 +87,38 @@ module _ (words : Words) (program : IsProgram words) (period : ℕ) (mode : Mode
   -- Some are missing before the next one.
   module _ (numbers : List ℕ) (next number missing : ℕ) (left : List ℕ) (old new : Decoder) (seen : List LogPart)
       (events : List Event) where
-    pub follows_gap : FollowsTrace words period mode log numbers next (number ∷ left) old seen events
+    -- The mode is known where more packets than the first are lost.
+    right_at : (block : Block) (told : Option Mode) → next ≡ block.first + block.count → {q : Packet}
+        → {behind : List Packet} → drop next ps ≡ q ∷ behind → (next ≡ 0 → (handed ≡ mode) ⊎ (number ≡ 0))
+        → number ≡ next + suc missing
+        → (unwrap_or told handed ≡ mode) ⊎ ((block.first ≡ 0)
+        × (take block.count (drop block.first ps) ≡ []) × (told ≡ None))
+        → unwrap_or told handed ≡ mode
+    right_at block told place more begins is (inl right) = right
+    right_at block told place {q} {behind} more begins is (inr (at, none, untold)) =
+        by_begins (begins (omega (arith, place, at, few)))
+      where
+        few : block.count ≡ 0
+        few = count_none block.count (drop block.first ps) q behind none
+            (drop-drop block.count block.first ps ∙ ap (λ n. drop n ps) (sym place) ∙ more)
+
+        by_begins : (handed ≡ mode) ⊎ (number ≡ 0) → unwrap_or told handed ≡ mode
+        by_begins (inl same) = ap (λ t. unwrap_or t handed) untold ∙ same
+        by_begins (inr zero_is) = let never : ⊥ = omega (arith, is, zero_is) in absurd never
+
+    pub follows_gap : FollowsTrace words period handed mode log numbers next (number ∷ left) old seen events
         → number ≡ next + suc missing → (q : Packet) (behind : List Packet) → drop next ps ≡ q ∷ behind
-        → Resumes mode old new → ((mode : Mode) → PassesOver mode new → ¬ IsClosed new)
-        → FollowsTrace words period mode log numbers number (number ∷ left) new
+        → Resumes handed old new → ((mode : Mode) → PassesOver mode new → ¬ IsClosed new)
+        → FollowsTrace words period handed mode log numbers number (number ∷ left) new
         ((seen ++ stretch events) ++ Missing (suc missing) ∷ []) []
     follows_gap f is q behind more resumes passing =
         let b = f.block in
         let at : suc (next + missing) ≡ number = omega (arith, is) in
         let follows = f.decodes q behind more in
+        let known : unwrap_or follows.told handed ≡ mode =
+        right_at f.block follows.told f.place more (f.begins) is follows.right in
         let passes : PassesOver mode new =
-        subst (λ m. PassesOver m new) follows.right (resumes.passes_over follows.told follows.has_mode
+        subst (λ m. PassesOver m new) known (resumes.passes_over follows.told follows.has_mode
         follows.not_closed)
         in
         let rest = parts_of_blocks ps pieces (block_before (block_of (suc missing) number 0)
@@ -103,10 +136,11 @@ module _ (words : Words) (program : IsProgram words) (period : ℕ) (mode : Mode
               ∙ ap (λ l. l ++ (here ++ rest)) (sym f.told)
               ∙ ap (λ l. seen ++ (stretch l ++ rest)) (sym f.stretch)
               ∙ sym (append_assoc seen (stretch events) rest);
+          begins = λ zero_is. let never : ⊥ = omega (arith, is, zero_is) in absurd never;
           decodes = λ p later is. record {
             told = follows.told;
             has_mode = resumes.mode_kept follows.told follows.has_mode;
-            right = follows.right;
+            right = inl known;
             not_closed = passing mode passes;
             stands = (subst (λ n. StandsFrom words mode [] n [] new) at (passes, refl));
           };
@@ -129,10 +163,10 @@ module _ (words : Words) (program : IsProgram words) (period : ℕ) (mode : Mode
   pub follows_missed : {E : Type 0} (result : Result ⊤ E) (numbers : List ℕ) (next number missed : ℕ) (left : List ℕ)
       (old new : Decoder) (seen after : List LogPart) (events rest : List Event) (p : Packet) (later : List Packet)
       → 0 < missed → number ≡ next + missed → drop number ps ≡ p ∷ later
-      → FollowsTrace words period mode log numbers next (number ∷ left) old seen events
-      → OnOk result (Resumes mode old new) → OnOk result (after ≡ (seen ++ stretch events) ++ Missing missed ∷ [])
+      → FollowsTrace words period handed mode log numbers next (number ∷ left) old seen events
+      → OnOk result (Resumes handed old new) → OnOk result (after ≡ (seen ++ stretch events) ++ Missing missed ∷ [])
       → OnOk result (rest ≡ [])
-      → OnOk result (FollowsTrace words period mode log numbers number (number ∷ left) new after rest)
+      → OnOk result (FollowsTrace words period handed mode log numbers number (number ∷ left) new after rest)
   follows_missed (Err fault) numbers next number missed left old new seen after events rest p later some is here f
       resumes told none =
       tt
@@ -142,8 +176,8 @@ module _ (words : Words) (program : IsProgram words) (period : ℕ) (mode : Mode
   follows_missed (Ok done) numbers next number (suc missing) left old new seen after events rest p later some is here f
       resumes told none =
       let more = some_left next number (suc missing) p later is here in
-      subst (λ e. FollowsTrace words period mode log numbers number (number ∷ left) new after e) (sym none)
-      (subst (λ l. FollowsTrace words period mode log numbers number (number ∷ left) new l []) (sym told)
+      subst (λ e. FollowsTrace words period handed mode log numbers number (number ∷ left) new after e) (sym none)
+      (subst (λ l. FollowsTrace words period handed mode log numbers number (number ∷ left) new l []) (sym told)
       (follows_gap numbers next number missing left old new seen events f is more.0 more.1 more.2 resumes
       (λ m passes. laws.passing m new passes)))
 
@@ -186,11 +220,12 @@ module _ (words : Words) (program : IsProgram words) (period : ℕ) (mode : Mode
 
     module _ (old new : Decoder) (seen : List LogPart) (events after : List Event)
         (result : Result ⊤ DecodeFault) (feeds : Feeds words p old new events after result)
-        (f : FollowsTrace words period mode log numbers number (number ∷ left) old seen events) where
+        (f : FollowsTrace words period handed mode log numbers number (number ∷ left) old seen events) where
       abbrev longer : Block
       longer = block_of f.block.missing f.block.first (f.block.count + 1)
 
-      fed : Fed words mode f.block.first (take f.block.count (drop f.block.first ps) ++ p ∷ []) (is_closing_packet p)
+      fed : Fed words handed mode f.block.first (take f.block.count (drop f.block.first ps) ++ p ∷ [])
+          (is_closing_packet p)
           (stretch_of_block ps pieces longer) new after result
       fed =
           let first = f.block.first in
@@ -200,7 +235,7 @@ module _ (words : Words) (program : IsProgram words) (period : ℕ) (mode : Mode
           let more = take_one_more count (drop first ps) p later at in
           let described = subst (λ l. DescribesFrom words mode (from_start l) (stretch_of_block ps pieces longer)) more
           (block_described words program period mode log legal longer) in
-          feeds_block words program mode laws p old new events after first (take count (drop first ps))
+          feeds_block words program handed mode laws p old new events after first (take count (drop first ps))
           (stretch_of_block ps pieces longer) result feeds described (f.decodes p later here)
           (place_of first count f.place)
 
@@ -209,14 +244,16 @@ module _ (words : Words) (program : IsProgram words) (period : ℕ) (mode : Mode
       fed_or_memory = fed.memory
 
       -- Else the stretch is longer by what it tells.
-      pub follows_packet : OnOk result (FollowsTrace words period mode log numbers (number + 1) left new seen after)
+      pub follows_packet : OnOk result (FollowsTrace words period handed mode log numbers (number + 1) left new seen
+          after)
       follows_packet = by_result result fed
         where
           by_result : (result : Result ⊤ DecodeFault)
-              → Fed words mode f.block.first (take f.block.count (drop f.block.first ps) ++ p ∷ []) (is_closing_packet
+              → Fed words handed mode f.block.first (take f.block.count (drop f.block.first ps) ++ p ∷ [])
+              (is_closing_packet
               p)
               (stretch_of_block ps pieces longer) new after result
-              → OnOk result (FollowsTrace words period mode log numbers (number + 1) left new seen after)
+              → OnOk result (FollowsTrace words period handed mode log numbers (number + 1) left new seen after)
           by_result (Err fault) fed = tt
           by_result (Ok done) fed =
               let first = f.block.first in
@@ -232,6 +269,7 @@ module _ (words : Words) (program : IsProgram words) (period : ℕ) (mode : Mode
                 told = f.told;
                 stretch = fed.events;
                 whole = f.whole ∙ ap (λ l. f.done ++ parts_of_blocks ps pieces l) (blocks_on f.block number left);
+                begins = λ zero_is. let never : ⊥ = omega (arith, zero_is) in absurd never;
                 decodes = λ q behind is.
                     let next : later ≡ q ∷ behind = sym (drop_one_more number ps p later here) ∙ is in
                     let two = here ∙ ap (λ l. p ∷ l) next in
@@ -240,10 +278,11 @@ module _ (words : Words) (program : IsProgram words) (period : ℕ) (mode : Mode
                     let open_still = before_another words mode p q behind (drop number pieces)
                     (subst (λ l. Rest words mode l (drop number pieces)) two rest) in
                     let follows = fed.follows open_still in
-                    let by_packets = subst (λ l. FollowsBlock words mode first l (stretch_of_block ps pieces longer)
+                    let by_packets = subst (λ l. FollowsBlock words handed mode first l (stretch_of_block ps pieces
+                    longer)
                     new)
                     (sym more) follows in
-                    subst (λ events. FollowsBlock words mode first (take (count + 1) (drop first ps)) events new)
+                    subst (λ events. FollowsBlock words handed mode first (take (count + 1) (drop first ps)) events new)
                     (sym fed.events) by_packets;
               }
 

@@ -14,11 +14,11 @@ use Rattle.losses.specs.declared.part.HartPieces.{HartPieces}
 
 -- Of each hart are collected the parts of its log by the numbers of its messages, and the hart is closed exactly where
 -- the last of them closes the trace.
-pub record AreCollected {A : Type 0} (program : Image) (period : ℕ) (mode : Mode) (logs : List ProgramLog)
+pub record AreCollected {A : Type 0} (program : Image) (period : ℕ) (own : ℕ → Mode) (logs : List ProgramLog)
     (messages : List Message) (harts : List (HartPieces A)) : Type 0 where
   pub count : length harts ≡ length logs
   pub parts : (hart : ℕ) (log : ProgramLog) (pieces : HartPieces A) → slice_get logs hart ≡ Some log
       → slice_get harts hart ≡ Some pieces
-      → parts_in pieces.parts.items ≡ parts (words_of program) period mode log.events (numbers_of hart messages)
+      → parts_in pieces.parts.items ≡ parts (words_of program) period (own hart) log.events (numbers_of hart messages)
   pub closed : (hart : ℕ) (pieces : HartPieces A) → slice_get harts hart ≡ Some pieces
       → pieces.closed ≡ has_ended (packets_of hart messages)

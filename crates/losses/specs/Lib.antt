@@ -2,6 +2,8 @@ pub mod Blocks
 pub mod Parts
 pub mod PartsIn
 pub mod Losses
+pub mod Runs
+pub mod Told
 pub mod Collected
 pub mod Apart
 pub mod Taken

@@ -20,12 +20,19 @@ AreSomeOf (message ∷ messages) (first ∷ sent) =
 abbrev pub numbers_of : ℕ → List Message → List ℕ
 numbers_of hart messages = map (λ (message : Message). message.number) (of_hart hart messages)
 
--- The messages are of legal logs of a program, one log a hart, at this period and in this mode: of each hart some of
--- the messages of its log, in their order, however those of different harts are mixed.
-pub record AreOfLogs (program : Image) (period : ℕ) (mode : Mode) (logs : List ProgramLog)
+-- The first of these numbers, if there is one, is 0.
+abbrev pub BeginAtZero : List ℕ → Type 0
+BeginAtZero [] = Unit {0}
+BeginAtZero (number ∷ numbers) = number ≡ 0
+
+-- The messages are of legal logs of a program, one log a hart, at this period and each in its own mode: of each hart
+-- some of the messages of its log, in their order, however those of different harts are mixed. A hart's own mode is the
+-- one that was handed in, or the message came that tells it, the first of all.
+pub record AreOfLogs (program : Image) (period : ℕ) (handed : Mode) (own : ℕ → Mode) (logs : List ProgramLog)
     (messages : List Message) : Type 0 where
   pub legal : All IsLegalLog logs
   pub same : All (λ (log : ProgramLog). log.program ≡ program) logs
   pub known : All (λ (message : Message). message.hart < length logs) messages
   pub some : (hart : ℕ) (log : ProgramLog) → slice_get logs hart ≡ Some log
-      → AreSomeOf (of_hart hart messages) (messages_from hart 0 (payloads period mode log))
+      → AreSomeOf (of_hart hart messages) (messages_from hart 0 (payloads period (own hart) log))
+  pub told : (hart : ℕ) → hart < length logs → (handed ≡ own hart) ⊎ BeginAtZero (numbers_of hart messages)

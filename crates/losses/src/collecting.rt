@@ -1,6 +1,7 @@
 //! From the messages of several harts to what is left of each hart's log.
 
-ghost use Rattle.std.specs.Prelude.{ℕ, ◌≡◌, ◌≢◌, ◌+◌, All, List, [], ◌∷◌, Ok, IsOk, IfErr, IfOk, OnOk, drop, length};
+ghost use Rattle.std.specs.Prelude.{ℕ, ◌≡◌, ◌≢◌, ◌⊎◌, ◌+◌, ◌++◌, All, false, List, [], ◌∷◌, Ok, IsOk, IfErr, IfOk};
+ghost use Rattle.std.specs.Prelude.{OnOk, drop, length};
 ghost use Rattle.std.specs.Prelude.{replicate};
 ghost use Rattle.retire.specs.declared.event.Event.{Event as AnyEvent};
 ghost use Rattle.rvclass.specs.Fetch.{words_of};
@@ -8,6 +9,7 @@ ghost use Rattle.rvclass.specs.Words.{IsProgram};
 ghost use Rattle.legalpath.specs.Legal.{Legal};
 ghost use Rattle.legalpath.specs.ProgramLog.{ProgramLog};
 ghost use Rattle.payload.specs.Closing.{is_closing_packet};
+ghost use Rattle.payload.specs.declared.mode.Mode.{Mode as AnyMode};
 ghost use Rattle.payload.specs.declared.packet.Packet.{Packet as AnyPacket};
 ghost use Rattle.encoder.specs.Packets.{packets};
 ghost use Rattle.message.specs.Accepted.{newcomers};
@@ -16,10 +18,13 @@ ghost use Rattle.message.specs.declared.message.Message.{Message as AnyMessage};
 ghost use Rattle.losses.specs.Collected.{AreCollected};
 ghost use Rattle.losses.specs.Losses.{AreOfLogs};
 ghost use Rattle.losses.specs.PartsIn.{parts_in};
+ghost use Rattle.losses.specs.Runs.{Run, missing_behind, mode_in, over_before, packets_behind, run_of};
 ghost use Rattle.losses.specs.Taken.{AreTaken, StopsBy};
+ghost use Rattle.losses.specs.Told.{AreTold};
 ghost use Rattle.losses.specs.steps.Collecting.{AreEnded, FollowsAll, IsNewPieces, IsNewTrace, IsNotCollected};
 ghost use Rattle.losses.specs.steps.Collecting.{IsNotTaken};
 ghost use Rattle.losses.specs.steps.Following.{FollowsTrace};
+ghost use Rattle.losses.specs.steps.Telling.{FollowsRuns, IsNotTold, IsUntoldBy, TellsAll};
 
 use crate::fault::LossyFault;
 use crate::hart_trace::HartTrace;
@@ -67,6 +72,7 @@ fn new_pieces<A: Allocator + Copy>(
 fn told(place: usize, fault: DecodeFault) -> LossyFault
     ensures fault { IsNotTaken place result }
     ensures memory { fault ≡ DecodeFault.Memory → result ≡ LossyFault.Memory }
+    ensures either { (result ≡ LossyFault.Memory) ⊎ (result ≡ LossyFault.Decode place fault) }
 {
     match fault {
         DecodeFault::Memory => LossyFault::Memory,
@@ -85,21 +91,35 @@ fn take_packet<A: Allocator + Copy>(
     trace: &mut HartTrace<A>,
     pieces: &mut HartPieces<A>,
 ) -> Result<(), LossyFault>
-    ensures taken { (period : ℕ) (log : List AnyEvent) (numbers left : List ℕ) (next number : ℕ)
+    ensures taken { (period : ℕ) (own : AnyMode) (log : List AnyEvent) (numbers left : List ℕ) (next number : ℕ)
         (later : List AnyPacket) → IsProgram (words_of program.now) → Legal (words_of program.now) log
-        → number ≡ next + missed → drop number (packets (words_of program.now) period mode log) ≡ packet.now ∷ later
-        → FollowsTrace (words_of program.now) period mode log numbers next (number ∷ left) trace.old.decoder
+        → number ≡ next + missed → drop number (packets (words_of program.now) period own log) ≡ packet.now ∷ later
+        → FollowsTrace (words_of program.now) period mode own log numbers next (number ∷ left) trace.old.decoder
         (parts_in pieces.old.parts.items) trace.old.stretch.items
-        → OnOk result (FollowsTrace (words_of program.now) period mode log numbers (number + 1) left trace.new.decoder
+        → OnOk result (FollowsTrace (words_of program.now) period mode own log numbers (number + 1) left
+        trace.new.decoder
         (parts_in pieces.new.parts.items) trace.new.stretch.items) }
-    ensures memory { (period : ℕ) (log : List AnyEvent) (numbers left : List ℕ) (next number : ℕ)
+    ensures memory { (period : ℕ) (own : AnyMode) (log : List AnyEvent) (numbers left : List ℕ) (next number : ℕ)
         (later : List AnyPacket) → IsProgram (words_of program.now) → Legal (words_of program.now) log
-        → number ≡ next + missed → drop number (packets (words_of program.now) period mode log) ≡ packet.now ∷ later
-        → FollowsTrace (words_of program.now) period mode log numbers next (number ∷ left) trace.old.decoder
+        → number ≡ next + missed → drop number (packets (words_of program.now) period own log) ≡ packet.now ∷ later
+        → FollowsTrace (words_of program.now) period mode own log numbers next (number ∷ left) trace.old.decoder
         (parts_in pieces.old.parts.items) trace.old.stretch.items
         → IfErr result (λ fault. fault ≡ LossyFault.Memory) }
     ensures closed { OnOk result (pieces.new.closed ≡ is_closing_packet packet.now) }
     ensures fault { IfErr result (λ fault. IsNotTaken place fault) }
+    ensures tells { (done : List Run) (missing next : ℕ) (packets : List AnyPacket)
+        → FollowsRuns (words_of program.now) mode done missing packets next false trace.old.decoder
+        (parts_in pieces.old.parts.items) trace.old.stretch.items
+        → OnOk result (FollowsRuns (words_of program.now) mode (done ++ over_before missed (run_of missing packets))
+        (missing_behind missed missing) (packets_behind missed packets ++ packet.now ∷ []) (next + missed + 1)
+        (is_closing_packet packet.now) trace.new.decoder (parts_in pieces.new.parts.items) trace.new.stretch.items) }
+    ensures untold { (done : List Run) (missing next : ℕ) (packets : List AnyPacket)
+        → FollowsRuns (words_of program.now) mode done missing packets next false trace.old.decoder
+        (parts_in pieces.old.parts.items) trace.old.stretch.items
+        → IfErr result (λ fault. IsUntoldBy (words_of program.now)
+        (mode_in mode ((done ++ over_before missed (run_of missing packets)) ++ run_of (missing_behind missed missing)
+        (packets_behind missed packets ++ packet.now ∷ []) ∷ [])) (missing_behind missed missing)
+        (packets_behind missed packets) packet.now fault) }
 {
     match trace.take(alloc, program, mode, packet, missed, &mut pieces.parts) {
         Ok(()) => {}
@@ -152,15 +172,25 @@ impl<A: Allocator + Copy> Collection<A> {
         ensures expected { self.new.demux ≡ harts_after_lossy self.old.demux message.now }
         ensures accepted { OnOk result (IsOk (accepting_lossy self.old.demux message.now)) }
         ensures fault { IfErr result (λ fault. IsNotCollected self.old.demux message.now place fault) }
-        ensures taken { (period : ℕ) (logs : List ProgramLog) (messages left : List AnyMessage)
-            → FollowsAll program.now period mode logs messages (message.now ∷ left) self.old.demux self.old.traces.items
+        ensures taken { (period : ℕ) (own : ℕ → AnyMode) (logs : List ProgramLog) (messages left : List AnyMessage)
+            → FollowsAll program.now period mode own logs messages (message.now ∷ left) self.old.demux
+            self.old.traces.items
             self.old.pieces.items
-            → OnOk result (FollowsAll program.now period mode logs messages left self.new.demux self.new.traces.items
+            → OnOk result (FollowsAll program.now period mode own logs messages left self.new.demux
+            self.new.traces.items
             self.new.pieces.items) }
-        ensures memory { (period : ℕ) (logs : List ProgramLog) (messages left : List AnyMessage)
-            → FollowsAll program.now period mode logs messages (message.now ∷ left) self.old.demux self.old.traces.items
+        ensures memory { (period : ℕ) (own : ℕ → AnyMode) (logs : List ProgramLog) (messages left : List AnyMessage)
+            → FollowsAll program.now period mode own logs messages (message.now ∷ left) self.old.demux
+            self.old.traces.items
             self.old.pieces.items
             → IfErr result (λ fault. fault ≡ LossyFault.Memory) }
+        ensures tells { (messages : List AnyMessage)
+            → TellsAll (words_of program.now) mode messages self.old.demux self.old.traces.items self.old.pieces.items
+            → OnOk result (TellsAll (words_of program.now) mode (messages ++ message.now ∷ []) self.new.demux
+            self.new.traces.items self.new.pieces.items) }
+        ensures untold { (messages : List AnyMessage)
+            → TellsAll (words_of program.now) mode messages self.old.demux self.old.traces.items self.old.pieces.items
+            → IfErr result (λ fault. IsNotTold (words_of program.now) mode messages message.now fault) }
     {
         let (packet, missed) = match self.demux.accept_lossy(message) {
             Ok(taken) => taken,
@@ -192,19 +222,26 @@ fn take_all<A: Allocator + Copy>(
     requires pieces { length collection.old.pieces.items ≡ length collection.old.demux }
     ensures traces_count { length collection.new.traces.items ≡ length collection.old.traces.items }
     ensures pieces_count { length collection.new.pieces.items ≡ length collection.old.pieces.items }
-    ensures taken { (period : ℕ) (logs : List ProgramLog)
-        → FollowsAll program.now period mode logs messages.now messages.now collection.old.demux
+    ensures taken { (period : ℕ) (own : ℕ → AnyMode) (logs : List ProgramLog)
+        → FollowsAll program.now period mode own logs messages.now messages.now collection.old.demux
         collection.old.traces.items collection.old.pieces.items
-        → OnOk result (FollowsAll program.now period mode logs messages.now [] collection.new.demux
+        → OnOk result (FollowsAll program.now period mode own logs messages.now [] collection.new.demux
         collection.new.traces.items collection.new.pieces.items) }
-    ensures memory { (period : ℕ) (logs : List ProgramLog)
-        → FollowsAll program.now period mode logs messages.now messages.now collection.old.demux
+    ensures memory { (period : ℕ) (own : ℕ → AnyMode) (logs : List ProgramLog)
+        → FollowsAll program.now period mode own logs messages.now messages.now collection.old.demux
         collection.old.traces.items collection.old.pieces.items
         → IfErr result (λ fault. fault ≡ LossyFault.Memory) }
     ensures accepted { (harts : ℕ) → collection.old.demux ≡ newcomers harts
         → OnOk result (AreTaken (newcomers harts) messages.now) }
     ensures stops { (harts : ℕ) → collection.old.demux ≡ newcomers harts
-        → IfErr result (λ fault. StopsBy harts messages.now fault) }
+        → TellsAll (words_of program.now) mode [] collection.old.demux collection.old.traces.items
+        collection.old.pieces.items
+        → IfErr result (λ fault. StopsBy (words_of program.now) mode harts messages.now fault) }
+    ensures tells { TellsAll (words_of program.now) mode [] collection.old.demux collection.old.traces.items
+        collection.old.pieces.items
+        → OnOk result (TellsAll (words_of program.now) mode messages.now collection.new.demux
+        collection.new.traces.items collection.new.pieces.items) }
+    ensures harts_count { length collection.new.demux ≡ length collection.old.demux }
 {
     for (place, message) in messages.iter().enumerate() {
         match collection.take(alloc, program, mode, place, message) {
@@ -249,16 +286,19 @@ pub fn collect_lossy<A: Allocator + Copy>(
     messages: &[Message],
 ) -> Result<Vec<HartPieces<A>, A>, LossyFault>
     // Of messages of legal logs, some of them lost, each hart's parts are those of its log, and only memory is refused.
-    ensures parts { (period : ℕ) (logs : List ProgramLog) → AreOfLogs program.now period mode logs messages.now
+    ensures parts { (period : ℕ) (own : ℕ → AnyMode) (logs : List ProgramLog) → AreOfLogs program.now period mode own
+        logs messages.now
         → length logs ≡ harts
-        → IfOk result (λ pieces. AreCollected program.now period mode logs messages.now pieces.items) }
-    ensures memory { (period : ℕ) (logs : List ProgramLog) → AreOfLogs program.now period mode logs messages.now
+        → IfOk result (λ pieces. AreCollected program.now period own logs messages.now pieces.items) }
+    ensures memory { (period : ℕ) (own : ℕ → AnyMode) (logs : List ProgramLog) → AreOfLogs program.now period mode own
+        logs messages.now
         → length logs ≡ harts → IfErr result (λ fault. fault ≡ LossyFault.Memory) }
 
     // Of any messages.
     ensures count { IfOk result (λ pieces. length pieces.items ≡ harts) }
     ensures accepted { OnOk result (AreTaken (newcomers harts) messages.now) }
-    ensures stops { IfErr result (λ fault. StopsBy harts messages.now fault) }
+    ensures told { IfOk result (λ pieces. AreTold (words_of program.now) mode messages.now pieces.items) }
+    ensures stops { IfErr result (λ fault. StopsBy (words_of program.now) mode harts messages.now fault) }
 {
     let mut collection = match Collection::new(alloc, harts) {
         Ok(collection) => collection,

@@ -1,19 +1,22 @@
 //! What is under way of one hart.
 
-ghost use Rattle.std.specs.Prelude.{ℕ, ◌≡◌, ◌+◌, ◌++◌, List, [], ◌∷◌, None, IfErr, OnOk, drop};
+ghost use Rattle.std.specs.Prelude.{ℕ, ◌≡◌, ◌⊎◌, ◌<◌, ◌+◌, ◌++◌, false, List, [], ◌∷◌, None, IfErr, OnOk, drop};
 ghost use Rattle.retire.specs.declared.event.Event.{Event as AnyEvent};
 ghost use Rattle.rvclass.specs.Fetch.{words_of};
 ghost use Rattle.rvclass.specs.Words.{Words, IsProgram};
 ghost use Rattle.legalpath.specs.Legal.{Legal};
 ghost use Rattle.payload.specs.Closing.{is_closing_packet};
+ghost use Rattle.payload.specs.declared.mode.Mode.{Mode as AnyMode};
 ghost use Rattle.payload.specs.declared.packet.Packet.{Packet as AnyPacket};
 ghost use Rattle.encoder.specs.Packets.{packets};
 ghost use Rattle.decoder.specs.Resuming.{HasMode};
 ghost use Rattle.decoder.specs.Stands.{Stands};
 ghost use Rattle.losses.specs.Parts.{Missing, stretch};
 ghost use Rattle.losses.specs.PartsIn.{parts_in};
+ghost use Rattle.losses.specs.Runs.{Run, missing_behind, mode_in, over_before, packets_behind, run_of};
 ghost use Rattle.losses.specs.steps.DecoderSteps.{Resumes};
 ghost use Rattle.losses.specs.steps.Following.{FollowsTrace};
+ghost use Rattle.losses.specs.steps.Telling.{FollowsRuns, IsUntold};
 
 use crate::part::{HartPieces, Part};
 use decoder::{DecodeFault, Decoder};
@@ -90,13 +93,21 @@ impl<A: Allocator + Copy> HartTrace<A> {
         missed: u64,
         parts: &mut Vec<Part<A>, A>,
     ) -> Result<(), AllocError>
-        ensures { (words : Words) (period : ℕ) (log : List AnyEvent) (numbers left : List ℕ) (next number : ℕ)
+        ensures follows { (words : Words) (period : ℕ) (own : AnyMode) (log : List AnyEvent) (numbers left : List ℕ)
+            (next number : ℕ)
             (packet : AnyPacket) (later : List AnyPacket) → IsProgram words → Legal words log → number ≡ next + missed
-            → drop number (packets words period mode log) ≡ packet ∷ later
-            → FollowsTrace words period mode log numbers next (number ∷ left) self.old.decoder
+            → drop number (packets words period own log) ≡ packet ∷ later
+            → FollowsTrace words period mode own log numbers next (number ∷ left) self.old.decoder
             (parts_in parts.old.items) self.old.stretch.items
-            → OnOk result (FollowsTrace words period mode log numbers number (number ∷ left) self.new.decoder
+            → OnOk result (FollowsTrace words period mode own log numbers number (number ∷ left) self.new.decoder
             (parts_in parts.new.items) self.new.stretch.items) }
+        ensures same { missed ≡ 0 → OnOk result ((self.new.decoder ≡ self.old.decoder)
+            × (parts_in parts.new.items ≡ parts_in parts.old.items)
+            × (self.new.stretch.items ≡ self.old.stretch.items)) }
+        ensures lost { 0 < missed → OnOk result (parts_in parts.new.items
+            ≡ (parts_in parts.old.items ++ stretch self.old.stretch.items) ++ Missing missed ∷ []) }
+        ensures empty { 0 < missed → OnOk result (self.new.stretch.items ≡ []) }
+        ensures resumes { 0 < missed → OnOk result (Resumes mode self.old.decoder self.new.decoder) }
     {
         if missed == 0 {
             return Ok(());
@@ -114,20 +125,34 @@ impl<A: Allocator + Copy> HartTrace<A> {
         missed: u64,
         parts: &mut Vec<Part<A>, A>,
     ) -> Result<(), DecodeFault>
-        ensures taken { (period : ℕ) (log : List AnyEvent) (numbers left : List ℕ) (next number : ℕ)
+        ensures taken { (period : ℕ) (own : AnyMode) (log : List AnyEvent) (numbers left : List ℕ) (next number : ℕ)
             (later : List AnyPacket) → IsProgram (words_of program.now) → Legal (words_of program.now) log
-            → number ≡ next + missed → drop number (packets (words_of program.now) period mode log) ≡ packet.now ∷ later
-            → FollowsTrace (words_of program.now) period mode log numbers next (number ∷ left) self.old.decoder
+            → number ≡ next + missed → drop number (packets (words_of program.now) period own log) ≡ packet.now ∷ later
+            → FollowsTrace (words_of program.now) period mode own log numbers next (number ∷ left) self.old.decoder
             (parts_in parts.old.items) self.old.stretch.items
-            → OnOk result (FollowsTrace (words_of program.now) period mode log numbers (number + 1) left
+            → OnOk result (FollowsTrace (words_of program.now) period mode own log numbers (number + 1) left
             self.new.decoder
             (parts_in parts.new.items) self.new.stretch.items) }
-        ensures memory { (period : ℕ) (log : List AnyEvent) (numbers left : List ℕ) (next number : ℕ)
+        ensures memory { (period : ℕ) (own : AnyMode) (log : List AnyEvent) (numbers left : List ℕ) (next number : ℕ)
             (later : List AnyPacket) → IsProgram (words_of program.now) → Legal (words_of program.now) log
-            → number ≡ next + missed → drop number (packets (words_of program.now) period mode log) ≡ packet.now ∷ later
-            → FollowsTrace (words_of program.now) period mode log numbers next (number ∷ left) self.old.decoder
+            → number ≡ next + missed → drop number (packets (words_of program.now) period own log) ≡ packet.now ∷ later
+            → FollowsTrace (words_of program.now) period mode own log numbers next (number ∷ left) self.old.decoder
             (parts_in parts.old.items) self.old.stretch.items
             → IfErr result (λ fault. fault ≡ DecodeFault.Memory) }
+        ensures tells { (done : List Run) (missing next : ℕ) (packets : List AnyPacket)
+            → FollowsRuns (words_of program.now) mode done missing packets next false self.old.decoder
+            (parts_in parts.old.items) self.old.stretch.items
+            → OnOk result (FollowsRuns (words_of program.now) mode (done ++ over_before missed (run_of missing packets))
+            (missing_behind missed missing) (packets_behind missed packets ++ packet.now ∷ []) (next + missed + 1)
+            (is_closing_packet packet.now) self.new.decoder (parts_in parts.new.items) self.new.stretch.items) }
+        ensures untold { (done : List Run) (missing next : ℕ) (packets : List AnyPacket)
+            → FollowsRuns (words_of program.now) mode done missing packets next false self.old.decoder
+            (parts_in parts.old.items) self.old.stretch.items
+            → IfErr result (λ fault. (fault ≡ DecodeFault.Memory) ⊎ IsUntold (words_of program.now)
+            (mode_in mode ((done ++ over_before missed (run_of missing packets)) ++ run_of (missing_behind missed
+            missing)
+            (packets_behind missed packets ++ packet.now ∷ []) ∷ [])) (missing_behind missed missing)
+            (packets_behind missed packets) packet.now fault) }
     {
         match self.go_on(alloc, mode, missed, parts) {
             Ok(()) => {}

@@ -48,10 +48,10 @@ closed_by closed [] = closed
 closed_by closed (packet ∷ packets) = closed_by (is_closing_packet packet) packets
 
 -- Of the messages of a hart's log those before these that are left are collected.
-pub record FollowsHart (program : Image) (period : ℕ) (mode : Mode) (log : ProgramLog) (hart : ℕ)
+pub record FollowsHart (program : Image) (period : ℕ) (handed mode : Mode) (log : ProgramLog) (hart : ℕ)
     (messages left : List Message) (expects : Hart) (decoder : Decoder) (events : List Event) (parts : List LogPart)
     (closed : Bool) : Type 0 where
-  pub trace : FollowsTrace (words_of program) period mode log.events (numbers_of hart messages) expects.expected
+  pub trace : FollowsTrace (words_of program) period handed mode log.events (numbers_of hart messages) expects.expected
       (numbers_of hart left) decoder parts events
   pub sent : AreSomeOf (of_hart hart left) (messages_from hart expects.expected
       (map payload_of (drop expects.expected (packets (words_of program) period mode log.events))))
@@ -61,7 +61,8 @@ pub record FollowsHart (program : Image) (period : ℕ) (mode : Mode) (log : Pro
   pub ended : has_ended (packets_of hart messages) ≡ closed_by closed (packets_of hart left)
 
 -- Of the messages of legal logs of a program those before these that are left are collected.
-pub record FollowsAll {A : Type 0} (program : Image) (period : ℕ) (mode : Mode) (logs : List ProgramLog)
+pub record FollowsAll {A : Type 0} (program : Image) (period : ℕ) (handed : Mode) (own : ℕ → Mode) (logs : List
+    ProgramLog)
     (messages left : List Message) (harts : Harts) (traces : List (HartTrace A)) (pieces : List (HartPieces A))
     : Type 0 where
   pub legal : All IsLegalLog logs
@@ -71,7 +72,7 @@ pub record FollowsAll {A : Type 0} (program : Image) (period : ℕ) (mode : Mode
   pub each : (hart : ℕ) (log : ProgramLog) (expects : Hart) (trace : HartTrace A) (collected : HartPieces A)
       → slice_get logs hart ≡ Some log → slice_get harts hart ≡ Some expects → slice_get traces hart ≡ Some trace
       → slice_get pieces hart ≡ Some collected
-      → FollowsHart program period mode log hart messages left expects trace.decoder trace.stretch.items
+      → FollowsHart program period handed (own hart) log hart messages left expects trace.decoder trace.stretch.items
       (parts_in collected.parts.items) collected.closed
 
 -- Why a packet is not taken at a place.

@@ -1,5 +1,5 @@
 -- How far the messages of a hart are collected.
-use Rattle.std.specs.Prelude.{ℕ, ◌≡◌, ◌+◌, List, ◌∷◌, ◌++◌, drop, take}
+use Rattle.std.specs.Prelude.{ℕ, ◌≡◌, ◌⊎◌, ◌+◌, List, ◌∷◌, ◌++◌, drop, take}
 use Rattle.retire.specs.declared.event.Event.{Event}
 use Rattle.rvclass.specs.Words.{Words}
 use Rattle.payload.specs.declared.mode.Mode.{Mode}
@@ -8,14 +8,15 @@ use Rattle.encoder.specs.Packets.{packets}
 use Rattle.decoder.specs.declared.decoding.Decoder.{Decoder}
 use Rattle.roundtrip.specs.Reach.{stretches}
 use Rattle.losses.specs.Blocks.{Block, block_before, blocks_from}
+use Rattle.losses.specs.Losses.{BeginAtZero}
 use Rattle.losses.specs.Parts.{LogPart, gap, parts, parts_of_blocks, stretch_of_block}
 use Rattle.losses.specs.steps.Traces.{FollowsBlock}
 
 -- Of the numbers of a hart's packets that came those before this one are collected and these are left: a block of them
 -- is under way. The parts are those of the blocks before it with the gap before it, the events are its stretch so far,
 -- and the decoder follows it where there are more packets.
-pub record FollowsTrace (words : Words) (period : ℕ) (mode : Mode) (log : List Event) (numbers : List ℕ) (next : ℕ)
-    (left : List ℕ) (decoder : Decoder) (seen : List LogPart) (events : List Event) : Type 0 where
+pub record FollowsTrace (words : Words) (period : ℕ) (handed mode : Mode) (log : List Event) (numbers : List ℕ)
+    (next : ℕ) (left : List ℕ) (decoder : Decoder) (seen : List LogPart) (events : List Event) : Type 0 where
   pub block : Block
   pub done : List LogPart
   pub place : next ≡ block.first + block.count
@@ -24,6 +25,8 @@ pub record FollowsTrace (words : Words) (period : ℕ) (mode : Mode) (log : List
   pub whole : parts words period mode log numbers ≡ done
       ++ parts_of_blocks (packets words period mode log) (stretches words period log)
       (block_before block (blocks_from next left))
+  pub begins : next ≡ 0 → (handed ≡ mode) ⊎ BeginAtZero left
   pub decodes : (packet : Packet) (later : List Packet) → drop next (packets words period mode log) ≡ packet ∷ later
-      → FollowsBlock words mode block.first (take block.count (drop block.first (packets words period mode log))) events
+      → FollowsBlock words handed mode block.first (take block.count (drop block.first (packets words period mode log)))
+      events
       decoder

@@ -1,5 +1,5 @@
 -- What the packets of a block give a decoder.
-use Rattle.std.specs.Prelude.{◌≡◌, ℕ, zero, suc, List, [], ◌∷◌, Option}
+use Rattle.std.specs.Prelude.{◌≡◌, ◌⊎◌, ℕ, zero, suc, List, [], ◌∷◌, None, Option}
 use Rattle.std.specs.Option.{unwrap_or}
 use Rattle.retire.specs.declared.event.Event.{Event}
 use Rattle.rvclass.specs.Words.{Words}
@@ -38,12 +38,12 @@ StandsFrom words mode [] (suc first) events decoder = PassesOver mode decoder ×
 StandsFrom words mode (packet ∷ packets) first events decoder =
     Stands words (trace_of mode (packet ∷ packets)) events decoder
 
--- A decoder follows a block of which these packets came and gave these events: it is open, and another mode than this
--- was not told.
-pub record FollowsBlock (words : Words) (mode : Mode) (first : ℕ) (packets : List Packet) (events : List Event)
+-- A decoder follows a block of which these packets came and gave these events: it is open. It reads in this mode, which
+-- was told, or handed in where none was; or the packet that tells it comes next.
+pub record FollowsBlock (words : Words) (handed mode : Mode) (first : ℕ) (packets : List Packet) (events : List Event)
     (decoder : Decoder) : Type 0 where
   pub told : Option Mode
   pub has_mode : HasMode told decoder
-  pub right : unwrap_or told mode ≡ mode
+  pub right : (unwrap_or told handed ≡ mode) ⊎ ((first ≡ 0) × (packets ≡ []) × (told ≡ None))
   pub not_closed : ¬ IsClosed decoder
   pub stands : StandsFrom words mode (from_start packets) first events decoder

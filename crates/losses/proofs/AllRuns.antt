@@ -1,0 +1,268 @@
+-- What any messages tell of all harts, from one message to the next.
+use Rattle.std.proofs.Common.{◌≡◌, ◌≢◌, ◌⊎◌, inl, inr, ℕ, ◌+◌, ◌<◌, All, false, List, [], ◌∷◌, ◌++◌, Ok, Some}
+use Rattle.std.proofs.Common.{None, length, set, slice_get, refl, sym, ap, subst, ◌∙◌, arith}
+use Rattle.std.specs.Prelude.{⊤, Result, Err, OnOk, IfErr}
+use Rattle.std.proofs.lemmas.List.{get_or-replicate, length-replicate}
+use Rattle.std.proofs.lemmas.List.Elements.{All-get_or}
+use Rattle.std.proofs.lemmas.Option.{get_or_from_slice_get, slice_get_within}
+use Rattle.rvclass.specs.Words.{Words}
+use Rattle.payload.specs.Closing.{is_closing_packet}
+use Rattle.payload.specs.Ended.{has_ended}
+use Rattle.payload.specs.declared.mode.Mode.{Mode}
+use Rattle.payload.specs.declared.packet.Packet.{Packet}
+use Rattle.decoder.specs.Resuming.{IsClosed}
+use Rattle.message.proofs.AcceptedLemmas.{slice_get-set}
+use Rattle.message.proofs.HartMessages.{has_ended-next, packets_of-next, packets_of-other}
+use Rattle.message.proofs.OfHartLemmas.{of_hart-next, of_hart-other}
+use Rattle.message.specs.Accepted.{newcomers}
+use Rattle.message.specs.Accepting.{next_of}
+use Rattle.message.specs.Harts.{Harts, newcomer}
+use Rattle.message.specs.Lossy.{accepting_lossy, harts_after_lossy}
+use Rattle.message.specs.OfHart.{of_hart, packets_of}
+use Rattle.message.specs.declared.hart.Hart.{Hart}
+use Rattle.message.specs.declared.message.Message.{Message}
+use Rattle.losses.specs.PartsIn.{parts_in}
+use Rattle.losses.specs.Runs.{Run, missing_behind, mode_in, over_before, packets_behind, run_of}
+use Rattle.losses.specs.Told.{AreTold, TellSome, TellsParts}
+use Rattle.losses.specs.steps.Collecting.{AreEnded, IsEnded, IsNewPieces, IsNewTrace, IsNotTaken}
+use Rattle.losses.specs.steps.Telling.{FollowsMessages, FollowsRuns, IsNotTold, IsUntoldBy, TellsAll}
+use Rattle.losses.specs.declared.fault.LossyFault.{LossyFault}
+use Rattle.losses.specs.declared.fault.LossyFault.TheVariants as fault
+use Rattle.losses.specs.declared.hart_trace.HartTrace.{HartTrace}
+use Rattle.losses.specs.declared.part.HartPieces.{HartPieces}
+use Rattle.losses.proofs.AllHarts.{some_at}
+use Rattle.losses.proofs.MessageSteps.{IsTaken, message_more, message_untold, taken_by, tells_parts}
+use Rattle.losses.proofs.RunLemmas.{describes_nothing}
+use Rattle.losses.proofs.TraceSteps.{state_laws}
+
+module _ {A : Type 0} (words : Words) (mode : Mode) (messages : List Message) (message : Message) (harts : Harts)
+    (traces : List (HartTrace A)) (pieces : List (HartPieces A)) (f : TellsAll words mode messages harts traces pieces)
+    (trace new_trace : HartTrace A) (collected new_pieces : HartPieces A)
+    (at_trace : slice_get traces message.hart ≡ Some trace)
+    (at_pieces : slice_get pieces message.hart ≡ Some collected) (packet : Packet) (missed : ℕ)
+    (value : accepting_lossy harts message ≡ Ok (packet, missed)) where
+  taken : IsTaken harts message packet missed
+  taken = taken_by harts message packet missed value
+
+  follows : FollowsMessages words mode (of_hart message.hart messages) taken.expects.expected false trace.decoder
+      (parts_in collected.parts.items) trace.stretch.items
+  follows = subst (λ ended. FollowsMessages words mode (of_hart message.hart messages) taken.expects.expected ended
+      trace.decoder (parts_in collected.parts.items) trace.stretch.items) taken.goes
+      (f.each message.hart taken.expects trace collected taken.at at_trace at_pieces)
+
+  -- What a hart's trace promises of its next packet.
+  abbrev Tells : Result ⊤ LossyFault → Type 0
+  Tells result =
+      (done : List Run) (missing next : ℕ) (packets : List Packet)
+      → FollowsRuns words mode done missing packets next false trace.decoder (parts_in collected.parts.items)
+      trace.stretch.items
+      → OnOk result (FollowsRuns words mode (done ++ over_before missed (run_of missing packets))
+      (missing_behind missed missing) (packets_behind missed packets ++ packet ∷ []) (next + missed + 1)
+      (is_closing_packet packet) new_trace.decoder (parts_in new_pieces.parts.items) new_trace.stretch.items)
+
+  abbrev Untold : Result ⊤ LossyFault → Type 0
+  Untold result =
+      (done : List Run) (missing next : ℕ) (packets : List Packet)
+      → FollowsRuns words mode done missing packets next false trace.decoder (parts_in collected.parts.items)
+      trace.stretch.items
+      → IfErr result (λ why. IsUntoldBy words (mode_in mode ((done ++ over_before missed (run_of missing packets))
+      ++ run_of (missing_behind missed missing) (packets_behind missed packets ++ packet ∷ []) ∷ []))
+      (missing_behind missed missing) (packets_behind missed packets) packet why)
+
+  module _ (closed : new_pieces.closed ≡ is_closing_packet packet)
+      (on : FollowsRuns words mode (follows.done ++ over_before missed (run_of follows.missing follows.packets))
+      (missing_behind missed follows.missing) (packets_behind missed follows.packets ++ packet ∷ [])
+      (taken.expects.expected + missed + 1) (is_closing_packet packet) new_trace.decoder
+      (parts_in new_pieces.parts.items) new_trace.stretch.items) where
+    own : FollowsMessages words mode (of_hart message.hart (messages ++ message ∷ [])) (message.number + 1)
+        (is_closing_packet packet) new_trace.decoder (parts_in new_pieces.parts.items) new_trace.stretch.items
+    own = subst (λ ms. FollowsMessages words mode ms (message.number + 1) (is_closing_packet packet) new_trace.decoder
+        (parts_in new_pieces.parts.items) new_trace.stretch.items) (sym (of_hart-next messages message))
+        (message_more words mode (of_hart message.hart messages) message taken.expects.expected missed packet
+        taken.number taken.read trace.decoder (parts_in collected.parts.items) trace.stretch.items follows
+        (is_closing_packet packet) new_trace.decoder (parts_in new_pieces.parts.items) new_trace.stretch.items on)
+
+    each_hart : (hart : ℕ) (e : Hart) (t : HartTrace A) (p : HartPieces A)
+        → slice_get (set harts message.hart (next_of message.number packet)) hart ≡ Some e
+        → slice_get (set traces message.hart new_trace) hart ≡ Some t
+        → slice_get (set pieces message.hart new_pieces) hart ≡ Some p
+        → FollowsMessages words mode (of_hart hart (messages ++ message ∷ [])) e.expected e.closed t.decoder
+        (parts_in p.parts.items) t.stretch.items
+    each_hart hart e t p of_harts of_traces of_pieces =
+        by_harts (slice_get-set harts message.hart (next_of message.number packet) hart e of_harts)
+        (slice_get-set traces message.hart new_trace hart t of_traces)
+        (slice_get-set pieces message.hart new_pieces hart p of_pieces)
+      where
+        by_harts : ((message.hart ≡ hart) × (e ≡ next_of message.number packet))
+            ⊎ ((message.hart ≢ hart) × (slice_get harts hart ≡ Some e))
+            → ((message.hart ≡ hart) × (t ≡ new_trace)) ⊎ ((message.hart ≢ hart) × (slice_get traces hart ≡ Some t))
+            → ((message.hart ≡ hart) × (p ≡ new_pieces)) ⊎ ((message.hart ≢ hart) × (slice_get pieces hart ≡ Some p))
+            → FollowsMessages words mode (of_hart hart (messages ++ message ∷ [])) e.expected e.closed t.decoder
+            (parts_in p.parts.items) t.stretch.items
+        by_harts (inl (same, is_e)) (inl (_, is_t)) (inl (_, is_p)) =
+            let by_h = subst (λ h. FollowsMessages words mode (of_hart h (messages ++ message ∷ [])) (message.number +
+            1)
+            (is_closing_packet packet) new_trace.decoder (parts_in new_pieces.parts.items) new_trace.stretch.items) same
+            own in
+            let by_e = subst (λ (x : Hart). FollowsMessages words mode (of_hart hart (messages ++ message ∷ []))
+            x.expected
+            x.closed new_trace.decoder (parts_in new_pieces.parts.items) new_trace.stretch.items) (sym is_e) by_h in
+            let by_t = subst (λ (x : HartTrace A). FollowsMessages words mode (of_hart hart (messages ++ message ∷ []))
+            e.expected e.closed x.decoder (parts_in new_pieces.parts.items) x.stretch.items) (sym is_t) by_e in
+            subst (λ (x : HartPieces A). FollowsMessages words mode (of_hart hart (messages ++ message ∷ [])) e.expected
+            e.closed t.decoder (parts_in x.parts.items) t.stretch.items) (sym is_p) by_t
+        by_harts (inl (same, is_e)) (inl (_, is_t)) (inr (apart, is_p)) = absurd (apart same)
+        by_harts (inl (same, is_e)) (inr (apart, is_t)) _ = absurd (apart same)
+        by_harts (inr (apart, is_e)) (inl (same, is_t)) _ = absurd (apart same)
+        by_harts (inr (apart, is_e)) (inr (_, is_t)) (inl (same, is_p)) = absurd (apart same)
+        by_harts (inr (apart, is_e)) (inr (_, is_t)) (inr (_, is_p)) =
+            subst (λ ms. FollowsMessages words mode ms e.expected e.closed t.decoder (parts_in p.parts.items)
+            t.stretch.items) (sym (of_hart-other hart messages message apart)) (f.each hart e t p is_e is_t is_p)
+
+    ends : (hart : ℕ) (p : HartPieces A) → slice_get (set pieces message.hart new_pieces) hart ≡ Some p
+        → p.closed ≡ has_ended (packets_of hart (messages ++ message ∷ []))
+    ends hart p at = by_hart (slice_get-set pieces message.hart new_pieces hart p at)
+      where
+        by_hart : ((message.hart ≡ hart) × (p ≡ new_pieces)) ⊎ ((message.hart ≢ hart) × (slice_get pieces hart ≡ Some
+            p))
+            → p.closed ≡ has_ended (packets_of hart (messages ++ message ∷ []))
+        by_hart (inl (same, is)) =
+            ap (λ (x : HartPieces A). x.closed) is ∙ closed
+            ∙ sym (has_ended-next (packets_of message.hart messages) packet)
+            ∙ ap has_ended (sym (packets_of-next messages message packet taken.read))
+            ∙ ap (λ h. has_ended (packets_of h (messages ++ message ∷ []))) same
+        by_hart (inr (apart, stood)) =
+            f.ended hart p stood ∙ ap has_ended (sym (packets_of-other hart messages message apart))
+
+    tells_more : TellsAll words mode (messages ++ message ∷ []) (harts_after_lossy harts message)
+        (set traces message.hart new_trace) (set pieces message.hart new_pieces)
+    tells_more =
+        subst (λ hs. TellsAll words mode (messages ++ message ∷ []) hs (set traces message.hart new_trace)
+        (set pieces message.hart new_pieces)) (sym taken.after) (record { each = each_hart; ended = ends })
+
+  -- The message is collected, where its packet is taken.
+  pub tells_next : (result : Result ⊤ LossyFault) → Tells result
+      → OnOk result (new_pieces.closed ≡ is_closing_packet packet)
+      → OnOk result (TellsAll words mode (messages ++ message ∷ []) (harts_after_lossy harts message)
+      (set traces message.hart new_trace) (set pieces message.hart new_pieces))
+  tells_next (Err why) tells closed = tt
+  tells_next (Ok fine) tells closed =
+      tells_more closed (tells follows.done follows.missing taken.expects.expected follows.packets follows.runs)
+
+  -- Or it is told why it is not.
+  pub untold_next : (place : ℕ) (result : Result ⊤ LossyFault) → Untold result
+      → IfErr result (λ why. IsNotTaken place why)
+      → IfErr result (λ why. IsNotTold words mode messages message why)
+  untold_next place (Ok fine) untold not = tt
+  untold_next place (Err fault.Memory) untold not = tt
+  untold_next place (Err (fault.Demux at why)) untold not = tt
+  untold_next place (Err (fault.Decode at why)) untold not =
+      let is = untold follows.done follows.missing taken.expects.expected follows.packets follows.runs in
+      let found = message_untold words mode (of_hart message.hart messages) message taken.expects.expected missed packet
+      taken.number taken.read trace.decoder (parts_in collected.parts.items) trace.stretch.items follows why not.1 is
+      (of_hart message.hart (messages ++ message ∷ [])) (of_hart-next messages message) in
+      record {
+        packet = found.0;
+        read = found.1;
+        not_opened = found.2;
+        not_ended = is.stays_open;
+        not_described = found.3;
+      }
+
+-- The hart of a message that is taken is known.
+pub within_of : (harts : Harts) (message : Message) (packet : Packet) (missed : ℕ)
+    → accepting_lossy harts message ≡ Ok (packet, missed) → message.hart < length harts
+within_of harts message packet missed value =
+    let t = taken_by harts message packet missed value in slice_get_within harts message.hart t.expects t.at
+
+-- Before the first message.
+pub tells_first : {A : Type 0} (words : Words) (mode : Mode) (count : ℕ) (demux : Harts) (traces : List (HartTrace A))
+    (pieces : List (HartPieces A)) → demux ≡ newcomers count → All IsNewTrace traces → All IsNewPieces pieces
+    → TellsAll words mode [] demux traces pieces
+tells_first words mode count demux traces pieces is new_traces new_pieces = record {
+  each = λ hart expects trace collected at_hart at_trace at_pieces.
+      let of_newcomers = subst (λ hs. slice_get hs hart ≡ Some expects) is at_hart in
+      let within = slice_get_within (newcomers count) hart expects of_newcomers in
+      let many = length-replicate count newcomer in
+      let new : newcomer ≡ expects =
+      sym (get_or-replicate count hart newcomer expects (omega (arith, within, many)))
+      ∙ get_or_from_slice_get (newcomers count) hart expects expects of_newcomers in
+      let t = subst IsNewTrace (get_or_from_slice_get traces hart trace trace at_trace)
+      (All-get_or IsNewTrace traces hart trace (slice_get_within traces hart trace at_trace) new_traces) in
+      let p = piece_new hart collected at_pieces in
+      let stands = t.stands words in
+      let not_closed : ¬ IsClosed trace.decoder = λ closed.
+      let ended = (state_laws.closed words [] [] trace.decoder stands).0 closed in cc in
+      let first : FollowsMessages words mode [] 0 false trace.decoder [] [] = record {
+        done = [];
+        missing = 0;
+        packets = [];
+        whole = λ later. refl;
+        runs = record {
+          from_zero = λ zero_is. (refl, refl);
+          beyond = omega arith;
+          front = [];
+          before = refl;
+          told = refl;
+          follows = record {
+            described = describes_nothing words;
+            stands = λ stays. stands;
+            stays_open = λ stays. not_closed;
+            told = None;
+            has_mode = t.untold;
+            right = refl;
+          };
+        };
+      } in
+      let by_parts = subst (λ l. FollowsMessages words mode [] 0 false trace.decoder l []) (sym (ap parts_in p.0)) first
+      in
+      let by_events = subst (λ l. FollowsMessages words mode [] 0 false trace.decoder (parts_in collected.parts.items)
+      l)
+      (sym t.empty) by_parts in
+      subst (λ (e : Hart). FollowsMessages words mode [] e.expected e.closed trace.decoder
+      (parts_in collected.parts.items) trace.stretch.items) new by_events;
+  ended = λ hart collected at. (piece_new hart collected at).1;
+}
+  where
+    piece_new : (hart : ℕ) (collected : HartPieces _) → slice_get pieces hart ≡ Some collected → IsNewPieces collected
+    piece_new hart collected at =
+        subst IsNewPieces (get_or_from_slice_get pieces hart collected collected at)
+        (All-get_or IsNewPieces pieces hart collected (slice_get_within pieces hart collected at) new_pieces)
+
+-- After the last one, where the stretches are ended.
+pub told_last : {A : Type 0} (words : Words) (mode : Mode) (messages : List Message) (demux : Harts)
+    (traces : List (HartTrace A)) (before after : List (HartPieces A))
+    → TellsAll words mode messages demux traces before → length traces ≡ length before → length demux ≡ length before
+    → AreEnded traces before after → AreTold words mode messages after
+told_last words mode messages demux traces before after f traces_count harts_count ended = record {
+  parts = λ hart pieces at.
+      let e = hart_ended hart pieces at in
+      subst (TellsParts words mode (of_hart hart messages)) (sym e.2.parts)
+      (tells_parts words mode (of_hart hart messages) _ _ _ _ _ (f.each hart e.3.0 e.0 e.1 e.3.1 e.4 e.5));
+  closed = λ hart pieces at.
+      let e = hart_ended hart pieces at in e.2.closed ∙ f.ended hart e.1 e.5;
+}
+  where
+    hart_ended : (hart : ℕ) (pieces : HartPieces _) → slice_get after hart ≡ Some pieces
+        → (trace : HartTrace _) × (old : HartPieces _) × IsEnded trace old pieces
+        × ((e : Hart) × (slice_get demux hart ≡ Some e)) × (slice_get traces hart ≡ Some trace)
+        × (slice_get before hart ≡ Some old)
+    hart_ended hart pieces at =
+        let inside = slice_get_within after hart pieces at in
+        let all = ended.count in
+        let t = some_at traces hart (omega (arith, inside, all, traces_count)) in
+        let p = some_at before hart (omega (arith, inside, all)) in
+        let e = some_at demux hart (omega (arith, inside, all, harts_count)) in
+        (t.0, p.0, ended.each hart t.0 p.0 pieces t.1 p.1 at, e, t.1, p.1)
+
+-- The messages so far tell some parts of each hart.
+pub tell_some : {A : Type 0} (words : Words) (mode : Mode) (count : ℕ) (messages : List Message) (demux : Harts)
+    (traces : List (HartTrace A)) (pieces : List (HartPieces A)) → TellsAll words mode messages demux traces pieces
+    → length demux ≡ count → length traces ≡ count → length pieces ≡ count → TellSome words mode count messages
+tell_some words mode count messages demux traces pieces f harts_count traces_count pieces_count = λ hart few.
+    let e = some_at demux hart (omega (arith, few, harts_count)) in
+    let t = some_at traces hart (omega (arith, few, traces_count)) in
+    let p = some_at pieces hart (omega (arith, few, pieces_count)) in (
+      _,
+      tells_parts words mode (of_hart hart messages) _ _ _ _ _ (f.each hart e.0 t.0 p.0 e.1 t.1 p.1),
+    )
