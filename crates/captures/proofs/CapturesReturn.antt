@@ -20,9 +20,8 @@ use Rattle.message.specs.Accepted.{AreAccepted, newcomers}
 use Rattle.message.specs.Capture.{capture}
 use Rattle.message.proofs.StartsRead.{header_only, never_both}
 use Rattle.message.specs.Cut.{IsMessage, IsCut, HasBadLength}
-use Rattle.message.specs.Header.{IsHeader, IsMarked, header_bytes, setting_bytes}
+use Rattle.message.specs.Header.{IsMarked, header_bytes, setting_bytes}
 use Rattle.message.specs.declared.fault.DemuxFault.{DemuxFault}
-use Rattle.message.specs.declared.fault.MessageFault.{MessageFault}
 use Rattle.message.specs.declared.fault.MessageFault.TheVariants as message
 use Rattle.message.specs.declared.header.Header.{Header}
 use Rattle.message.specs.declared.header.Version.{Version}
@@ -33,10 +32,10 @@ use Rattle.receiver.specs.Holds.{AreDecoded}
 use Rattle.receiver.specs.declared.fault.ReceiveFault.TheVariants as receiving
 use Rattle.captures.proofs.CapturesSplit.{capture_split, capture_none, capture_not_cut, capture_not_bad, capture_first}
 use Rattle.captures.proofs.Elements.{All-behind}
+use Rattle.captures.proofs.HeaderFaults.{has_header, marked_by}
 use Rattle.captures.proofs.NextMessages.{all_ranges, program_image, log_described, log_ended, next_message}
 use Rattle.captures.specs.Decoded.{AreMessagesDecoded, BeginsRefused, IsDecoded, NoHeader, Stops, Version1, Version2}
 use Rattle.captures.specs.Messages.{messages_of_harts}
-use Rattle.captures.specs.NoMessage.{BeginsNoHeader}
 use Rattle.message.specs.OfHart.{packets_of}
 use Rattle.captures.specs.Returned.{AreAskedFor, AreReturned, IsCaptureOf}
 use Rattle.captures.specs.Versions.{header_of}
@@ -186,24 +185,6 @@ not_marked : (messages : List Message) → All IsMessage messages → IsMarked (
 not_marked [] ranges marked = let count = ap length marked.1 in omega (arith, count)
 not_marked (message ∷ messages) ranges marked =
     never_both message (capture messages) marked.0 (All-head IsMessage message messages ranges) marked.1
-
--- Bytes that begin with no header begin with the mark all the same.
-marked_by : (bytes : List ℕ) (why : MessageFault) → BeginsNoHeader bytes why → IsMarked bytes
-marked_by bytes message.Short cut = cut.marked
-marked_by bytes message.BadHeader bad = bad.marked
-marked_by bytes message.BadLength none = absurd none
-marked_by bytes message.Read none = absurd none
-marked_by bytes message.Write none = absurd none
-
--- Bytes that begin with a header do not begin with none.
-has_header : (header : Header) (rest bytes : List ℕ) (why : MessageFault) → IsHeader header
-    → bytes ≡ header_bytes header ++ rest → BeginsNoHeader bytes why → ⊥
-has_header header rest bytes message.Short is begins cut =
-    let few = cut.few in let size = ap length begins in omega (arith, few, size)
-has_header header rest bytes message.BadHeader is begins bad = bad.none header rest is begins
-has_header header rest bytes message.BadLength is begins none = none
-has_header header rest bytes message.Read is begins none = none
-has_header header rest bytes message.Write is begins none = none
 
 module _ (program : Image) (period : ℕ) (mode : Mode) (harts : ℕ) (logs : List ProgramLog) (bytes : List ℕ)
     (lists : List (List Event)) (closed : List Bool) (stop : Option (ℕ × CaptureFault)) where

@@ -12,3 +12,4 @@ pub mod Dumps
 pub mod NothingDecoded
 pub mod HeaderFaults
 pub mod HeaderDumps
+pub mod WholeCaptures

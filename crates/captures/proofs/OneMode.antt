@@ -14,7 +14,7 @@ use Rattle.encoder.specs.Packets.{trap_packet}
 use Rattle.encoder.specs.Piece.{Piece, pieces_of}
 use Rattle.encoder.specs.declared.rule.Rule.{Rule}
 use Rattle.encoder.specs.declared.rule.Rule.TheVariants as by
-use Rattle.receiver.specs.Agreeing.{differ, opens_another}
+use Rattle.receiver.specs.Agreeing.{opens_another}
 
 -- The packet opens no trace in another mode than this one.
 abbrev pub AgreesWith : Mode → Packet → Type 0

@@ -2,6 +2,7 @@ pub mod HexLines
 pub mod Messages
 pub mod Versions
 pub mod NoMessage
+pub mod Whole
 pub mod Decoded
 pub mod Returned
 pub mod FaultText

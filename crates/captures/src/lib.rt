@@ -1,11 +1,12 @@
 //! Whole captures: from the logs of harts to the bytes of a capture, and from such bytes to text and to logs.
 //!
 //! [`encode_capture`] writes the messages of logs as a capture, and [`encode_hex`] as lines of hexadecimal.
-//! [`decode_capture`] gives the events of each hart of a capture, and [`dump_capture`] writes what its messages tell, a
-//! line each.
+//! [`decode_capture`] gives the events of each hart of a capture, [`read_messages`] its messages as they are, and
+//! [`dump_capture`] writes what they tell, a line each.
 #![tactic(auto)]
 
 mod capture_decoding;
+mod capture_reading;
 mod dumping;
 mod encoding;
 mod form;
@@ -16,6 +17,7 @@ mod packet_text;
 mod tests;
 
 pub use capture_decoding::decode_capture;
+pub use capture_reading::{ReadFault, WholeCapture, read_messages};
 pub use dumping::{Dumped, dump_capture};
 pub use encoding::{encode_capture, encode_hex};
 pub use outcome::{CaptureFault, CaptureOutcome};

@@ -7,6 +7,7 @@ mod dumping;
 mod encoding;
 mod headers;
 mod made;
+mod reading;
 mod returning;
 
 use legalpath::LegalLog;

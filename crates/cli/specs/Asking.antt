@@ -83,7 +83,8 @@ Asks name rows (Encode asked) = (name ≡ codes "encode")
 Asks name rows (Dump asked) = (name ≡ codes "dump") × (asked.capture.now ≡ text_of (codes "CAPTURE") rows)
 Asks name rows (Decode asked) = (name ≡ codes "decode")
     × (asked.base.now ≡ text_of (codes "base") rows) × IsHarts (one_of (codes "harts") rows) asked.harts
-    × (asked.image.now ≡ text_of (codes "IMAGE") rows) × (asked.capture.now ≡ text_of (codes "CAPTURE") rows)
+    × IsFlag (one_of (codes "lossy") rows) asked.lossy × (asked.image.now ≡ text_of (codes "IMAGE") rows)
+    × (asked.capture.now ≡ text_of (codes "CAPTURE") rows)
 Asks name rows (Replay asked) = (name ≡ codes "replay")
     × (asked.base.now ≡ text_of (codes "base") rows) × IsPeriod (one_of (codes "period") rows) asked.period
     × IsMode (one_of (codes "full") rows) asked.mode

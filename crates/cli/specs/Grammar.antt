@@ -39,6 +39,11 @@ abbrev pub version_one_rule : Rule
 version_one_rule =
     record (new_rule (codes "v1")) { long = Some (codes "v1"); action = Some SetTrue }
 
+-- `--lossy`.
+abbrev pub lossy_rule : Rule
+lossy_rule =
+    record (new_rule (codes "lossy")) { long = Some (codes "lossy"); action = Some SetTrue }
+
 -- IMAGE, a word of its own that has to be there.
 abbrev pub image_rule : Rule
 image_rule = record (new_rule (codes "IMAGE")) { action = Some Set; required = true }
@@ -118,10 +123,10 @@ encode_app = with_rule (with_rule (with_rule (with_rule (with_rule (with_rule (w
 abbrev pub dump_app : App
 dump_app = with_rule (new_app (codes "dump")) capture_rule
 
--- `decode --base B [--harts N] IMAGE CAPTURE`.
+-- `decode --base B [--harts N] [--lossy] IMAGE CAPTURE`.
 abbrev pub decode_app : App
-decode_app = with_rule (with_rule (with_rule (with_rule (new_app (codes "decode")) base_rule) harts_rule)
-    image_rule) capture_rule
+decode_app = with_rule (with_rule (with_rule (with_rule (with_rule (new_app (codes "decode")) base_rule) harts_rule)
+    lossy_rule) image_rule) capture_rule
 
 -- `replay --base B [--period N] [--full] [--capacity N] IMAGE SCHEDULE LOG...`.
 abbrev pub replay_app : App

@@ -1,7 +1,8 @@
 //! The arguments that subcommands take, one function each.
 
 ghost use Rattle.cli.specs.Grammar.{IsReadBy, base_rule, capacity_rule, capture_rule, full_rule, harts_rule};
-ghost use Rattle.cli.specs.Grammar.{hex_rule, image_rule, logs_rule, period_rule, schedule_rule, version_one_rule};
+ghost use Rattle.cli.specs.Grammar.{hex_rule, image_rule, logs_rule, lossy_rule, period_rule, schedule_rule};
+ghost use Rattle.cli.specs.Grammar.{version_one_rule};
 
 use clap::{Arg, ArgAction, value_parser};
 use message::MOST_HARTS;
@@ -89,6 +90,15 @@ pub(crate) fn logs<'a>(alloc: Global) -> Arg<'a>
         .action(ArgAction::Append)
         .num_args(1..)
         .help("Logs, each of one hart, as CSV")
+}
+
+pub(crate) fn lossy<'a>(alloc: Global) -> Arg<'a>
+    ensures { IsReadBy lossy_rule result }
+{
+    Arg::new(alloc, "lossy")
+        .long("lossy")
+        .action(ArgAction::SetTrue)
+        .help("Go on where messages are missing, and tell how many are")
 }
 
 pub(crate) fn period<'a>(alloc: Global) -> Arg<'a>

@@ -131,6 +131,7 @@ fn decode_asked<'a>(given: &ArgMatches<'a>) -> Asked<'a>
     Asked::Decode(Decode {
         base: text(given, "base"),
         harts: harts(given),
+        lossy: flag(given, "lossy"),
         image: text(given, "IMAGE"),
         capture: text(given, "CAPTURE"),
     })

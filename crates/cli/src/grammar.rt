@@ -4,7 +4,7 @@ ghost use Rattle.std.specs.Prelude.{IfOk};
 ghost use Rattle.cli.specs.Grammar.{HasGrammar, bench_app, check_app, decode_app, dump_app, encode_app, program_app, replay_app};
 
 use crate::arguments::{
-    base, capacity, capture, full, harts, hex, image, logs, period, schedule, version_one,
+    base, capacity, capture, full, harts, hex, image, logs, lossy, period, schedule, version_one,
 };
 use clap::Command;
 use std::alloc::{AllocError, Global};
@@ -51,6 +51,7 @@ fn decode<'a>(alloc: Global) -> Result<Command<'a>, AllocError>
         .about("Write the logs that the messages of a capture describe")
         .arg(base(alloc))?
         .arg(harts(alloc))?
+        .arg(lossy(alloc))?
         .arg(image(alloc))?
         .arg(capture(alloc))?;
     Ok(command)

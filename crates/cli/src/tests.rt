@@ -164,15 +164,26 @@ fn reads_words(rt: HostRuntime) -> Result<(), Fail> {
         ),
         (
             "tracebench decode --base 80000000 image.bin run.capture",
-            "Decode(Decode { base: \"80000000\", harts: 1, image: \"image.bin\", capture: \"run.capture\" })",
+            "Decode(Decode { base: \"80000000\", harts: 1, lossy: false, image: \"image.bin\", \
+             capture: \"run.capture\" })",
         ),
         (
             "tracebench decode image.bin --harts 1 run.capture --base 0",
-            "Decode(Decode { base: \"0\", harts: 1, image: \"image.bin\", capture: \"run.capture\" })",
+            "Decode(Decode { base: \"0\", harts: 1, lossy: false, image: \"image.bin\", capture: \"run.capture\" })",
+        ),
+        (
+            "tracebench decode --lossy --base 0 image.bin run.capture",
+            "Decode(Decode { base: \"0\", harts: 1, lossy: true, image: \"image.bin\", capture: \"run.capture\" })",
+        ),
+        (
+            "tracebench decode --base 0 --lossy --lossy image.bin run.capture",
+            "error: the argument '--lossy' cannot be used multiple times\n\n\
+             Usage: tracebench decode [OPTIONS] --base <B> <IMAGE> <CAPTURE>\n\n\
+             For more information, try '--help'.\n",
         ),
         (
             "tracebench decode --base 0 --harts=1024 image.bin run.capture",
-            "Decode(Decode { base: \"0\", harts: 1024, image: \"image.bin\", capture: \"run.capture\" })",
+            "Decode(Decode { base: \"0\", harts: 1024, lossy: false, image: \"image.bin\", capture: \"run.capture\" })",
         ),
         (
             "tracebench decode --base 0 --harts 0 image.bin run.capture",
@@ -253,7 +264,8 @@ fn reads_words(rt: HostRuntime) -> Result<(), Fail> {
              <CAPTURE>  File of trace messages\n\n\
              Options:\n      \
              --base <B>   Address of the image's first byte, in hexadecimal\n      \
-             --harts <N>  How many harts a capture of version 1 may have, 1 to 1024 [default: 1]\n  \
+             --harts <N>  How many harts a capture of version 1 may have, 1 to 1024 [default: 1]\n      \
+             --lossy      Go on where messages are missing, and tell how many are\n  \
              -h, --help       Print help\n",
         ),
     ];

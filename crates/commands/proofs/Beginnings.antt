@@ -1,11 +1,11 @@
 -- Beginnings of what is written.
-use Rattle.std.proofs.Common.{ℕ, List, Option, Result}
+use Rattle.std.proofs.Common.{inl, inr, ℕ, List, Option, Result}
 use Rattle.std.specs.Io.KnownBytes.{Keeps}
 use Rattle.output.specs.Begun.{AppendsBeginning}
 use Rattle.output.proofs.Beginnings.{begun_kept, whole_begun}
 use Rattle.rvclass.specs.Image.{Image}
 use Rattle.commands.proofs.Runs.{appends-keeps}
-use Rattle.commands.specs.Begun.{AppendsFirstLines, BeginsPrinted}
+use Rattle.commands.specs.Begun.{AppendsFirstLines, BeginsPrinted, IsCutOf}
 use Rattle.commands.specs.Faults.{Path}
 use Rattle.commands.specs.Known.{Content}
 use Rattle.commands.specs.Printed.{IsPrinted, Printed}
@@ -33,6 +33,13 @@ cut_kept First Prints old mid new leads cut kept = record {
   prints = leads cut.printed cut.prints;
   begun = begun_kept cut.printed.text old mid new cut.begun kept;
 }
+
+-- A cut of what a part of a run prints is one of what the run prints, where it leads there.
+pub cut_leads : (First Prints : Printed → Type 0) (old new : Option (List ℕ))
+    → ((printed : Printed) → First printed → Prints printed) → IsCutOf First old new → IsCutOf Prints old new
+cut_leads First Prints old new leads (inl kept) = inl kept
+cut_leads First Prints old new leads (inr cut) =
+    inr (record { printed = cut.printed; prints = leads cut.printed cut.prints; begun = cut.begun })
 
 -- First lines were appended, and then nothing more.
 pub lines_kept : (content : Content) (program : Image) (paths : List Path) (old mid new : Option (List ℕ))

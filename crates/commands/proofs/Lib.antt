@@ -8,6 +8,7 @@ mod Gots
 mod HartTexts
 mod JudgedLogs
 mod LegalLogs
+mod PartTexts
 mod Runs
 mod Schedules
 mod Tables

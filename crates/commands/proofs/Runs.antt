@@ -31,6 +31,23 @@ pub prints : (Prints : Printed → Type 0) (CanWrite : Type 0) (ended : Result S
 prints Prints CanWrite (Ok status) old new printed = printed
 prints Prints CanWrite (Err why) old new printed = inr printed
 
+-- What a part of a run prints is what the run prints, where it leads there.
+pub leads_on : (First Prints : Printed → Type 0) (Early CanWrite : Type 0) (ended : Result Status Fault)
+    (old new : Option (List ℕ)) → ((printed : Printed) → First printed → Prints printed) → (Early → CanWrite)
+    → PrintsUnlessDenied First Early ended old new → PrintsUnlessDenied Prints CanWrite ended old new
+leads_on First Prints Early CanWrite (Ok status) old new leads can is = record {
+  text = is.text;
+  prints = leads (record { text = is.text; ended = Ok status }) is.prints;
+  appended = is.appended;
+}
+leads_on First Prints Early CanWrite (Err why) old new leads can (inl (inl memory)) = inl (inl memory)
+leads_on First Prints Early CanWrite (Err why) old new leads can (inl (inr output)) = inl (inr (output.0, can output.1))
+leads_on First Prints Early CanWrite (Err why) old new leads can (inr is) = inr (record {
+  text = is.text;
+  prints = leads (record { text = is.text; ended = Err why }) is.prints;
+  appended = is.appended;
+})
+
 -- What is printed at first, and then nothing more, is what is printed in the end.
 pub goes_on : (First Prints : Printed → Type 0) (Early CanWrite : Type 0) (ended : Result Status Fault) (old mid new : Option (List ℕ))
     → ((printed : Printed) → First printed → Prints printed)

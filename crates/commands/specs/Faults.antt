@@ -3,9 +3,13 @@ use Rattle.std.specs.Prelude.{ℕ, List, Result, Ok, Err}
 use Rattle.std.specs.Borrow.{Bor}
 use Rattle.bench.specs.declared.setup.Setup.{Setup}
 use Rattle.bench.specs.declared.setup.Setup.TheVariants as setup
+use Rattle.captures.specs.declared.capture_reading.ReadFault.{ReadFault}
+use Rattle.captures.specs.declared.capture_reading.ReadFault.TheVariants as reading
 use Rattle.captures.specs.declared.outcome.CaptureFault.{CaptureFault}
 use Rattle.captures.specs.declared.outcome.CaptureFault.TheVariants as capture
 use Rattle.decoder.specs.declared.fault.DecodeFault.TheVariants as decode
+use Rattle.losses.specs.declared.fault.LossyFault.{LossyFault}
+use Rattle.losses.specs.declared.fault.LossyFault.TheVariants as lossy
 use Rattle.message.specs.declared.fault.MessageFault.TheVariants.{BadHeader}
 use Rattle.retire.specs.declared.fault.LogFault.{LogFault}
 use Rattle.retire.specs.declared.fault.LogFault.TheVariants as log
@@ -55,6 +59,17 @@ abbrev pub capture_fault : ℕ → CaptureFault → Fault
 capture_fault number (capture.Message BadHeader) = fault.Header
 capture_fault number (capture.Decode decode.Memory) = fault.Memory
 capture_fault number why = fault.Message number why
+
+-- What is told of a capture that is not read whole.
+abbrev pub reading_fault : ReadFault → Fault
+reading_fault (reading.Message number why) = capture_fault number (capture.Message why)
+reading_fault reading.Memory = fault.Memory
+
+-- What is told of messages of which nothing is collected.
+abbrev pub lossy_fault : LossyFault → Fault
+lossy_fault (lossy.Demux place why) = fault.Message place (capture.Demux why)
+lossy_fault (lossy.Decode place why) = capture_fault place (capture.Decode why)
+lossy_fault lossy.Memory = fault.Memory
 
 -- Files, the output and memory are the machine's, the header and messages are the capture's, and every other fault is one
 -- of the input.

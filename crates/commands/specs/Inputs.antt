@@ -1,5 +1,5 @@
 -- What a run has found once it writes.
-use Rattle.std.specs.Prelude.{ℕ, List, Ok, length}
+use Rattle.std.specs.Prelude.{ℕ, Bool, true, false, List, Ok, length}
 use Rattle.funnel.specs.Limits.{most_ports}
 use Rattle.funnel.specs.declared.turn.Turn.{Turn}
 use Rattle.legalpath.specs.ProgramLog.{ProgramLog}
@@ -15,6 +15,7 @@ use Rattle.subcommands.specs.declared.words.Replay.{Replay}
 use Rattle.commands.specs.Faults.{Path}
 use Rattle.commands.specs.Found.{AreFew, AreLegalLogs, IsBase, IsProgram, IsRead}
 use Rattle.commands.specs.Known.{Content}
+use Rattle.commands.specs.Pieces.{HasPieces}
 use Rattle.commands.specs.Replaying.{IsSchedule}
 use Rattle.commands.specs.Sending.{IsSetting, config_at}
 
@@ -57,9 +58,20 @@ CanEncode content asked = HasLogs content (most_harts asked.version) asked.base.
 abbrev pub CanDump : Content → Dump → Type 0
 CanDump content asked = HasFile content asked.capture
 
+-- Where messages may be missing, what is left of the logs is collected before it is written.
+abbrev pub CanTell : Bool → ℕ → Image → List ℕ → Type 0
+CanTell true harts program bytes = HasPieces harts program bytes
+CanTell false harts program bytes = Unit {0}
+
 -- `decode` writes once it has the program and the capture.
-abbrev pub CanDecode : Content → Decode → Type 0
-CanDecode content asked = HasProgram content asked.base.now asked.image × HasFile content asked.capture
+pub record CanDecode (content : Content) (asked : Decode) : Type 0 where
+  pub base : ℕ
+  pub program : Image
+  pub bytes : List ℕ
+  pub based : IsBase asked.base.now (Ok base)
+  pub found : IsProgram content base asked.image (Ok program)
+  pub read : IsRead content asked.capture (Ok bytes)
+  pub can : CanTell asked.lossy asked.harts program bytes
 
 -- `replay` writes once it has the legal logs and the turns, and nothing stands against sending.
 abbrev pub CanReplay : Content → Replay → Type 0

@@ -9,6 +9,8 @@ pub mod Printed
 pub mod Encoding
 pub mod Checking
 pub mod Dumping
+pub mod EachHart
+pub mod Pieces
 pub mod Decoded
 pub mod Sending
 pub mod Replaying

@@ -5,7 +5,7 @@ ghost use Rattle.std.specs.Io.KnownBytes.{Appends, Keeps};
 ghost use Rattle.receiver.specs.Received.{events_in};
 ghost use Rattle.output.specs.Begun.{AppendsBeginning};
 ghost use Rattle.commands.specs.Begun.{BeginsPrinted, IsCutOf};
-ghost use Rattle.commands.specs.Decoded.{Decodes, harts_text};
+ghost use Rattle.commands.specs.Decoded.{Decodes, WritesDecoded, harts_text};
 ghost use Rattle.commands.specs.Inputs.{CanDecode};
 ghost use Rattle.commands.specs.Printed.{IsDenied, PrintsUnlessDenied};
 ghost use Rattle.retire.specs.Number.{number_of};
@@ -16,16 +16,22 @@ ghost use Rattle.commands.specs.Order.{base_fault};
 use crate::fault::Fault;
 use crate::files::Files;
 use crate::inputs::{base_of, content_of, program_of};
+use crate::lossy_decoding::decode_lossy;
 use crate::status::Status;
 use captures::{CaptureOutcome, decode_capture};
 use output::write_text;
 use retire::{Event, write_log};
+use rvclass::Program;
 use std::alloc::Global;
 use std::io::Write;
 use subcommands::Decode;
 
 /// Writes the log of each hart, as far as the messages of a capture tell it, and answers that all is
 /// done where its header, if it has one, is valid, no message is refused and each hart's closing packet came.
+///
+/// Where messages may be missing, what is left of each hart's log is written instead: a line for each gap, and one
+/// before each stretch with its log. All is done then where no message is missing before one that came; a gap alone is
+/// no fault, and at a fault nothing is written.
 pub fn decode<'a, F: Files, O: Write>(
     alloc: Global,
     files: &mut F,
@@ -43,9 +49,28 @@ pub fn decode<'a, F: Files, O: Write>(
     let base = base_of(asked.base)?;
     let program = program_of(files, base, asked.image)?;
     let bytes = content_of(files, asked.capture)?;
-    let outcome = decode_capture(alloc, &program, asked.harts, bytes.as_slice()).map_err(
-        |_| Fault::Memory,
-    )?;
+    let capture = bytes.as_slice();
+    if asked.lossy {
+        decode_lossy(alloc, &program, asked.harts, capture, out)
+    } else {
+        decode_whole(alloc, &program, asked.harts, capture, out)
+    }
+}
+
+/// Writes the log of each hart, as far as the messages of these bytes tell it, where none may be missing.
+fn decode_whole<'a, O: Write>(
+    alloc: Global,
+    program: &Program,
+    harts: u16,
+    bytes: &[u8],
+    out: &mut O,
+) -> Result<Status, Fault<'a>>
+    ensures never_refused { end_of result ≢ Status.Refused }
+    ensures printed { PrintsUnlessDenied (WritesDecoded harts program.now bytes.now) ⊤ result
+        (O.contents out.old) (O.contents out.new) }
+    ensures cut { IsCutOf (WritesDecoded harts program.now bytes.now) (O.contents out.old) (O.contents out.new) }
+{
+    let outcome = decode_capture(alloc, program, harts, bytes).map_err(|_| Fault::Memory)?;
     write_logs(alloc, outcome.harts.as_slice(), out)?;
     out.flush().map_err(|_| Fault::Output)?;
     ended(&outcome)

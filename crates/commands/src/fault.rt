@@ -3,16 +3,17 @@
 ghost use Rattle.std.specs.Prelude.{◌≡◌, ◌≢◌, ◌++◌, codes, IfOk, Some};
 ghost use Rattle.commands.specs.FaultText.{fault_text, place_text, reason_text};
 ghost use Rattle.commands.specs.declared.fault.Fault.TheVariants as fault;
-ghost use Rattle.commands.specs.Faults.{capture_fault, file_fault, log_fault, schedule_fault, status_of};
-ghost use Rattle.commands.specs.Faults.{unsent_fault, write_fault};
+ghost use Rattle.commands.specs.Faults.{capture_fault, file_fault, log_fault, lossy_fault, reading_fault};
+ghost use Rattle.commands.specs.Faults.{schedule_fault, status_of, unsent_fault, write_fault};
 
 use crate::files::FileFault;
 use crate::status::Status;
 use arrayvec::ArrayString;
 use bench::Setup;
-use captures::CaptureFault;
+use captures::{CaptureFault, ReadFault};
 use decoder::DecodeFault;
 use legalpath::PathFault;
+use losses::LossyFault;
 use message::MessageFault;
 use retire::{LogFault, WriteFault};
 use rvclass::ProgramFault;
@@ -87,6 +88,35 @@ impl<'a> Fault<'a> {
             CaptureFault::Message(MessageFault::BadHeader) => Fault::Header,
             CaptureFault::Decode(DecodeFault::Memory) => Fault::Memory,
             _ => Fault::Message(number, why),
+        }
+    }
+
+    /// Why a capture is not read whole.
+    pub(crate) fn of_reading(why: ReadFault) -> Fault<'a>
+        ensures value { result ≡ reading_fault why }
+        ensures never_refused { status_of result ≢ Status.Refused }
+    {
+        match why {
+            ReadFault::Message(number, why) => {
+                Fault::of_capture(number, CaptureFault::Message(why))
+            }
+            ReadFault::Memory => Fault::Memory,
+        }
+    }
+
+    /// Why nothing is collected of messages some of which may be missing.
+    pub(crate) fn of_losses(why: LossyFault) -> Fault<'a>
+        ensures value { result ≡ lossy_fault why }
+        ensures never_refused { status_of result ≢ Status.Refused }
+    {
+        match why {
+            LossyFault::Demux(place, why) => {
+                Fault::Message(place as u64, CaptureFault::Demux(why))
+            }
+            LossyFault::Decode(place, why) => {
+                Fault::of_capture(place as u64, CaptureFault::Decode(why))
+            }
+            LossyFault::Memory => Fault::Memory,
         }
     }
 

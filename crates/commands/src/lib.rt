@@ -13,6 +13,7 @@ mod encoding;
 mod fault;
 mod files;
 mod inputs;
+mod lossy_decoding;
 mod replaying;
 mod reporting;
 mod status;

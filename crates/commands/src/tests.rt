@@ -4,6 +4,7 @@ mod checks;
 mod devices;
 mod dumps;
 mod logs;
+mod lost;
 mod refusals;
 mod runs;
 mod table;

@@ -8,3 +8,4 @@ pub mod Collected
 pub mod Apart
 pub mod Taken
 pub mod steps
+pub mod Collects

@@ -40,13 +40,15 @@ pub struct Dump<'a> {
     pub capture: &'a str,
 }
 
-/// `decode --base B [--harts N] IMAGE CAPTURE`: the logs that the messages of a capture describe.
+/// `decode --base B [--harts N] [--lossy] IMAGE CAPTURE`: the logs that the messages of a capture describe.
 #[derive(Debug, PartialEq, Eq, Drop)]
 pub struct Decode<'a> {
     /// The address of the image's first byte, not yet read as a number.
     pub base: &'a str,
     /// How many harts a capture with no header may have messages of, 1 to 1024.
     pub harts: u16,
+    /// Whether messages may be missing from the capture.
+    pub lossy: bool,
     /// The path of the image.
     pub image: &'a str,
     /// The path of the capture.

@@ -110,7 +110,7 @@ fn first_message_tells_full_addresses(rt: HostRuntime) -> Result<(), Fail> {
 }
 
 /// How many of the messages of the worked capture end at this length or before.
-fn whole_messages(length: usize) -> usize {
+pub(super) fn whole_messages(length: usize) -> usize {
     PLACES[1..].iter().filter(|end| **end <= length).count()
 }
 

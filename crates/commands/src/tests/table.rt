@@ -74,6 +74,8 @@ pub(super) enum Request<'a> {
     Dump(&'a str),
     /// `decode`.
     Decode(&'a str, u16, &'a str, &'a str),
+    /// `decode --lossy`.
+    Lossy(&'a str, u16, &'a str, &'a str),
     /// `replay` at a period of 1024 and a capacity of 16, with the schedule before the logs.
     Replay(&'a str, &'a str, &'a str, &'a str),
     /// `bench` at a period of 1024 and this capacity.
@@ -144,6 +146,14 @@ fn asked_of<'a>(alloc: Global, request: Request<'a>) -> Result<Asked<'a>, AllocE
         Request::Decode(base, harts, image, capture) => Ok(Asked::Decode(Decode {
             base,
             harts: harts.clamp(1, 1024),
+            lossy: false,
+            image,
+            capture,
+        })),
+        Request::Lossy(base, harts, image, capture) => Ok(Asked::Decode(Decode {
+            base,
+            harts: harts.clamp(1, 1024),
+            lossy: true,
             image,
             capture,
         })),

@@ -1,5 +1,5 @@
 -- One message more is told: by a lemma on captures, which no tactic finds.
-use Rattle.std.proofs.Common.{◌≡◌, ◌<◌, ◌++◌, arith, length, subst, IfSome}
+use Rattle.std.proofs.Common.{◌≡◌, ◌<◌, ◌++◌, length, subst, IfSome}
 use Rattle.message.specs.Capture.{message_bytes}
 use Rattle.message.specs.Cut.{IsMessage}
 use Rattle.message.specs.declared.message.Message.{Message}

@@ -1,10 +1,9 @@
 -- A capture is what stands before the messages and their bytes joined: the definitions are related by lemmas.
-use Rattle.std.proofs.Common.{◌≡◌, ◌≤◌, ℕ, List, Option, length, refl, sym, ap, subst, arith}
+use Rattle.std.proofs.Common.{◌≡◌, ◌≤◌, ℕ, List, Option, refl, sym, ap, subst, arith}
 use Rattle.std.proofs.lemmas.Result.{on_ok_weaker}
 use Rattle.std.specs.List.{flat_map}
 use Rattle.std.specs.Io.KnownBytes.{Appends}
 use Rattle.std.proofs.KnownBytes.{Appends-trans}
-use Rattle.payload.specs.declared.mode.Mode.{Mode}
 use Rattle.message.specs.Capture.{capture, message_bytes}
 use Rattle.message.specs.Header.{header_bytes}
 use Rattle.message.specs.declared.header.Header.{Header}

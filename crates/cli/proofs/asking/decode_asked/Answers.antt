@@ -10,6 +10,7 @@ returns c =
       refl,
       c.text.ensures ∙ ap none_or (first_value-rows given (codes "base")),
       c.harts.ensures,
+      c.flag.ensures,
       c.text-2.ensures ∙ ap none_or (first_value-rows given (codes "IMAGE")),
       c.text-3.ensures ∙ ap none_or (first_value-rows given (codes "CAPTURE")),
     )

@@ -9,6 +9,7 @@ pub returns : goal.returns
 returns c =
     let bare : HasGrammar (new_app (codes "decode")) c.about.result =
     (ap app_of_fields c.about.ensures ∙ c.new.ensures.app, ap (λ f. f.has_globals) c.about.ensures ∙ c.new.ensures.local) in
-    adds_rule _ _ _ _ _ (adds_rule _ _ _ _ _ (adds_rule _ _ _ _ _ (adds_rule _ _ _ _ _ bare
+    adds_rule _ _ _ _ _ (adds_rule _ _ _ _ _ (adds_rule _ _ _ _ _ (adds_rule _ _ _ _ _ (adds_rule _ _ _ _ _ bare
     c.base.ensures c.in_ok-arg.ensures) c.harts.ensures c.in_ok-arg-2.ensures)
-    c.image.ensures c.in_ok-arg-3.ensures) c.capture.ensures c.in_ok-command.ensures
+    c.lossy.ensures c.in_ok-arg-3.ensures) c.image.ensures c.in_ok-arg-4.ensures)
+    c.capture.ensures c.in_ok-command.ensures

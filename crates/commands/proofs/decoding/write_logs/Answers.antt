@@ -1,6 +1,5 @@
 -- The prover does not part a text at the hart whose log is not written: the lemma on it is handed to it.
-use Rattle.std.proofs.Common.{◌++◌, subst, codes, Vec, Global, arith}
-use Rattle.std.specs.Fmt.{decimal}
+use Rattle.std.proofs.Common.{subst, Vec, Global, arith}
 use Rattle.std.specs.Io.KnownBytes.{Appends}
 use Rattle.receiver.specs.Received.{events_in}
 use Rattle.retire.specs.declared.event.Event.{Event}
@@ -9,6 +8,7 @@ use Rattle.std.proofs.lemmas.Grind.{common_steps}
 use Rattle.std.proofs.lemmas.List.{take_all}
 use Rattle.output.specs.Begun.{AppendsBeginning}
 use Rattle.commands.specs.Decoded.{harts_text}
+use Rattle.commands.specs.EachHart.{hart_line}
 use Rattle.output.proofs.Beginnings.{begun_behind, begun_in_front, whole_begun}
 use Rattle.commands.proofs.HartTexts.{hart_begun, hart_written}
 use Rattle.commands.proofs.decoding.write_logs.Goals as goal
@@ -18,9 +18,10 @@ loop-hart-preserved g c =
     let contents = g.O.Write.contents in
     let list = c.index-logs-hart.result in
     let log = subst (λ events. Appends (contents c.write_text.new.out) (contents c.write_log.new.sink) (log_text events)) c.as_slice.ensures.value c.in_ok-write_log.ensures.written in
-    hart_written (λ (list : Vec Event Global). list.items) c.args.logs.now c.loop-hart.hart-counter list
-    (contents c.args.out.now) (contents c.loop-hart.out) (contents c.write_text.new.out) (contents c.write_log.new.sink)
-    c.loop-hart-test.true c.index-logs-hart.is c.loop-hart.invariant (grind (arith, common_steps)) log
+    hart_written log_text (λ (list : Vec Event Global). list.items) c.args.logs.now c.loop-hart.hart-counter list
+    c.loop-hart-test.true c.index-logs-hart.is (contents c.args.out.now) (contents c.loop-hart.out)
+    (contents c.write_text.new.out) (contents c.write_log.new.sink) c.loop-hart.invariant
+    (grind (arith, common_steps)) log
 
 pub returns-clause-text : goal.returns-clause-text
 returns-clause-text g c =
@@ -34,9 +35,9 @@ returns-in_err-map_err-clause-begun g c =
     let i = c.loop-hart.hart-counter in
     let mid = contents c.loop-hart.out in
     let new = contents c.write_text.new.out in
-    hart_begun (λ (list : Vec Event Global). list.items) c.args.logs.now i list (contents c.args.out.now) mid new
-    c.loop-hart-test.true c.index-logs-hart.is c.loop-hart.invariant
-    (begun_in_front (codes "hart " ++ (decimal i ++ codes "\n")) (log_text list.items) mid new c.write_text.ensures.begun)
+    hart_begun log_text (λ (list : Vec Event Global). list.items) c.args.logs.now i list c.loop-hart-test.true
+    c.index-logs-hart.is (contents c.args.out.now) mid new c.loop-hart.invariant
+    (begun_in_front (hart_line i) (log_text list.items) mid new c.write_text.ensures.begun)
 
 pub returns-in_err-write_log-clause-begun : goal.returns-in_err-write_log-clause-begun
 returns-in_err-write_log-clause-begun g c =
@@ -46,10 +47,10 @@ returns-in_err-write_log-clause-begun g c =
     let mid = contents c.loop-hart.out in
     let line = contents c.write_text.new.out in
     let new = contents c.write_log.new.sink in
-    let head : Appends mid line (codes "hart " ++ (decimal i ++ codes "\n")) = grind (arith, common_steps) in
-    hart_begun (λ (list : Vec Event Global). list.items) c.args.logs.now i list (contents c.args.out.now) mid new
-    c.loop-hart-test.true c.index-logs-hart.is c.loop-hart.invariant
-    (begun_behind (codes "hart " ++ (decimal i ++ codes "\n")) (log_text list.items) mid line new head
+    let head : Appends mid line (hart_line i) = grind (arith, common_steps) in
+    hart_begun log_text (λ (list : Vec Event Global). list.items) c.args.logs.now i list c.loop-hart-test.true
+    c.index-logs-hart.is (contents c.args.out.now) mid new c.loop-hart.invariant
+    (begun_behind (hart_line i) (log_text list.items) mid line new head
     (subst (λ events. AppendsBeginning (log_text events) line new) c.as_slice.ensures.value c.write_log.ensures.begun))
 
 pub returns-clause-begun : goal.returns-clause-begun

@@ -1,0 +1,152 @@
+-- Captures that are read whole, and those that are not.
+use Rattle.std.proofs.Common.{◌≡◌, ◌⊎◌, ℕ, All, List, [], ◌∷◌, ◌++◌, Option, Some, None, length}
+use Rattle.std.proofs.Common.{refl, sym, ap, subst, ◌∙◌, append-nil, inl, inr}
+use Rattle.std.specs.Prelude.{IfSome}
+use Rattle.std.proofs.lemmas.List.{append_cancel_left}
+use Rattle.std.proofs.lemmas.List.Elements.{All-nil, All-push}
+use Rattle.message.proofs.StartsRead.{header_only}
+use Rattle.message.specs.Capture.{capture, message_bytes}
+use Rattle.message.specs.Cut.{IsMessage, IsCut, HasBadLength}
+use Rattle.message.specs.Header.{IsHeader, IsMarked, header_bytes, setting_bytes}
+use Rattle.message.specs.declared.fault.MessageFault.{MessageFault}
+use Rattle.message.specs.declared.fault.MessageFault.TheVariants as message
+use Rattle.message.specs.declared.header.Header.{Header}
+use Rattle.message.specs.declared.message.Message.{Message}
+use Rattle.captures.proofs.CapturesSplit.{capture_split, capture_none, capture_not_cut, capture_not_bad}
+use Rattle.captures.proofs.Elements.{All-behind}
+use Rattle.captures.proofs.HeaderFaults.{has_header, marked_by}
+use Rattle.captures.proofs.Reaching.{capture_next}
+use Rattle.captures.specs.NoMessage.{BeginsNone, BeginsNoHeader}
+use Rattle.captures.specs.Whole.{AtHeader, AtMessage, BeginsWith, IsReadFault, IsWhole}
+use Rattle.captures.specs.steps.Reading.{AreCutOff, AreRead, IsNotRead}
+use Rattle.captures.specs.declared.capture_reading.ReadFault.{ReadFault}
+use Rattle.captures.specs.declared.capture_reading.ReadFault.TheVariants as fault
+
+-- These messages were read of the bytes, and these are left.
+pub record HasRead (bytes left : List ℕ) (messages : List Message) : Type 0 where
+  pub ranges : All IsMessage messages
+  pub whole : bytes ≡ capture messages ++ left
+
+-- At first none was.
+pub read_none : (bytes : List ℕ) → HasRead bytes bytes []
+read_none bytes = record { ranges = All-nil IsMessage; whole = refl }
+
+-- And then one more.
+pub read_next : (bytes left next : List ℕ) (messages : List Message) (m : Message) → HasRead bytes left messages
+    → IsMessage m → left ≡ message_bytes m ++ next → HasRead bytes next (messages ++ m ∷ [])
+read_next bytes left next messages m has is begins = record {
+  ranges = All-push IsMessage messages m has.ranges is;
+  whole = has.whole ∙ ap (λ rest. capture messages ++ rest) begins ∙ sym (capture_next messages m next);
+}
+
+-- All of them were, where no bytes are left.
+pub read_all : (bytes left : List ℕ) (messages : List Message) → HasRead bytes left messages → left ≡ []
+    → AreRead bytes messages
+read_all bytes left messages has ended =
+    (has.ranges, has.whole ∙ ap (λ rest. capture messages ++ rest) ended ∙ append-nil (capture messages))
+
+-- No message stands before the bytes that are left.
+pub read_before : (bytes left : List ℕ) (messages : List Message) (count : ℕ) (why : MessageFault)
+    → HasRead bytes left messages → count ≡ length messages → (why ≡ message.Short) ⊎ (why ≡ message.BadLength)
+    → (why ≡ message.Short → IsCut left) → (why ≡ message.BadLength → HasBadLength left)
+    → AreCutOff bytes count why
+read_before bytes left messages count why has counted either cut bad = record {
+  messages = messages;
+  rest = left;
+  ranges = has.ranges;
+  whole = has.whole;
+  counted = counted;
+  stops = stops either;
+}
+  where
+    stops : (why ≡ message.Short) ⊎ (why ≡ message.BadLength) → BeginsNone left why
+    stops (inl short) = subst (BeginsNone left) (sym short) (cut short)
+    stops (inr long) = subst (BeginsNone left) (sym long) (bad long)
+
+-- What stands in front of the bytes that are left.
+pub begins_with : (bytes left : List ℕ) (header : Option Header)
+    → IfSome header (λ (h : Header). IsHeader h × (bytes ≡ header_bytes h ++ left)) → (header ≡ None → ¬ IsMarked bytes)
+    → (header ≡ None → left ≡ bytes) → BeginsWith header bytes left
+begins_with bytes left None found none stays = (none refl, sym (stays refl))
+begins_with bytes left (Some header) found none stays = found
+
+-- What is read behind a header, or without one, is the whole.
+pub whole_of : (bytes left : List ℕ) (header : Option Header) (messages : List Message)
+    → BeginsWith header bytes left → AreRead left messages → IsWhole bytes header messages
+whole_of bytes left None messages begins read =
+    record { ranges = read.0; whole = (begins.0, begins.1 ∙ read.1) }
+whole_of bytes left (Some header) messages begins read =
+    record { ranges = read.0; whole = (begins.0, begins.1 ∙ ap (λ rest. header_bytes header ++ rest) read.1) }
+
+-- And so is what stops behind it.
+pub stops_behind : (bytes left : List ℕ) (header : Option Header) (why : ReadFault)
+    → BeginsWith header bytes left → IsNotRead left why → IsReadFault bytes why
+stops_behind bytes left header fault.Memory begins none = tt
+stops_behind bytes left None (fault.Message number why) begins none = AtMessage (record {
+  header = None;
+  messages = none.messages;
+  rest = none.rest;
+  ranges = none.ranges;
+  whole = (begins.0, begins.1 ∙ none.whole);
+  counted = none.counted;
+  stops = none.stops;
+})
+stops_behind bytes left (Some header) (fault.Message number why) begins none = AtMessage (record {
+  header = Some header;
+  messages = none.messages;
+  rest = none.rest;
+  ranges = none.ranges;
+  whole = (begins.0, begins.1 ∙ ap (λ rest. header_bytes header ++ rest) none.whole);
+  counted = none.counted;
+  stops = none.stops;
+})
+
+-- Bytes begin with one header, or with none.
+same_start : (bytes xs ys : List ℕ) (h k : Option Header) → BeginsWith h bytes xs → BeginsWith k bytes ys
+    → (h ≡ k) × (xs ≡ ys)
+same_start bytes xs ys None None one other = (refl, sym one.1 ∙ other.1)
+same_start bytes xs ys None (Some k) one other = absurd (one.0 (setting_bytes k ++ ys, other.1))
+same_start bytes xs ys (Some h) None one other = absurd (other.0 (setting_bytes h ++ xs, one.1))
+same_start bytes xs ys (Some h) (Some k) one other =
+    let both : header_bytes h ++ xs ≡ header_bytes k ++ ys = sym one.1 ∙ other.1 in
+    let same = header_only h k xs ys one.0 other.0 both in (
+      ap (λ h. Some h) same,
+      append_cancel_left (header_bytes h) xs ys (both ∙ ap (λ (k : Header). header_bytes k ++ ys) (sym same)),
+    )
+
+-- A capture is of one header, or of none, and of one list of messages.
+pub whole_only : (bytes : List ℕ) (h k : Option Header) (some others : List Message)
+    → IsWhole bytes h some → IsWhole bytes k others → (h ≡ k) × (some ≡ others)
+whole_only bytes h k some others one other =
+    let start = same_start bytes (capture some) (capture others) h k one.whole other.whole in
+    let split = capture_split some others [] one.ranges other.ranges (start.1 ∙ sym (append-nil (capture others))) in
+    let none = capture_none split.later (sym split.bytes) in
+    (start.0, split.whole ∙ ap (λ l. others ++ l) none ∙ append-nil others)
+
+-- The capture of messages ends before no bytes that begin none.
+ends_well : (messages : List Message) (why : MessageFault) → All IsMessage messages → BeginsNone (capture messages) why
+    → ⊥
+ends_well messages message.Short good cut = capture_not_cut messages good cut
+ends_well messages message.BadLength good bad = capture_not_bad messages good bad
+ends_well messages message.Read good none = none
+ends_well messages message.Write good none = none
+ends_well messages message.BadHeader good none = none
+
+-- Nor does a capture begin with a bad header.
+starts_well : (bytes rest : List ℕ) (header : Option Header) (why : MessageFault) → BeginsWith header bytes rest
+    → BeginsNoHeader bytes why → ⊥
+starts_well bytes rest None why begins none = begins.0 (marked_by bytes why none)
+starts_well bytes rest (Some header) why begins none = has_header header rest bytes why begins.0 begins.1 none
+
+-- A capture is whole or it is not.
+pub never_both : (bytes : List ℕ) (header : Option Header) (messages : List Message) (why : ReadFault)
+    → IsWhole bytes header messages → IsReadFault bytes why → why ≡ fault.Memory
+never_both bytes header messages fault.Memory is stops = refl
+never_both bytes header messages (fault.Message number why) is (AtHeader at) =
+    absurd (starts_well bytes (capture messages) header why is.whole at.none)
+never_both bytes header messages (fault.Message number why) is (AtMessage at) =
+    let start =
+    same_start bytes (capture messages) (capture at.messages ++ at.rest) header at.header is.whole at.whole in
+    let split = capture_split messages at.messages at.rest is.ranges at.ranges start.1 in
+    let later = All-behind IsMessage at.messages split.later (subst (All IsMessage) split.whole is.ranges) in
+    absurd (ends_well split.later why later (subst (λ rest. BeginsNone rest why) split.bytes at.stops))

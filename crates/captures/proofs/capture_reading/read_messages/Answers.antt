@@ -1,0 +1,48 @@
+-- What was read behind a header or without one: by laws on captures, which no tactic finds.
+use Rattle.std.proofs.Common.{Ok, Err, refl, ap, subst}
+use Rattle.message.specs.Header.{HasBadHeader, IsCutHeader}
+use Rattle.captures.proofs.HeaderFaults.{no_header}
+use Rattle.captures.proofs.WholeCaptures.{begins_with, never_both, stops_behind, whole_of, whole_only}
+use Rattle.captures.proofs.capture_reading.read_messages.Goals.{After-all_messages}
+use Rattle.captures.proofs.capture_reading.read_messages.Goals as goal
+use Rattle.captures.specs.Whole.{AtHeader, BeginsWith}
+use Rattle.captures.specs.declared.capture_reading.ReadFault.TheVariants as fault
+
+-- What stands in front of the messages.
+begins : (g : _) (c : After-all_messages g) → BeginsWith c.in-Ok.header c.args.bytes.now c.header.new.self
+begins g c =
+    let told = c.in-Ok.ensures in
+    subst (λ bytes. BeginsWith c.in-Ok.header bytes c.header.new.self) c.new-left.ensures
+    (begins_with c.new-left.result c.header.new.self c.in-Ok.header told.header
+    (λ is. told.none.0 (ap (λ h. Ok h) is)) (λ is. told.stays (ap (λ h. Ok h) is)))
+
+pub returns-in-Err-clause-memory : goal.returns-in-Err-clause-memory
+returns-in-Err-clause-memory g c = λ header messages whole.
+    let bytes = c.new-left.ensures in
+    let told = c.in-Err.ensures in
+    let none =
+    no_header c.args.bytes.now c.in-Err.fault told.fault
+    (λ is. subst IsCutHeader bytes (told.short.0 (ap (λ f. Err f) is)))
+    (λ is. subst HasBadHeader bytes (told.bad_header.0 (ap (λ f. Err f) is))) in
+    never_both c.args.bytes.now header messages (fault.Message 0 c.in-Err.fault) whole
+    (AtHeader (record { first = refl; none = none }))
+
+pub returns-in-Ok-all_messages-clause-reads_back : goal.returns-in-Ok-all_messages-clause-reads_back
+returns-in-Ok-all_messages-clause-reads_back g c = λ header messages whole.
+    whole_only c.args.bytes.now c.in-Ok.header header c.in-Ok-all_messages.messages.items messages
+    (whole_of c.args.bytes.now c.header.new.self c.in-Ok.header c.in-Ok-all_messages.messages.items
+    (begins g (goal.at.returns-in-Ok-all_messages-clause-reads_back g c).After-all_messages)
+    c.in-Ok-all_messages.ensures.read) whole
+
+pub returns-in-Err-all_messages-clause-fault : goal.returns-in-Err-all_messages-clause-fault
+returns-in-Err-all_messages-clause-fault g c =
+    stops_behind c.args.bytes.now c.header.new.self c.in-Ok.header c.in-Err-all_messages.fault
+    (begins g (goal.at.returns-in-Err-all_messages-clause-fault g c).After-all_messages)
+    c.in-Err-all_messages.ensures.fault
+
+pub returns-in-Err-all_messages-clause-memory : goal.returns-in-Err-all_messages-clause-memory
+returns-in-Err-all_messages-clause-memory g c = λ header messages whole.
+    never_both c.args.bytes.now header messages c.in-Err-all_messages.fault whole
+    (stops_behind c.args.bytes.now c.header.new.self c.in-Ok.header c.in-Err-all_messages.fault
+    (begins g (goal.at.returns-in-Err-all_messages-clause-memory g c).After-all_messages)
+    c.in-Err-all_messages.ensures.fault)

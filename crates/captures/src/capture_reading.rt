@@ -1,0 +1,79 @@
+//! From the bytes of a capture to all of its messages.
+
+ghost use Rattle.std.specs.Prelude.{◌≡◌, IfErr, IfOk, List, Option};
+ghost use Rattle.message.specs.declared.header.Header.{Header as AnyHeader};
+ghost use Rattle.message.specs.declared.message.Message.{Message as AnyMessage};
+ghost use Rattle.captures.specs.Whole.{IsReadFault, IsWhole};
+ghost use Rattle.captures.specs.steps.Reading.{AreRead, IsNotRead};
+
+use message::{Header, Message, MessageFault, Messages};
+use std::alloc::{Allocator, Global};
+use thiserror::Error;
+
+/// All that a capture holds.
+#[derive(Debug, Drop)]
+pub struct WholeCapture<A: Allocator = Global> {
+    /// What is told of all messages. A capture of version 1 has none.
+    pub header: Option<Header>,
+    /// The messages of all harts, in the order of the capture. None is judged.
+    pub messages: Vec<Message, A>,
+}
+
+/// Why a capture is not read whole.
+#[derive(Clone, Copy, Debug, PartialEq, Eq, Error)]
+pub enum ReadFault {
+    /// Behind so many messages no whole message stands; behind none of them also where the header is cut short or bad.
+    #[error("{1}")]
+    Message(u64, MessageFault),
+    /// Memory was refused.
+    #[error("out of memory")]
+    Memory,
+}
+
+/// Reads all messages of a capture, of either version, and the header where it has one.
+///
+/// No message is judged: a hart may be unknown, a number wrong, a payload no packet. The first place where no message
+/// stands is a fault of the whole; nothing of what was read before is left then. The time and the memory that are taken
+/// grow with the capture.
+pub fn read_messages<A: Allocator>(alloc: A, bytes: &[u8]) -> Result<WholeCapture<A>, ReadFault>
+    ensures read { IfOk result (λ whole. IsWhole bytes.now whole.header whole.messages.items) }
+    ensures fault { IfErr result (IsReadFault bytes.now) }
+
+    // A capture of messages is read whole, unless memory was refused.
+    ensures reads_back { (header : Option AnyHeader) (messages : List AnyMessage) → IsWhole bytes.now header messages
+        → IfOk result (λ whole. (whole.header ≡ header) × (whole.messages.items ≡ messages)) }
+    ensures memory { (header : Option AnyHeader) (messages : List AnyMessage) → IsWhole bytes.now header messages
+        → IfErr result (λ fault. fault ≡ ReadFault.Memory) }
+{
+    let mut left = Messages::new(bytes);
+    let header = match left.header() {
+        Ok(header) => header,
+        Err(fault) => return Err(ReadFault::Message(0, fault)),
+    };
+    match all_messages(alloc, left) {
+        Ok(messages) => Ok(WholeCapture { header, messages }),
+        Err(fault) => Err(fault),
+    }
+}
+
+/// All messages of these bytes.
+fn all_messages<A: Allocator>(
+    alloc: A,
+    mut left: Messages<'_>,
+) -> Result<Vec<Message, A>, ReadFault>
+    ensures read { IfOk result (λ messages. AreRead left.entry messages.items) }
+    ensures fault { IfErr result (IsNotRead left.entry) }
+{
+    let mut messages = Vec::new(alloc);
+    loop {
+        match left.next() {
+            Ok(Some(message)) => {
+                if messages.push(message).is_err() {
+                    return Err(ReadFault::Memory);
+                }
+            }
+            Ok(None) => return Ok(messages),
+            Err(fault) => return Err(ReadFault::Message(messages.len() as u64, fault)),
+        }
+    }
+}
