@@ -355,7 +355,8 @@ impl Decoder {
 impl Default for Decoder {
     /// A decoder before the first packet.
     fn default() -> Decoder
-        ensures { (words : Words) → Stands words [] [] result }
+        ensures stands { (words : Words) → Stands words [] [] result }
+        ensures untold { HasMode None result }
     {
         Decoder::new()
     }

@@ -10,6 +10,10 @@ pub mod InTurn
 pub mod Ending
 pub mod Collected
 pub mod StretchesApart
+pub mod RisingBlocks
+pub mod StretchStarts
+pub mod StretchesHeld
+pub mod HartsHeld
 pub mod RunLemmas
 pub mod RunFeeding
 pub mod RunSteps

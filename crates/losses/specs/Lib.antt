@@ -6,6 +6,8 @@ pub mod Runs
 pub mod Told
 pub mod Collected
 pub mod Apart
+pub mod Held
+pub mod FaultText
 pub mod Taken
 pub mod steps
 pub mod Collects

@@ -1,19 +1,34 @@
 //! Why messages are not collected.
 
+ghost use Rattle.std.specs.Prelude.{Some};
+ghost use Rattle.losses.specs.FaultText.{lossy_fault_text};
+
 use decoder::DecodeFault;
 use message::DemuxFault;
-use thiserror::Error;
+use std::error::Error;
+use std::fmt;
 
 /// Why messages are not collected. Nothing of what was collected before is left then.
-#[derive(Clone, Copy, Debug, PartialEq, Eq, Error)]
+#[derive(Clone, Copy, Debug, PartialEq, Eq)]
 pub enum LossyFault {
     /// The demultiplexer refuses the message at this place, counted from 0.
-    #[error("{1}")]
     Demux(usize, DemuxFault),
     /// The packet of the message at this place, counted from 0, is not decoded. It is never for want of memory.
-    #[error("{1}")]
     Decode(usize, DecodeFault),
     /// Memory was refused.
-    #[error("out of memory")]
     Memory,
 }
+
+impl fmt::Display for LossyFault {
+    ghost output = { λ fault. Some (lossy_fault_text fault) };
+
+    fn fmt<W: fmt::Write>(&self, f: &mut fmt::Formatter<W>) -> fmt::Result {
+        match *self {
+            LossyFault::Demux(_, why) => write!(f, "{why}"),
+            LossyFault::Decode(_, why) => write!(f, "{why}"),
+            LossyFault::Memory => f.write_str("out of memory"),
+        }
+    }
+}
+
+impl Error for LossyFault {}

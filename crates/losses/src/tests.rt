@@ -1,5 +1,7 @@
 //! Messages of which some are lost.
 
+mod losing;
+
 use crate::{HartPieces, LossyFault, Part, collect_lossy};
 use decoder::DecodeFault;
 use linked_list_allocator::LocalHeap;
@@ -47,11 +49,11 @@ fn payload_of(number: u64) -> &'static [u8] {
     }
 }
 
-/// The payload with this number in full addresses.
-fn full_payload_of(number: u64) -> &'static [u8] {
-    match number {
-        0 => &[0x1f, 0x01],
-        2 => &[0x0a, 0, 0, 0, 1],
+/// The payload with this number, with addresses told in this mode.
+fn payload_in(mode: Mode, number: u64) -> &'static [u8] {
+    match (mode, number) {
+        (Mode::Full, 0) => &[0x1f, 0x01],
+        (Mode::Full, 2) => &[0x0a, 0, 0, 0, 1],
         _ => payload_of(number),
     }
 }
@@ -73,164 +75,169 @@ fn message(number: u64) -> Result<Message, PackFault> {
     message_of(0, number, payload_of(number))
 }
 
-/// A part that is wanted: a gap, or these of the three retirements.
+/// A part that is wanted: a gap, or the events of a log from a position on up to another.
 #[derive(Clone, Copy)]
 enum Wanted {
     Gap(u64),
-    All,
-    First,
-    Last,
+    Events(usize, usize),
 }
 
-/// Whether a part is the one that is wanted.
-fn is_wanted<A: Allocator>(part: &Part<A>, wanted: Wanted) -> bool {
+/// Whether a part is the one that is wanted of a log.
+fn is_wanted<A: Allocator>(log: &[Event], part: &Part<A>, wanted: Wanted) -> bool {
     match (part, wanted) {
         (Part::Gap(missing), Wanted::Gap(count)) => *missing == count,
-        (Part::Stretch(events), Wanted::All) => events.as_slice() == ALL.as_slice(),
-        (Part::Stretch(events), Wanted::First) => events.as_slice() == [ALL[0]].as_slice(),
-        (Part::Stretch(events), Wanted::Last) => events.as_slice() == [ALL[2]].as_slice(),
+        (Part::Stretch(events), Wanted::Events(from, to)) => match log.get(from..to) {
+            Some(of_log) => events.as_slice() == of_log,
+            None => false,
+        },
         _ => false,
     }
 }
 
-/// Whether these are the parts that are wanted.
-fn are_wanted<A: Allocator>(pieces: &HartPieces<A>, wanted: &[Wanted]) -> bool {
+/// Whether these are the parts that are wanted of a log.
+fn are_wanted<A: Allocator>(log: &[Event], pieces: &HartPieces<A>, wanted: &[Wanted]) -> bool {
     if pieces.parts.len() != wanted.len() {
         return false;
     }
     for (part, one) in pieces.parts.iter().zip(wanted.iter()) {
-        if !is_wanted(part, *one) {
+        if !is_wanted(log, part, *one) {
             return false;
         }
     }
     true
 }
 
-/// What is left where some of the five messages are lost.
+/// What is left where some of the five messages of hart 0 are lost, and none of hart 1, with which they are mixed. Full
+/// addresses are read where the packet that opens the trace tells so, whatever mode is handed in, and where the mode
+/// that is handed in does and this packet is lost.
 #[test]
 fn losses_by_table(rt: HostRuntime) -> Result<(), Fail> {
-    let table: [(&[u64], &[Wanted], bool); 8] = [
-        (&[0, 1, 2, 3, 4], &[Wanted::All], true),
-        (&[1, 2, 3, 4], &[Wanted::Gap(1), Wanted::All], true),
-        (&[0, 2, 3, 4], &[Wanted::Gap(1), Wanted::Last], true),
+    let differential = (Mode::Differential, Mode::Differential);
+    let table: [((Mode, Mode), &[u64], &[Wanted], bool); 11] = [
         (
-            &[0, 1, 3, 4],
-            &[Wanted::First, Wanted::Gap(1), Wanted::Last],
+            differential,
+            &[0, 1, 2, 3, 4],
+            &[Wanted::Events(0, 3)],
             true,
         ),
-        (&[0, 1, 2, 4], &[Wanted::First, Wanted::Gap(1)], true),
-        (&[0, 1, 2, 3], &[Wanted::All], false),
-        (&[0, 4], &[Wanted::Gap(3)], true),
-        (&[2, 4], &[Wanted::Gap(2), Wanted::Gap(1)], true),
+        (
+            differential,
+            &[1, 2, 3, 4],
+            &[Wanted::Gap(1), Wanted::Events(0, 3)],
+            true,
+        ),
+        (
+            differential,
+            &[0, 2, 3, 4],
+            &[Wanted::Gap(1), Wanted::Events(2, 3)],
+            true,
+        ),
+        (
+            differential,
+            &[0, 1, 3, 4],
+            &[Wanted::Events(0, 1), Wanted::Gap(1), Wanted::Events(2, 3)],
+            true,
+        ),
+        (
+            differential,
+            &[0, 1, 2, 4],
+            &[Wanted::Events(0, 1), Wanted::Gap(1)],
+            true,
+        ),
+        (differential, &[0, 1, 2, 3], &[Wanted::Events(0, 3)], false),
+        (differential, &[0, 4], &[Wanted::Gap(3)], true),
+        (
+            differential,
+            &[2, 4],
+            &[Wanted::Gap(2), Wanted::Gap(1)],
+            true,
+        ),
+        (
+            (Mode::Full, Mode::Full),
+            &[0, 1, 2, 3, 4],
+            &[Wanted::Events(0, 3)],
+            true,
+        ),
+        (
+            (Mode::Differential, Mode::Full),
+            &[0, 1, 2, 3, 4],
+            &[Wanted::Events(0, 3)],
+            true,
+        ),
+        (
+            (Mode::Full, Mode::Full),
+            &[1, 2, 3, 4],
+            &[Wanted::Gap(1), Wanted::Events(0, 3)],
+            true,
+        ),
     ];
     let program = Program::new(BASE, Vec::from_slice(rt.alloc(), &NOPS)?)?;
-    for (row, (numbers, wanted, closed)) in table.into_iter().enumerate() {
+    for (row, ((handed, told), numbers, wanted, closed)) in table.into_iter().enumerate() {
         let mut messages = Vec::new(rt.alloc());
-        for number in numbers {
-            messages.push(message(*number)?)?;
+        for number in 0..5 {
+            if numbers.contains(&number) {
+                messages.push(message_of(0, number, payload_in(told, number))?)?;
+            }
+            messages.push(message_of(1, number, payload_in(told, number))?)?;
         }
-        let harts = collect_lossy(rt.alloc(), &program, 1, Mode::Differential, &messages)?;
-        assert_eq!(rt; harts.len(), 1, "row {row}");
-        for pieces in harts.iter() {
-            assert!(rt; are_wanted(pieces, wanted), "row {row}");
+        let harts = collect_lossy(rt.alloc(), &program, 2, handed, &messages)?;
+        let all: [(&[Wanted], bool); 2] = [(wanted, closed), (&[Wanted::Events(0, 3)], true)];
+        assert_eq!(rt; harts.len(), 2, "row {row}");
+        for (pieces, (wanted, closed)) in harts.iter().zip(all) {
+            assert!(rt; are_wanted(&ALL, pieces, wanted), "row {row}");
             assert_eq!(rt; pieces.closed, closed, "row {row}");
         }
     }
     Ok(())
 }
 
-/// A number that comes twice is a repeat, at its place; one of 2^63 is a gap; and a hart may not be known.
-#[test]
-fn refusals_by_table(rt: HostRuntime) -> Result<(), Fail> {
-    let table: [([u64; 3], u16, LossyFault); 3] = [
-        ([0, 1, 1], 1, LossyFault::Demux(2, DemuxFault::Repeat)),
-        (
-            [0, 1, 1 << 63],
-            1,
-            LossyFault::Demux(2, DemuxFault::Gap { expected: 2 }),
-        ),
-        ([0, 1, 2], 0, LossyFault::Demux(0, DemuxFault::Stranger)),
-    ];
-    let program = Program::new(BASE, Vec::from_slice(rt.alloc(), &NOPS)?)?;
-    for (row, ([first, second, third], harts, fault)) in table.into_iter().enumerate() {
-        let messages = [message(first)?, message(second)?, message(third)?];
-        let answer = collect_lossy(rt.alloc(), &program, harts, Mode::Differential, &messages);
-        assert_eq!(rt; answer.err(), Some(fault), "row {row}");
-    }
-    Ok(())
-}
-
-/// Full addresses are read where the packet that opens the trace tells so, whatever mode is handed in, and where the
-/// mode that is handed in does and this packet is lost.
-#[test]
-fn full_addresses(rt: HostRuntime) -> Result<(), Fail> {
-    let table: [(Mode, &[u64], &[Wanted]); 3] = [
-        (Mode::Full, &[0, 1, 2, 3, 4], &[Wanted::All]),
-        (Mode::Differential, &[0, 1, 2, 3, 4], &[Wanted::All]),
-        (Mode::Full, &[1, 2, 3, 4], &[Wanted::Gap(1), Wanted::All]),
-    ];
-    let program = Program::new(BASE, Vec::from_slice(rt.alloc(), &NOPS)?)?;
-    for (row, (mode, numbers, wanted)) in table.into_iter().enumerate() {
-        let mut messages = Vec::new(rt.alloc());
-        for number in numbers {
-            messages.push(message_of(0, *number, full_payload_of(*number))?)?;
-        }
-        let harts = collect_lossy(rt.alloc(), &program, 1, mode, &messages)?;
-        assert_eq!(rt; harts.len(), 1, "row {row}");
-        for pieces in harts.iter() {
-            assert!(rt; are_wanted(pieces, wanted), "row {row}");
-        }
-    }
-    Ok(())
-}
-
-/// The messages of two harts are mixed, and one hart loses its first synchronisation.
-#[test]
-fn two_harts(rt: HostRuntime) -> Result<(), Fail> {
-    let order: [(u16, u64); 9] = [
-        (0, 0),
-        (1, 0),
-        (0, 1),
-        (1, 2),
-        (0, 2),
-        (0, 3),
-        (1, 3),
-        (1, 4),
-        (0, 4),
-    ];
-    let program = Program::new(BASE, Vec::from_slice(rt.alloc(), &NOPS)?)?;
-    let mut messages = Vec::new(rt.alloc());
-    for (hart, number) in order {
-        messages.push(message_of(hart, number, payload_of(number))?)?;
-    }
-    let harts = collect_lossy(rt.alloc(), &program, 2, Mode::Differential, &messages)?;
-    assert_eq!(rt; harts.len(), 2);
-    let table: [&[Wanted]; 2] = [&[Wanted::All], &[Wanted::Gap(1), Wanted::Last]];
-    for (pieces, wanted) in harts.iter().zip(table.iter()) {
-        assert!(rt; are_wanted(pieces, wanted));
-        assert!(rt; pieces.closed);
-    }
-    Ok(())
-}
-
-/// A packet that is not decoded is told with the place of its message, behind those of other harts too.
+/// A message that is refused and a packet that is not decoded are told with their places, behind those of other harts
+/// too: a number that comes twice or is lower is a repeat; one of 2^63 is a gap, and one that would follow 2^63 - 1
+/// comes after the end; and a hart may not be known.
 #[test]
 fn faults_have_places(rt: HostRuntime) -> Result<(), Fail> {
-    let table: [([(u16, u64, &[u8]); 3], LossyFault); 4] = [
+    const OPEN: &[u8] = &[0x1f];
+    const ADDRESS: &[u8] = &[0x0a];
+    const LAST: u64 = (1 << 63) - 1;
+    let table: [([(u16, u64, &[u8]); 3], LossyFault); 9] = [
         (
-            [(0, 0, &[0x1f]), (0, 1, OFF_PROGRAM), (0, 2, &[0x0a])],
+            [(0, 0, OPEN), (0, 1, payload_of(1)), (0, 1, payload_of(1))],
+            LossyFault::Demux(2, DemuxFault::Repeat),
+        ),
+        (
+            [(0, 3, payload_of(3)), (1, 0, OPEN), (0, 1, payload_of(1))],
+            LossyFault::Demux(2, DemuxFault::Repeat),
+        ),
+        (
+            [(0, 0, OPEN), (0, 1, payload_of(1)), (0, 1 << 63, ADDRESS)],
+            LossyFault::Demux(2, DemuxFault::Gap { expected: 2 }),
+        ),
+        (
+            [
+                (0, 0, OPEN),
+                (0, LAST, payload_of(1)),
+                (0, 1 << 63, ADDRESS),
+            ],
+            LossyFault::Demux(2, DemuxFault::AfterClose),
+        ),
+        (
+            [(2, 0, OPEN), (0, 0, OPEN), (0, 1, OFF_PROGRAM)],
+            LossyFault::Demux(0, DemuxFault::Stranger),
+        ),
+        (
+            [(0, 0, OPEN), (0, 1, OFF_PROGRAM), (0, 2, ADDRESS)],
             LossyFault::Decode(1, DecodeFault::OffProgram),
         ),
         (
-            [(0, 0, &[0x1f]), (1, 0, &[0x1f]), (1, 1, OFF_PROGRAM)],
+            [(0, 0, OPEN), (1, 0, OPEN), (1, 1, OFF_PROGRAM)],
             LossyFault::Decode(2, DecodeFault::OffProgram),
         ),
         (
-            [(0, 0, &[0x1f]), (0, 2, &[0x0a]), (0, 3, OFF_PROGRAM)],
+            [(0, 0, OPEN), (0, 2, ADDRESS), (0, 3, OFF_PROGRAM)],
             LossyFault::Decode(2, DecodeFault::OffProgram),
         ),
         (
-            [(0, 0, &[0x1f]), (1, 0, &[0x0a]), (0, 1, OFF_PROGRAM)],
+            [(0, 0, OPEN), (1, 0, ADDRESS), (0, 1, OFF_PROGRAM)],
             LossyFault::Decode(1, DecodeFault::NotOpened),
         ),
     ];
