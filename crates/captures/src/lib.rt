@@ -13,8 +13,6 @@ mod form;
 mod lines;
 mod outcome;
 mod packet_text;
-#[cfg(test)]
-mod tests;
 
 pub use capture_decoding::decode_capture;
 pub use capture_reading::{ReadFault, WholeCapture, read_messages};

@@ -11,4 +11,3 @@ mod LegalLogs
 mod PartTexts
 mod Runs
 mod Schedules
-mod Tables

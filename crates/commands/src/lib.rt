@@ -18,8 +18,6 @@ mod replaying;
 mod reporting;
 mod status;
 mod telling;
-#[cfg(test)]
-mod tests;
 
 pub use benching::bench;
 pub use checking::check;

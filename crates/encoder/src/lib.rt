@@ -13,8 +13,6 @@ mod packet;
 mod passing;
 mod rule;
 mod source;
-#[cfg(test)]
-mod tests;
 
 pub use encoder::{Burst, Encoder};
 pub use laws::{logs_have_few_packets, packets_are_in_profile};

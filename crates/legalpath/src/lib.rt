@@ -9,8 +9,6 @@ mod judging;
 mod laws;
 mod legal_log;
 mod next;
-#[cfg(test)]
-mod tests;
 
 pub use checking::check;
 pub use fault::{PathFault, Why};

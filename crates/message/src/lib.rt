@@ -15,8 +15,6 @@ mod header;
 mod in_memory;
 mod message;
 mod reading;
-#[cfg(test)]
-mod tests;
 mod writing;
 
 pub use demux::Demux;

@@ -14,8 +14,6 @@ mod packet;
 mod packing;
 mod payload;
 mod spelling;
-#[cfg(test)]
-mod tests;
 mod unpacking;
 
 pub use fault::PackFault;

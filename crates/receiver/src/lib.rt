@@ -8,8 +8,6 @@
 
 mod fault;
 mod receiving;
-#[cfg(test)]
-mod tests;
 
 pub use fault::ReceiveFault;
 pub use receiving::Receiver;

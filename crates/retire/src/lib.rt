@@ -28,6 +28,3 @@ pub use laws::{plain_is_parted, read_is_in_range, written_is_plain, written_is_r
 pub use privilege::is_privilege;
 pub use read::read_log;
 pub use write::write_log;
-
-#[cfg(test)]
-mod tests;

@@ -8,8 +8,6 @@ mod class;
 mod fault;
 mod offset;
 mod program;
-#[cfg(test)]
-mod tests;
 mod word16;
 mod word32;
 

@@ -5,8 +5,6 @@
 
 mod fault;
 mod reading;
-#[cfg(test)]
-mod tests;
 mod word;
 
 pub use fault::ScheduleFault;

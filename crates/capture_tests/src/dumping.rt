@@ -1,0 +1,313 @@
+//! Captures as text: worked lines, bad payloads, captures that end inside a message or a header.
+
+use crate::encoding::{FailingWriter, holds};
+use crate::headers::{Beginning, HEADER, beginning_of};
+use crate::small_captures::{Start, capture_of};
+use captures::{Dumped, dump_capture};
+use message::MessageFault;
+use payload::Mode;
+use retire::WriteFault;
+use std::alloc::{AllocError, Global};
+use std::test::Fail;
+
+/// Payloads and the texts of their packets, where addresses are told as differences.
+const TEXTS: [(&[u8], &str); 28] = [
+    (b"\x1f", "open"),
+    (b"\x1f\x01", "open full"),
+    (b"\x4f", "close ended_rep"),
+    (b"\xcf\x00", "close ended_ntr"),
+    (
+        b"\x73\x00\x00\x00\x20",
+        "sync addr=80000000 priv=3 branch=1",
+    ),
+    (
+        b"\x63\x03\x00\x00\x20",
+        "sync addr=8000000c priv=3 branch=0",
+    ),
+    (
+        b"\xf7\x23\x02\x00\x00\x20",
+        "trap interrupt cause=7 epc=80000008 priv=3 branch=1",
+    ),
+    (
+        b"\x07\xe0",
+        "trap interrupt cause=0 handler=fffffffffffffffe priv=0 branch=0",
+    ),
+    (
+        b"\xf7\x45\x40\x00\x00\x20",
+        "trap exception cause=b tval=0 handler=80000100 priv=3 branch=1",
+    ),
+    (
+        b"\xf7\xdf",
+        "trap exception cause=3f tval=ffffffffffffffff handler=fffffffffffffffe priv=3 branch=1",
+    ),
+    (
+        b"\xa7\x1f\x01\x00\x00\x20\x00\x00\x00\xc0\xbb\x6f\xab\x37",
+        "trap exception cause=3f tval=deadbeef epc=80000004 priv=1 branch=0",
+    ),
+    (
+        b"\x0a\x00\x00\x00\x00\x00\x00\x00\xfc",
+        "address diff=4 map=- updiscon",
+    ),
+    (
+        b"\x02\x00\x00\x00\x00\x00\x00\x00\xfe",
+        "address diff=0 map=- notify",
+    ),
+    (b"\x85\x04", "address diff=8 map=1 plain"),
+    // Full addresses.
+    (b"\x0a\x00\x00\x00\x01", "address diff=80000004 map=- plain"),
+    (
+        b"\x02\x00\x00\x00\x01\x00\x00\x00\xfe",
+        "address diff=80000000 map=- notify",
+    ),
+    (b"\x85\x04\x00\x00\x40", "address diff=80000008 map=1 plain"),
+    (b"\x0d\xf9", "address diff=fffffffffffffffc map=010 plain"),
+    (b"\x01", "map 0000000000000000000000000000000"),
+    (b"\x81\x00", "map 1000000000000000000000000000000"),
+    (b"\x1f\x80", "bad BadPad"),
+    (b"\xcf", "bad Unsupported"),
+    (b"\x1f\x02", "bad Unsupported"),
+    (b"\x4f\x01", "bad Unsupported"),
+    (b"\x00", "bad Unsupported"),
+    (b"\x0b", "bad Unsupported"),
+    (b"\x53", "bad BadPrivilege"),
+    (b"\x02\x00\x00\x00\x00\x00\x00\x00\x02", "bad BadReport"),
+];
+
+/// The capture of a hart that runs four instructions at machine level, of which an interrupt takes the last's place.
+const WORKED: [u8; 78] = [
+    0, 0, 0, 0, 0, 0, 0, 0, 0, 0, 1, 0x1f, //
+    0, 0, 1, 0, 0, 0, 0, 0, 0, 0, 5, 0x73, 0, 0, 0, 0x20, //
+    0, 0, 2, 0, 0, 0, 0, 0, 0, 0, 9, 0x0a, 0, 0, 0, 0, 0, 0, 0, 0xfc, //
+    0, 0, 3, 0, 0, 0, 0, 0, 0, 0, 6, 0xf7, 0x23, 0x02, 0, 0, 0x20, //
+    0, 0, 4, 0, 0, 0, 0, 0, 0, 0, 2, 0xcf, 0,
+];
+
+const WORKED_TEXT: &str = "\
+    0 0 open\n\
+    0 1 sync addr=80000000 priv=3 branch=1\n\
+    0 2 address diff=4 map=- updiscon\n\
+    0 3 trap interrupt cause=7 epc=80000008 priv=3 branch=1\n\
+    0 4 close ended_ntr\n";
+
+/// The line of the header that all captures of version 2 here begin with where nothing else is said.
+const FIRST_LINE: &str = "capture 2 mode=diff period=1024 harts=1\n";
+
+/// Nothing bad, and messages to the end of the capture.
+const ALL_GOOD: Dumped = Dumped {
+    bad: false,
+    fault: None,
+};
+
+/// A payload that is no packet, and messages to the end of the capture.
+const ONE_BAD: Dumped = Dumped {
+    bad: true,
+    fault: None,
+};
+
+/// Whether these bytes are told by this text and this answer.
+fn dumps(alloc: Global, bytes: &[u8], text: &[u8], wanted: Dumped) -> Result<bool, Fail> {
+    let mut told = Vec::new(alloc);
+    let dumped = dump_capture(bytes, &mut told)?;
+    Ok(dumped == wanted && told.as_slice() == text)
+}
+
+/// The first line, and the line of a message whose packet has this text but for the name of an address packet's field.
+fn lines_of(alloc: Global, first: &str, field: &str, text: &str) -> Result<Vec<u8>, AllocError> {
+    let mut lines = first.as_bytes().to_vec(alloc)?;
+    lines.extend_from_slice(b"65535 18446744073709551615 ")?;
+    match text.strip_prefix("address diff") {
+        Some(rest) => {
+            lines.extend_from_slice(b"address ")?;
+            lines.extend_from_slice(field.as_bytes())?;
+            lines.extend_from_slice(rest.as_bytes())?;
+        }
+        None => lines.extend_from_slice(text.as_bytes())?,
+    }
+    lines.extend_from_slice(b"\n")?;
+    Ok(lines)
+}
+
+/// Behind no header, one of differences and one of full addresses, whatever the packets open.
+#[test]
+fn text_of_each_packet(rt: HostRuntime) -> Result<(), Fail> {
+    let starts: [(Start, &str, &str); 3] = [
+        (None, "", "diff"),
+        (Some((Mode::Differential, 1)), FIRST_LINE, "diff"),
+        (
+            Some((Mode::Full, 1)),
+            "capture 2 mode=full period=1024 harts=1\n",
+            "addr",
+        ),
+    ];
+    for (start, first, field) in starts {
+        for (bytes, text) in TEXTS {
+            let capture = capture_of(rt.alloc(), start, &[(65535, u64::MAX, bytes)])?;
+            let lines = lines_of(rt.alloc(), first, field, text)?;
+            let wanted = if text.starts_with("bad ") {
+                ONE_BAD
+            } else {
+                ALL_GOOD
+            };
+            assert!(rt; dumps(rt.alloc(), &capture, &lines, wanted)?, "{text}");
+        }
+    }
+    Ok(())
+}
+
+/// Captures and their texts, of which those with a payload that is no packet are the last.
+const DUMPS: [(&[u8], &str, Dumped); 8] = [
+    (&[], "", ALL_GOOD),
+    (&WORKED, WORKED_TEXT, ALL_GOOD),
+    (
+        b"\xff\xffrvtrace2\0\x00\x00\x04\x01\x00",
+        FIRST_LINE,
+        ALL_GOOD,
+    ),
+    (
+        b"\xff\xffrvtrace2\0\x01\x00\x04\x01\x00",
+        "capture 2 mode=full period=1024 harts=1\n",
+        ALL_GOOD,
+    ),
+    (
+        b"\xff\xffrvtrace2\0\x00\x01\x00\x00\x04",
+        "capture 2 mode=diff period=1 harts=1024\n",
+        ALL_GOOD,
+    ),
+    (
+        b"\xff\xffrvtrace2\0\x01\xff\xff\x00\x01",
+        "capture 2 mode=full period=65535 harts=256\n",
+        ALL_GOOD,
+    ),
+    (
+        b"\xff\xffrvtrace2\0\x00\x34\x12\x21\x03",
+        "capture 2 mode=diff period=4660 harts=801\n",
+        ALL_GOOD,
+    ),
+    (
+        &[
+            1, 0, 0, 0, 0, 0, 0, 0, 0, 0, 1, 0x1f, //
+            0, 0, 7, 0, 0, 0, 0, 0, 0, 0, 1, 0x53, //
+            1, 0, 9, 0, 0, 0, 0, 0, 0, 0, 1, 0x4f,
+        ],
+        "1 0 open\n0 7 bad BadPrivilege\n1 9 close ended_rep\n",
+        ONE_BAD,
+    ),
+];
+
+/// A message with a bad payload, and then one whose length is set.
+const BAD_LENGTH: [u8; 47] = [
+    0, 0, 0, 0, 0, 0, 0, 0, 0, 0, 1, 0x1f, //
+    0, 0, 1, 0, 0, 0, 0, 0, 0, 0, 1, 0, //
+    0, 0, 0, 0, 0, 0, 0, 0, 0, 0, 0, //
+    0, 0, 3, 0, 0, 0, 0, 0, 0, 0, 1, 0x1f,
+];
+
+/// Whole captures, captures with a bad length, and the worked one cut to each length.
+#[test]
+fn dumps_by_table(rt: HostRuntime) -> Result<(), Fail> {
+    for (bytes, text, wanted) in DUMPS {
+        assert!(rt;
+            dumps(rt.alloc(), bytes, text.as_bytes(), wanted)?,
+            "{text}"
+        );
+    }
+    let ended = Dumped {
+        bad: true,
+        fault: Some((2, MessageFault::BadLength)),
+    };
+    for length in [0, 19, 255] {
+        let mut bytes = BAD_LENGTH;
+        bytes[34] = length;
+        let text = b"0 0 open\n0 1 bad Unsupported\n";
+        assert!(rt; dumps(rt.alloc(), &bytes, text, ended)?, "length {length}");
+    }
+    for length in 0..78 {
+        // How many whole messages there are, and how many bytes and bytes of text they take.
+        let (whole, place, text) = match length {
+            0..12 => (0, 0, 0),
+            12..28 => (1, 12, 9),
+            28..48 => (2, 28, 48),
+            48..65 => (3, 48, 82),
+            _ => (4, 65, 138),
+        };
+        let cut = Dumped {
+            bad: false,
+            fault: Some((whole, MessageFault::Short)),
+        };
+        let wanted = if length == place { ALL_GOOD } else { cut };
+        let text = WORKED_TEXT.as_bytes().get(..text).unwrap_or(b"?");
+        assert!(rt;
+            dumps(rt.alloc(), &WORKED[..length], text, wanted)?,
+            "cut to {length}"
+        );
+    }
+    Ok(())
+}
+
+/// Whether a header with one byte changed, or cut short, is told as what it is, and nothing else is written.
+fn is_told(alloc: Global, header: &[u8]) -> Result<bool, Fail> {
+    let mut told = Vec::new(alloc);
+    let dumped = dump_capture(header, &mut told)?;
+    let fault = match beginning_of(header) {
+        Beginning::Unmarked if header.is_empty() => None,
+        Beginning::Unmarked if header.len() < 11 => Some(MessageFault::Short),
+        Beginning::Unmarked => Some(MessageFault::BadLength),
+        Beginning::Cut => Some(MessageFault::Short),
+        Beginning::Bad => Some(MessageFault::BadHeader),
+        Beginning::Header(mode, period, harts) => {
+            let mode = match mode {
+                Mode::Differential => "diff",
+                Mode::Full => "full",
+            };
+            let line = format!(in alloc; "capture 2 mode={mode} period={period} harts={harts}\n")?;
+            return Ok(dumped == ALL_GOOD && told.as_slice() == line.as_bytes());
+        }
+    };
+    let wanted = Dumped {
+        bad: false,
+        fault: fault.map(|why| (0, why)),
+    };
+    Ok(dumped == wanted && told.is_empty())
+}
+
+/// A header cut to each length, and each of its bytes set to each value, but for the 0 before the settings, where a
+/// message of version 1 has its length.
+#[test]
+fn headers_cut_and_changed(rt: HostRuntime) -> Result<(), Fail> {
+    for length in 0..16 {
+        assert!(rt; is_told(rt.alloc(), &HEADER[..length])?, "{length}");
+    }
+    for place in [0usize, 1, 2, 3, 4, 5, 6, 7, 8, 9, 11, 12, 13, 14, 15] {
+        let mut header = HEADER;
+        for value in 0..=u8::MAX {
+            header[place] = value;
+            assert!(rt; is_told(rt.alloc(), &header)?, "{place} {value}");
+        }
+    }
+    Ok(())
+}
+
+#[test]
+fn writer_of_a_dump_fails_at_each_call(rt: HostRuntime) -> Result<(), Fail> {
+    let mut capture = HEADER.to_vec(rt.alloc())?;
+    capture.extend_from_slice(&WORKED)?;
+    let mut text = FIRST_LINE.as_bytes().to_vec(rt.alloc())?;
+    text.extend_from_slice(WORKED_TEXT.as_bytes())?;
+    for calls in 0..text.len() + 1 {
+        let mut sink = FailingWriter {
+            held: Vec::new(rt.alloc()),
+            calls,
+        };
+        let told = dump_capture(&capture, &mut sink);
+        let wanted = if calls < text.len() {
+            Err(WriteFault::Write)
+        } else {
+            Ok(ALL_GOOD)
+        };
+        assert!(rt;
+            told == wanted && holds(&sink.held, calls, &text),
+            "{calls}"
+        );
+    }
+    Ok(())
+}

@@ -1,0 +1,281 @@
+//! Captures of version 2 to events: headers cut short and changed, and the modes that traces open in.
+
+use crate::made::program_of;
+use crate::small_captures::{
+    BOTH, END, FIRST, NOPS, OPEN, OPEN_FULL, SECOND, SECOND_FULL, Sent, Start, Stop, WORKED,
+    capture_of, decodes,
+};
+use captures::{CaptureFault, CaptureOutcome, decode_capture};
+use decoder::DecodeFault;
+use message::{DemuxFault, MessageFault};
+use payload::Mode;
+use std::test::Fail;
+
+/// A header that tells differences, a period of 1,024 and one hart.
+pub(crate) const HEADER: [u8; 16] = [
+    0xff, 0xff, 0x72, 0x76, 0x74, 0x72, 0x61, 0x63, 0x65, 0x32, 0x00, //
+    0x00, 0x00, 0x04, 0x01, 0x00,
+];
+
+/// A header that tells this mode, a period of 1,024 and so many harts.
+pub(crate) fn header_of(mode: Mode, harts: u16) -> [u8; 16] {
+    let mut bytes = HEADER;
+    if mode == Mode::Full {
+        bytes[11] = 1;
+    }
+    let [low, high] = harts.to_le_bytes();
+    bytes[14] = low;
+    bytes[15] = high;
+    bytes
+}
+
+/// What bytes begin with, read one by one.
+#[derive(Clone, Copy, PartialEq, Eq)]
+pub(crate) enum Beginning {
+    /// No header.
+    Unmarked,
+    /// A header that is cut short.
+    Cut,
+    /// The mark, and then no settings.
+    Bad,
+    /// A header: its mode, its period and how many harts it counts.
+    Header(Mode, usize, usize),
+}
+
+/// The byte at a place, or 0 where there is none.
+fn byte_at(bytes: &[u8], place: usize) -> u8 {
+    bytes.get(place).copied().unwrap_or(0)
+}
+
+/// What these bytes begin with.
+pub(crate) fn beginning_of(bytes: &[u8]) -> Beginning {
+    if !bytes.starts_with(b"\xff\xffrvtrace2\0") {
+        return Beginning::Unmarked;
+    }
+    if bytes.len() < 16 {
+        return Beginning::Cut;
+    }
+    let mode = match byte_at(bytes, 11) {
+        0 => Mode::Differential,
+        1 => Mode::Full,
+        _ => return Beginning::Bad,
+    };
+    let period = usize::from(byte_at(bytes, 12)) + 256 * usize::from(byte_at(bytes, 13));
+    let harts = usize::from(byte_at(bytes, 14)) + 256 * usize::from(byte_at(bytes, 15));
+    if period < 1 || harts < 1 || 1024 < harts {
+        return Beginning::Bad;
+    }
+    Beginning::Header(mode, period, harts)
+}
+
+/// Why the first message of bytes without a header is not received where two harts are known and the bytes of its hart
+/// are at least 255, if there are any bytes.
+fn refused_message(bytes: &[u8]) -> Option<CaptureFault> {
+    match bytes.get(10) {
+        None if bytes.is_empty() => None,
+        None => Some(CaptureFault::Message(MessageFault::Short)),
+        Some(1..=18) => Some(CaptureFault::Demux(DemuxFault::Stranger)),
+        Some(_) => Some(CaptureFault::Message(MessageFault::BadLength)),
+    }
+}
+
+/// Whether this is what a capture of two words decodes to where two harts are asked for and only bytes of the header
+/// are changed or wanting.
+fn is_answer(bytes: &[u8], outcome: &CaptureOutcome) -> bool {
+    let (harts, events, fault) = match beginning_of(bytes) {
+        Beginning::Unmarked => (2, 0, refused_message(bytes)),
+        Beginning::Cut => (2, 0, Some(CaptureFault::Message(MessageFault::Short))),
+        Beginning::Bad => (2, 0, Some(CaptureFault::Message(MessageFault::BadHeader))),
+        Beginning::Header(Mode::Full, _, harts) => (harts, 0, Some(CaptureFault::Mode)),
+        Beginning::Header(Mode::Differential, _, harts) => (harts, 2, None),
+    };
+    let closed = outcome.closed.iter().filter(|closed| **closed).count();
+    let mut lists = outcome.harts.iter();
+    let is_first = match lists.next() {
+        Some(list) => list.as_slice() == &BOTH[..events.min(2)],
+        None => false,
+    };
+    is_first
+        && lists.all(|list| list.is_empty())
+        && outcome.harts.len() == harts
+        && outcome.closed.len() == harts
+        && closed == events / 2
+        && outcome.fault == fault.map(|why| (0, why))
+}
+
+/// A header cut to each length, also where the bytes that are there name a bad mode, and each of its bytes set to each
+/// value.
+#[test]
+fn headers_cut_and_changed(rt: HostRuntime) -> Result<(), Fail> {
+    let program = program_of(rt.alloc(), &NOPS)?;
+    for mode in [0, 2] {
+        let mut bytes = HEADER;
+        bytes[11] = mode;
+        for length in 0..16 {
+            let outcome = decode_capture(rt.alloc(), &program, 2, &bytes[..length])?;
+            let is_told = is_answer(&bytes[..length], &outcome)
+                && outcome.harts.len() == 2
+                && outcome.fault.is_some() == (length > 0);
+            assert!(rt; is_told, "cut to {length}");
+        }
+    }
+    let mut good = 0usize;
+    for place in 0..16usize {
+        let mut bytes = HEADER.to_vec(rt.alloc())?;
+        bytes.extend_from_slice(&WORKED)?;
+        for value in 0..=u8::MAX {
+            if let Some(byte) = bytes.get_mut(place) {
+                *byte = value;
+            }
+            let outcome = decode_capture(rt.alloc(), &program, 2, &bytes)?;
+            assert!(rt; is_answer(&bytes, &outcome), "{place} {value}");
+            if outcome.fault.is_none() {
+                good = good.saturating_add(1);
+            }
+        }
+    }
+    // The bytes of the mark and the mode as they are, the period but for 0, 1 to 255 harts, and 1, 257, 513 and 769.
+    assert_eq!(rt; good, 12 + 256 + 255 + 255 + 4);
+    Ok(())
+}
+
+/// Two harts that open in modes of their own.
+const OF_TWO_MODES: &[Sent] = &[
+    (0, 0, OPEN),
+    (1, 0, OPEN_FULL),
+    (0, 1, FIRST),
+    (1, 1, FIRST),
+    (0, 2, SECOND),
+    (1, 2, SECOND_FULL),
+    (0, 3, END),
+    (1, 3, END),
+];
+
+/// Messages of two harts that are known, behind a header that tells this mode or behind none, how many of both events
+/// each has then, and why decoding stops, if it does.
+type Row = (
+    &'static str,
+    Option<Mode>,
+    &'static [Sent],
+    &'static [usize],
+    Stop,
+);
+
+const ROWS: [Row; 14] = [
+    (
+        "first, not full",
+        Some(Mode::Full),
+        &[(0, 0, OPEN)],
+        &[0, 0],
+        Some((0, CaptureFault::Mode)),
+    ),
+    (
+        "first, full",
+        Some(Mode::Differential),
+        &[(0, 0, OPEN_FULL)],
+        &[0, 0],
+        Some((0, CaptureFault::Mode)),
+    ),
+    (
+        "another hart, full",
+        Some(Mode::Differential),
+        &[(0, 0, OPEN), (0, 1, FIRST), (1, 0, OPEN_FULL)],
+        &[1, 0],
+        Some((2, CaptureFault::Mode)),
+    ),
+    (
+        "another hart, not full",
+        Some(Mode::Full),
+        &[(0, 0, OPEN_FULL), (0, 1, FIRST), (1, 0, OPEN)],
+        &[1, 0],
+        Some((2, CaptureFault::Mode)),
+    ),
+    // In the middle of a hart's messages, before the packet is decoded.
+    (
+        "middle, another mode",
+        Some(Mode::Differential),
+        &[(0, 0, OPEN), (0, 1, FIRST), (0, 2, OPEN_FULL), (0, 3, END)],
+        &[1, 0],
+        Some((2, CaptureFault::Mode)),
+    ),
+    (
+        "middle, same mode",
+        Some(Mode::Differential),
+        &[(0, 0, OPEN), (0, 1, FIRST), (0, 2, OPEN), (0, 3, END)],
+        &[1, 0],
+        Some((2, CaptureFault::Decode(DecodeFault::WrongPlace))),
+    ),
+    // What the demultiplexer refuses is refused for that.
+    (
+        "gap",
+        Some(Mode::Differential),
+        &[(0, 0, OPEN), (0, 2, OPEN_FULL)],
+        &[0, 0],
+        Some((1, CaptureFault::Demux(DemuxFault::Gap { expected: 1 }))),
+    ),
+    (
+        "repeat",
+        Some(Mode::Differential),
+        &[(0, 0, OPEN), (0, 0, OPEN_FULL)],
+        &[0, 0],
+        Some((1, CaptureFault::Demux(DemuxFault::Repeat))),
+    ),
+    (
+        "stranger",
+        Some(Mode::Differential),
+        &[(0, 0, OPEN), (2, 0, OPEN_FULL)],
+        &[0, 0],
+        Some((1, CaptureFault::Demux(DemuxFault::Stranger))),
+    ),
+    (
+        "after the close",
+        Some(Mode::Differential),
+        &[
+            (0, 0, OPEN),
+            (0, 1, FIRST),
+            (0, 2, SECOND),
+            (0, 3, END),
+            (0, 4, OPEN_FULL),
+        ],
+        &[2, 0],
+        Some((4, CaptureFault::Demux(DemuxFault::AfterClose))),
+    ),
+    // A hart that opens nothing is not told another mode.
+    (
+        "not opened",
+        Some(Mode::Full),
+        &[(0, 0, FIRST)],
+        &[0, 0],
+        Some((0, CaptureFault::Decode(DecodeFault::NotOpened))),
+    ),
+    // Without a header each hart opens in a mode of its own.
+    ("no header", None, OF_TWO_MODES, &[2, 2], None),
+    (
+        "two modes, not full",
+        Some(Mode::Differential),
+        OF_TWO_MODES,
+        &[0, 0],
+        Some((1, CaptureFault::Mode)),
+    ),
+    (
+        "two modes, full",
+        Some(Mode::Full),
+        OF_TWO_MODES,
+        &[0, 0],
+        Some((0, CaptureFault::Mode)),
+    ),
+];
+
+/// Behind a header the count of harts that is asked for is another one, and does not hold.
+#[test]
+fn modes_by_table(rt: HostRuntime) -> Result<(), Fail> {
+    for (name, told, messages, counts, stop) in ROWS {
+        let (start, asked): (Start, u16) = match told {
+            None => (None, 2),
+            Some(mode) => (Some((mode, 2)), 1),
+        };
+        let bytes = capture_of(rt.alloc(), start, messages)?;
+        assert!(rt; decodes(rt.alloc(), asked, &bytes, counts, stop)?, "{name}");
+    }
+    Ok(())
+}

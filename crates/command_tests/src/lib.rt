@@ -1,0 +1,25 @@
+//! Tests of `commands`: runs of the subcommands over files in memory, by tables.
+//!
+//! They stand in a crate of their own since a crate with tests is proved once more with them.
+#![tactic(auto)]
+
+#[cfg(test)]
+mod checks;
+#[cfg(test)]
+mod devices;
+#[cfg(test)]
+mod dumps;
+#[cfg(test)]
+mod logs;
+#[cfg(test)]
+mod lost;
+#[cfg(test)]
+mod refusals;
+#[cfg(test)]
+mod runs;
+#[cfg(test)]
+mod same;
+#[cfg(test)]
+mod table;
+#[cfg(test)]
+mod whole_captures;

@@ -1,0 +1,136 @@
+//! Every pair of kinds of events at every pair of privileges, by the table of what may follow what.
+
+use super::{BASE, BEQ, JAL, MRET, NOP, RET, SRET, program_of, retired, trap};
+use legalpath::{PathFault, Why, check};
+use retire::Event;
+use rvclass::Program;
+use std::alloc::Global;
+use std::process::Abort;
+use std::test::Fail;
+
+/// What an event does: it retires a word, with a type, or takes a trap, an interrupt if told so.
+#[derive(Clone, Copy)]
+enum Act {
+    Retires(u32, u8),
+    Traps(bool),
+}
+
+/// A row of the table: a kind's name; what it does; how far on from it the next event stands; the
+/// privileges that it may have; and those of the next event, where it has privilege 0, 1 and 3.
+struct Kind(
+    &'static str,
+    Act,
+    &'static [u64],
+    &'static [u8],
+    [&'static [u8]; 3],
+);
+
+/// The places that are tried.
+const BOTH: &[u64] = &[4, 8];
+
+const ALL: &[u8] = &[0, 1, 3];
+
+const LOW: &[u8] = &[0, 1];
+
+const HIGH: &[u8] = &[1, 3];
+
+const SAME: [&[u8]; 3] = [&[0], &[1], &[3]];
+
+const RISEN: [&[u8]; 3] = [&[1, 3], &[1, 3], &[3]];
+
+const KINDS: [Kind; 9] = [
+    Kind("plain", Act::Retires(NOP, 0), &[4], ALL, SAME),
+    Kind("jump", Act::Retires(JAL, 0), &[8], ALL, SAME),
+    Kind("not taken", Act::Retires(BEQ, 4), &[4], ALL, SAME),
+    Kind("taken", Act::Retires(BEQ, 5), &[8], ALL, SAME),
+    Kind("uninferable", Act::Retires(RET, 6), BOTH, ALL, SAME),
+    Kind("MRET", Act::Retires(MRET, 3), BOTH, &[3], [&[], &[], ALL]),
+    Kind("SRET", Act::Retires(SRET, 3), BOTH, HIGH, [&[], LOW, LOW]),
+    Kind("exception", Act::Traps(false), BOTH, ALL, RISEN),
+    Kind("interrupt", Act::Traps(true), BOTH, ALL, RISEN),
+];
+
+/// The word that an event stands on; a trap may stand on any.
+fn word_of(act: Act) -> u32 {
+    match act {
+        Act::Retires(word, _) => word,
+        Act::Traps(_) => NOP,
+    }
+}
+
+/// An event so far from the base.
+fn event_of(act: Act, offset: u64, privilege: u8) -> Event {
+    match act {
+        Act::Retires(_, itype) => retired(offset, itype, privilege),
+        Act::Traps(interrupt) => trap(BASE.wrapping_add(offset), privilege, interrupt, 2, 0),
+    }
+}
+
+/// What the table says of an event at one privilege, and of one so far on at another.
+fn expected(
+    first: &Kind,
+    privilege: u8,
+    second: &Kind,
+    offset: u64,
+    after: u8,
+) -> Result<(), PathFault> {
+    let Kind(_, _, leads, at, [user, supervisor, machine]) = first;
+    let Kind(_, act, _, next_at, _) = second;
+    if !at.contains(&privilege) {
+        return Err(PathFault {
+            row: 1,
+            why: Why::WrongPrivilege,
+        });
+    }
+    let left = match privilege {
+        0 => user,
+        1 => supervisor,
+        _ => machine,
+    };
+    let stands = leads.contains(&offset);
+    let kept = left.contains(&after) && next_at.contains(&after);
+    let why = match act {
+        Act::Retires(..) if !stands => Why::WrongNext,
+        _ if !kept => Why::WrongPrivilege,
+        Act::Traps(_) if !stands => Why::WrongEpc,
+        _ => return Ok(()),
+    };
+    Err(PathFault { row: 2, why })
+}
+
+/// Checks a pair at every pair of privileges, at each of the places.
+fn assert_pair(rt: &impl Abort, program: &Program, first: &Kind, second: &Kind) {
+    let Kind(name, act, ..) = first;
+    let Kind(next_name, next_act, ..) = second;
+    for privilege in [0, 1, 3] {
+        for after in [0, 1, 3] {
+            for offset in [4, 8] {
+                let log = [
+                    event_of(*act, 0, privilege),
+                    event_of(*next_act, offset, after),
+                ];
+                assert!(rt;
+                    check(program, &log) == expected(first, privilege, second, offset, after),
+                    "{name} at {privilege}, then {next_name} at {after}, {offset} bytes on"
+                );
+            }
+        }
+    }
+}
+
+/// Checks every pair of these kinds.
+fn assert_pairs(rt: &impl Abort, alloc: Global, kinds: &[Kind]) -> Result<(), Fail> {
+    for first in kinds {
+        for second in kinds {
+            let word = word_of(second.1);
+            let program = program_of(alloc, &[word_of(first.1), word, word])?;
+            assert_pair(rt, &program, first, second);
+        }
+    }
+    Ok(())
+}
+
+#[test]
+fn every_pair_of_kinds(rt: HostRuntime) -> Result<(), Fail> {
+    assert_pairs(&rt, rt.alloc(), &KINDS)
+}

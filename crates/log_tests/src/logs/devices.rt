@@ -1,0 +1,125 @@
+//! Readers and writers that fail.
+
+use super::{HEADER, text_of_rows};
+use retire::{Event, LogFault, WriteFault, read_log, write_log};
+use std::alloc::Global;
+use std::io;
+use std::io::{ErrorKind, Read, Write};
+use std::test::Fail;
+
+// A reader of a text, so many bytes a call, that fails once its calls are used up.
+#[derive(Drop)]
+struct FailingReader<'a> {
+    rest: &'a [u8],
+    most: usize,
+    calls: usize,
+}
+
+impl Read for FailingReader<'_> {
+    fn read(&mut self, buf: &mut [u8]) -> io::Result<usize> {
+        if self.calls == 0 {
+            return Err(io::Error::from(ErrorKind::TimedOut));
+        }
+        self.calls -= 1;
+        let most = buf.len().min(self.most);
+        (&mut self.rest).read(&mut buf[..most])
+    }
+}
+
+// How many events are read of a text, so many bytes a call, by a reader that fails after so many calls.
+fn read_failing(alloc: Global, rest: &[u8], most: usize, calls: usize) -> Result<usize, LogFault> {
+    let source = FailingReader { rest, most, calls };
+    match read_log(alloc, alloc, source) {
+        Ok(events) => Ok(events.len()),
+        Err(fault) => Err(fault),
+    }
+}
+
+#[test]
+fn reader_fails_at_each_call(rt: HostRuntime) -> Result<(), Fail> {
+    let text = format!(in rt.alloc(); "{HEADER}80000000,0,3,,\n80000004,2,3,7,0\n")?;
+    for most in [1, 7, 1000] {
+        let mut failed = 0;
+        for calls in 0..200 {
+            match read_failing(rt.alloc(), text.as_bytes(), most, calls) {
+                Ok(count) => assert!(rt; count == 2),
+                Err(fault) => {
+                    let read = fault == LogFault::Read;
+                    assert!(rt; read && failed == calls, "call {calls} of {most} bytes");
+                    failed += 1;
+                }
+            }
+        }
+        assert!(rt; text.len() / most < failed && failed < 200);
+    }
+    Ok(())
+}
+
+// A writer that keeps what it takes, so many bytes a call, and fails once its calls are used up.
+#[derive(Drop)]
+struct FailingWriter {
+    held: Vec<u8>,
+    most: usize,
+    calls: usize,
+}
+
+impl Write for FailingWriter {
+    fn write(&mut self, buf: &[u8]) -> io::Result<usize> {
+        if self.calls == 0 {
+            return Err(io::Error::from(ErrorKind::StorageFull));
+        }
+        self.calls -= 1;
+        let most = buf.len().min(self.most);
+        self.held.extend_from_slice(&buf[..most])?;
+        Ok(most)
+    }
+
+    fn flush(&mut self) -> io::Result<()> {
+        Ok(())
+    }
+}
+
+// How a log is written, so many bytes a call, to a writer that fails after so many calls, and what the writer holds.
+fn write_failing(
+    alloc: Global,
+    events: &[Event],
+    most: usize,
+    calls: usize,
+) -> (Result<(), WriteFault>, Vec<u8>) {
+    let mut sink = FailingWriter {
+        held: Vec::new(alloc),
+        most,
+        calls,
+    };
+    let end = write_log(alloc, &mut sink, events);
+    (end, sink.held)
+}
+
+#[test]
+fn writer_fails_at_each_call(rt: HostRuntime) -> Result<(), Fail> {
+    let event = Event::Retire {
+        addr: 0x8000_0000,
+        itype: 0,
+        privilege: 3,
+    };
+    // More text than is held at a time.
+    let events = vec![in rt.alloc(); event; 10_000]?;
+    let want = text_of_rows(rt.alloc(), 10_000)?;
+    for most in [10_007, 1_000_000] {
+        let mut failed = 0;
+        for calls in 0..20 {
+            let (end, held) = write_failing(rt.alloc(), events.as_slice(), most, calls);
+            let begun = want.as_slice().starts_with(held.as_slice());
+            match end {
+                Ok(()) => assert!(rt; begun && held.len() == want.len()),
+                Err(fault) => {
+                    let write = begun && fault == WriteFault::Write;
+                    assert!(rt; write && failed == calls, "call {calls} of {most} bytes");
+                    failed += 1;
+                }
+            }
+        }
+        assert!(rt; 1 < failed && failed < 20);
+    }
+    Ok(())
+}

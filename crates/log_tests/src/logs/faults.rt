@@ -1,0 +1,52 @@
+//! What the faults are told as.
+
+use retire::{LogFault, WriteFault};
+use std::alloc::{AllocError, Global};
+use std::fmt::Display;
+use std::test::Fail;
+
+const LOG_FAULTS: [(LogFault, &'static str); 12] = [
+    (LogFault::Header, "wrong header"),
+    (LogFault::Fields(1), "row 1: wrong number of fields"),
+    (LogFault::Number(2), "row 2: not a number"),
+    (LogFault::Odd(3), "row 3: odd address"),
+    (LogFault::RowType(4), "row 4: unknown type"),
+    (LogFault::Privilege(5), "row 5: unknown privilege"),
+    (LogFault::Cause(6), "row 6: cause above 3f"),
+    (
+        LogFault::TrapFields(7),
+        "row 7: cause or value missing or not wanted",
+    ),
+    (
+        LogFault::InterruptValue(16_777_216),
+        "row 16777216: an interrupt has a value",
+    ),
+    (LogFault::TooLong, "more than 16777216 rows"),
+    (LogFault::Read, "cannot be read"),
+    (LogFault::Memory, "out of memory"),
+];
+
+const WRITE_FAULTS: [(WriteFault, &'static str); 2] = [
+    (WriteFault::Write, "cannot be written"),
+    (WriteFault::Memory, "out of memory"),
+];
+
+/// The first text that its fault does not have.
+fn first_wrong<F: Display>(
+    alloc: Global,
+    table: &[(F, &'static str)],
+) -> Result<Option<&'static str>, AllocError> {
+    for (fault, want) in table {
+        if format!(in alloc; "{fault}")?.as_str() != *want {
+            return Ok(Some(*want));
+        }
+    }
+    Ok(None)
+}
+
+#[test]
+fn texts_of_faults(rt: HostRuntime) -> Result<(), Fail> {
+    assert_eq!(rt; first_wrong(rt.alloc(), &LOG_FAULTS)?, None);
+    assert_eq!(rt; first_wrong(rt.alloc(), &WRITE_FAULTS)?, None);
+    Ok(())
+}

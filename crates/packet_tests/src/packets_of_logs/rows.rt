@@ -1,0 +1,286 @@
+//! Logs whose payloads were worked by hand.
+
+use self::Step::{Retires, Traps};
+use super::{
+    BASE, BEQ, BEQ_8, ECALL, JAL, MRET, NOP, RET, at, legal_log, packets_of, payloads_of,
+    program_of, sourced, trap,
+};
+use payload::{Mode, Payload};
+use retire::Event;
+use std::alloc::{AllocError, Global};
+use std::test::Fail;
+
+// The packets that begin and end most logs.
+const OPEN: &[u8] = &[0x1f];
+
+const OPEN_FULL: &[u8] = &[0x1f, 0x01];
+
+const SYNC: &[u8] = &[0x73, 0, 0, 0, 0x20];
+
+const TAKEN_SYNC: &[u8] = &[0x63, 0, 0, 0, 0x20];
+
+const ENDED_REP: &[u8] = &[0x4f];
+
+const ENDED_NTR: &[u8] = &[0xcf, 0];
+
+// Whether payloads have these bytes.
+fn are_payloads(payloads: &[Payload], want: &[&[u8]]) -> bool {
+    let mut same = payloads.len() == want.len();
+    for (payload, bytes) in payloads.iter().zip(want.iter()) {
+        same = same && payload.bytes() == *bytes;
+    }
+    same
+}
+
+// An event: a retirement so far from the base, with its type and privilege; or a trap at an address, taken from machine
+// level, whether it is an interrupt, its cause and its value.
+#[derive(Clone, Copy)]
+enum Step {
+    Retires(u64, u8, u8),
+    Traps(u64, bool, u8, u64),
+}
+
+// The events of a log.
+fn log_of(alloc: Global, steps: &[Step]) -> Result<Vec<Event>, AllocError> {
+    let mut log = Vec::new(alloc);
+    for step in steps {
+        log.push(match *step {
+            Retires(offset, itype, privilege) => at(offset, itype, privilege),
+            Traps(epc, interrupt, cause, tval) => trap(epc, interrupt, cause, tval),
+        })?;
+    }
+    Ok(log)
+}
+
+// The words of a program, a period, a mode, a log and its payloads.
+type Row = (
+    &'static [u32],
+    u16,
+    Mode,
+    &'static [Step],
+    &'static [&'static [u8]],
+);
+
+// An ECALL, and its handler 100 bytes behind the base.
+const FAR: [u32; 65] = [
+    NOP, ECALL, 0, 0, 0, 0, 0, 0, 0, 0, 0, 0, 0, 0, 0, 0, 0, 0, 0, 0, 0, 0, 0, 0, 0, 0, 0, 0, 0, 0,
+    0, 0, 0, 0, 0, 0, 0, 0, 0, 0, 0, 0, 0, 0, 0, 0, 0, 0, 0, 0, 0, 0, 0, 0, 0, 0, 0, 0, 0, 0, 0, 0,
+    0, 0, NOP,
+];
+
+const ROWS: [Row; 20] = [
+    (&[], 1024, Mode::Differential, &[], &[OPEN, ENDED_NTR]),
+    (
+        &[NOP],
+        1024,
+        Mode::Differential,
+        &[Retires(0, 0, 3)],
+        &[OPEN, SYNC, ENDED_NTR],
+    ),
+    (
+        &[NOP, NOP],
+        1024,
+        Mode::Differential,
+        &[Retires(0, 0, 3), Retires(4, 0, 3)],
+        &[OPEN, SYNC, &[0x0a], ENDED_REP],
+    ),
+    (
+        &[BEQ],
+        1024,
+        Mode::Differential,
+        &[Retires(0, 5, 3); 32],
+        &[OPEN, TAKEN_SYNC, &[0x7d], ENDED_REP],
+    ),
+    (
+        &[BEQ],
+        1024,
+        Mode::Differential,
+        &[Retires(0, 5, 3); 33],
+        &[OPEN, TAKEN_SYNC, &[0x01], &[0x05], ENDED_REP],
+    ),
+    (
+        &[JAL],
+        1024,
+        Mode::Differential,
+        &[Retires(0, 0, 3); 3],
+        &[
+            OPEN,
+            SYNC,
+            &[0x02, 0, 0, 0, 0, 0, 0, 0, 0xfe],
+            &[0x02],
+            ENDED_REP,
+        ],
+    ),
+    (
+        &[NOP, NOP, RET],
+        1024,
+        Mode::Differential,
+        &[Retires(0, 0, 3), Retires(4, 0, 3)],
+        &[OPEN, SYNC, &[0x0a], ENDED_REP],
+    ),
+    (
+        &[NOP, NOP, RET],
+        1024,
+        Mode::Differential,
+        &[
+            Retires(0, 0, 3),
+            Retires(4, 0, 3),
+            Retires(8, 6, 3),
+            Retires(4, 0, 3),
+        ],
+        &[OPEN, SYNC, &[0x0a], ENDED_NTR],
+    ),
+    (
+        &[NOP, NOP, RET],
+        1024,
+        Mode::Differential,
+        &[
+            Retires(0, 0, 3),
+            Retires(4, 0, 3),
+            Retires(8, 6, 3),
+            Retires(4, 0, 3),
+            Traps(BASE + 8, true, 7, 0),
+        ],
+        &[
+            OPEN,
+            SYNC,
+            &[0x0a, 0, 0, 0, 0, 0, 0, 0, 0xfc],
+            &[0xf7, 0x23, 0x02, 0, 0, 0x20],
+            ENDED_NTR,
+        ],
+    ),
+    (
+        &FAR,
+        1024,
+        Mode::Differential,
+        &[
+            Retires(0, 0, 3),
+            Traps(BASE + 4, false, 0xb, 0),
+            Retires(0x100, 0, 3),
+        ],
+        &[OPEN, SYNC, &[0xf7, 0x45, 0x40, 0, 0, 0x20], ENDED_NTR],
+    ),
+    (
+        &[RET],
+        1024,
+        Mode::Differential,
+        &[
+            Retires(0, 6, 3),
+            Traps(0x4000, false, 1, 0x8000_0000_0000_4000),
+        ],
+        &[
+            OPEN,
+            SYNC,
+            &[
+                0xf7, 0, 0, 0x10, 0, 0, 0, 0, 0, 0, 0, 0x10, 0, 0, 0, 0, 0, 0xe0,
+            ],
+            ENDED_NTR,
+        ],
+    ),
+    (
+        &[NOP, NOP, NOP],
+        2,
+        Mode::Differential,
+        &[Retires(0, 0, 3), Retires(4, 0, 3), Retires(8, 0, 3)],
+        &[OPEN, SYNC, &[0x0a], &[0x73, 0x02, 0, 0, 0x20], ENDED_NTR],
+    ),
+    (
+        &[MRET, NOP, NOP],
+        1024,
+        Mode::Differential,
+        &[Retires(0, 3, 3), Retires(8, 0, 0)],
+        &[OPEN, SYNC, &[0x13, 0x02, 0, 0, 0x20], ENDED_NTR],
+    ),
+    (
+        &[NOP, BEQ_8, NOP],
+        1024,
+        Mode::Differential,
+        &[Retires(0, 0, 3), Retires(4, 4, 3), Retires(8, 0, 3)],
+        &[OPEN, SYNC, &[0x85, 0x04], ENDED_REP],
+    ),
+    (
+        &[BEQ_8, NOP, NOP],
+        1024,
+        Mode::Differential,
+        &[Retires(0, 5, 3), Retires(8, 0, 3)],
+        &[OPEN, TAKEN_SYNC, &[0x12], ENDED_REP],
+    ),
+    // In full-address mode: the address itself, with a bit that notifies, and behind an outcome.
+    (
+        &[NOP, NOP],
+        1024,
+        Mode::Full,
+        &[Retires(0, 0, 3), Retires(4, 0, 3)],
+        &[OPEN_FULL, SYNC, &[0x0a, 0, 0, 0, 0x01], ENDED_REP],
+    ),
+    (
+        &[JAL],
+        1024,
+        Mode::Full,
+        &[Retires(0, 0, 3); 3],
+        &[
+            OPEN_FULL,
+            SYNC,
+            &[0x02, 0, 0, 0, 0x01, 0, 0, 0, 0xfe],
+            &[0x02, 0, 0, 0, 0x01],
+            ENDED_REP,
+        ],
+    ),
+    (
+        &[NOP, BEQ_8, NOP],
+        1024,
+        Mode::Full,
+        &[Retires(0, 0, 3), Retires(4, 4, 3), Retires(8, 0, 3)],
+        &[OPEN_FULL, SYNC, &[0x85, 0x04, 0, 0, 0x40], ENDED_REP],
+    ),
+    // The worked values end here; a sync at each retirement, and a trap first and right behind a trap.
+    (
+        &[NOP, NOP],
+        1,
+        Mode::Differential,
+        &[Retires(0, 0, 3), Retires(4, 0, 3)],
+        &[OPEN, SYNC, &[0x73, 0x01, 0, 0, 0x20], ENDED_NTR],
+    ),
+    (
+        &[NOP],
+        1024,
+        Mode::Differential,
+        &[
+            Traps(BASE + 8, true, 7, 0),
+            Traps(BASE + 8, true, 7, 0),
+            Retires(0, 0, 3),
+        ],
+        &[
+            OPEN,
+            &[0xf7, 0x23, 0x02, 0, 0, 0x20],
+            &[0xf7, 0x23, 0x02, 0, 0, 0x20],
+            SYNC,
+            ENDED_NTR,
+        ],
+    ),
+];
+
+// Whether an encoder, and whether a source, gives the payloads of a row.
+fn gives_payloads(alloc: Global, row: &Row) -> Result<(bool, bool), Fail> {
+    let (words, period, mode, steps, want) = *row;
+    let log = log_of(alloc, steps)?;
+    let program = program_of(alloc, words)?;
+    let packets = packets_of(alloc, &program, period, mode, log.as_slice())?;
+    let pushed = payloads_of(alloc, packets.as_slice())?;
+    let legal = legal_log(alloc, &program, log.as_slice())?;
+    let pulled = sourced(alloc, &legal, period, mode)?;
+    Ok((
+        are_payloads(pushed.as_slice(), want),
+        are_payloads(pulled.as_slice(), want),
+    ))
+}
+
+#[test]
+fn payloads_of_worked_logs(rt: HostRuntime) -> Result<(), Fail> {
+    for (i, row) in ROWS.iter().enumerate() {
+        let (pushed, pulled) = gives_payloads(rt.alloc(), row)?;
+        assert!(rt; pushed, "pushed, log {i}");
+        assert!(rt; pulled, "pulled, log {i}");
+    }
+    Ok(())
+}
