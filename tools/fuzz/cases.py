@@ -265,6 +265,26 @@ class Maker:
                 made[at] = hart, number, payload_of(any_packet(random, self.program))
         return made
 
+    def lost(self, made, harts):
+        """Messages of a hart or two lost: one, some in a row, all but one, the first, the last, about half."""
+        random = self.random
+        for _ in range(random.choice((1, 1, 2))):
+            hart, what = random.randrange(harts), random.randrange(6)
+            own = [number for of, number, _ in made if of == hart]
+            if not own:
+                continue
+            one, row = random.choice(own), random.randint(2, 6)
+            lost = {
+                0: {one},
+                1: set(range(one, one + row)),
+                2: set(own) - {one},
+                3: {own[0]},
+                4: {own[-1]},
+                5: {number for number in own if random.randrange(2)},
+            }[what]
+            made = [it for it in made if it[0] != hart or it[1] not in lost]
+        return made
+
     def in_order(self, harts):
         """Random packets with the right harts and numbers, most of them behind an opening and a sync."""
         random, counts, made = self.random, [0] * harts, []
@@ -325,7 +345,9 @@ class Maker:
         if what <= 2:
             return b"".join(message(*it) for it in self.in_order(harts))
         made = self.good(harts, modes)
-        if what <= 6:
+        if what <= 4:
+            made = self.lost(made, harts)
+        elif what <= 6:
             made = self.disturbed(made, harts)
         text = b"".join(message(*it) for it in made)
         return self.broken(text) if what >= 8 else text

@@ -556,8 +556,8 @@ def messages(capture, at):
         at += 11 + len(payload)
 
 
-def let_through(message, expected, decoders):
-    """The packet of a message that a demultiplexer lets through."""
+def let_through(message, expected, decoders, is_lossy=False):
+    """The packet of a message that a demultiplexer lets through, one where messages may be missing or one of the others."""
     hart, count, payload = message
     if hart >= len(decoders):
         raise Refused("stranger")
@@ -565,7 +565,7 @@ def let_through(message, expected, decoders):
         raise Refused("after close")
     if count < expected[hart]:
         raise Refused("repeat")
-    if count > expected[hart]:
+    if count >= 1 << 63 if is_lossy else count > expected[hart]:
         raise Refused(f"gap, expected number {expected[hart]}")
     try:
         return unpack(payload)
@@ -597,6 +597,62 @@ def decode(program, harts, capture):
             return f"message {place}: not decoded: {why}", decoders
         expected[message[0]] += 1
     return "decoded", decoders
+
+
+class Left:
+    """What is left of a hart's log where messages are missing: its parts, each a count of messages or a list of events."""
+
+    def __init__(self, program):
+        self.program, self.parts, self.decoder = program, [], Decoder(program)
+        self.mode = None
+        self.closed = self.passes_over = False
+
+    def take(self, number, missing, packet, mode):
+        """Takes a packet, before which so many messages are missing; this is the mode where none was told."""
+        if missing:
+            self.end()
+            self.parts.append(missing)
+            self.decoder, self.passes_over = Decoder(self.program), True
+            self.decoder.opened = True
+            self.decoder.mode = mode if self.mode is None else self.mode
+        if packet[0] == "sync":
+            self.passes_over = False
+        if not self.passes_over:
+            self.decoder.feed(packet)
+        if number == 0 and packet[0] == "open":
+            self.mode = packet[1]
+        self.closed = packet[0].startswith("ended")
+
+    def end(self):
+        if self.decoder.events:
+            self.parts.append(self.decoder.events)
+
+
+def lossy(program, harts, capture):
+    """What is left of each hart's log, and the fault at which decoding stops, or None. All messages are read first."""
+    try:
+        header, at = start(capture)
+    except NoHeader as why:
+        return [], str(why)
+    mode, _, harts = header or (DIFFERENTIAL, None, harts)
+    made = list(messages(capture, at))
+    if made and isinstance(made[-1], str):
+        return [], f"message {len(made) - 1}: {made[-1]}"
+    left, expected = [Left(program) for _ in range(harts)], [0] * harts
+    for place, message in enumerate(made):
+        try:
+            packet = let_through(message, expected, left, is_lossy=True)
+        except Refused as why:
+            return [], f"message {place}: {why}"
+        hart, number, _ = message
+        try:
+            left[hart].take(number, number - expected[hart], packet, mode)
+        except Refused as why:
+            return [], f"message {place}: not decoded: {why}"
+        expected[hart] = number + 1
+    for it in left:
+        it.end()
+    return left, None
 
 
 def dump(capture):

@@ -11,7 +11,7 @@ Run = collections.namedtuple("Run", "words status out told")
 
 
 def of_capture(maker, harts, capture):
-    """What comes of a capture: its logs and its dump."""
+    """What comes of a capture: its logs, what is left of them where messages may be missing, and its dump."""
     base = ["--base", f"{maker.program.base:x}"]
     stop, decoders = reading.decode(maker.program, harts, capture)
     text = "".join(f"hart {hart}\n{reading.log_text(it.events)}" for hart, it in enumerate(decoders))
@@ -19,8 +19,24 @@ def of_capture(maker, harts, capture):
         stop = next((f"hart {hart}: no closing packet" for hart, it in enumerate(decoders) if not it.closed), None)
     words = ["decode", *base, "--harts", str(harts), "image", "case"]
     yield Run(words, 1 if stop else 0, text.encode(), stop)
+    yield of_lossy_capture(maker, harts, capture, [*words, "--lossy"])
     lines, end, bad = reading.dump(capture)
     yield Run(["dump", "case"], 1 if bad or end != "dumped" else 0, lines.encode(), None if end == "dumped" else end)
+
+
+def of_lossy_capture(maker, harts, capture, words):
+    """What is left of a capture's logs where messages may be missing."""
+    left, stop = reading.lossy(maker.program, harts, capture)
+    text = "".join(f"hart {hart}\n{''.join(map(part_text, it.parts))}" for hart, it in enumerate(left))
+    has_gap = any(isinstance(part, int) for it in left for part in it.parts)
+    stop = stop or next((f"hart {hart}: no closing packet" for hart, it in enumerate(left) if not it.closed), None)
+    return Run(words, 1 if stop or has_gap else 0, text.encode(), stop)
+
+
+def part_text(part):
+    if isinstance(part, int):
+        return f"gap: {part} messages\n"
+    return f"stretch: {len(part)} events\n{reading.log_text(part)}"
 
 
 def of_log(maker, _, text):

@@ -1,7 +1,7 @@
 //! The tests of `receiver` and `captures`: messages that are received, logs that come back from their packets and from
-//! whole captures, and captures that are encoded, read, decoded and dumped. Nothing else stands here.
+//! whole captures, and captures that are encoded, read, decoded and dumped.
 //!
-//! They have a crate of their own since a crate without tests is proved once less in the gate.
+//! They stand in a crate of their own: the gate proves a crate that has tests once more with them.
 #![tactic(auto)]
 
 #[cfg(test)]

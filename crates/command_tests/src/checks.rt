@@ -4,7 +4,7 @@ use super::table::{HEADER, Request, Table, ends};
 use std::alloc::{AllocError, Global};
 use std::test::Fail;
 
-// The files of an image and of one log under a header.
+/// The files of an image and of one log under a header.
 fn files_of(alloc: Global, image: &[u8], rows: &str) -> Result<Table, AllocError> {
     let mut log = HEADER.to_string(alloc)?;
     log.push_str(rows)?;
@@ -14,8 +14,8 @@ fn files_of(alloc: Global, image: &[u8], rows: &str) -> Result<Table, AllocError
     Ok(files)
 }
 
-// Logs after the image of two words `nop`: one that is legal, one that is not, one with no row and
-// one that is malformed.
+/// Logs after the image of two words `nop`: one that is legal, one that is not, one with no row and
+/// one that is malformed.
 fn files_of_logs(alloc: Global) -> Result<Table, AllocError> {
     let mut files = files_of(
         alloc,
@@ -31,7 +31,7 @@ fn files_of_logs(alloc: Global) -> Result<Table, AllocError> {
     Ok(files)
 }
 
-// Image, rows of the log, and what is told of the log.
+/// Image, rows of the log, and what is told of the log.
 const ILLEGAL: [(&[u8], &str, &str); 8] = [
     (
         b"\x63\x04\0\0\x13\0\0\0\x13\0\0\0",
@@ -81,7 +81,7 @@ fn names_the_illegal_row(rt: HostRuntime) -> Result<(), Fail> {
     Ok(())
 }
 
-// A return to an address off the program, where an exception is taken.
+/// A return to an address off the program, where an exception is taken.
 #[test]
 fn takes_a_legal_log(rt: HostRuntime) -> Result<(), Fail> {
     let rows = "80000000,6,3,,\n4000,1,3,1,4000\n";
@@ -142,7 +142,7 @@ fn tells_each_log(rt: HostRuntime) -> Result<(), Fail> {
     Ok(())
 }
 
-// 1,024 logs are the most; the count is told after the base and before the image.
+/// 1,024 logs are the most; the count is told after the base and before the image.
 #[test]
 fn counts_the_logs(rt: HostRuntime) -> Result<(), Fail> {
     let mut logs = "".to_string(rt.alloc())?;

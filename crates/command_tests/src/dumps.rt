@@ -5,7 +5,7 @@ use std::test::Fail;
 
 const DUMP: Request<'static> = Request::Dump("log.capture");
 
-// An interrupt right after a return, of which the address is reported as a discontinuity's target.
+/// An interrupt right after a return, of which the address is reported as a discontinuity's target.
 #[test]
 fn dumps_a_capture(rt: HostRuntime) -> Result<(), Fail> {
     let capture = capture_of(
@@ -29,7 +29,7 @@ fn dumps_a_capture(rt: HostRuntime) -> Result<(), Fail> {
     Ok(())
 }
 
-// The line of the header comes first, and its mode names the address field, whatever the messages tell.
+/// The line of the header comes first, and its mode names the address field, whatever the messages tell.
 #[test]
 fn dumps_a_capture_with_a_header(rt: HostRuntime) -> Result<(), Fail> {
     let messages = capture_of(
@@ -60,7 +60,7 @@ fn dumps_a_capture_with_a_header(rt: HostRuntime) -> Result<(), Fail> {
     Ok(())
 }
 
-// Messages are dumped as they stand, whatever their harts and numbers.
+/// Messages are dumped as they stand, whatever their harts and numbers.
 #[test]
 fn dumps_each_kind(rt: HostRuntime) -> Result<(), Fail> {
     let capture = capture_of(
@@ -86,7 +86,7 @@ fn dumps_each_kind(rt: HostRuntime) -> Result<(), Fail> {
     Ok(())
 }
 
-// A payload that is no packet has its line, and the messages behind it have theirs; no error is told.
+/// A payload that is no packet has its line, and the messages behind it have theirs; no error is told.
 #[test]
 fn dumps_bad_payloads(rt: HostRuntime) -> Result<(), Fail> {
     let capture = capture_of(
@@ -107,7 +107,7 @@ fn dumps_bad_payloads(rt: HostRuntime) -> Result<(), Fail> {
     Ok(())
 }
 
-// No bytes are a capture; one that ends inside a message, or has no length, is told after its lines.
+/// No bytes are a capture; one that ends inside a message, or has no length, is told after its lines.
 #[test]
 fn stops_where_no_message_stands(rt: HostRuntime) -> Result<(), Fail> {
     let mut long = PAIR;

@@ -1,6 +1,6 @@
 //! Tests of `commands`: runs of the subcommands over files in memory, by tables.
 //!
-//! They stand in a crate of their own since a crate with tests is proved once more with them.
+//! They stand in a crate of their own: the gate proves a crate that has tests once more with them.
 #![tactic(auto)]
 
 #[cfg(test)]

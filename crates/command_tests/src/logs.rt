@@ -4,8 +4,8 @@ use super::table::{HEADER, NOP, Request, Table, tells};
 use std::alloc::{AllocError, Global};
 use std::test::Fail;
 
-// The files of one log under a header, beside an image of three words: `nop`, `nop` and a jump to
-// itself.
+/// The files of one log under a header, beside an image of three words: `nop`, `nop` and a jump to
+/// itself.
 fn files_of(alloc: Global, rows: &str) -> Result<Table, AllocError> {
     let mut log = HEADER.to_string(alloc)?;
     log.push_str(rows)?;
@@ -73,7 +73,7 @@ fn names_the_file(rt: HostRuntime) -> Result<(), Fail> {
     Ok(())
 }
 
-// The second of two logs is refused, and nothing of the first is written.
+/// The second of two logs is refused, and nothing of the first is written.
 #[test]
 fn writes_nothing_of_refused_logs(rt: HostRuntime) -> Result<(), Fail> {
     let mut files = files_of(rt.alloc(), "80000000,0,3,,\n")?;

@@ -24,7 +24,7 @@ const LOSSY: Request<'static> = Request::Lossy("80000000", 1, "image.bin", "log.
 
 const UNCLOSED: &str = "tracebench: hart 0: no closing packet\n";
 
-// The files of the image and a capture.
+/// The files of the image and a capture.
 fn files_of(alloc: Global, capture: &[u8]) -> Result<Table, AllocError> {
     let mut files = Table::new(alloc);
     files.add("image.bin", NOPS)?;
@@ -43,7 +43,7 @@ fn left_of(alloc: Global, lost: &[u64]) -> Result<Vec<u8>, AllocError> {
     Ok(capture)
 }
 
-// The payloads are those of the log of the three words.
+/// The payloads are those of the log of the three words.
 #[test]
 fn has_five_messages(rt: HostRuntime) -> Result<(), Fail> {
     let mut files = files_of(rt.alloc(), &[])?;
@@ -57,7 +57,7 @@ fn has_five_messages(rt: HostRuntime) -> Result<(), Fail> {
     Ok(())
 }
 
-// Of five messages each is lost in turn, and three of them at once.
+/// Of five messages each is lost in turn, and three of them at once.
 #[test]
 fn tells_what_is_left(rt: HostRuntime) -> Result<(), Fail> {
     let all = "hart 0\nstretch: 3 events\naddr,itype,priv,cause,tval\n\
@@ -98,7 +98,7 @@ fn tells_what_is_left(rt: HostRuntime) -> Result<(), Fail> {
     Ok(())
 }
 
-// The lowest hart that is not closed is told, whatever gaps there are; the header counts the harts.
+/// The lowest hart that is not closed is told, whatever gaps there are; the header counts the harts.
 #[test]
 fn tells_the_lowest_open_hart(rt: HostRuntime) -> Result<(), Fail> {
     let mut capture = Vec::from_slice(rt.alloc(), START)?;
@@ -118,7 +118,7 @@ fn tells_the_lowest_open_hart(rt: HostRuntime) -> Result<(), Fail> {
     Ok(())
 }
 
-// Where the message that opens the trace is lost, the header tells what the address fields hold.
+/// Where the message that opens the trace is lost, the header tells what the address fields hold.
 #[test]
 fn takes_the_mode_of_the_header(rt: HostRuntime) -> Result<(), Fail> {
     let mut files = files_of(rt.alloc(), &[])?;
@@ -146,7 +146,7 @@ fn takes_the_mode_of_the_header(rt: HostRuntime) -> Result<(), Fail> {
     Ok(())
 }
 
-// At a fault nothing is written, whatever could be decoded before it.
+/// At a fault nothing is written, whatever could be decoded before it.
 #[test]
 fn writes_nothing_at_a_fault(rt: HostRuntime) -> Result<(), Fail> {
     let mut bad = Vec::from_slice(rt.alloc(), START)?;

@@ -40,7 +40,7 @@ impl Table {
 impl Files for Table {
     ghost content = { λ table path. content_in (map (λ row. (row.0.now, row.1.items)) table.rows.items) path };
 
-    // The path `full` is of a file that memory is refused for.
+    /// The path `full` is of a file that memory is refused for.
     fn read(&mut self, path: &str) -> Result<Vec<u8>, FileFault> {
         if path == "full" {
             return Err(FileFault::Memory);

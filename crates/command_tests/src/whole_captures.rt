@@ -27,7 +27,7 @@ const NONE: &str = "hart 0\naddr,itype,priv,cause,tval\n";
 
 const DECODE: Request<'static> = Request::Decode("80000000", 1, "image.bin", "log.capture");
 
-// The files of an image and a capture.
+/// The files of an image and a capture.
 fn files_of(alloc: Global, image: &[u8], capture: &[u8]) -> Result<Table, AllocError> {
     let mut files = Table::new(alloc);
     files.add("image.bin", image)?;
@@ -59,8 +59,8 @@ fn headed(alloc: Global, start: &[u8], messages: &[u8]) -> Result<Vec<u8>, Alloc
     Ok(capture)
 }
 
-// The capture of version 2, of 68 bytes, cut to each length: below 11 bytes it is no capture of version 2, and then a
-// cut header is told, as message 0.
+/// The capture of version 2, of 68 bytes, cut to each length: below 11 bytes it is no capture of version 2, and then a
+/// cut header is told, as message 0.
 #[test]
 fn reads_cut_captures_with_a_header(rt: HostRuntime) -> Result<(), Fail> {
     let capture = headed(rt.alloc(), &START, &WHOLE)?;
@@ -101,7 +101,7 @@ fn reads_cut_captures_with_a_header(rt: HostRuntime) -> Result<(), Fail> {
     Ok(())
 }
 
-// A header that is not valid is told, and so is a message that opens a trace in another mode.
+/// A header that is not valid is told, and so is a message that opens a trace in another mode.
 #[test]
 fn names_faults_of_a_header(rt: HostRuntime) -> Result<(), Fail> {
     let header = "tracebench: capture header is not valid\n";
@@ -138,7 +138,7 @@ fn names_faults_of_a_header(rt: HostRuntime) -> Result<(), Fail> {
     Ok(())
 }
 
-// The header tells how many harts there are, whatever the words say; of a faulty one the words do.
+/// The header tells how many harts there are, whatever the words say; of a faulty one the words do.
 #[test]
 fn counts_the_harts_of_a_header(rt: HostRuntime) -> Result<(), Fail> {
     let mut start = START;
@@ -159,8 +159,8 @@ fn counts_the_harts_of_a_header(rt: HostRuntime) -> Result<(), Fail> {
     Ok(())
 }
 
-// The capture, cut to each length: it is clean at the end of a message, and short elsewhere. The
-// address packet is not settled before the closing one.
+/// The capture, cut to each length: it is clean at the end of a message, and short elsewhere. The
+/// address packet is not settled before the closing one.
 #[test]
 fn decodes_cut_captures(rt: HostRuntime) -> Result<(), Fail> {
     for length in 0..53usize {
@@ -196,7 +196,7 @@ fn decodes_cut_captures(rt: HostRuntime) -> Result<(), Fail> {
     Ok(())
 }
 
-// Each capture is refused at one message, and what comes before is decoded.
+/// Each capture is refused at one message, and what comes before is decoded.
 #[test]
 fn names_the_refused_message(rt: HostRuntime) -> Result<(), Fail> {
     let cases: [(&[(u16, u64, &[u8])], &str, &str); 7] = [
@@ -245,8 +245,8 @@ fn names_the_refused_message(rt: HostRuntime) -> Result<(), Fail> {
     Ok(())
 }
 
-// The closing packet settles the address packet: a jump to itself would have been reported, and a
-// program of one word ends before.
+/// The closing packet settles the address packet: a jump to itself would have been reported, and a
+/// program of one word ends before.
 #[test]
 fn names_the_packet_of_another_program(rt: HostRuntime) -> Result<(), Fail> {
     let cases: [(&[u8], &str); 2] = [
@@ -275,7 +275,7 @@ fn names_a_bad_length(rt: HostRuntime) -> Result<(), Fail> {
     Ok(())
 }
 
-// The messages of two harts come in turns; the second is not closed, and the first fault is a third's.
+/// The messages of two harts come in turns; the second is not closed, and the first fault is a third's.
 #[test]
 fn parts_harts(rt: HostRuntime) -> Result<(), Fail> {
     let open: &[u8] = b"\x1f";
@@ -303,8 +303,8 @@ fn parts_harts(rt: HostRuntime) -> Result<(), Fail> {
     Ok(())
 }
 
-// A capture of 1,024 harts with no header, none of which retired anything, and the one of the same harts that ends
-// before the last closing packet.
+/// A capture of 1,024 harts with no header, none of which retired anything, and the one of the same harts that ends
+/// before the last closing packet.
 #[test]
 fn decodes_the_most_harts(rt: HostRuntime) -> Result<(), Fail> {
     let mut capture = Vec::new(rt.alloc());

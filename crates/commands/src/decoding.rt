@@ -30,8 +30,9 @@ use subcommands::Decode;
 /// done where its header, if it has one, is valid, no message is refused and each hart's closing packet came.
 ///
 /// Where messages may be missing, what is left of each hart's log is written instead: a line for each gap, and one
-/// before each stretch with its log. All is done then where no message is missing before one that came; a gap alone is
-/// no fault, and at a fault nothing is written.
+/// before each stretch with its log. All is done then where no message is missing before one that came and each hart's
+/// closing packet came; a gap alone is no fault. Where the capture is not read whole, a message is refused or its packet
+/// not decoded, nothing is written.
 pub fn decode<'a, F: Files, O: Write>(
     alloc: Global,
     files: &mut F,

@@ -12,8 +12,8 @@ use std::test::Fail;
 
 const BASE: u64 = 0x8000_0000;
 
-// Words, as the RISC-V Unprivileged ISA and the Privileged Architecture encode them; the jump and the
-// branch are to 8 bytes on.
+/// Words, as the RISC-V Unprivileged ISA and the Privileged Architecture encode them; the jump and the
+/// branch are to 8 bytes on.
 const NOP: u32 = 0x0000_0013;
 
 const JAL: u32 = 0x0080_006f;

@@ -1,7 +1,7 @@
 //! Tests of what stands below the packets: the words of programs (`rvclass`), logs read and written (`retire`), which
 //! logs are legal (`legalpath`), and schedules (`schedule`).
 //!
-//! A crate with no tests of its own is proved once less in the gate.
+//! They stand in a crate of their own: the gate proves a crate that has tests once more with them.
 #![tactic(auto)]
 
 #[cfg(test)]

@@ -12,7 +12,7 @@ use std::alloc::{AllocError, Global};
 
 const HEADER: &str = "addr,itype,priv,cause,tval\n";
 
-// The text of a log of so many retirements at one address.
+/// The text of a log of so many retirements at one address.
 fn text_of_rows(alloc: Global, rows: usize) -> Result<Vec<u8>, AllocError> {
     let mut text = Vec::new(alloc);
     text.extend_from_slice(HEADER.as_bytes())?;

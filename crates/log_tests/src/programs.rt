@@ -290,7 +290,7 @@ fn each_word_alone(rt: HostRuntime) -> Result<(), Fail> {
     Ok(())
 }
 
-// Images.
+/// Images.
 const NOP: &[u8] = &[0x13, 0, 0, 0];
 
 const NOP_AND_A_BYTE: &[u8] = &[0x13, 0, 0, 0, 0x01];

@@ -17,7 +17,7 @@ const ENDED: &[u8] = &[0x4f];
 const RESERVED: &[u8] = &[0x53];
 
 /// Messages in order: hart, number, payload, whether it is accepted and else why not.
-const TABLE: [(u16, u64, &[u8], Option<DemuxFault>); 18] = [
+const MESSAGES: [(u16, u64, &[u8], Option<DemuxFault>); 18] = [
     (0, 1, OPEN, Some(DemuxFault::Gap { expected: 0 })),
     (0, 0, OPEN, None),
     (0, 0, OPEN, Some(DemuxFault::Repeat)),
@@ -43,6 +43,7 @@ const TABLE: [(u16, u64, &[u8], Option<DemuxFault>); 18] = [
     (1, 1, ENDED, None),
 ];
 
+/// Whether a message is accepted, or refused, as its row says.
 fn is_told(demux: &mut Demux, row: (u16, u64, &[u8], Option<DemuxFault>)) -> Result<bool, Fail> {
     let (hart, number, bytes, fault) = row;
     let want = match fault {
@@ -55,7 +56,7 @@ fn is_told(demux: &mut Demux, row: (u16, u64, &[u8], Option<DemuxFault>)) -> Res
 #[test]
 fn messages_by_table(rt: HostRuntime) -> Result<(), Fail> {
     let mut demux = Demux::new(rt.alloc(), 2)?;
-    for (place, row) in TABLE.iter().enumerate() {
+    for (place, row) in MESSAGES.iter().enumerate() {
         let told = is_told(&mut demux, *row)?;
         let closed = [
             demux.is_closed(0),
@@ -125,7 +126,7 @@ fn messages_after_losses_by_table(rt: HostRuntime) -> Result<(), Fail> {
     Ok(())
 }
 
-// Without losses both calls answer the same, and one may be called after the other.
+/// Without losses both calls answer the same, and one may be called after the other.
 #[test]
 fn next_messages_of_both_calls(rt: HostRuntime) -> Result<(), Fail> {
     let mut demux = Demux::new(rt.alloc(), 1)?;

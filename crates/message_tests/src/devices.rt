@@ -8,10 +8,10 @@ use std::io;
 use std::io::{ErrorKind, Read, Write};
 use std::test::Fail;
 
-// The bytes of a message.
+/// The bytes of a message.
 const WHOLE: [u8; 16] = [7, 0, 9, 0, 0, 0, 0, 0, 0, 0, 5, 0x73, 0, 0, 0, 0x20];
 
-// A header, and what it tells.
+/// A header, and what it tells.
 const HEADER: [u8; 16] = [
     0xff, 0xff, 0x72, 0x76, 0x74, 0x72, 0x61, 0x63, 0x65, 0x32, 0, 1, 0x34, 0x12, 0x21, 0x03,
 ];
@@ -22,7 +22,7 @@ const TOLD: Header = Header {
     harts: 0x0321,
 };
 
-// A reader of some bytes, one a call, that answers an error at one call.
+/// A reader of some bytes, one a call, that answers an error at one call.
 #[derive(Drop)]
 struct FailingReader<'a> {
     rest: &'a [u8],
@@ -98,7 +98,7 @@ fn cut_is_short_one_byte_a_call(rt: HostRuntime) -> Result<(), Fail> {
     Ok(())
 }
 
-// A writer that keeps what it takes, one byte a call, and fails once its calls are used up.
+/// A writer that keeps what it takes, one byte a call, and fails once its calls are used up.
 #[derive(Drop)]
 struct FailingWriter {
     held: Vec<u8>,

@@ -1,6 +1,6 @@
 //! Tests of `message` against values from outside: worked captures, devices that fail, memory that is refused.
 //!
-//! They stand in a crate of their own since a crate with tests is proved once more with them.
+//! They stand in a crate of their own: the gate proves a crate that has tests once more with them.
 #![tactic(auto)]
 
 #[cfg(test)]

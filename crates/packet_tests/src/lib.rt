@@ -1,6 +1,6 @@
 //! Tests of packets: their bits (`payload`), and which packets a log has (`encoder`).
 //!
-//! A crate with no tests of its own is proved once less in the gate.
+//! They stand in a crate of their own: the gate proves a crate that has tests once more with them.
 #![tactic(auto)]
 
 #[cfg(test)]

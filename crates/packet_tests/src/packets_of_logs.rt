@@ -14,25 +14,25 @@ use std::test::Fail;
 
 const BASE: u64 = 0x8000_0000;
 
-// Words, as the RISC-V Unprivileged ISA and the Privileged Architecture encode them.
+/// Words, as the RISC-V Unprivileged ISA and the Privileged Architecture encode them.
 const NOP: u32 = 0x0000_0013;
 
 const ECALL: u32 = 0x0000_0073;
 
 const MRET: u32 = 0x3020_0073;
 
-// A return to the address in ra.
+/// A return to the address in ra.
 const RET: u32 = 0x0000_8067;
 
-// A jump to itself.
+/// A jump to itself.
 const JAL: u32 = 0x0000_006f;
 
-// A branch to itself, and one to 8 bytes on.
+/// A branch to itself, and one to 8 bytes on.
 const BEQ: u32 = 0x0000_0063;
 
 const BEQ_8: u32 = 0x0000_0463;
 
-// The program of these words, from the base on.
+/// The program of these words, from the base on.
 fn program_of(alloc: Global, words: &[u32]) -> Result<Program, Fail> {
     let mut bytes = Vec::new(alloc);
     for word in words {
@@ -41,7 +41,7 @@ fn program_of(alloc: Global, words: &[u32]) -> Result<Program, Fail> {
     Ok(Program::new(BASE, bytes)?)
 }
 
-// A retirement so far from the base, at this privilege.
+/// A retirement so far from the base, at this privilege.
 fn at(offset: u64, itype: u8, privilege: u8) -> Event {
     Event::Retire {
         addr: BASE.wrapping_add(offset),
@@ -50,7 +50,7 @@ fn at(offset: u64, itype: u8, privilege: u8) -> Event {
     }
 }
 
-// A trap taken from machine level.
+/// A trap taken from machine level.
 fn trap(epc: u64, interrupt: bool, cause: u8, tval: u64) -> Event {
     Event::Trap {
         epc,
@@ -61,7 +61,7 @@ fn trap(epc: u64, interrupt: bool, cause: u8, tval: u64) -> Event {
     }
 }
 
-// The packets of a log.
+/// The packets of a log.
 fn packets_of(
     alloc: Global,
     program: &Program,
@@ -82,7 +82,7 @@ fn packets_of(
     Ok(packets)
 }
 
-// The payloads of packets, all of which are of the profile.
+/// The payloads of packets, all of which are of the profile.
 fn payloads_of(alloc: Global, packets: &[Packet]) -> Result<Vec<Payload>, Fail> {
     let mut payloads = Vec::new(alloc);
     for packet in packets {
@@ -94,7 +94,7 @@ fn payloads_of(alloc: Global, packets: &[Packet]) -> Result<Vec<Payload>, Fail> 
     Ok(payloads)
 }
 
-// The legal log of these events.
+/// The legal log of these events.
 fn legal_log<'p>(
     alloc: Global,
     program: &'p Program,
@@ -109,7 +109,7 @@ fn legal_log<'p>(
     }
 }
 
-// The payloads that a source gives, which gives none behind them.
+/// The payloads that a source gives, which gives none behind them.
 fn sourced(
     alloc: Global,
     log: &LegalLog<'_>,
@@ -133,12 +133,12 @@ fn sourced(
     Ok(payloads)
 }
 
-// The payload that a source gives next.
+/// The payload that a source gives next.
 fn next_of(source: &mut Source<'_, '_>) -> Option<Payload> {
     source.next()
 }
 
-// Adds the payload that a source gives next, if it gives one.
+/// Adds the payload that a source gives next, if it gives one.
 fn take_next(source: &mut Source<'_, '_>, payloads: &mut Vec<Payload>) -> Result<(), AllocError> {
     if let Some(payload) = next_of(source) {
         payloads.push(payload)?;

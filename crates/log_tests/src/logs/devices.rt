@@ -7,7 +7,7 @@ use std::io;
 use std::io::{ErrorKind, Read, Write};
 use std::test::Fail;
 
-// A reader of a text, so many bytes a call, that fails once its calls are used up.
+/// A reader of a text, so many bytes a call, that fails once its calls are used up.
 #[derive(Drop)]
 struct FailingReader<'a> {
     rest: &'a [u8],
@@ -26,7 +26,7 @@ impl Read for FailingReader<'_> {
     }
 }
 
-// How many events are read of a text, so many bytes a call, by a reader that fails after so many calls.
+/// How many events are read of a text, so many bytes a call, by a reader that fails after so many calls.
 fn read_failing(alloc: Global, rest: &[u8], most: usize, calls: usize) -> Result<usize, LogFault> {
     let source = FailingReader { rest, most, calls };
     match read_log(alloc, alloc, source) {
@@ -55,7 +55,7 @@ fn reader_fails_at_each_call(rt: HostRuntime) -> Result<(), Fail> {
     Ok(())
 }
 
-// A writer that keeps what it takes, so many bytes a call, and fails once its calls are used up.
+/// A writer that keeps what it takes, so many bytes a call, and fails once its calls are used up.
 #[derive(Drop)]
 struct FailingWriter {
     held: Vec<u8>,
@@ -79,7 +79,7 @@ impl Write for FailingWriter {
     }
 }
 
-// How a log is written, so many bytes a call, to a writer that fails after so many calls, and what the writer holds.
+/// How a log is written, so many bytes a call, to a writer that fails after so many calls, and what the writer holds.
 fn write_failing(
     alloc: Global,
     events: &[Event],

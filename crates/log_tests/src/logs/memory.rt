@@ -6,7 +6,7 @@ use retire::{Event, LogFault, WriteFault, read_log, write_log};
 use std::alloc::Global;
 use std::test::Fail;
 
-// How many events are read of a text where their list has so much memory, and how much of it is held behind that.
+/// How many events are read of a text where their list has so much memory, and how much of it is held behind that.
 fn read_within(
     alloc: Global,
     text: &[u8],
@@ -39,8 +39,8 @@ fn list_is_refused(rt: HostRuntime) -> Result<(), Fail> {
     Ok(())
 }
 
-// How events are written where their text has so much memory, how long what is written is, and how much memory is held
-// behind that.
+/// How events are written where their text has so much memory, how long what is written is, and how much memory is held
+/// behind that.
 fn write_within(
     alloc: Global,
     events: &[Event],

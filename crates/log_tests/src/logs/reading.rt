@@ -39,7 +39,7 @@ const EXCEPTION: Event = Event::Trap {
     tval: 0xff,
 };
 
-// Whether a log of one row was read so.
+/// Whether a log of one row was read so.
 fn is_row(read: Result<Vec<Event>, LogFault>, want: Result<Event, LogFault>) -> bool {
     match read {
         Ok(events) => events.len() == 1 && events.first().copied() == want.ok(),
@@ -47,7 +47,7 @@ fn is_row(read: Result<Vec<Event>, LogFault>, want: Result<Event, LogFault>) -> 
     }
 }
 
-// How many events were read.
+/// How many events were read.
 fn count_of(read: Result<Vec<Event>, LogFault>) -> Result<usize, LogFault> {
     match read {
         Ok(events) => Ok(events.len()),
@@ -55,7 +55,7 @@ fn count_of(read: Result<Vec<Event>, LogFault>) -> Result<usize, LogFault> {
     }
 }
 
-// A row behind the header, and how it is read.
+/// A row behind the header, and how it is read.
 const ROWS: [(&str, Result<Event, LogFault>); 42] = [
     ("80000000,0,3,,", Ok(RETIRED)),
     ("80000000,0,3,,\r", Ok(RETIRED)),
@@ -101,12 +101,12 @@ const ROWS: [(&str, Result<Event, LogFault>); 42] = [
     ("80000000,2,3,7,1", Err(LogFault::InterruptValue(1))),
 ];
 
-// The text of a log of one row.
+/// The text of a log of one row.
 fn text_of_row(alloc: Global, row: &str) -> Result<String, AllocError> {
     format!(in alloc; "{HEADER}{row}\n")
 }
 
-// Whether a text is read as a log of one row, from a reader and from memory.
+/// Whether a text is read as a log of one row, from a reader and from memory.
 fn reads_row(alloc: Global, text: &str, want: Result<Event, LogFault>) -> (bool, bool) {
     let read = read_log(alloc, alloc, text.as_bytes());
     let in_memory = read_log_from_slice(alloc, alloc, text.as_bytes());
@@ -124,7 +124,7 @@ fn one_row(rt: HostRuntime) -> Result<(), Fail> {
     Ok(())
 }
 
-// A text, and how many events are read of it.
+/// A text, and how many events are read of it.
 const TEXTS: [(&str, Result<usize, LogFault>); 20] = [
     ("", Err(LogFault::Header)),
     ("\n\n", Err(LogFault::Header)),
@@ -166,7 +166,7 @@ const TEXTS: [(&str, Result<usize, LogFault>); 20] = [
     ),
 ];
 
-// Whether so many events are read of a text, from a reader and from memory.
+/// Whether so many events are read of a text, from a reader and from memory.
 fn reads_text(alloc: Global, text: &str, want: Result<usize, LogFault>) -> (bool, bool) {
     let read = read_log(alloc, alloc, text.as_bytes());
     let in_memory = read_log_from_slice(alloc, alloc, text.as_bytes());

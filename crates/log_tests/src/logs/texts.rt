@@ -4,10 +4,10 @@ use retire::{LogFault, read_log, read_log_from_slice};
 use std::alloc::{AllocError, Global};
 use std::test::Fail;
 
-// How many texts are read.
+/// How many texts are read.
 const TEXTS: u32 = 100_000;
 
-// The header's line, and others.
+/// The header's line, and others.
 const HEADERS: [&[u8]; 8] = [
     b"addr,itype,priv,cause,tval\n",
     b"addr,itype,priv,cause,tval\r\n",
@@ -19,7 +19,7 @@ const HEADERS: [&[u8]; 8] = [
     b"",
 ];
 
-// Rows with no fault and no quote.
+/// Rows with no fault and no quote.
 const ROWS: [&[u8]; 12] = [
     b"80000000,0,3,,",
     b"80000004,5,3,,",
@@ -35,7 +35,7 @@ const ROWS: [&[u8]; 12] = [
     b"123456789abcdef0,0,0,,",
 ];
 
-// Rows with a fault, or that are told otherwise.
+/// Rows with a fault, or that are told otherwise.
 const OTHERS: [&[u8]; 24] = [
     b"\"80000000\",0,3,,\"\"",
     b"80000000,\"0\"\"\",3,,",
@@ -63,22 +63,22 @@ const OTHERS: [&[u8]; 24] = [
     b"addr,itype,priv,cause,tval",
 ];
 
-// Ends of lines.
+/// Ends of lines.
 const ENDS: [&[u8]; 8] = [
     b"\n", b"\r\n", b"\n", b"\r\n", b"\r", b"\n\n", b"\r\r\n", b"",
 ];
 
-// Bytes that take another's place.
+/// Bytes that take another's place.
 const BYTES: &[u8] = b",;\"\r\n0x7gG \xff\xef";
 
-// Numbers with no order that matters, each from the one before.
+/// Numbers with no order that matters, each from the one before.
 #[derive(Clone, Copy)]
 struct Draws {
     state: u64,
 }
 
 impl Draws {
-    // A number below another, or 0 where that is 0.
+    /// A number below another, or 0 where that is 0.
     fn below(&mut self, most: usize) -> usize {
         self.state = self
             .state
@@ -87,7 +87,7 @@ impl Draws {
         (self.state >> 33) as usize % most.max(1)
     }
 
-    // One of several texts, the earlier ones of a longer list more often.
+    /// One of several texts, the earlier ones of a longer list more often.
     fn one<'a>(&mut self, texts: &[&'a [u8]]) -> &'a [u8] {
         let most = if self.below(2) == 0 { 2 } else { texts.len() };
         let place = self.below(most);
@@ -97,7 +97,7 @@ impl Draws {
         }
     }
 
-    // A text of a header and some rows, of which a byte may be another.
+    /// A text of a header and some rows, of which a byte may be another.
     fn text(&mut self, text: &mut Vec<u8>) -> Result<(), AllocError> {
         text.clear();
         text.extend_from_slice(self.one(&HEADERS))?;
@@ -122,7 +122,7 @@ impl Draws {
     }
 }
 
-// Whether a text is read alike from a reader and from memory, and whether it is a log.
+/// Whether a text is read alike from a reader and from memory, and whether it is a log.
 fn is_alike(alloc: Global, text: &[u8]) -> (bool, bool) {
     match (
         read_log(alloc, alloc, text),

@@ -9,7 +9,7 @@ use rvclass::Program;
 use std::alloc::Global;
 use std::test::Fail;
 
-// The words of the program.
+/// The words of the program.
 const WORDS: [u32; 15] = [
     0x0000_0013, // 0: nop
     0x0000_0263, // 4: branch to the next word
@@ -28,7 +28,7 @@ const WORDS: [u32; 15] = [
     0x1000_006f, // 56: jump behind the program
 ];
 
-// Offsets at which events are tried, each with the type of a retirement there.
+/// Offsets at which events are tried, each with the type of a retirement there.
 const PLACES: [(u64, u8); 22] = [
     (0, 0),
     (4, 4),
@@ -54,15 +54,15 @@ const PLACES: [(u64, u8); 22] = [
     (312, 0),
 ];
 
-// Those of a loop of two branches that is not left.
+/// Those of a loop of two branches that is not left.
 const LOOP: [(u64, u8); 3] = [(4, 4), (4, 5), (8, 5)];
 
-// The program that the logs are of.
+/// The program that the logs are of.
 pub(super) fn drawn_program(alloc: Global) -> Result<Program, Fail> {
     program_of(alloc, &WORDS)
 }
 
-// Draws logs of a program by pseudo-random numbers, those of a linear congruential generator.
+/// Draws logs of a program by pseudo-random numbers, those of a linear congruential generator.
 #[derive(Drop)]
 pub(super) struct Draws<'p> {
     pub(super) alloc: Global,
@@ -71,7 +71,7 @@ pub(super) struct Draws<'p> {
 }
 
 impl Draws<'_> {
-    // A number below this one, where it is not 0.
+    /// A number below this one, where it is not 0.
     pub(super) fn below(&mut self, bound: usize) -> usize
         ensures { 0 < bound → result < bound }
     {
@@ -82,7 +82,7 @@ impl Draws<'_> {
         (self.state >> 33) as usize % bound.max(1)
     }
 
-    // A log of up to 12 events.
+    /// A log of up to 12 events.
     pub(super) fn short_log(&mut self) -> Result<Vec<Event>, Fail> {
         let mut log = Vec::new(self.alloc);
         let count = self.below(13);
@@ -90,7 +90,7 @@ impl Draws<'_> {
         Ok(log)
     }
 
-    // A log with about 31 or 62 branches in a row.
+    /// A log with about 31 or 62 branches in a row.
     pub(super) fn long_log(&mut self) -> Result<Vec<Event>, Fail> {
         let mut log = Vec::new(self.alloc);
         let before = self.below(5);
@@ -102,7 +102,7 @@ impl Draws<'_> {
         Ok(log)
     }
 
-    // Adds up to so many events at these places to a log, one in so many of them a trap.
+    /// Adds up to so many events at these places to a log, one in so many of them a trap.
     fn extend(
         &mut self,
         log: &mut Vec<Event>,
@@ -119,7 +119,7 @@ impl Draws<'_> {
         Ok(())
     }
 
-    // A trap, or else a retirement, at one of these places, with which the log is legal.
+    /// A trap, or else a retirement, at one of these places, with which the log is legal.
     fn event(
         &mut self,
         log: &[Event],
@@ -148,7 +148,7 @@ impl Draws<'_> {
         Ok(legal.get(drawn).copied())
     }
 
-    // An exception or an interrupt.
+    /// An exception or an interrupt.
     fn trap(&mut self, epc: u64, privilege: u8) -> Event {
         let interrupt = self.below(2) == 0;
         let tval = if interrupt { 0 } else { self.state };
@@ -162,7 +162,7 @@ impl Draws<'_> {
     }
 }
 
-// Whether an event may follow a legal log: it is enough that it may follow the last event.
+/// Whether an event may follow a legal log: it is enough that it may follow the last event.
 fn may_follow(program: &Program, log: &[Event], event: Event) -> bool {
     match log.last() {
         Some(last) => check(program, [*last, event].as_slice()).is_ok(),

@@ -11,13 +11,13 @@ use rvclass::{Class, Program};
 use std::alloc::Global;
 use std::test::Fail;
 
-// The periods of which one is drawn for a short log, and for one with many branches in a row.
+/// The periods of which one is drawn for a short log, and for one with many branches in a row.
 const SHORT_PERIODS: [u16; 4] = [1, 2, 3, 1024];
 
 const LONG_PERIODS: [u16; 4] = [32, 33, 64, 1024];
 
-// The rules that report an event for its own sake, in the order in which they are tried. Full maps are found by
-// counting the branches between two such events.
+/// The rules that report an event for its own sake, in the order in which they are tried. Full maps are found by
+/// counting the branches between two such events.
 #[derive(Clone, Copy)]
 enum Rule {
     Trap,
@@ -28,7 +28,7 @@ enum Rule {
     Notify,
 }
 
-// A log, the program that ran, the period of the syncs, and the mode.
+/// A log, the program that ran, the period of the syncs, and the mode.
 #[derive(Clone, Copy)]
 struct Reading<'a> {
     program: &'a Program,
@@ -38,7 +38,7 @@ struct Reading<'a> {
 }
 
 impl Reading<'_> {
-    // The event before a position.
+    /// The event before a position.
     fn before(&self, i: usize) -> Option<Event> {
         if i == 0 {
             return None;
@@ -46,12 +46,12 @@ impl Reading<'_> {
         self.log.get(i - 1).copied()
     }
 
-    // The event after a position.
+    /// The event after a position.
     fn after(&self, i: usize) -> Option<Event> {
         self.log.get(i.saturating_add(1)).copied()
     }
 
-    // Whether the event before a position is a retirement that leads anywhere.
+    /// Whether the event before a position is a retirement that leads anywhere.
     fn follows_discontinuity(&self, i: usize) -> bool {
         match self.before(i) {
             Some(Event::Retire { addr, .. }) => matches!(
@@ -62,7 +62,7 @@ impl Reading<'_> {
         }
     }
 
-    // Whether a trap stands at a position, whose packet tells where its handler begins.
+    /// Whether a trap stands at a position, whose packet tells where its handler begins.
     fn tells_handler(&self, i: usize) -> bool {
         matches!(self.before(i), Some(Event::Retire { .. }))
             && !self.follows_discontinuity(i)
@@ -74,12 +74,12 @@ impl Reading<'_> {
         matches!(self.log.get(i), Some(Event::Trap { .. }))
     }
 
-    // Whether the packet of the trap before a position reports the retirement there.
+    /// Whether the packet of the trap before a position reports the retirement there.
     fn is_handler(&self, i: usize) -> bool {
         i > 0 && self.tells_handler(i - 1)
     }
 
-    // How many retirements stand before a position.
+    /// How many retirements stand before a position.
     fn number(&self, i: usize) -> u64 {
         let mut number: u64 = 0;
         for event in self.log.iter().take(i) {
@@ -90,7 +90,7 @@ impl Reading<'_> {
         number
     }
 
-    // Whether a retirement stands at a position that is reported by a sync.
+    /// Whether a retirement stands at a position that is reported by a sync.
     fn is_sync(&self, i: usize) -> bool {
         let Some(Event::Retire { privilege, .. }) = self.log.get(i).copied() else {
             return false;
@@ -109,12 +109,12 @@ impl Reading<'_> {
         }
     }
 
-    // Whether a trap or a sync stands at a position.
+    /// Whether a trap or a sync stands at a position.
     fn is_cut(&self, i: usize) -> bool {
         self.is_trap(i) || self.is_sync(i)
     }
 
-    // Whether a jump stands at a position that does not lead forward.
+    /// Whether a jump stands at a position that does not lead forward.
     fn is_backward_jump(&self, i: usize) -> bool {
         match self.log.get(i).copied() {
             Some(Event::Retire { addr, .. }) => match self.program.at(addr) {
@@ -125,7 +125,7 @@ impl Reading<'_> {
         }
     }
 
-    // The first rule that applies at a position.
+    /// The first rule that applies at a position.
     fn rule(&self, i: usize) -> Option<Rule> {
         let next = i.saturating_add(1);
         let tried = [
@@ -144,7 +144,7 @@ impl Reading<'_> {
         None
     }
 
-    // The rules of all positions.
+    /// The rules of all positions.
     fn rules(&self, alloc: Global) -> Result<Vec<Option<Rule>>, Fail> {
         let mut rules = Vec::new(alloc);
         for i in 0..self.log.len() {
@@ -153,7 +153,7 @@ impl Reading<'_> {
         Ok(rules)
     }
 
-    // The address that the packets before a position reported last.
+    /// The address that the packets before a position reported last.
     fn reported(&self, rules: &[Option<Rule>], i: usize) -> u64 {
         let mut reported = 0;
         for (j, (event, rule)) in self.log.iter().zip(rules.iter()).take(i).enumerate() {
@@ -168,7 +168,7 @@ impl Reading<'_> {
         reported
     }
 
-    // The outcomes of the branches after the last event that a rule reports before a position, up to there.
+    /// The outcomes of the branches after the last event that a rule reports before a position, up to there.
     fn outcomes(&self, alloc: Global, rules: &[Option<Rule>], i: usize) -> Result<Vec<bool>, Fail> {
         let mut outcomes = Vec::new(alloc);
         for (event, rule) in self.log.iter().zip(rules.iter()).take(i) {
@@ -181,7 +181,7 @@ impl Reading<'_> {
         Ok(outcomes)
     }
 
-    // The packet of the trap at a position.
+    /// The packet of the trap at a position.
     fn trap(&self, i: usize) -> Option<Packet> {
         let Some(
             Event::Trap {
@@ -211,7 +211,7 @@ impl Reading<'_> {
         })
     }
 
-    // The packet that a rule gives of the event at a position, with these outcomes.
+    /// The packet that a rule gives of the event at a position, with these outcomes.
     fn packet(
         &self,
         rules: &[Option<Rule>],
@@ -247,8 +247,8 @@ impl Reading<'_> {
         })
     }
 
-    // Adds the packets up to the event at a position, by its rule: a map for each 31 branches since the last event
-    // that a rule reports, and its own.
+    /// Adds the packets up to the event at a position, by its rule: a map for each 31 branches since the last event
+    /// that a rule reports, and its own.
     fn add_packets(
         &self,
         alloc: Global,
@@ -277,7 +277,7 @@ impl Reading<'_> {
         Ok(())
     }
 
-    // The packets of the log.
+    /// The packets of the log.
     fn packets(&self, alloc: Global) -> Result<Vec<Packet>, Fail> {
         let rules = self.rules(alloc)?;
         let mut packets = vec![in alloc; Packet::Support(Support::Open(self.mode))]?;
@@ -295,7 +295,7 @@ impl Reading<'_> {
     }
 }
 
-// The outcome of an event that is a branch.
+/// The outcome of an event that is a branch.
 fn outcome_of(event: Event) -> Option<bool> {
     let taken = event.is_taken();
     event.is_branch().then_some(taken)

@@ -10,7 +10,7 @@ use retire::Event;
 use std::alloc::{AllocError, Global};
 use std::test::Fail;
 
-// The packets that begin and end most logs.
+/// The packets that begin and end most logs.
 const OPEN: &[u8] = &[0x1f];
 
 const OPEN_FULL: &[u8] = &[0x1f, 0x01];
@@ -23,7 +23,7 @@ const ENDED_REP: &[u8] = &[0x4f];
 
 const ENDED_NTR: &[u8] = &[0xcf, 0];
 
-// Whether payloads have these bytes.
+/// Whether payloads have these bytes.
 fn are_payloads(payloads: &[Payload], want: &[&[u8]]) -> bool {
     let mut same = payloads.len() == want.len();
     for (payload, bytes) in payloads.iter().zip(want.iter()) {
@@ -32,15 +32,15 @@ fn are_payloads(payloads: &[Payload], want: &[&[u8]]) -> bool {
     same
 }
 
-// An event: a retirement so far from the base, with its type and privilege; or a trap at an address, taken from machine
-// level, whether it is an interrupt, its cause and its value.
+/// An event: a retirement so far from the base, with its type and privilege; or a trap at an address, taken from machine
+/// level, whether it is an interrupt, its cause and its value.
 #[derive(Clone, Copy)]
 enum Step {
     Retires(u64, u8, u8),
     Traps(u64, bool, u8, u64),
 }
 
-// The events of a log.
+/// The events of a log.
 fn log_of(alloc: Global, steps: &[Step]) -> Result<Vec<Event>, AllocError> {
     let mut log = Vec::new(alloc);
     for step in steps {
@@ -52,7 +52,7 @@ fn log_of(alloc: Global, steps: &[Step]) -> Result<Vec<Event>, AllocError> {
     Ok(log)
 }
 
-// The words of a program, a period, a mode, a log and its payloads.
+/// The words of a program, a period, a mode, a log and its payloads.
 type Row = (
     &'static [u32],
     u16,
@@ -61,7 +61,7 @@ type Row = (
     &'static [&'static [u8]],
 );
 
-// An ECALL, and its handler 100 bytes behind the base.
+/// An ECALL, and its handler 100 bytes behind the base.
 const FAR: [u32; 65] = [
     NOP, ECALL, 0, 0, 0, 0, 0, 0, 0, 0, 0, 0, 0, 0, 0, 0, 0, 0, 0, 0, 0, 0, 0, 0, 0, 0, 0, 0, 0, 0,
     0, 0, 0, 0, 0, 0, 0, 0, 0, 0, 0, 0, 0, 0, 0, 0, 0, 0, 0, 0, 0, 0, 0, 0, 0, 0, 0, 0, 0, 0, 0, 0,
@@ -260,7 +260,7 @@ const ROWS: [Row; 20] = [
     ),
 ];
 
-// Whether an encoder, and whether a source, gives the payloads of a row.
+/// Whether an encoder, and whether a source, gives the payloads of a row.
 fn gives_payloads(alloc: Global, row: &Row) -> Result<(bool, bool), Fail> {
     let (words, period, mode, steps, want) = *row;
     let log = log_of(alloc, steps)?;
