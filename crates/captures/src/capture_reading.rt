@@ -1,14 +1,16 @@
 //! From the bytes of a capture to all of its messages.
 
-ghost use Rattle.std.specs.Prelude.{◌≡◌, IfErr, IfOk, List, Option};
+ghost use Rattle.std.specs.Prelude.{◌≡◌, IfErr, IfOk, List, Option, Some};
 ghost use Rattle.message.specs.declared.header.Header.{Header as AnyHeader};
 ghost use Rattle.message.specs.declared.message.Message.{Message as AnyMessage};
+ghost use Rattle.captures.specs.FaultText.{read_fault_text};
 ghost use Rattle.captures.specs.Whole.{IsReadFault, IsWhole};
 ghost use Rattle.captures.specs.steps.Reading.{AreRead, IsNotRead};
 
 use message::{Header, Message, MessageFault, Messages};
 use std::alloc::{Allocator, Global};
-use thiserror::Error;
+use std::error::Error;
+use std::fmt;
 
 /// All that a capture holds.
 #[derive(Debug, Drop)]
@@ -20,15 +22,26 @@ pub struct WholeCapture<A: Allocator = Global> {
 }
 
 /// Why a capture is not read whole.
-#[derive(Clone, Copy, Debug, PartialEq, Eq, Error)]
+#[derive(Clone, Copy, Debug, PartialEq, Eq)]
 pub enum ReadFault {
     /// Behind so many messages no whole message stands; behind none of them also where the header is cut short or bad.
-    #[error("{1}")]
     Message(u64, MessageFault),
     /// Memory was refused.
-    #[error("out of memory")]
     Memory,
 }
+
+impl fmt::Display for ReadFault {
+    ghost output = { λ fault. Some (read_fault_text fault) };
+
+    fn fmt<W: fmt::Write>(&self, f: &mut fmt::Formatter<W>) -> fmt::Result {
+        match *self {
+            ReadFault::Message(_, fault) => write!(f, "{fault}"),
+            ReadFault::Memory => f.write_str("out of memory"),
+        }
+    }
+}
+
+impl Error for ReadFault {}
 
 /// Reads all messages of a capture, of either version, and the header where it has one.
 ///

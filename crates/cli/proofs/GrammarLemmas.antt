@@ -3,7 +3,8 @@ use Rattle.std.proofs.Common.{◌∙◌, ap, ap₂, ◌||◌}
 use Rattle.clap.specs.Words.{AddsArg, AddsSubcommand, App, Rule, with_rule, with_subcommand}
 use Rattle.clap.specs.declared.builder.arg.Arg.{Arg}
 use Rattle.clap.specs.declared.builder.command.Command.{Command}
-use Rattle.cli.specs.Grammar.{HasGrammar, IsReadBy}
+use Rattle.arguments.specs.Rules.{IsReadBy}
+use Rattle.cli.specs.Grammar.{HasGrammar}
 
 -- One more argument.
 pub adds_rule : (old : Command) (a : Arg) (new : Command) (app : App) (rule : Rule)

@@ -1,114 +1,12 @@
 -- The words that the program takes, in clap's own terms.
-use Rattle.std.specs.Prelude.{◌≡◌, ◌⊎◌, codes, pos, [], ◌∷◌, Some, true, false}
-use Rattle.clap.specs.Words.{App, Rule, Text, app_of, new_app, new_rule, rule_of}
+use Rattle.std.specs.Prelude.{◌≡◌, ◌⊎◌, codes, true, false}
+use Rattle.clap.specs.Words.{App, Text, app_of, new_app}
 use Rattle.clap.specs.Words.{with_rule, with_subcommand}
-use Rattle.clap.specs.Lexer.{usize_max}
 use Rattle.clap.specs.Simple.{on_top}
-use Rattle.clap.specs.declared.builder.arg.Arg.{Arg}
 use Rattle.clap.specs.declared.builder.command.Command.{Command}
 use Rattle.clap.specs.declared.builder.command.Command.TheViews.{out-Command as fields_of}
-use Rattle.clap.specs.declared.builder.action.ArgAction.TheVariants.{Append, Set, SetTrue}
-use Rattle.clap.specs.declared.builder.range.ValueRange.{ValueRange}
-use Rattle.clap.specs.declared.builder.value_parser.ValueParser.{ValueParser}
-use Rattle.clap.specs.declared.builder.value_parser.ValueParser.TheVariants.{Signed}
-use Rattle.message.specs.Version.{most_harts}
-use Rattle.message.specs.declared.header.Version.TheVariants.{Two}
-use Rattle.subcommands.specs.Limits.{largest_capacity, longest_period}
-
--- `--base B`, which has to be there.
-abbrev pub base_rule : Rule
-base_rule = record (new_rule (codes "base")) {
-  long = Some (codes "base");
-  action = Some Set;
-  value_names = 1;
-  required = true;
-}
-
--- `--hex`.
-abbrev pub hex_rule : Rule
-hex_rule =
-    record (new_rule (codes "hex")) { long = Some (codes "hex"); action = Some SetTrue }
-
--- `--full`.
-abbrev pub full_rule : Rule
-full_rule =
-    record (new_rule (codes "full")) { long = Some (codes "full"); action = Some SetTrue }
-
--- `--v1`.
-abbrev pub version_one_rule : Rule
-version_one_rule =
-    record (new_rule (codes "v1")) { long = Some (codes "v1"); action = Some SetTrue }
-
--- `--lossy`.
-abbrev pub lossy_rule : Rule
-lossy_rule =
-    record (new_rule (codes "lossy")) { long = Some (codes "lossy"); action = Some SetTrue }
-
--- IMAGE, a word of its own that has to be there.
-abbrev pub image_rule : Rule
-image_rule = record (new_rule (codes "IMAGE")) { action = Some Set; required = true }
-
--- A number from 1 to 65535.
-abbrev pub period_parser : ValueParser
-period_parser = Signed (pos 1) (pos longest_period)
-
--- `--period N`, which is 1024 where it is not there.
-abbrev pub period_rule : Rule
-period_rule = record (new_rule (codes "period")) {
-  long = Some (codes "period");
-  action = Some Set;
-  value_names = 1;
-  defaults = codes "1024" ∷ [];
-  parser = Some period_parser;
-}
-
--- A number from 1 to 65536.
-abbrev pub capacity_parser : ValueParser
-capacity_parser = Signed (pos 1) (pos largest_capacity)
-
--- `--capacity N`, which is 16 where it is not there.
-abbrev pub capacity_rule : Rule
-capacity_rule = record (new_rule (codes "capacity")) {
-  long = Some (codes "capacity");
-  action = Some Set;
-  value_names = 1;
-  defaults = codes "16" ∷ [];
-  parser = Some capacity_parser;
-}
-
--- SCHEDULE, a word of its own that has to be there.
-abbrev pub schedule_rule : Rule
-schedule_rule = record (new_rule (codes "SCHEDULE")) { action = Some Set; required = true }
-
--- As many values as there are words, and one at least.
-abbrev pub one_or_more : ValueRange
-one_or_more = record { start_inclusive = 1; end_inclusive = usize_max }
-
--- LOG..., words of their own of which one has to be there.
-abbrev pub logs_rule : Rule
-logs_rule = record (new_rule (codes "LOG")) {
-  action = Some Append;
-  range = Some one_or_more;
-  required = true;
-}
-
--- A number from 1 to 1024.
-abbrev pub harts_parser : ValueParser
-harts_parser = Signed (pos 1) (pos (most_harts Two))
-
--- `--harts N`, which is 1 where it is not there.
-abbrev pub harts_rule : Rule
-harts_rule = record (new_rule (codes "harts")) {
-  long = Some (codes "harts");
-  action = Some Set;
-  value_names = 1;
-  defaults = codes "1" ∷ [];
-  parser = Some harts_parser;
-}
-
--- CAPTURE, a word of its own that has to be there.
-abbrev pub capture_rule : Rule
-capture_rule = record (new_rule (codes "CAPTURE")) { action = Some Set; required = true }
+use Rattle.arguments.specs.Rules.{base_rule, capacity_rule, capture_rule, full_rule, harts_rule, hex_rule}
+use Rattle.arguments.specs.Rules.{image_rule, logs_rule, lossy_rule, period_rule, schedule_rule, version_one_rule}
 
 -- `check --base B IMAGE LOG...`.
 abbrev pub check_app : App
@@ -153,10 +51,6 @@ abbrev pub IsSubcommand : Text → Type 0
 IsSubcommand name = (name ≡ codes "check")
     ⊎ ((name ≡ codes "encode") ⊎ ((name ≡ codes "dump") ⊎ ((name ≡ codes "decode")
     ⊎ ((name ≡ codes "replay") ⊎ (name ≡ codes "bench")))))
-
--- The argument is read by this rule, and at its own subcommand alone.
-abbrev pub IsReadBy : Rule → Arg → Type 0
-IsReadBy rule a = (rule_of a ≡ rule) × (a.global ≡ false)
 
 -- The command takes these words, with no argument that its subcommands share.
 abbrev pub HasGrammar : App → Command → Type 0

@@ -3,7 +3,7 @@
 ghost use Rattle.std.specs.Prelude.{IfOk};
 ghost use Rattle.cli.specs.Grammar.{HasGrammar, bench_app, check_app, decode_app, dump_app, encode_app, program_app, replay_app};
 
-use crate::arguments::{
+use arguments::{
     base, capacity, capture, full, harts, hex, image, logs, lossy, period, schedule, version_one,
 };
 use clap::Command;

@@ -1,15 +1,18 @@
-//! The arguments that subcommands take, one function each.
+//! The arguments that the subcommands of `tracebench` take, one function each: how `clap` reads each of them, with the
+//! range of its number.
+#![tactic(auto)]
 
-ghost use Rattle.cli.specs.Grammar.{IsReadBy, base_rule, capacity_rule, capture_rule, full_rule, harts_rule};
-ghost use Rattle.cli.specs.Grammar.{hex_rule, image_rule, logs_rule, lossy_rule, period_rule, schedule_rule};
-ghost use Rattle.cli.specs.Grammar.{version_one_rule};
+ghost use Rattle.arguments.specs.Rules.{IsReadBy, base_rule, capacity_rule, capture_rule, full_rule, harts_rule};
+ghost use Rattle.arguments.specs.Rules.{hex_rule, image_rule, logs_rule, lossy_rule, period_rule, schedule_rule};
+ghost use Rattle.arguments.specs.Rules.{version_one_rule};
 
 use clap::{Arg, ArgAction, value_parser};
 use message::MOST_HARTS;
 use std::alloc::Global;
 use subcommands::{LARGEST_CAPACITY, LONGEST_PERIOD, SHORTEST_PERIOD, SMALLEST_CAPACITY};
 
-pub(crate) fn base<'a>(alloc: Global) -> Arg<'a>
+/// `--base B`, the address of the image's first byte, which has to be given.
+pub fn base<'a>(alloc: Global) -> Arg<'a>
     ensures { IsReadBy base_rule result }
 {
     Arg::new(alloc, "base")
@@ -20,7 +23,8 @@ pub(crate) fn base<'a>(alloc: Global) -> Arg<'a>
         .help("Address of the image's first byte, in hexadecimal")
 }
 
-pub(crate) fn capacity<'a>(alloc: Global) -> Arg<'a>
+/// `--capacity N`, how many messages the funnel holds, 1 to 65536, and 16 where it is not given.
+pub fn capacity<'a>(alloc: Global) -> Arg<'a>
     ensures { IsReadBy capacity_rule result }
 {
     Arg::new(alloc, "capacity")
@@ -34,7 +38,8 @@ pub(crate) fn capacity<'a>(alloc: Global) -> Arg<'a>
         .help("How many messages the funnel holds, 1 to 65536")
 }
 
-pub(crate) fn capture<'a>(alloc: Global) -> Arg<'a>
+/// CAPTURE, the file of trace messages, which has to be given.
+pub fn capture<'a>(alloc: Global) -> Arg<'a>
     ensures { IsReadBy capture_rule result }
 {
     Arg::new(alloc, "CAPTURE")
@@ -43,7 +48,8 @@ pub(crate) fn capture<'a>(alloc: Global) -> Arg<'a>
         .help("File of trace messages")
 }
 
-pub(crate) fn full<'a>(alloc: Global) -> Arg<'a>
+/// `--full`, which asks for addresses named in full.
+pub fn full<'a>(alloc: Global) -> Arg<'a>
     ensures { IsReadBy full_rule result }
 {
     Arg::new(alloc, "full")
@@ -52,7 +58,8 @@ pub(crate) fn full<'a>(alloc: Global) -> Arg<'a>
         .help("Name addresses in full, not by differences")
 }
 
-pub(crate) fn harts<'a>(alloc: Global) -> Arg<'a>
+/// `--harts N`, how many harts a capture of version 1 may have, 1 to 1024, and 1 where it is not given.
+pub fn harts<'a>(alloc: Global) -> Arg<'a>
     ensures { IsReadBy harts_rule result }
 {
     Arg::new(alloc, "harts")
@@ -64,7 +71,8 @@ pub(crate) fn harts<'a>(alloc: Global) -> Arg<'a>
         .help("How many harts a capture of version 1 may have, 1 to 1024")
 }
 
-pub(crate) fn hex<'a>(alloc: Global) -> Arg<'a>
+/// `--hex`, which asks for a line of hexadecimal for each message.
+pub fn hex<'a>(alloc: Global) -> Arg<'a>
     ensures { IsReadBy hex_rule result }
 {
     Arg::new(alloc, "hex")
@@ -73,7 +81,8 @@ pub(crate) fn hex<'a>(alloc: Global) -> Arg<'a>
         .help("Write a line of hexadecimal for each message")
 }
 
-pub(crate) fn image<'a>(alloc: Global) -> Arg<'a>
+/// IMAGE, the file of the program's bytes, which has to be given.
+pub fn image<'a>(alloc: Global) -> Arg<'a>
     ensures { IsReadBy image_rule result }
 {
     Arg::new(alloc, "IMAGE")
@@ -82,7 +91,8 @@ pub(crate) fn image<'a>(alloc: Global) -> Arg<'a>
         .help("File of the program's bytes")
 }
 
-pub(crate) fn logs<'a>(alloc: Global) -> Arg<'a>
+/// LOG..., the logs' files, of which one has to be given.
+pub fn logs<'a>(alloc: Global) -> Arg<'a>
     ensures { IsReadBy logs_rule result }
 {
     Arg::new(alloc, "LOG")
@@ -92,7 +102,8 @@ pub(crate) fn logs<'a>(alloc: Global) -> Arg<'a>
         .help("Logs, each of one hart, as CSV")
 }
 
-pub(crate) fn lossy<'a>(alloc: Global) -> Arg<'a>
+/// `--lossy`, which asks to go on where messages are missing.
+pub fn lossy<'a>(alloc: Global) -> Arg<'a>
     ensures { IsReadBy lossy_rule result }
 {
     Arg::new(alloc, "lossy")
@@ -101,7 +112,9 @@ pub(crate) fn lossy<'a>(alloc: Global) -> Arg<'a>
         .help("Go on where messages are missing, and tell how many are")
 }
 
-pub(crate) fn period<'a>(alloc: Global) -> Arg<'a>
+/// `--period N`, the retirements from one periodic synchronisation to the next, 1 to 65535, and 1024 where it is not
+/// given.
+pub fn period<'a>(alloc: Global) -> Arg<'a>
     ensures { IsReadBy period_rule result }
 {
     Arg::new(alloc, "period")
@@ -115,7 +128,8 @@ pub(crate) fn period<'a>(alloc: Global) -> Arg<'a>
         .help("Retirements from one periodic synchronisation to the next, 1 to 65535")
 }
 
-pub(crate) fn schedule<'a>(alloc: Global) -> Arg<'a>
+/// SCHEDULE, the file of turns, which has to be given.
+pub fn schedule<'a>(alloc: Global) -> Arg<'a>
     ensures { IsReadBy schedule_rule result }
 {
     Arg::new(alloc, "SCHEDULE")
@@ -124,7 +138,8 @@ pub(crate) fn schedule<'a>(alloc: Global) -> Arg<'a>
         .help("File of the turns: hart numbers, and `c` for taking a message")
 }
 
-pub(crate) fn version_one<'a>(alloc: Global) -> Arg<'a>
+/// `--v1`, which asks for a capture of version 1.
+pub fn version_one<'a>(alloc: Global) -> Arg<'a>
     ensures { IsReadBy version_one_rule result }
 {
     Arg::new(alloc, "v1")

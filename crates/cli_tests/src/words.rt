@@ -1,6 +1,6 @@
 //! What words ask for, and what `clap` says of words that ask for nothing.
 
-use crate::asked;
+use cli::asked;
 use std::alloc::{AllocError, Global};
 use std::test::Fail;
 
