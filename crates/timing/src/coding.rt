@@ -7,6 +7,7 @@ use decoder::Decoder;
 use encoder::Source;
 use legalpath::LegalLog;
 use payload::{Payload, unpack};
+use retire::Event;
 use rvclass::Program;
 use std::alloc::Global;
 
@@ -17,7 +18,9 @@ pub(crate) struct Encoding<'a> {
 }
 
 impl Phase for Encoding<'_> {
-    fn run(&mut self) -> Result<u64, Fault> {
+    type Made = ();
+
+    fn run(&mut self) -> Result<((), u64), Fault> {
         let log = self.log;
         let mut source = Source::new(log, PERIOD, MODE);
         let mut bytes = 0u64;
@@ -27,7 +30,7 @@ impl Phase for Encoding<'_> {
             };
             bytes = bytes.wrapping_add(payload.bytes().len() as u64);
         }
-        Ok(bytes)
+        Ok(((), bytes))
     }
 }
 
@@ -40,7 +43,9 @@ pub(crate) struct Decoding<'a> {
 }
 
 impl Phase for Decoding<'_> {
-    fn run(&mut self) -> Result<u64, Fault> {
+    type Made = Vec<Event>;
+
+    fn run(&mut self) -> Result<(Vec<Event>, u64), Fault> {
         let mut decoder = Decoder::new();
         let mut events = Vec::new(self.alloc);
         for payload in self.payloads {
@@ -49,6 +54,7 @@ impl Phase for Decoding<'_> {
                 .feed(self.program, &packet, &mut events)
                 .map_err(|_| Fault::Log)?;
         }
-        Ok(events.len() as u64)
+        let count = events.len() as u64;
+        Ok((events, count))
     }
 }

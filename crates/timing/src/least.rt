@@ -9,8 +9,11 @@ pub(crate) const RUNS: u32 = 9;
 
 /// What is measured.
 pub(crate) trait Phase: Drop {
-    /// Runs once, and answers a number that the work gives.
-    fn run(&mut self) -> Result<u64, Fault>;
+    /// What a run makes. It is freed after the clock was read.
+    type Made: Drop;
+
+    /// Runs once, and answers what it made and a number that the work gives.
+    fn run(&mut self) -> Result<(Self::Made, u64), Fault>;
 }
 
 /// Runs a phase several times, and writes its name, its least time for each of so many items and the number that it gives.
@@ -25,8 +28,10 @@ pub(crate) fn measure<R: Clock, E: Write, P: Phase>(
     let mut answer = 0;
     for _ in 0..RUNS {
         let start = Instant::now(rt)?;
-        answer = phase.run()?;
+        let (made, number) = phase.run()?;
         least = least.min(start.elapsed(rt)?.as_nanos());
+        answer = number;
+        drop(made);
     }
     tell(err, name, items, least, answer)
 }

@@ -16,11 +16,14 @@ pub(crate) struct Reading<'a> {
 }
 
 impl Phase for Reading<'_> {
-    fn run(&mut self) -> Result<u64, Fault> {
+    type Made = Vec<Event>;
+
+    fn run(&mut self) -> Result<(Vec<Event>, u64), Fault> {
         let events = read_log_from_slice(self.alloc, self.alloc, self.text).map_err(
             |_| Fault::Log,
         )?;
-        Ok(events.len() as u64)
+        let count = events.len() as u64;
+        Ok((events, count))
     }
 }
 
@@ -32,9 +35,11 @@ pub(crate) struct Writing<'a> {
 }
 
 impl Phase for Writing<'_> {
-    fn run(&mut self) -> Result<u64, Fault> {
+    type Made = ();
+
+    fn run(&mut self) -> Result<((), u64), Fault> {
         write_log(self.alloc, &mut sink(), self.events).map_err(|_| Fault::Log)?;
-        Ok(self.events.len() as u64)
+        Ok(((), self.events.len() as u64))
     }
 }
 
@@ -49,13 +54,15 @@ pub(crate) struct Judging<'a> {
 }
 
 impl Phase for Judging<'_> {
-    fn run(&mut self) -> Result<u64, Fault> {
+    type Made = ();
+
+    fn run(&mut self) -> Result<((), u64), Fault> {
         if self.events.len() > MOST {
             return Err(Fault::Log);
         }
         match check(self.program, self.events) {
-            Ok(()) => Ok(0),
-            Err(fault) => Ok(u64::from(fault.row)),
+            Ok(()) => Ok(((), 0)),
+            Err(fault) => Ok(((), u64::from(fault.row))),
         }
     }
 }

@@ -61,12 +61,14 @@ pub(crate) struct Packing<'a> {
 }
 
 impl Phase for Packing<'_> {
-    fn run(&mut self) -> Result<u64, Fault> {
+    type Made = ();
+
+    fn run(&mut self) -> Result<((), u64), Fault> {
         let mut bytes = 0u64;
         for packet in self.packets {
             bytes = bytes.wrapping_add(byte_count(packet));
         }
-        Ok(bytes)
+        Ok(((), bytes))
     }
 }
 
@@ -77,13 +79,15 @@ pub(crate) struct Unpacking<'a> {
 }
 
 impl Phase for Unpacking<'_> {
-    fn run(&mut self) -> Result<u64, Fault> {
+    type Made = ();
+
+    fn run(&mut self) -> Result<((), u64), Fault> {
         let mut good = 0u64;
         for payload in self.payloads {
             if unpack(payload.bytes()).is_ok() {
                 good = good.wrapping_add(1);
             }
         }
-        Ok(good)
+        Ok(((), good))
     }
 }

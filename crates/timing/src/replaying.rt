@@ -60,10 +60,13 @@ pub(crate) struct Replaying<'a, 'p> {
 }
 
 impl Phase for Replaying<'_, '_> {
-    fn run(&mut self) -> Result<u64, Fault> {
+    type Made = Outcome;
+
+    fn run(&mut self) -> Result<(Outcome, u64), Fault> {
         let config = config_of(CAPACITY);
         let outcome = replay(self.alloc, self.logs, config, self.turns).map_err(|_| Fault::Log)?;
-        Ok(decoded_in(&outcome))
+        let decoded = decoded_in(&outcome);
+        Ok((outcome, decoded))
     }
 }
 

@@ -33,7 +33,9 @@ pub(crate) struct OneThread<'a, R> {
 }
 
 impl<R: Wait> Phase for OneThread<'_, R> {
-    fn run(&mut self) -> Result<u64, Fault> {
+    type Made = ();
+
+    fn run(&mut self) -> Result<((), u64), Fault> {
         let rt = self.rt;
         let Ok((mut ports, mut outlet)) = open(self.alloc, 1, ROOM) else {
             return Err(Fault::Memory);
@@ -46,7 +48,7 @@ impl<R: Wait> Phase for OneThread<'_, R> {
             }
             taken = taken.wrapping_add(1);
         }
-        Ok(taken)
+        Ok(((), taken))
     }
 }
 
@@ -75,8 +77,10 @@ pub(crate) struct Bare<'a, R> {
 }
 
 impl<R: Wait> Phase for Bare<'_, R> {
-    fn run(&mut self) -> Result<u64, Fault> {
-        through_a_channel(self.rt, self.alloc)
+    type Made = ();
+
+    fn run(&mut self) -> Result<((), u64), Fault> {
+        Ok(((), through_a_channel(self.rt, self.alloc)?))
     }
 }
 

@@ -3,7 +3,7 @@
 use crate::fault::Fault;
 use crate::least::Phase;
 use crate::packets::{MODE, PERIOD, VERSION};
-use captures::{decode_capture, encode_capture};
+use captures::{CaptureOutcome, decode_capture, encode_capture};
 use legalpath::LegalLog;
 use rvclass::Program;
 use std::alloc::Global;
@@ -16,11 +16,13 @@ pub(crate) struct CaptureWriting<'a, 'p> {
 }
 
 impl Phase for CaptureWriting<'_, '_> {
-    fn run(&mut self) -> Result<u64, Fault> {
+    type Made = ();
+
+    fn run(&mut self) -> Result<((), u64), Fault> {
         self.capture.clear();
         let logs = self.logs;
         encode_capture(logs, PERIOD, MODE, VERSION, &mut self.capture).map_err(|_| Fault::Log)?;
-        Ok(self.capture.len() as u64)
+        Ok(((), self.capture.len() as u64))
     }
 }
 
@@ -33,12 +35,14 @@ pub(crate) struct CaptureDecoding<'a> {
 }
 
 impl Phase for CaptureDecoding<'_> {
-    fn run(&mut self) -> Result<u64, Fault> {
+    type Made = CaptureOutcome<Global>;
+
+    fn run(&mut self) -> Result<(CaptureOutcome<Global>, u64), Fault> {
         let outcome = decode_capture(self.alloc, self.program, 1, self.capture)?;
         let mut events = 0u64;
         for list in &outcome.harts {
             events = events.wrapping_add(list.len() as u64);
         }
-        Ok(events)
+        Ok((outcome, events))
     }
 }
