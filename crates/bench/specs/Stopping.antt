@@ -1,5 +1,5 @@
 -- What a stop of a run tells.
-use Rattle.std.specs.Prelude.{ℕ, ◌≡◌, All, true, false, IsFalse, IsSomeAnd, IsTrue, List, Option, Some, None, slice_get}
+use Rattle.std.specs.Prelude.{ℕ, ◌≡◌, ◌<◌, All, true, false, IsFalse, IsSomeAnd, IsTrue, List, Option, Some, None, slice_get}
 use Rattle.legalpath.specs.ProgramLog.{ProgramLog}
 use Rattle.payload.specs.declared.mode.Mode.{Mode}
 use Rattle.message.specs.OfHart.{of_hart}
@@ -21,15 +21,25 @@ NoRefusedIsClosed harts = All (λ came. came.refused ≡ true → came.closed �
 abbrev pub IsOpenHart : {A : Type 0} → List (HartOutcome A) → ℕ → Type 0
 IsOpenHart harts hart = IsSomeAnd (slice_get harts hart) (λ came. IsFalse came.closed)
 
--- A hart that is not closed is named: for want of memory only one for which memory was refused, where every hart for
--- which it was not is closed, and as one whose channel ended only one for which it was not.
+-- The hart is neither closed nor is it one for which memory was refused.
+abbrev pub IsEndedHart : {A : Type 0} → List (HartOutcome A) → ℕ → Type 0
+IsEndedHart harts hart = IsSomeAnd (slice_get harts hart) (λ came. IsFalse came.closed × IsFalse came.refused)
+
+-- Every hart for which memory was not refused is closed.
+abbrev pub NoneEnded : {A : Type 0} → List (HartOutcome A) → Type 0
+NoneEnded harts = All (λ came. came.refused ≡ false → came.closed ≡ true) harts
+
+-- This holds of the hart, and of none before it.
+abbrev pub IsFirst : (ℕ → Type 0) → ℕ → Type 0
+IsFirst P hart = P hart × ((before : ℕ) → before < hart → ¬ P before)
+
+-- A hart that is not closed is named: for want of memory the first of them, where memory was refused for it and every
+-- hart for which it was not is closed, and as one whose channel ended the first of those for which it was not.
 abbrev pub IsStopOf : {A : Type 0} → Stop → List (HartOutcome A) → Type 0
 IsStopOf (stop.Memory hart) harts =
-    IsOpenHart harts hart × IsSomeAnd (slice_get harts hart) (λ came. IsTrue came.refused)
-    × All (λ came. came.refused ≡ false → came.closed ≡ true) harts
+    IsFirst (IsOpenHart harts) hart × IsSomeAnd (slice_get harts hart) (λ came. IsTrue came.refused) × NoneEnded harts
 IsStopOf (stop.HandedBack hart) harts = IsOpenHart harts hart
-IsStopOf (stop.Ended hart) harts =
-    IsOpenHart harts hart × IsSomeAnd (slice_get harts hart) (λ came. IsFalse came.refused)
+IsStopOf (stop.Ended hart) harts = IsFirst (IsEndedHart harts) hart
 
 -- There is no stop exactly where every hart is closed, and else one tells of a hart that is not.
 abbrev pub NamesOpen : {A : Type 0} → Option Stop → List (HartOutcome A) → Type 0

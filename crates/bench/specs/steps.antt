@@ -3,3 +3,4 @@ pub mod Sending
 pub mod Taking
 pub mod Replaying
 pub mod Gathering
+pub mod Stopping

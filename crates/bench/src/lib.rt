@@ -20,8 +20,6 @@ mod setup;
 mod starting;
 mod stop;
 mod stopping;
-#[cfg(test)]
-mod tests;
 mod verdict;
 mod worker;
 

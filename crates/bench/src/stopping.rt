@@ -1,7 +1,8 @@
 //! What stopped a run.
 
-ghost use Rattle.std.specs.Prelude.{◌≡◌, ◌≤◌, All, IfNone, IfSome, IsFalse, IsSomeAnd, Some, false, length, slice_get, true};
-ghost use Rattle.bench.specs.Stopping.{AreClosed, IfHandedBack, IsOpenHart, NamesOpen};
+ghost use Rattle.std.specs.Prelude.{◌≡◌, ◌≤◌, IfNone, IfSome, Some, length, slice_get, true};
+ghost use Rattle.bench.specs.Stopping.{AreClosed, IfHandedBack, IsEndedHart, IsFirst, IsOpenHart, NamesOpen, NoneEnded};
+ghost use Rattle.bench.specs.steps.Stopping.{IsHandedBack, IsOfNone, IsTold};
 
 use crate::outcome::HartOutcome;
 use crate::stop::Stop;
@@ -11,6 +12,7 @@ use std::alloc::Allocator;
 /// memory that was refused.
 pub(crate) fn stop_of<A: Allocator>(harts: &[HartOutcome<A>], handed_back: &[bool]) -> Option<Stop>
     requires { (length harts.now ≡ length handed_back.now) × (length harts.now ≤ 64) }
+    ensures told { IsTold harts.now handed_back.now result }
     ensures names { NamesOpen result harts.now }
     ensures back { IfHandedBack (λ hart. slice_get handed_back.now hart ≡ Some true) result }
 {
@@ -29,8 +31,8 @@ pub(crate) fn stop_of<A: Allocator>(harts: &[HartOutcome<A>], handed_back: &[boo
 /// The first hart that is not closed and of which a payload was handed back.
 fn first_handed_back<A: Allocator>(harts: &[HartOutcome<A>], handed_back: &[bool]) -> Option<usize>
     requires { length harts.now ≡ length handed_back.now }
-    ensures some { IfSome result (IsOpenHart harts.now) }
-    ensures back { IfSome result (λ hart. slice_get handed_back.now hart ≡ Some true) }
+    ensures some { IfSome result (IsFirst (IsHandedBack harts.now handed_back.now)) }
+    ensures none { IfNone result (IsOfNone (IsHandedBack harts.now handed_back.now)) }
 {
     for hart in 0..harts.len() {
         if !harts[hart].closed && handed_back[hart] {
@@ -42,9 +44,8 @@ fn first_handed_back<A: Allocator>(harts: &[HartOutcome<A>], handed_back: &[bool
 
 /// The first hart that is not closed although memory for it was not refused.
 fn first_ended<A: Allocator>(harts: &[HartOutcome<A>]) -> Option<usize>
-    ensures some { IfSome result (IsOpenHart harts.now) }
-    ensures going { IfSome result (λ hart. IsSomeAnd (slice_get harts.now hart) (λ came. IsFalse came.refused)) }
-    ensures none { IfNone result (All (λ came. came.refused ≡ false → came.closed ≡ true) harts.now) }
+    ensures some { IfSome result (IsFirst (IsEndedHart harts.now)) }
+    ensures none { IfNone result (NoneEnded harts.now) }
 {
     for hart in 0..harts.len() {
         if !harts[hart].closed && !harts[hart].refused {
@@ -56,7 +57,7 @@ fn first_ended<A: Allocator>(harts: &[HartOutcome<A>]) -> Option<usize>
 
 /// The first hart that is not closed.
 fn first_open<A: Allocator>(harts: &[HartOutcome<A>]) -> Option<usize>
-    ensures some { IfSome result (IsOpenHart harts.now) }
+    ensures some { IfSome result (IsFirst (IsOpenHart harts.now)) }
     ensures none { IfNone result (AreClosed harts.now) }
 {
     for hart in 0..harts.len() {

@@ -1,7 +1,7 @@
 //! Logs through the funnel by schedules of turns.
 
-use super::made::{WHOLE, kinds, logs, program, text_of, turns};
-use crate::{Config, Setup, Turn, is_whole, replay};
+use crate::made::{WHOLE, is_text, kinds, logs, program, turns};
+use bench::{Config, Setup, Turn, is_whole, replay};
 use payload::Mode;
 use std::alloc::{AllocError, Global};
 use std::test::Fail;
@@ -23,8 +23,7 @@ fn each_message_is_taken_at_once(rt: HostRuntime) -> Result<(), Fail> {
     let logs = logs(alloc, &program)?;
     for (mode, want) in WHOLE {
         let outcome = replay(alloc, &logs, config(mode), &turns(alloc)?)?;
-        let text = text_of(alloc, &outcome, &logs)?;
-        assert!(rt; text.as_slice() == want.as_bytes(), "{mode:?}");
+        assert!(rt; is_text(alloc, &outcome, &logs, want)?, "{mode:?}");
     }
     Ok(())
 }
@@ -36,11 +35,10 @@ fn full_funnel(rt: HostRuntime) -> Result<(), Fail> {
     let logs = logs(alloc, &program)?;
     let turns = [Turn::Hart(0), Turn::Hart(0), Turn::Hart(1), Turn::Collect];
     let outcome = replay(alloc, &logs, config(Mode::Differential), &turns)?;
-    let text = text_of(alloc, &outcome, &logs)?;
     let want = "hart 0: 33 events, 1 packets, 1 payload bytes, decoded 0, beginning\n\
         hart 1: 4 events, 0 packets, 0 payload bytes, decoded 0, beginning\n\
         result: not whole\n";
-    assert!(rt; text.as_slice() == want.as_bytes());
+    assert!(rt; is_text(alloc, &outcome, &logs, want)?);
     Ok(())
 }
 
@@ -62,16 +60,25 @@ fn most_harts(rt: HostRuntime) -> Result<(), Fail> {
     let alloc = rt.alloc();
     let program = program(alloc)?;
     let logs = kinds(alloc, &program, 1024)?;
+    let turns = rounds(alloc, 1024)?;
     for mode in [Mode::Differential, Mode::Full] {
-        let turns = rounds(alloc, 1024)?;
         let outcome = replay(alloc, logs.as_slice(), config(mode), turns.as_slice())?;
         if outcome.harts.len() != logs.len() {
             return Err(Fail::new("another number of harts"));
         }
         assert!(rt; is_whole(&outcome, logs.as_slice()), "{mode:?}");
-        let more = kinds(alloc, &program, 1025)?;
-        let fault = replay(alloc, more.as_slice(), config(mode), turns.as_slice()).err();
-        assert_eq!(rt; fault, Some(Setup::TooManyHarts));
+    }
+    Ok(())
+}
+
+#[test]
+fn too_many_harts(rt: HostRuntime) -> Result<(), Fail> {
+    let alloc = rt.alloc();
+    let program = program(alloc)?;
+    let logs = kinds(alloc, &program, 1025)?;
+    for mode in [Mode::Differential, Mode::Full] {
+        let fault = replay(alloc, logs.as_slice(), config(mode), &[Turn::Collect]).err();
+        assert!(rt; fault == Some(Setup::TooManyHarts));
     }
     Ok(())
 }

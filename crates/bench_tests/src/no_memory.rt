@@ -1,7 +1,7 @@
 //! Calls that take no memory, over a heap that has none left.
 
-use super::made::{logs, program, retired};
-use crate::Collector;
+use crate::made::{logs, program, retired};
+use bench::Collector;
 use legalpath::LegalLog;
 use linked_list_allocator::LocalHeap;
 use std::alloc::Global;
@@ -31,7 +31,7 @@ fn collector_ends_with_no_memory_left(rt: HostRuntime) -> Result<(), Fail> {
     collector.refuse(1);
     let outcome = collector.finish();
     let refused: [bool; 2] = [false, true];
-    assert_eq!(rt; outcome.harts.len(), 2);
+    assert!(rt; outcome.harts.len() == 2);
     for (hart, refused) in outcome.harts.iter().zip(&refused) {
         assert!(rt; hart.refused == *refused && !hart.closed && hart.decoded.is_empty());
     }
@@ -50,12 +50,12 @@ fn log_is_kept_with_no_memory_left(rt: HostRuntime) -> Result<(), Fail> {
     let taken = all_of(alloc, &heap)?;
     assert!(rt; !taken.is_empty());
     match LegalLog::new(&program, first) {
-        Ok(log) => assert_eq!(rt; log.events(), legal.as_slice()),
+        Ok(log) => assert!(rt; log.events() == legal.as_slice()),
         Err((fault, _)) => return Err(Fail::new(fault)),
     }
     match LegalLog::new(&program, second) {
         Ok(_) => return Err(Fail::new("an illegal log is kept")),
-        Err((_, back)) => assert_eq!(rt; back.as_slice(), illegal.as_slice()),
+        Err((_, back)) => assert!(rt; back.as_slice() == illegal.as_slice()),
     }
     Ok(())
 }

@@ -1,9 +1,11 @@
 //! Logs through the funnel over threads.
 
-use super::made::{WHOLE, kinds, logs, program, text_of, turns};
-use crate::{Config, Gate, HartOutcome, Open, Setup, Stop, is_whole, replay, run};
+use crate::made::{WHOLE, is_text, kinds, logs, program, turns};
+use crate::same::same_at;
+use bench::{Config, Gate, HartOutcome, Open, Outcome, Setup, Stop, is_whole, replay, run};
 use linked_list_allocator::LocalHeap;
 use payload::Mode;
+use std::alloc::Allocator;
 use std::sync::Wait;
 use std::sync::atomic::{AtomicBool, AtomicU64, Ordering};
 use std::test::Fail;
@@ -28,31 +30,32 @@ fn is_same(one: &HartOutcome, other: &HartOutcome) -> bool {
         && one.refused == other.refused
 }
 
+/// Whether there is no stop of this run, and the same came of two harts.
+fn are_same(run: &Outcome, by_turns: &Outcome) -> bool {
+    let (Some(zero), Some(one)) = (run.harts.get(0), run.harts.get(1)) else {
+        return false;
+    };
+    let (Some(other_zero), Some(other_one)) = (by_turns.harts.get(0), by_turns.harts.get(1)) else {
+        return false;
+    };
+    run.stop.is_none()
+        && run.harts.len() == 2
+        && is_same(zero, other_zero)
+        && is_same(one, other_one)
+}
+
 #[test]
 fn what_comes_is_what_comes_by_turns(rt: HostRuntime) -> Result<(), Fail> {
     let alloc = rt.alloc();
     let program = program(alloc)?;
     let logs = logs(alloc, &program)?;
+    let turns = turns(alloc)?;
     for (mode, want) in WHOLE {
-        let config = Config {
-            period: 1024,
-            mode,
-            capacity: 1,
-            keep: true,
-        };
-        let by_turns = replay(alloc, &logs, config, &turns(alloc)?)?;
+        let config = Config { mode, ..CONFIG };
+        let by_turns = replay(alloc, &logs, config, &turns)?;
         let outcome = run(alloc, alloc, &logs, config, &Open, &rt)?;
-        assert!(rt; outcome.stop.is_none());
-        assert_eq!(rt; outcome.harts.len(), 2);
-        for hart in 0..2usize {
-            let (Some(one), Some(other)) = (outcome.harts.get(hart), by_turns.harts.get(hart))
-            else {
-                return Err(Fail::new("no outcome"));
-            };
-            assert!(rt; is_same(one, other), "hart {hart}");
-        }
-        let text = text_of(alloc, &outcome, &logs)?;
-        assert!(rt; text.as_slice() == want.as_bytes(), "{mode:?}");
+        assert!(rt; are_same(&outcome, &by_turns), "{mode:?}");
+        assert!(rt; is_text(alloc, &outcome, &logs, want)?, "{mode:?}");
     }
     Ok(())
 }
@@ -85,6 +88,11 @@ impl Gate for Counts {
     }
 }
 
+/// Whether these counts are of all messages of both harts.
+fn are_all(counts: &[AtomicU64; 2]) -> bool {
+    counts[0].load(Ordering::SeqCst) == 5 && counts[1].load(Ordering::SeqCst) == 4
+}
+
 #[test]
 fn each_send_passes_the_gate(rt: HostRuntime) -> Result<(), Fail> {
     let alloc = rt.alloc();
@@ -96,12 +104,8 @@ fn each_send_passes_the_gate(rt: HostRuntime) -> Result<(), Fail> {
         strange: AtomicBool::new(false),
     };
     let outcome = run(alloc, alloc, &logs, CONFIG, &gate, &rt)?;
-    assert!(rt; outcome.stop.is_none());
-    for counts in [&gate.tried, &gate.sent] {
-        assert_eq!(rt; counts[0].load(Ordering::SeqCst), 5);
-        assert_eq!(rt; counts[1].load(Ordering::SeqCst), 4);
-    }
-    assert!(rt; !gate.strange.load(Ordering::SeqCst));
+    assert!(rt; outcome.stop.is_none() && !gate.strange.load(Ordering::SeqCst));
+    assert!(rt; are_all(&gate.tried) && are_all(&gate.sent));
     Ok(())
 }
 
@@ -154,8 +158,7 @@ fn gate_crosses(rt: HostRuntime) -> Result<(), Fail> {
         gave_up: AtomicBool::new(false),
     };
     let outcome = run(alloc, alloc, &logs, CONFIG, &gate, &rt)?;
-    assert!(rt; outcome.stop.is_none());
-    assert!(rt; !gate.gave_up.load(Ordering::SeqCst));
+    assert!(rt; outcome.stop.is_none() && !gate.gave_up.load(Ordering::SeqCst));
     Ok(())
 }
 
@@ -176,16 +179,37 @@ fn sixty_four_harts(rt: HostRuntime) -> Result<(), Fail> {
             if outcome.harts.len() != logs.len() {
                 return Err(Fail::new("another number of harts"));
             }
-            assert!(rt;
-                is_whole(&outcome, logs.as_slice()),
-                "{mode:?}, capacity {capacity}"
-            );
+            assert!(rt; is_whole(&outcome, logs.as_slice()), "{config:?}");
         }
     }
-    let more = kinds(alloc, &program, 65)?;
-    let fault = run(alloc, alloc, more.as_slice(), CONFIG, &Open, &rt).err();
-    assert_eq!(rt; fault, Some(Setup::TooManyHarts));
     Ok(())
+}
+
+#[test]
+fn sixty_five_harts(rt: HostRuntime) -> Result<(), Fail> {
+    let alloc = rt.alloc();
+    let program = program(alloc)?;
+    let logs = kinds(alloc, &program, 65)?;
+    let fault = run(alloc, alloc, logs.as_slice(), CONFIG, &Open, &rt).err();
+    assert!(rt; fault == Some(Setup::TooManyHarts));
+    Ok(())
+}
+
+/// Whether a run is whole, where its stop goes by what came of two harts.
+fn came_whole<A: Allocator>(outcome: &Outcome<A>) -> Result<bool, Fail> {
+    let stop = outcome.stop;
+    let (Some(zero), Some(one)) = (outcome.harts.get(0), outcome.harts.get(1)) else {
+        return Err(Fail::new("another number of harts"));
+    };
+    if zero.closed == zero.refused || one.closed == one.refused {
+        return Err(Fail::new("closed and refused, or neither"));
+    }
+    match stop {
+        None if zero.closed && one.closed => Ok(true),
+        Some(Stop::Memory(0)) if zero.refused => Ok(false),
+        Some(Stop::Memory(1)) if zero.closed && one.refused => Ok(false),
+        _ => Err(Fail::new("another stop")),
+    }
 }
 
 #[test]
@@ -200,21 +224,10 @@ fn memory_is_refused(rt: HostRuntime) -> Result<(), Fail> {
         let heap = LocalHeap::new(alloc, step * 32)?;
         match run(&heap, alloc, &logs, CONFIG, &Open, &rt) {
             Ok(outcome) => {
-                let stop = outcome.stop;
-                let (Some(zero), Some(one)) = (outcome.harts.get(0), outcome.harts.get(1)) else {
-                    return Err(Fail::new("another number of harts"));
-                };
-                assert!(rt; zero.closed != zero.refused && one.closed != one.refused);
-                match stop {
-                    None => {
-                        assert!(rt; zero.closed && one.closed);
-                        whole = whole.saturating_add(1);
-                    }
-                    Some(Stop::Memory(hart)) => {
-                        assert!(rt; if hart == 0 { zero.refused } else { one.refused });
-                        stops = stops.saturating_add(1);
-                    }
-                    Some(_) => assert!(rt; false),
+                if came_whole(&outcome)? {
+                    whole = whole.saturating_add(1);
+                } else {
+                    stops = stops.saturating_add(1);
                 }
             }
             Err(fault) => {
@@ -222,11 +235,8 @@ fn memory_is_refused(rt: HostRuntime) -> Result<(), Fail> {
                 setups = setups.saturating_add(1);
             }
         }
-        assert_eq!(rt; heap.used(), 0);
+        same_at(&rt, step, heap.used(), 0);
     }
-    assert!(rt;
-        0 < setups && 0 < stops && 0 < whole,
-        "{setups} {stops} {whole}"
-    );
+    assert!(rt; 0 < setups && 0 < stops && 0 < whole);
     Ok(())
 }

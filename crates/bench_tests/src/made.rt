@@ -1,6 +1,6 @@
 //! A program of four words, the logs of two harts that run it, and the report of what came of them.
 
-use crate::{Outcome, Turn, report};
+use bench::{Outcome, Turn, report};
 use legalpath::LegalLog;
 use payload::Mode;
 use retire::Event;
@@ -16,7 +16,7 @@ const WORDS: [u32; 4] = [0x0000_0013, 0x0000_0013, 0x0000_8067, 0x0000_0063];
 
 /// The report of both harts in each mode, where each log comes back whole. In full mode Open takes one byte more, and
 /// an address packet four.
-pub(super) const WHOLE: [(Mode, &str); 2] = [
+pub(crate) const WHOLE: [(Mode, &str); 2] = [
     (
         Mode::Differential,
         "hart 0: 33 events, 5 packets, 9 payload bytes, decoded 33, whole\n\
@@ -32,7 +32,7 @@ pub(super) const WHOLE: [(Mode, &str); 2] = [
 ];
 
 /// The retirement of a word at an offset, at machine level.
-pub(super) fn retired(offset: u64, itype: u8) -> Event {
+pub(crate) fn retired(offset: u64, itype: u8) -> Event {
     Event::Retire {
         addr: BASE.wrapping_add(offset),
         itype,
@@ -41,7 +41,7 @@ pub(super) fn retired(offset: u64, itype: u8) -> Event {
 }
 
 /// The program.
-pub(super) fn program(alloc: Global) -> Result<Program, Fail> {
+pub(crate) fn program(alloc: Global) -> Result<Program, Fail> {
     let mut image = Vec::new(alloc);
     for word in WORDS {
         image.extend_from_slice(&word.to_le_bytes())?;
@@ -50,12 +50,12 @@ pub(super) fn program(alloc: Global) -> Result<Program, Fail> {
 }
 
 /// The events of the hart that takes the branch 33 times.
-pub(super) fn branches(alloc: Global) -> Result<Vec<Event>, AllocError> {
+pub(crate) fn branches(alloc: Global) -> Result<Vec<Event>, AllocError> {
     vec![in alloc; retired(12, 5); 33]
 }
 
 /// The events of the hart that goes on at the second word after the jump.
-pub(super) fn returns(alloc: Global) -> Result<Vec<Event>, Fail> {
+pub(crate) fn returns(alloc: Global) -> Result<Vec<Event>, Fail> {
     Ok(vec![in alloc; retired(0, 0), retired(4, 0), retired(8, 6), retired(4, 0)]?)
 }
 
@@ -71,7 +71,7 @@ fn legal_log<'p>(program: &'p Program, events: Vec<Event>) -> Result<LegalLog<'p
 }
 
 /// The logs of both harts.
-pub(super) fn logs<'p>(alloc: Global, program: &'p Program) -> Result<[LegalLog<'p>; 2], Fail> {
+pub(crate) fn logs<'p>(alloc: Global, program: &'p Program) -> Result<[LegalLog<'p>; 2], Fail> {
     Ok([
         legal_log(program, branches(alloc)?)?,
         legal_log(program, returns(alloc)?)?,
@@ -79,7 +79,7 @@ pub(super) fn logs<'p>(alloc: Global, program: &'p Program) -> Result<[LegalLog<
 }
 
 /// The logs of so many harts, of both kinds in turn.
-pub(super) fn kinds<'p>(
+pub(crate) fn kinds<'p>(
     alloc: Global,
     program: &'p Program,
     harts: u16,
@@ -97,7 +97,7 @@ pub(super) fn kinds<'p>(
 }
 
 /// Turns by which each message is taken at once: five of the first hart and four of the second, which are all.
-pub(super) fn turns(alloc: Global) -> Result<Vec<Turn>, AllocError> {
+pub(crate) fn turns(alloc: Global) -> Result<Vec<Turn>, AllocError> {
     let mut turns = Vec::new(alloc);
     for (hart, count) in [(0, 5), (1, 4)] {
         for _ in 0..count {
@@ -109,7 +109,7 @@ pub(super) fn turns(alloc: Global) -> Result<Vec<Turn>, AllocError> {
 }
 
 /// The report of an outcome that has as many harts as there are logs.
-pub(super) fn text_of<A: Allocator>(
+pub(crate) fn text_of<A: Allocator>(
     alloc: Global,
     outcome: &Outcome<A>,
     logs: &[LegalLog<'_>],
@@ -120,4 +120,15 @@ pub(super) fn text_of<A: Allocator>(
     }
     report(outcome, logs, &mut text)?;
     Ok(text)
+}
+
+/// Whether this is the report of an outcome that has as many harts as there are logs.
+pub(crate) fn is_text<A: Allocator>(
+    alloc: Global,
+    outcome: &Outcome<A>,
+    logs: &[LegalLog<'_>],
+    wanted: &str,
+) -> Result<bool, Fail> {
+    let text = text_of(alloc, outcome, logs)?;
+    Ok(text.as_slice() == wanted.as_bytes())
 }
