@@ -20,6 +20,3 @@ pub use laws::{
     more_packets_describe_a_longer_log, one_log_is_described, passing_over_stands_for_nothing,
     walks_are_short,
 };
-
-#[cfg(test)]
-mod tests;

@@ -18,8 +18,6 @@ mod port;
 mod queue;
 mod receipt;
 mod rule;
-#[cfg(test)]
-mod tests;
 mod turn;
 
 pub use fault::{Ended, OpenFault, SendFault};

@@ -3,6 +3,11 @@
 //! The channel by itself wakes a port for each message that is taken, at the cost of a call of the kernel in the outlet's
 //! thread. Here a port that found no room sleeps until the outlet drained the funnel to its low-water mark, half of what
 //! it holds, and then sends many messages before it sleeps again.
+//!
+//! No contract speaks of this, and the tests, in `funnel_tests`, show only that ports are woken: each ends long before
+//! all waits could have lasted their longest. That one port is called at the mark, none before it, and all where no
+//! message waits, none twice, and that a dropped outlet calls all, changes when a port goes on and not what is sent: a
+//! matter of speed, which no test asks for.
 
 use std::alloc::Allocator;
 use std::hint;

@@ -12,8 +12,6 @@ mod fault;
 mod hart_trace;
 mod laws;
 mod part;
-#[cfg(test)]
-mod tests;
 
 pub use collecting::collect_lossy;
 pub use fault::LossyFault;

@@ -1,0 +1,227 @@
+//! Small programs, and the packets and the events of their traces.
+
+use decoder::{DecodeFault, Decoder};
+use payload::{Mode, Outcomes, Packet, Report, Support};
+use retire::Event;
+use rvclass::Program;
+use std::alloc::Global;
+use std::test::Fail;
+
+pub(crate) const BASE: u64 = 0x8000_0000;
+
+// Words, as the RISC-V Unprivileged ISA and the Privileged Architecture encode them. The branch is to 8 bytes on, the
+// loops are to themselves.
+pub(crate) const NOP: u32 = 0x0000_0013;
+
+pub(crate) const JUMP_LOOP: u32 = 0x0000_006f;
+
+pub(crate) const BRANCH_LOOP: u32 = 0x0000_0063;
+
+pub(crate) const BEQ: u32 = 0x0000_0463;
+
+/// To 4 bytes before.
+pub(crate) const BACK_JUMP: u32 = 0xffdf_f06f;
+
+/// To 8 bytes before.
+pub(crate) const BACK_JUMP_TWICE: u32 = 0xff9f_f06f;
+
+pub(crate) const RET: u32 = 0x0000_8067;
+
+pub(crate) const MRET: u32 = 0x3020_0073;
+
+pub(crate) const SRET: u32 = 0x1020_0073;
+
+pub(crate) const ECALL: u32 = 0x0000_0073;
+
+/// An ECALL, and its handler 256 bytes behind the base.
+pub(crate) const FAR: [u32; 65] = [
+    NOP, ECALL, 0, 0, 0, 0, 0, 0, 0, 0, 0, 0, 0, 0, 0, 0, 0, 0, 0, 0, 0, 0, 0, 0, 0, 0, 0, 0, 0, 0,
+    0, 0, 0, 0, 0, 0, 0, 0, 0, 0, 0, 0, 0, 0, 0, 0, 0, 0, 0, 0, 0, 0, 0, 0, 0, 0, 0, 0, 0, 0, 0, 0,
+    0, 0, NOP,
+];
+
+/// A packet. Addresses of synchronisations and traps are so far from the base.
+#[derive(Clone, Copy)]
+pub(crate) enum Sent {
+    /// One that opens or closes the trace.
+    Told(Support),
+    /// A synchronisation: its address, whether a branch there was taken, and the privilege.
+    Sync(u64, bool, u8),
+    /// An address packet without outcomes that waits, one that reports a target, and one that notifies: what the field
+    /// holds.
+    Plain(u64),
+    Updiscon(u64),
+    Notify(u64),
+    /// An address packet: the outcomes, what the field holds, and what it reports.
+    Walk(&'static [bool], u64, Report),
+    /// A branch map.
+    Map(&'static [bool]),
+    /// A trap: the address, whether a branch there was taken, the privilege, and whether the address is the handler's.
+    Trap(u64, bool, u8, bool),
+}
+
+pub(crate) const OPEN: Sent = Sent::Told(Support::Open(Mode::Differential));
+
+pub(crate) const OPEN_FULL: Sent = Sent::Told(Support::Open(Mode::Full));
+
+pub(crate) const ENDED_REP: Sent = Sent::Told(Support::EndedRep);
+
+pub(crate) const ENDED_NTR: Sent = Sent::Told(Support::EndedNtr);
+
+/// A synchronisation at the base, at machine level.
+pub(crate) const START: Sent = Sent::Sync(0, false, 3);
+
+/// A full branch map, whose branches were all taken.
+pub(crate) const FULL_MAP: Sent = Sent::Map(&[true; 31]);
+
+/// A trap without a handler, 4 bytes from the base.
+pub(crate) const TRAP: Sent = Sent::Trap(4, false, 3, false);
+
+/// An event: a retirement so far from the base, with its type and privilege; or a trap at an address, taken from
+/// machine level, whether it is an interrupt, its cause and its value.
+#[derive(Clone, Copy)]
+pub(crate) enum Step {
+    Retires(u64, u8, u8),
+    Traps(u64, bool, u8, u64),
+}
+
+/// These outcomes, the oldest first.
+fn outcomes_of(taken: &[bool]) -> Outcomes {
+    let mut outcomes = Outcomes::new();
+    for outcome in taken {
+        if outcomes.len() < 31 {
+            outcomes.push(*outcome);
+        }
+    }
+    outcomes
+}
+
+/// An address packet.
+fn address(taken: &[bool], delta: u64, report: Report) -> Packet {
+    Packet::Address {
+        outcomes: outcomes_of(taken),
+        delta,
+        report,
+    }
+}
+
+/// The packet that is sent.
+pub(crate) fn packet_of(sent: Sent) -> Packet {
+    match sent {
+        Sent::Told(support) => Packet::Support(support),
+        Sent::Sync(offset, taken, privilege) => Packet::Sync {
+            taken,
+            privilege,
+            address: BASE.wrapping_add(offset),
+        },
+        Sent::Plain(delta) => address(&[], delta, Report::Plain),
+        Sent::Updiscon(delta) => address(&[], delta, Report::Updiscon),
+        Sent::Notify(delta) => address(&[], delta, Report::Notify),
+        Sent::Walk(taken, delta, report) => address(taken, delta, report),
+        Sent::Map(taken) => Packet::Map(outcomes_of(taken)),
+        Sent::Trap(offset, taken, privilege, handler) => Packet::Trap {
+            taken,
+            privilege,
+            cause: 2,
+            interrupt: false,
+            handler,
+            address: BASE.wrapping_add(offset),
+            tval: 5,
+        },
+    }
+}
+
+/// The event that a step is.
+fn event_of(step: Step) -> Event {
+    match step {
+        Step::Retires(offset, itype, privilege) => Event::Retire {
+            addr: BASE.wrapping_add(offset),
+            itype,
+            privilege,
+        },
+        Step::Traps(epc, interrupt, cause, tval) => Event::Trap {
+            epc,
+            privilege: 3,
+            interrupt,
+            cause,
+            tval,
+        },
+    }
+}
+
+/// Whether a log begins as these events do, or has them all.
+pub(crate) fn begins(log: &[Event], steps: &[Step]) -> bool {
+    let mut same = log.len() <= steps.len();
+    for (event, step) in log.iter().zip(steps.iter()) {
+        same = same && *event == event_of(*step);
+    }
+    same
+}
+
+/// Whether a log has these events.
+pub(crate) fn is_log(log: &[Event], steps: &[Step]) -> bool {
+    log.len() == steps.len() && begins(log, steps)
+}
+
+/// The program of these words and bytes, from the base on.
+pub(crate) fn program_of(alloc: Global, words: &[u32], bytes: &[u8]) -> Result<Program, Fail> {
+    let mut image = Vec::new(alloc);
+    for word in words {
+        image.extend_from_slice(&word.to_le_bytes())?;
+    }
+    image.extend_from_slice(bytes)?;
+    Ok(Program::new(BASE, image)?)
+}
+
+/// Feeds these packets to a new decoder.
+pub(crate) fn fed(
+    alloc: Global,
+    program: &Program,
+    packets: &[Sent],
+) -> Result<(Decoder, Vec<Event>), Fail> {
+    let mut decoder = Decoder::new();
+    let mut log = Vec::new(alloc);
+    for sent in packets {
+        decoder.feed(program, &packet_of(*sent), &mut log)?;
+    }
+    Ok((decoder, log))
+}
+
+/// A packet, what it comes to, and how many events the list then has.
+pub(crate) type Turn = (Sent, Result<(), DecodeFault>, usize);
+
+/// Whether a packet comes to what is told of it: the answer, the events of the list, of which there are so many, and
+/// whether the decoder is closed before it and behind it.
+fn is_as_told(
+    program: &Program,
+    decoder: &mut Decoder,
+    log: &mut Vec<Event>,
+    turn: Turn,
+    steps: &[Step],
+) -> bool {
+    let (sent, answer, count) = turn;
+    let packet = packet_of(sent);
+    let late = answer == Err(DecodeFault::AfterClose);
+    let closes = late || packet.is_closing() && answer.is_ok();
+    decoder.is_closed() == late
+        && decoder.feed(program, &packet, log) == answer
+        && decoder.is_closed() == closes
+        && log.len() == count
+        && begins(log.as_slice(), steps)
+}
+
+/// The first of these turns that comes to something else than is told of it, if one does.
+pub(crate) fn otherwise(
+    program: &Program,
+    decoder: &mut Decoder,
+    log: &mut Vec<Event>,
+    turns: &[Turn],
+    steps: &[Step],
+) -> Option<usize> {
+    for (i, turn) in turns.iter().enumerate() {
+        if !is_as_told(program, decoder, log, *turn, steps) {
+            return Some(i);
+        }
+    }
+    None
+}

@@ -1,0 +1,67 @@
+//! Numbers of harts and of messages within the limits and beyond them.
+
+use funnel::{Core, OpenFault, open};
+use std::alloc::Global;
+use std::test::Fail;
+
+/// Why no queue of these numbers is made, and why no channel of these numbers is opened.
+fn faults(alloc: Global, harts: u16, capacity: u32) -> (Option<OpenFault>, Option<OpenFault>) {
+    (
+        Core::new(alloc, harts, capacity).err(),
+        open(alloc, harts, capacity).err(),
+    )
+}
+
+const NO_HARTS: Option<OpenFault> = Some(OpenFault::NoHarts);
+
+const MANY: Option<OpenFault> = Some(OpenFault::TooManyHarts);
+
+const CAPACITY: Option<OpenFault> = Some(OpenFault::Capacity);
+
+// The queue serves 1 to 1,024 harts, the channel 1 to 64.
+#[test]
+fn lowest_fault_is_told(rt: HostRuntime) -> Result<(), Fail> {
+    let table = [
+        (0, 0, NO_HARTS, NO_HARTS),
+        (0, 16, NO_HARTS, NO_HARTS),
+        (0, 65_537, NO_HARTS, NO_HARTS),
+        (65, 0, CAPACITY, MANY),
+        (65, 16, None, MANY),
+        (1024, 16, None, MANY),
+        (1024, 0, CAPACITY, MANY),
+        (1024, 65_537, CAPACITY, MANY),
+        (1025, 0, MANY, MANY),
+        (1025, 16, MANY, MANY),
+        (65_535, u32::MAX, MANY, MANY),
+        (1, 0, CAPACITY, CAPACITY),
+        (64, 65_537, CAPACITY, CAPACITY),
+        (2, u32::MAX, CAPACITY, CAPACITY),
+        (1, 1, None, None),
+        (64, 1, None, None),
+        (1, 65_536, None, None),
+        (64, 65_536, None, None),
+    ];
+    for (harts, capacity, of_queue, of_channel) in table {
+        let told = faults(rt.alloc(), harts, capacity);
+        assert!(rt;
+            told == (of_queue, of_channel),
+            "{harts} harts, capacity {capacity}"
+        );
+    }
+    Ok(())
+}
+
+#[test]
+fn texts(rt: HostRuntime) -> Result<(), Fail> {
+    let table = [
+        (OpenFault::NoHarts, "no harts"),
+        (OpenFault::TooManyHarts, "too many harts"),
+        (OpenFault::Capacity, "capacity is not 1 to 65536"),
+        (OpenFault::Memory, "out of memory"),
+    ];
+    for (fault, text) in table {
+        let told = format!(in rt.alloc(); "{fault}")?;
+        assert!(rt; told.as_str() == text);
+    }
+    Ok(())
+}

@@ -1,0 +1,26 @@
+//! Ports that wait for room in a full funnel are woken long before they would look for it again by themselves.
+//!
+//! A port that no one calls sleeps 10 ms. What is sent here is so much that with all those sleeps a test would not end
+//! within the 60 seconds that the gate gives it; where ports are called it does soon. So no clock is asked.
+
+use super::workers::is_whole;
+use std::test::Fail;
+
+// Were no port called, 60,000 messages through 8 places would take some 65 seconds, and 10,000 through one place 30 more.
+#[test]
+fn a_sender_is_woken(rt: HostRuntime) -> Result<(), Fail> {
+    for (capacity, count) in [(8, 60_000), (1, 10_000)] {
+        assert!(rt;
+            is_whole(&rt, rt.alloc(), 1, capacity, count),
+            "capacity {capacity}"
+        );
+    }
+    Ok(())
+}
+
+// Senders sleep side by side, so each has to send as many.
+#[test]
+fn each_of_several_senders_is_woken(rt: HostRuntime) -> Result<(), Fail> {
+    assert!(rt; is_whole(&rt, rt.alloc(), 2, 8, 70_000));
+    Ok(())
+}

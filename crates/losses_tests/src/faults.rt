@@ -1,0 +1,142 @@
+//! Messages of which nothing is collected.
+
+use crate::collected::{hold_at, message_of};
+use crate::small_logs::{payload_of, program_of};
+use decoder::DecodeFault;
+use linked_list_allocator::LocalHeap;
+use losses::{LossyFault, collect_lossy};
+use message::DemuxFault;
+use payload::Mode;
+use rvclass::Program;
+use std::alloc::Global;
+use std::test::Fail;
+
+const OPEN: &[u8] = &[0x1f];
+
+const FIRST: &[u8] = &[0x73, 0, 0, 0, 0x20];
+
+const ADDRESS: &[u8] = &[0x0a];
+
+const THIRD: &[u8] = &[0x73, 2, 0, 0, 0x20];
+
+/// The payload of a synchronisation at the address behind the program.
+const OFF_PROGRAM: &[u8] = &[0x73, 3, 0, 0, 0x20];
+
+/// The last number of a message.
+const LAST: u64 = (1 << 63) - 1;
+
+/// How many harts there are, messages, of each the hart, the number and the payload, and why they are not collected.
+type Row = (u16, [(u16, u64, &'static [u8]); 3], LossyFault);
+
+const ROWS: [Row; 10] = [
+    (
+        2,
+        [(0, 0, OPEN), (0, 1, FIRST), (0, 1, FIRST)],
+        LossyFault::Demux(2, DemuxFault::Repeat),
+    ),
+    (
+        2,
+        [(0, 3, THIRD), (1, 0, OPEN), (0, 1, FIRST)],
+        LossyFault::Demux(2, DemuxFault::Repeat),
+    ),
+    (
+        2,
+        [(0, 0, OPEN), (0, 1, FIRST), (0, 1 << 63, ADDRESS)],
+        LossyFault::Demux(2, DemuxFault::Gap { expected: 2 }),
+    ),
+    (
+        2,
+        [(0, 0, OPEN), (0, LAST, FIRST), (0, 1 << 63, ADDRESS)],
+        LossyFault::Demux(2, DemuxFault::AfterClose),
+    ),
+    (
+        2,
+        [(2, 0, OPEN), (0, 0, OPEN), (0, 1, OFF_PROGRAM)],
+        LossyFault::Demux(0, DemuxFault::Stranger),
+    ),
+    (
+        0,
+        [(0, 0, OPEN), (0, 1, FIRST), (0, 2, ADDRESS)],
+        LossyFault::Demux(0, DemuxFault::Stranger),
+    ),
+    (
+        2,
+        [(0, 0, OPEN), (0, 1, OFF_PROGRAM), (0, 2, ADDRESS)],
+        LossyFault::Decode(1, DecodeFault::OffProgram),
+    ),
+    (
+        2,
+        [(0, 0, OPEN), (1, 0, OPEN), (1, 1, OFF_PROGRAM)],
+        LossyFault::Decode(2, DecodeFault::OffProgram),
+    ),
+    (
+        2,
+        [(0, 0, OPEN), (0, 2, ADDRESS), (0, 3, OFF_PROGRAM)],
+        LossyFault::Decode(2, DecodeFault::OffProgram),
+    ),
+    (
+        2,
+        [(0, 0, OPEN), (1, 0, ADDRESS), (0, 1, OFF_PROGRAM)],
+        LossyFault::Decode(1, DecodeFault::NotOpened),
+    ),
+];
+
+/// Whether the messages of a row are not collected for its reason.
+fn is_told(alloc: Global, program: &Program, row: Row) -> Result<bool, Fail> {
+    let (count, sent, fault) = row;
+    let mut messages = Vec::new(alloc);
+    for (hart, number, payload) in sent {
+        messages.push(message_of(hart, number, payload)?)?;
+    }
+    match collect_lossy(alloc, program, count, Mode::Differential, &messages) {
+        Ok(_) => Ok(false),
+        Err(why) => Ok(why == fault),
+    }
+}
+
+/// A message that is refused and a packet that is not decoded are told with their places, behind those of other harts
+/// too: a number that comes twice or is lower is a repeat; one of 2^63 is a gap, and one that would follow 2^63 - 1
+/// comes after the end; and a hart may not be known, as none is where there are no harts.
+#[test]
+fn faults_have_places(rt: HostRuntime) -> Result<(), Fail> {
+    let program = program_of(rt.alloc())?;
+    for (place, row) in ROWS.into_iter().enumerate() {
+        hold_at(place, is_told(rt.alloc(), &program, row)?)?;
+    }
+    Ok(())
+}
+
+/// Where there are no harts and no messages, nothing is left of nobody's log.
+#[test]
+fn no_harts(rt: HostRuntime) -> Result<(), Fail> {
+    let program = program_of(rt.alloc())?;
+    let harts = collect_lossy(rt.alloc(), &program, 0, Mode::Full, &[])?;
+    hold_at("no harts", harts.is_empty())
+}
+
+/// With too little memory Memory is answered, and everything taken is given back.
+#[test]
+fn memory_is_refused(rt: HostRuntime) -> Result<(), Fail> {
+    let program = program_of(rt.alloc())?;
+    let mut messages = Vec::new(rt.alloc());
+    for number in [0, 1, 3, 4] {
+        messages.push(message_of(0, number, payload_of(number))?)?;
+    }
+    let mut refused = 0usize;
+    let mut collected = 0usize;
+    for step in 0..128usize {
+        let heap = LocalHeap::new(rt.alloc(), step * 16)?;
+        let is_told = match collect_lossy(&heap, &program, 1, Mode::Differential, &messages) {
+            Ok(harts) => {
+                collected = collected.saturating_add(1);
+                harts.len() == 1
+            }
+            Err(fault) => {
+                refused = refused.saturating_add(1);
+                fault == LossyFault::Memory
+            }
+        };
+        hold_at(step, is_told && heap.used() == 0)?;
+    }
+    hold_at("both ends", 0 < refused && 0 < collected)
+}

@@ -1,0 +1,165 @@
+//! Made logs, which branch, jump back, return and take traps, and what their harts send.
+
+use crate::collected::{BASE, message_of};
+use encoder::Source;
+use legalpath::LegalLog;
+use message::Message;
+use payload::{Mode, Payload};
+use retire::Event;
+use rvclass::Program;
+use std::alloc::Global;
+use std::test::Fail;
+
+/// The words of the program.
+pub(crate) const WORDS: [u32; 6] = [
+    0x0000_0013, // 0: nop
+    0x0000_0463, // 4: branch two words on
+    0x0000_8067, // 8: jump to the address in ra, which is the first word
+    0xff5f_f06f, // 12: jump back to the first word
+    0x0000_0013, // 16: the handler of all traps: nop
+    0x3020_0073, // 20: mret
+];
+
+/// The program of these words.
+pub(crate) fn program_of(alloc: Global, words: &[u32]) -> Result<Program, Fail> {
+    let mut image = Vec::new(alloc);
+    for word in words {
+        image.extend_from_slice(&word.to_le_bytes())?;
+    }
+    Ok(Program::new(BASE, image)?)
+}
+
+/// A retirement so far from the base.
+pub(crate) fn retired(offset: u64, itype: u8) -> Event {
+    Event::Retire {
+        addr: BASE.wrapping_add(offset),
+        itype,
+        privilege: 3,
+    }
+}
+
+/// An interrupt before the word so far from the base.
+pub(crate) fn interrupted(offset: u64) -> Event {
+    Event::Trap {
+        epc: BASE.wrapping_add(offset),
+        privilege: 3,
+        interrupt: true,
+        cause: 7,
+        tval: 0,
+    }
+}
+
+/// Pseudo-random numbers, those of a linear congruential generator.
+#[derive(Drop)]
+pub(crate) struct Draws {
+    pub(crate) state: u64,
+}
+
+impl Draws {
+    /// A number below this one, where it is not 0.
+    pub(crate) fn below(&mut self, bound: usize) -> usize {
+        self.state = self
+            .state
+            .wrapping_mul(6_364_136_223_846_793_005)
+            .wrapping_add(1_442_695_040_888_963_407);
+        (self.state >> 33) as usize % bound.max(1)
+    }
+
+    /// The first events of a hart that begins at the first word, at machine level.
+    pub(crate) fn events(&mut self, alloc: Global, count: usize) -> Result<Vec<Event>, Fail> {
+        let mut events = Vec::new(alloc);
+        let mut at = 0u64;
+        let mut resume = 0u64;
+        for _ in 0..count {
+            let traps = at < 16 && self.below(6) == 0;
+            let (event, next) = match at {
+                _ if traps => (interrupted(at), 16),
+                4 if self.below(2) == 0 => (retired(4, 5), 12),
+                4 => (retired(4, 4), 8),
+                8 => (retired(8, 6), 0),
+                12 => (retired(12, 0), 0),
+                20 => (retired(20, 3), resume),
+                _ => (retired(at, 0), at.wrapping_add(4)),
+            };
+            if traps {
+                resume = at;
+            }
+            events.push(event)?;
+            at = next;
+        }
+        Ok(events)
+    }
+
+    /// Which of so many messages come: all, all but one or some in a row, one, all but the first or the last, or about
+    /// three of four.
+    pub(crate) fn came(&mut self, alloc: Global, count: usize) -> Result<Vec<bool>, Fail> {
+        let mut came = Vec::new(alloc);
+        let kind = self.below(8);
+        let one = self.below(count);
+        let row = self.below(6);
+        for number in 0..count {
+            let lost = match kind {
+                0 => false,
+                1 => number == one,
+                2 => one <= number && number <= one.saturating_add(row),
+                3 => number.wrapping_add(one) % 9 < row,
+                4 => number != one,
+                5 => number == 0,
+                6 => number.saturating_add(1) == count,
+                _ => self.below(4) == 0,
+            };
+            came.push(!lost)?;
+        }
+        Ok(came)
+    }
+}
+
+/// A hart's log and what it sends, and how many messages of each other hart come before its first.
+#[derive(Drop)]
+pub(crate) struct Sent {
+    pub(crate) events: Vec<Event>,
+    pub(crate) payloads: Vec<Payload>,
+    pub(crate) came: Vec<bool>,
+    pub(crate) delay: usize,
+}
+
+/// The messages of up to eight harts, mixed.
+pub(crate) fn mixed(alloc: Global, harts: &[Sent]) -> Result<Vec<Message>, Fail> {
+    let mut messages = Vec::new(alloc);
+    for time in 0..100usize {
+        for (hart, sent) in harts.iter().enumerate() {
+            let number = time.wrapping_sub(sent.delay);
+            if let Some(payload) = sent.payloads.get(number)
+                && sent.came.get(number) == Some(&true)
+            {
+                let hart = hart.min(8) as u16;
+                messages.push(message_of(hart, number as u64, payload.bytes())?)?;
+            }
+        }
+    }
+    Ok(messages)
+}
+
+/// The payloads of the log of these events.
+pub(crate) fn payloads_of(
+    alloc: Global,
+    program: &Program,
+    events: &[Event],
+    period: u16,
+    mode: Mode,
+) -> Result<Vec<Payload>, Fail> {
+    if events.len() > 1 << 24 {
+        return Err(Fail::from("a log is too long"));
+    }
+    let Ok(log) = LegalLog::new(program, events.to_vec(alloc)?) else {
+        return Err(Fail::from("a log is not legal"));
+    };
+    let mut payloads = Vec::new(alloc);
+    let mut source = Source::new(&log, period.max(1), mode);
+    for _ in 0..100 {
+        if let Some(payload) = source.next() {
+            payloads.push(payload)?;
+        }
+    }
+    Ok(payloads)
+}
