@@ -1,5 +1,6 @@
 //! Logs that come back from their packets.
 
+use crate::hold::hold_at;
 use crate::made::{MODES, PERIODS, WORDS, legal_log, log_of, program_of};
 use decoder::{DecodeFault, Decoder};
 use encoder::Encoder;
@@ -70,7 +71,7 @@ fn has_logs_back(rt: HostRuntime) -> Result<(), Fail> {
     let program = program_of(rt.alloc(), &WORDS)?;
     for (seed, period) in PERIODS.into_iter().enumerate() {
         let back = log_comes_back(rt.alloc(), &program, seed as u64, period)?;
-        assert!(rt; back, "{period}");
+        hold_at(period, back)?;
     }
     Ok(())
 }

@@ -2,6 +2,7 @@
 
 use crate::encoding::{FailingWriter, holds};
 use crate::headers::{Beginning, HEADER, beginning_of};
+use crate::hold::hold_at;
 use crate::small_captures::{Start, capture_of};
 use captures::{Dumped, dump_capture};
 use message::MessageFault;
@@ -127,28 +128,41 @@ fn lines_of(alloc: Global, first: &str, field: &str, text: &str) -> Result<Vec<u
     Ok(lines)
 }
 
+/// Whether the capture of one message with this payload has these two lines.
+fn is_line(
+    alloc: Global,
+    start: Start,
+    (first, field): (&str, &str),
+    (bytes, text): (&'static [u8], &str),
+) -> Result<bool, Fail> {
+    let capture = capture_of(alloc, start, &[(65535, u64::MAX, bytes)])?;
+    let lines = lines_of(alloc, first, field, text)?;
+    let wanted = if text.starts_with("bad ") {
+        ONE_BAD
+    } else {
+        ALL_GOOD
+    };
+    dumps(alloc, &capture, &lines, wanted)
+}
+
+/// What stands before the message, its line, and the name of an address packet's field.
+const STARTS: [(Start, &str, &str); 3] = [
+    (None, "", "diff"),
+    (Some((Mode::Differential, 1)), FIRST_LINE, "diff"),
+    (
+        Some((Mode::Full, 1)),
+        "capture 2 mode=full period=1024 harts=1\n",
+        "addr",
+    ),
+];
+
 /// Behind no header, one of differences and one of full addresses, whatever the packets open.
 #[test]
 fn text_of_each_packet(rt: HostRuntime) -> Result<(), Fail> {
-    let starts: [(Start, &str, &str); 3] = [
-        (None, "", "diff"),
-        (Some((Mode::Differential, 1)), FIRST_LINE, "diff"),
-        (
-            Some((Mode::Full, 1)),
-            "capture 2 mode=full period=1024 harts=1\n",
-            "addr",
-        ),
-    ];
-    for (start, first, field) in starts {
-        for (bytes, text) in TEXTS {
-            let capture = capture_of(rt.alloc(), start, &[(65535, u64::MAX, bytes)])?;
-            let lines = lines_of(rt.alloc(), first, field, text)?;
-            let wanted = if text.starts_with("bad ") {
-                ONE_BAD
-            } else {
-                ALL_GOOD
-            };
-            assert!(rt; dumps(rt.alloc(), &capture, &lines, wanted)?, "{text}");
+    for (start, first, field) in STARTS {
+        for row in TEXTS {
+            let holds = is_line(rt.alloc(), start, (first, field), row)?;
+            hold_at(row.1, holds)?;
         }
     }
     Ok(())
@@ -202,44 +216,64 @@ const BAD_LENGTH: [u8; 47] = [
     0, 0, 3, 0, 0, 0, 0, 0, 0, 0, 1, 0x1f,
 ];
 
-/// Whole captures, captures with a bad length, and the worked one cut to each length.
+/// Whole captures.
 #[test]
 fn dumps_by_table(rt: HostRuntime) -> Result<(), Fail> {
     for (bytes, text, wanted) in DUMPS {
-        assert!(rt;
-            dumps(rt.alloc(), bytes, text.as_bytes(), wanted)?,
-            "{text}"
-        );
+        hold_at(text, dumps(rt.alloc(), bytes, text.as_bytes(), wanted)?)?;
     }
+    Ok(())
+}
+
+/// Whether a message with this length is told behind those before it.
+fn ends_at_length(alloc: Global, length: u8) -> Result<bool, Fail> {
     let ended = Dumped {
         bad: true,
         fault: Some((2, MessageFault::BadLength)),
     };
+    let mut bytes = BAD_LENGTH;
+    bytes[34] = length;
+    dumps(alloc, &bytes, b"0 0 open\n0 1 bad Unsupported\n", ended)
+}
+
+#[test]
+fn dumps_to_a_bad_length(rt: HostRuntime) -> Result<(), Fail> {
     for length in [0, 19, 255] {
-        let mut bytes = BAD_LENGTH;
-        bytes[34] = length;
-        let text = b"0 0 open\n0 1 bad Unsupported\n";
-        assert!(rt; dumps(rt.alloc(), &bytes, text, ended)?, "length {length}");
+        hold_at(length, ends_at_length(rt.alloc(), length)?)?;
     }
+    Ok(())
+}
+
+/// How many messages of the worked capture end at this length or before, and how many bytes and bytes of text they take.
+fn whole_lines(length: usize) -> (u64, usize, usize) {
+    match length {
+        0..12 => (0, 0, 0),
+        12..28 => (1, 12, 9),
+        28..48 => (2, 28, 48),
+        48..65 => (3, 48, 82),
+        _ => (4, 65, 138),
+    }
+}
+
+/// Whether the worked capture, cut to a length that is not its own, has the lines of its whole messages.
+fn dumps_cut(alloc: Global, length: usize) -> Result<bool, Fail> {
+    let (whole, place, text) = whole_lines(length);
+    let cut = Dumped {
+        bad: false,
+        fault: Some((whole, MessageFault::Short)),
+    };
+    let wanted = if length == place { ALL_GOOD } else { cut };
+    match (WORKED.get(..length), WORKED_TEXT.as_bytes().get(..text)) {
+        (Some(bytes), Some(text)) => dumps(alloc, bytes, text, wanted),
+        _ => Ok(false),
+    }
+}
+
+/// The worked capture cut to each length.
+#[test]
+fn dumps_cut_captures(rt: HostRuntime) -> Result<(), Fail> {
     for length in 0..78 {
-        // How many whole messages there are, and how many bytes and bytes of text they take.
-        let (whole, place, text) = match length {
-            0..12 => (0, 0, 0),
-            12..28 => (1, 12, 9),
-            28..48 => (2, 28, 48),
-            48..65 => (3, 48, 82),
-            _ => (4, 65, 138),
-        };
-        let cut = Dumped {
-            bad: false,
-            fault: Some((whole, MessageFault::Short)),
-        };
-        let wanted = if length == place { ALL_GOOD } else { cut };
-        let text = WORKED_TEXT.as_bytes().get(..text).unwrap_or(b"?");
-        assert!(rt;
-            dumps(rt.alloc(), &WORKED[..length], text, wanted)?,
-            "cut to {length}"
-        );
+        hold_at(length, dumps_cut(rt.alloc(), length)?)?;
     }
     Ok(())
 }
@@ -270,21 +304,48 @@ fn is_told(alloc: Global, header: &[u8]) -> Result<bool, Fail> {
     Ok(dumped == wanted && told.is_empty())
 }
 
+/// Whether a header with the byte at a place set to each value is told as what it is.
+fn are_told(alloc: Global, place: usize) -> Result<bool, Fail> {
+    let mut header = HEADER;
+    for value in 0..=u8::MAX {
+        match header.get_mut(place) {
+            Some(byte) => *byte = value,
+            None => return Ok(false),
+        }
+        if !is_told(alloc, &header)? {
+            return Ok(false);
+        }
+    }
+    Ok(true)
+}
+
 /// A header cut to each length, and each of its bytes set to each value, but for the 0 before the settings, where a
 /// message of version 1 has its length.
 #[test]
 fn headers_cut_and_changed(rt: HostRuntime) -> Result<(), Fail> {
     for length in 0..16 {
-        assert!(rt; is_told(rt.alloc(), &HEADER[..length])?, "{length}");
+        hold_at(length, is_told(rt.alloc(), &HEADER[..length])?)?;
     }
     for place in [0usize, 1, 2, 3, 4, 5, 6, 7, 8, 9, 11, 12, 13, 14, 15] {
-        let mut header = HEADER;
-        for value in 0..=u8::MAX {
-            header[place] = value;
-            assert!(rt; is_told(rt.alloc(), &header)?, "{place} {value}");
-        }
+        hold_at(place, are_told(rt.alloc(), place)?)?;
     }
     Ok(())
+}
+
+/// Whether so much of this text of a capture is written by a writer of so many calls, which is told to fail just where
+/// that is not all.
+fn dump_is_cut(alloc: Global, capture: &[u8], calls: usize, text: &[u8]) -> bool {
+    let mut sink = FailingWriter {
+        held: Vec::new(alloc),
+        calls,
+    };
+    let told = dump_capture(capture, &mut sink);
+    let wanted = if calls < text.len() {
+        Err(WriteFault::Write)
+    } else {
+        Ok(ALL_GOOD)
+    };
+    told == wanted && holds(&sink.held, calls, text)
 }
 
 #[test]
@@ -293,21 +354,8 @@ fn writer_of_a_dump_fails_at_each_call(rt: HostRuntime) -> Result<(), Fail> {
     capture.extend_from_slice(&WORKED)?;
     let mut text = FIRST_LINE.as_bytes().to_vec(rt.alloc())?;
     text.extend_from_slice(WORKED_TEXT.as_bytes())?;
-    for calls in 0..text.len() + 1 {
-        let mut sink = FailingWriter {
-            held: Vec::new(rt.alloc()),
-            calls,
-        };
-        let told = dump_capture(&capture, &mut sink);
-        let wanted = if calls < text.len() {
-            Err(WriteFault::Write)
-        } else {
-            Ok(ALL_GOOD)
-        };
-        assert!(rt;
-            told == wanted && holds(&sink.held, calls, &text),
-            "{calls}"
-        );
+    for calls in 0..text.len().saturating_add(1) {
+        hold_at(calls, dump_is_cut(rt.alloc(), &capture, calls, &text))?;
     }
     Ok(())
 }

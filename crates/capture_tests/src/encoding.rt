@@ -1,6 +1,7 @@
 //! Logs and their messages, as captures of both versions and as lines.
 
 use crate::headers::{Beginning, beginning_of, header_of};
+use crate::hold::hold_at;
 use crate::made::{MODES, PERIODS, WORDS, capture_of_logs, legal_log, log_of, program_of};
 use crate::small_captures::{BOTH, NOPS, WORKED};
 use captures::{encode_capture, encode_hex};
@@ -65,34 +66,59 @@ const LINES: &[u8] = b"0 0 1f\n0 1 7300000020\n0 2 0a\n0 3 4f\n1 0 1f\n1 1 73000
 
 const FULL_LINES: &[u8] = b"0 0 1f01\n0 1 7300000020\n0 2 0a00000001\n0 3 4f\n";
 
-/// The first log alone in both versions and modes, and no logs.
+/// Whether the first log alone has this capture in this mode, without a header and behind one.
+fn is_captured(
+    alloc: Global,
+    logs: &[LegalLog<'_>; 2],
+    mode: Mode,
+    capture: &[u8],
+) -> Result<bool, Fail> {
+    let one = capture_of_logs(alloc, &logs[..1], 1024, mode, Version::One)?;
+    let two = capture_of_logs(alloc, &logs[..1], 1024, mode, Version::Two)?;
+    let mut headed = header_of(mode, 1).to_vec(alloc)?;
+    headed.extend_from_slice(capture)?;
+    Ok(one.as_slice() == capture && two.as_slice() == headed.as_slice())
+}
+
+/// The first log alone in both versions and modes.
 #[test]
-fn captures_and_lines(rt: HostRuntime) -> Result<(), Fail> {
+fn captures_of_a_log(rt: HostRuntime) -> Result<(), Fail> {
     let program = program_of(rt.alloc(), &NOPS)?;
     let logs = logs_of(rt.alloc(), &program)?;
-    let tables: [(Mode, &[u8]); 2] = [(Mode::Differential, &WORKED), (Mode::Full, &FULL_CAPTURE)];
-    for (mode, capture) in tables {
-        let bytes = capture_of_logs(rt.alloc(), &logs[..1], 1024, mode, Version::One)?;
-        assert!(rt; bytes.as_slice() == capture);
-        let mut headed = header_of(mode, 1).to_vec(rt.alloc())?;
-        headed.extend_from_slice(capture)?;
-        let bytes = capture_of_logs(rt.alloc(), &logs[..1], 1024, mode, Version::Two)?;
-        assert!(rt; bytes.as_slice() == headed.as_slice());
-    }
+    let differences = is_captured(rt.alloc(), &logs, Mode::Differential, &WORKED)?;
+    hold_at("differences", differences)?;
+    let full = is_captured(rt.alloc(), &logs, Mode::Full, &FULL_CAPTURE)?;
+    hold_at("full addresses", full)
+}
+
+/// The lines of the first log alone, and no logs.
+#[test]
+fn lines_of_a_log_and_no_logs(rt: HostRuntime) -> Result<(), Fail> {
+    let program = program_of(rt.alloc(), &NOPS)?;
+    let logs = logs_of(rt.alloc(), &program)?;
     let mut lines = Vec::new(rt.alloc());
     encode_hex(&logs[..1], 1024, Mode::Full, &mut lines)?;
-    assert!(rt; lines.as_slice() == FULL_LINES);
+    hold_at("lines", lines.as_slice() == FULL_LINES)?;
+    let mode = Mode::Differential;
     let mut none = Vec::new(rt.alloc());
-    encode_capture(
-        &logs[..0],
-        1024,
-        Mode::Differential,
-        Version::One,
-        &mut none,
-    )?;
-    encode_hex(&logs[..0], 1024, Mode::Differential, &mut none)?;
-    assert!(rt; none.is_empty());
-    Ok(())
+    encode_capture(&logs[..0], 1024, mode, Version::One, &mut none)?;
+    encode_hex(&logs[..0], 1024, mode, &mut none)?;
+    hold_at("no logs", none.is_empty())
+}
+
+/// Whether the header of the first so many of two logs tells what was asked for.
+fn is_headed(
+    alloc: Global,
+    logs: &[LegalLog<'_>; 2],
+    mode: Mode,
+    period: u16,
+    count: usize,
+) -> Result<bool, Fail> {
+    let Some(first) = logs.get(..count) else {
+        return Ok(false);
+    };
+    let bytes = capture_of_logs(alloc, first, period, mode, Version::Two)?;
+    Ok(beginning_of(&bytes) == Beginning::Header(mode, usize::from(period), count))
 }
 
 /// The header tells the period, the mode and the count of logs.
@@ -102,17 +128,9 @@ fn headers_tell_what_was_asked_for(rt: HostRuntime) -> Result<(), Fail> {
     let logs = logs_of(rt.alloc(), &program)?;
     for mode in MODES {
         for period in PERIODS {
-            for count in 1..3usize {
-                let bytes = capture_of_logs(
-                    rt.alloc(),
-                    &logs[..count],
-                    period,
-                    mode,
-                    Version::Two,
-                )?;
-                let told = Beginning::Header(mode, usize::from(period), count);
-                assert!(rt; beginning_of(&bytes) == told, "{period} {count}");
-            }
+            let holds = is_headed(rt.alloc(), &logs, mode, period, 1)?
+                && is_headed(rt.alloc(), &logs, mode, period, 2)?;
+            hold_at(period, holds)?;
         }
     }
     Ok(())
@@ -176,7 +194,7 @@ fn two_harts_to_writers_that_fail(rt: HostRuntime) -> Result<(), Fail> {
         let is_told = capture_is_cut(rt.alloc(), &logs, Version::One, calls, &whole)
             && capture_is_cut(rt.alloc(), &logs, Version::Two, calls, &headed)
             && lines_are_cut(rt.alloc(), &logs, calls);
-        assert!(rt; is_told, "{calls}");
+        hold_at(calls, is_told)?;
     }
     Ok(())
 }
@@ -232,31 +250,39 @@ fn told_by(program: &Program, log: &LegalLog<'_>, period: u16, mode: Mode) -> To
     told
 }
 
-/// A hundred thousand events: each branch is told once, as an outcome, by a synchronisation or with its trap.
-#[test]
-fn tells_each_branch_once(rt: HostRuntime) -> Result<(), Fail> {
-    let program = program_of(rt.alloc(), &WORDS)?;
-    let log = legal_log(&program, log_of(rt.alloc(), 1, 100_000)?)?;
+/// How many branches a log has.
+fn branches_of(log: &LegalLog<'_>) -> usize {
     let mut branches = 0usize;
     for event in log.events() {
         if matches!(event, Event::Retire { itype: 4 | 5, .. }) {
             branches = branches.saturating_add(1);
         }
     }
-    assert!(rt; 10_000 < branches);
+    branches
+}
+
+/// Whether packets of this period tell each of so many branches once: none as an outcome where each retirement is a
+/// synchronisation, and else many.
+fn are_told_once(told: Told, period: u16, branches: usize) -> bool {
+    let many = if period == 1 {
+        told.outcomes == 0
+    } else {
+        1000 < told.outcomes
+    };
+    many && told.outcomes.saturating_add(told.reported) == branches
+}
+
+/// A hundred thousand events: each branch is told once, as an outcome, by a synchronisation or with its trap.
+#[test]
+fn tells_each_branch_once(rt: HostRuntime) -> Result<(), Fail> {
+    let program = program_of(rt.alloc(), &WORDS)?;
+    let log = legal_log(&program, log_of(rt.alloc(), 1, 100_000)?)?;
+    let branches = branches_of(&log);
+    hold_at(branches, 10_000 < branches)?;
     for mode in MODES {
         for period in PERIODS {
             let told = told_by(&program, &log, period, mode);
-            assert_eq!(rt;
-                told.outcomes.saturating_add(told.reported),
-                branches,
-                "{period}"
-            );
-            if period == 1 {
-                assert_eq!(rt; told.outcomes, 0);
-            } else {
-                assert!(rt; 1000 < told.outcomes, "{period}");
-            }
+            hold_at(period, are_told_once(told, period, branches))?;
         }
     }
     Ok(())

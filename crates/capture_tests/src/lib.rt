@@ -13,7 +13,11 @@ mod dumping;
 #[cfg(test)]
 mod encoding;
 #[cfg(test)]
+mod fault_texts;
+#[cfg(test)]
 mod headers;
+#[cfg(test)]
+mod hold;
 #[cfg(test)]
 mod made;
 #[cfg(test)]

@@ -1,5 +1,6 @@
 //! Messages of several harts, received.
 
+use crate::hold::hold_at;
 use crate::made::program_of;
 use crate::small_captures::{
     END, FIRST, NOPS, OPEN, OPEN_FULL, SECOND, Sent, are_told, message_of,
@@ -77,11 +78,10 @@ fn messages_by_table(rt: HostRuntime) -> Result<(), Fail> {
     for (row, (sent, fault, counts)) in ROWS.into_iter().enumerate() {
         let answer = fault_of(&mut receiver, &program, None, &message_of(&sent)?);
         let is_told = are_told(receiver.lists(), receiver.closed(), counts);
-        assert!(rt; is_told && answer == fault, "row {row}");
+        hold_at(row, is_told && answer == fault)?;
     }
     let (lists, closed) = receiver.into_parts();
-    assert!(rt; are_told(&lists, &closed, &[2, 1]));
-    Ok(())
+    hold_at("all", are_told(&lists, &closed, &[2, 1]))
 }
 
 /// Where a mode was told before, a message that opens a trace in another one is accepted and not decoded.
@@ -103,7 +103,7 @@ fn opens_in_the_mode_that_was_told(rt: HostRuntime) -> Result<(), Fail> {
         let open = message_of(&(0, 0, payload))?;
         let first = fault_of(&mut receiver, &program, told, &open);
         let again = fault_of(&mut receiver, &program, told, &open);
-        assert!(rt; first == fault && again == repeat, "row {row}");
+        hold_at(row, first == fault && again == repeat)?;
     }
     Ok(())
 }
@@ -132,10 +132,10 @@ fn accepts_and_then_decodes(rt: HostRuntime) -> Result<(), Fail> {
     let mut receiver = Receiver::new(rt.alloc(), 1)?;
     for (number, payload, events) in [(0, OPEN, 0), (1, FIRST, 0), (2, SECOND, 1), (3, END, 1)] {
         let message = message_of(&(0, number, payload))?;
-        assert!(rt; accepted(&mut receiver, &program, &message)? == events);
+        let between = accepted(&mut receiver, &program, &message)?;
+        hold_at(number, between == events)?;
     }
-    assert!(rt; are_told(receiver.lists(), receiver.closed(), &[2]));
-    Ok(())
+    hold_at("all", are_told(receiver.lists(), receiver.closed(), &[2]))
 }
 
 /// Receives messages with the memory that there is, and answers how many events came and why no more.
@@ -173,13 +173,12 @@ fn memory_is_refused(rt: HostRuntime) -> Result<(), Fail> {
         match received(&heap, &program, &messages) {
             Ok((2, None)) => all = all.saturating_add(1),
             Ok((count, fault)) => {
-                assert!(rt; count < 2 && fault == memory);
+                hold_at(step, count < 2 && fault == memory)?;
                 some = some.saturating_add(1);
             }
             Err(_) => nothing = nothing.saturating_add(1),
         }
-        assert!(rt; heap.used() == 0);
+        hold_at(step, heap.used() == 0)?;
     }
-    assert!(rt; 0 < nothing && 0 < some && 0 < all);
-    Ok(())
+    hold_at("all ends", 0 < nothing && 0 < some && 0 < all)
 }

@@ -1,5 +1,6 @@
 //! Logs that come back from their captures, in both versions.
 
+use crate::hold::hold_at;
 use crate::made::{BASE, MODES, WORDS, capture_of_logs, legal_log, log_of, program_of};
 use captures::{CaptureFault, CaptureOutcome, decode_capture};
 use decoder::DecodeFault;
@@ -99,14 +100,10 @@ fn memory_is_refused(rt: HostRuntime) -> Result<(), Fail> {
             Came::Beginnings => beginnings = beginnings.saturating_add(1),
             Came::All => all = all.saturating_add(1),
         }
-        assert!(rt;
-            told != Came::Nothing || nothing == step.saturating_add(1),
-            "{step}"
-        );
-        assert_eq!(rt; heap.used(), 0, "{step}");
+        let is_first = told != Came::Nothing || nothing == step.saturating_add(1);
+        hold_at(step, is_first && heap.used() == 0)?;
     }
-    assert!(rt; 1 < nothing && 1 < beginnings && 1 < all);
-    Ok(())
+    hold_at("all ends", 1 < nothing && 1 < beginnings && 1 < all)
 }
 
 /// Whether the logs of so many harts, of so many events each, come back whole in a mode, which nobody tells the
@@ -139,10 +136,8 @@ fn logs_come_back(rt: HostRuntime) -> Result<(), Fail> {
         (1024, 100, Mode::Differential, Version::Two),
         (1024, 0, Mode::Full, Version::Two),
     ] {
-        assert!(rt;
-            come_back(rt.alloc(), harts, count, mode, version)?,
-            "{harts} {count}"
-        );
+        let back = come_back(rt.alloc(), harts, count, mode, version)?;
+        hold_at(harts, back)?;
     }
     Ok(())
 }
@@ -166,7 +161,7 @@ fn copies_of_a_log_come_back(rt: HostRuntime) -> Result<(), Fail> {
     for mode in MODES {
         let bytes = capture_of_logs(rt.alloc(), &logs, 1024, mode, Version::Two)?;
         let outcome = decode_capture(rt.alloc(), &program, 1, &bytes)?;
-        assert!(rt; compared(&outcome, &logs)? == Came::All);
+        hold_at("copies", compared(&outcome, &logs)? == Came::All)?;
     }
     Ok(())
 }
@@ -194,9 +189,8 @@ fn harts_in_turn(rt: HostRuntime) -> Result<(), Fail> {
         copy_message(&mut of_first, &mut in_turn)?;
         copy_message(&mut of_second, &mut in_turn)?;
     }
-    assert_eq!(rt; in_turn.len(), both.len());
-    assert!(rt; in_turn.as_slice() != both.as_slice());
+    let are_other = in_turn.len() == both.len() && in_turn.as_slice() != both.as_slice();
+    hold_at("in turn", are_other)?;
     let outcome = decode_capture(rt.alloc(), &program, 2, &in_turn)?;
-    assert!(rt; compared(&outcome, &logs)? == Came::All);
-    Ok(())
+    hold_at("events", compared(&outcome, &logs)? == Came::All)
 }

@@ -1,12 +1,12 @@
 //! Small captures to events, in both versions.
 
 use crate::headers::header_of;
+use crate::hold::hold_at;
 use crate::made::{BASE, program_of};
 use captures::{CaptureFault, decode_capture};
 use decoder::DecodeFault;
 use message::{DemuxFault, Message, MessageFault, write_message};
 use payload::{Mode, PackFault, Payload};
-use receiver::ReceiveFault;
 use retire::Event;
 use std::alloc::{AllocError, Global};
 use std::test::Fail;
@@ -229,16 +229,23 @@ const ROWS: [Row; 11] = [
     ),
 ];
 
-/// Each row without a header, and behind one, where the header's count of harts holds and not the one that is asked for.
+/// Whether a row is so without a header, and behind one, where the header's count of harts holds and not the one that is
+/// asked for.
+fn is_so(alloc: Global, row: Row) -> Result<bool, Fail> {
+    let (_, mode, messages, counts, stop) = row;
+    let harts = counts.len().min(3) as u16;
+    let bare = capture_of(alloc, None, messages)?;
+    let headed = capture_of(alloc, Some((mode, harts)), messages)?;
+    Ok(
+        decodes(alloc, harts, &bare, counts, stop)?
+            && decodes(alloc, harts + 1, &headed, counts, stop)?,
+    )
+}
+
 #[test]
 fn messages_by_table(rt: HostRuntime) -> Result<(), Fail> {
-    for (name, mode, messages, counts, stop) in ROWS {
-        let harts = counts.len().min(3) as u16;
-        let bare = capture_of(rt.alloc(), None, messages)?;
-        let headed = capture_of(rt.alloc(), Some((mode, harts)), messages)?;
-        let is_told = decodes(rt.alloc(), harts, &bare, counts, stop)?
-            && decodes(rt.alloc(), harts + 1, &headed, counts, stop)?;
-        assert!(rt; is_told, "{name}");
+    for row in ROWS {
+        hold_at(row.0, is_so(rt.alloc(), row)?)?;
     }
     Ok(())
 }
@@ -255,45 +262,58 @@ pub(crate) fn whole_messages(length: usize) -> (u64, bool) {
     }
 }
 
-/// The worked capture cut to each length, whole for each count of harts that is asked for, and with bad lengths.
+/// The worked capture behind a header that counts one hart.
+const HEADED: Start = Some((Mode::Differential, 1));
+
+/// Whether the worked capture, cut to this length behind this start, has the events of its whole messages.
+fn decodes_cut(alloc: Global, start: Start, length: usize) -> Result<bool, Fail> {
+    let mut bytes = start_of(alloc, start)?;
+    match WORKED.get(..length) {
+        Some(first) => bytes.extend_from_slice(first)?,
+        None => return Ok(false),
+    }
+    let (number, ends) = whole_messages(length);
+    let events = match number {
+        0 | 1 => 0,
+        2 | 3 => 1,
+        _ => 2,
+    };
+    let short = Some((number, CaptureFault::Message(MessageFault::Short)));
+    let stop = if ends { None } else { short };
+    decodes(alloc, 1, &bytes, &[events], stop)
+}
+
+/// The worked capture cut to each length.
 #[test]
-fn worked_capture(rt: HostRuntime) -> Result<(), Fail> {
-    let headed = Some((Mode::Differential, 1));
-    for start in [None, headed] {
-        for length in 0..53 {
-            let mut bytes = start_of(rt.alloc(), start)?;
-            bytes.extend_from_slice(&WORKED[..length])?;
-            let (number, ends) = whole_messages(length);
-            let events = match number {
-                0 | 1 => 0,
-                2 | 3 => 1,
-                _ => 2,
-            };
-            let short = Some((number, CaptureFault::Message(MessageFault::Short)));
-            let stop = if ends { None } else { short };
-            assert!(rt;
-                decodes(rt.alloc(), 1, &bytes, &[events], stop)?,
-                "cut to {length}"
-            );
-        }
+fn cut_captures(rt: HostRuntime) -> Result<(), Fail> {
+    for length in 0..53 {
+        let holds = decodes_cut(rt.alloc(), None, length)?
+            && decodes_cut(rt.alloc(), HEADED, length)?;
+        hold_at(length, holds)?;
     }
-    let mut whole = start_of(rt.alloc(), headed)?;
+    Ok(())
+}
+
+/// The worked capture behind a header, whole for each count of harts that is asked for.
+#[test]
+fn any_count_is_asked_for(rt: HostRuntime) -> Result<(), Fail> {
+    let mut whole = start_of(rt.alloc(), HEADED)?;
     whole.extend_from_slice(&WORKED)?;
-    assert_eq!(rt; whole.len(), 68);
+    hold_at("length", whole.len() == 68)?;
     for asked in [0, 1, 1024, 65_535] {
-        assert!(rt;
-            decodes(rt.alloc(), asked, &whole, &[2], None)?,
-            "{asked} harts"
-        );
+        hold_at(asked, decodes(rt.alloc(), asked, &whole, &[2], None)?)?;
     }
+    Ok(())
+}
+
+/// The worked capture with bad lengths.
+#[test]
+fn bad_lengths(rt: HostRuntime) -> Result<(), Fail> {
     let bad = Some((2, CaptureFault::Message(MessageFault::BadLength)));
     for length in [0, 19, 255] {
         let mut bytes = WORKED;
         bytes[38] = length;
-        assert!(rt;
-            decodes(rt.alloc(), 1, &bytes, &[1], bad)?,
-            "length {length}"
-        );
+        hold_at(length, decodes(rt.alloc(), 1, &bytes, &[1], bad)?)?;
     }
     Ok(())
 }
@@ -319,63 +339,21 @@ fn are_many(alloc: Global, start: Start, asked: u16, harts: u16) -> Result<bool,
     decodes(alloc, asked, &one, &counts, None)
 }
 
+const FEW: Start = Some((Mode::Differential, 65));
+
+const MOST: Start = Some((Mode::Differential, 1024));
+
 /// No harts, and many.
 #[test]
 fn counts_of_harts(rt: HostRuntime) -> Result<(), Fail> {
-    let few = Some((Mode::Differential, 65));
-    let most = Some((Mode::Differential, 1024));
     for (start, asked, harts) in [
         (None, 0, 0),
         (None, 65, 65),
         (None, 65_535, 65_535),
-        (few, 7, 65),
-        (most, 7, 1024),
+        (FEW, 7, 65),
+        (MOST, 7, 1024),
     ] {
-        assert!(rt; are_many(rt.alloc(), start, asked, harts)?, "{harts}");
-    }
-    Ok(())
-}
-
-/// Whether this is the text of the fault.
-fn tells(alloc: Global, fault: CaptureFault, text: &str) -> Result<bool, Fail> {
-    Ok(format!(in alloc; "{fault}")?.as_str() == text)
-}
-
-/// Whether this is the text of the fault of a receiver.
-fn receiver_tells(alloc: Global, fault: ReceiveFault, text: &str) -> Result<bool, Fail> {
-    Ok(format!(in alloc; "{fault}")?.as_str() == text)
-}
-
-#[test]
-fn faults_as_text(rt: HostRuntime) -> Result<(), Fail> {
-    let place = DecodeFault::WrongPlace;
-    let of_captures = [
-        (
-            CaptureFault::Message(MessageFault::Short),
-            "the capture ends inside a message",
-        ),
-        (
-            CaptureFault::Demux(DemuxFault::Gap { expected: 2 }),
-            "gap, expected number 2",
-        ),
-        (CaptureFault::Decode(place), "not decoded: WrongPlace"),
-        (CaptureFault::Decode(DecodeFault::Memory), "out of memory"),
-        (
-            CaptureFault::Message(MessageFault::BadHeader),
-            "capture header is not valid",
-        ),
-        (CaptureFault::Mode, "open of another mode"),
-    ];
-    for (fault, text) in of_captures {
-        assert!(rt; tells(rt.alloc(), fault, text)?, "{text}");
-    }
-    let of_receivers = [
-        (ReceiveFault::Demux(DemuxFault::Stranger), "stranger"),
-        (ReceiveFault::Mode, "open of another mode"),
-        (ReceiveFault::Decode(place), "not decoded: WrongPlace"),
-    ];
-    for (fault, text) in of_receivers {
-        assert!(rt; receiver_tells(rt.alloc(), fault, text)?, "{text}");
+        hold_at(harts, are_many(rt.alloc(), start, asked, harts)?)?;
     }
     Ok(())
 }

@@ -5,12 +5,8 @@ mod legal_logs;
 mod pairs;
 mod successors;
 
+use crate::fixtures::BASE;
 use retire::Event;
-use rvclass::Program;
-use std::alloc::Global;
-use std::test::Fail;
-
-const BASE: u64 = 0x8000_0000;
 
 /// Words, as the RISC-V Unprivileged ISA and the Privileged Architecture encode them; the jump and the
 /// branch are to 8 bytes on.
@@ -27,15 +23,6 @@ const MRET: u32 = 0x3020_0073;
 const SRET: u32 = 0x1020_0073;
 
 const ECALL: u32 = 0x0000_0073;
-
-/// The program of these words, from the base on.
-fn program_of(alloc: Global, words: &[u32]) -> Result<Program, Fail> {
-    let mut bytes = Vec::new(alloc);
-    for word in words {
-        bytes.extend_from_slice(&word.to_le_bytes())?;
-    }
-    Ok(Program::new(BASE, bytes)?)
-}
 
 /// A retirement so far from the base.
 fn retired(offset: u64, itype: u8, privilege: u8) -> Event {

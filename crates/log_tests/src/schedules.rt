@@ -1,9 +1,11 @@
 //! What texts tell.
 
+use crate::fixtures::same;
 use funnel::Turn;
 use funnel::Turn::{Collect, Hart};
 use linked_list_allocator::LocalHeap;
 use schedule::{ScheduleFault, read_schedule};
+use std::alloc::Global;
 use std::test::Fail;
 
 /// A count of harts, a text, and what it tells.
@@ -55,15 +57,23 @@ const CASES: [Case; 30] = [
     (2, "0 \u{661}", Err(ScheduleFault::Word(2))),
 ];
 
-#[test]
-fn tells_turns(rt: HostRuntime) -> Result<(), Fail> {
+/// The first text that tells something else than its row says.
+fn first_wrong(alloc: Global) -> Option<(u16, &'static str)> {
     for (harts, text, told) in CASES {
-        match read_schedule(rt.alloc(), harts, text.as_bytes()) {
-            Ok(turns) => assert!(rt; told == Ok(turns.as_slice()), "{text}"),
-            Err(why) => assert!(rt; told == Err(why), "{text}"),
+        let as_told = match read_schedule(alloc, harts, text.as_bytes()) {
+            Ok(turns) => told == Ok(turns.as_slice()),
+            Err(why) => told == Err(why),
+        };
+        if !as_told {
+            return Some((harts, text));
         }
     }
-    Ok(())
+    None
+}
+
+#[test]
+fn tells_turns(rt: HostRuntime) {
+    same(&rt, first_wrong(rt.alloc()), None);
 }
 
 #[test]
@@ -73,27 +83,35 @@ fn tells_of_a_turn_too_many(rt: HostRuntime) -> Result<(), Fail> {
         text.extend_from_slice(b"c ")?;
     }
     let turns = read_schedule(rt.alloc(), 1, text.as_slice())?;
-    assert_eq!(rt; turns.len(), 16_777_216);
+    same(&rt, turns.len(), 16_777_216);
     text.push(b'x')?;
     let whole = read_schedule(rt.alloc(), 1, text.as_slice());
-    assert!(rt; whole.err() == Some(ScheduleFault::TooLong));
+    same(&rt, whole.err(), Some(ScheduleFault::TooLong));
     Ok(())
+}
+
+/// How many turns are told where so much memory is given, or none where it is refused; and how much of it is held behind
+/// that.
+fn read_within(alloc: Global, size: usize) -> Result<(Option<usize>, usize), Fail> {
+    let heap = LocalHeap::new(alloc, size)?;
+    let end = match read_schedule(&heap, 1, b"0 c 0 c 0 c 0 c 0 c 0 c 0 c 0 c") {
+        Ok(turns) => Some(turns.len()),
+        Err(ScheduleFault::Memory) => None,
+        Err(_) => return Err(Fail::from("another fault")),
+    };
+    Ok((end, heap.used()))
 }
 
 #[test]
 fn tells_that_memory_is_refused(rt: HostRuntime) -> Result<(), Fail> {
     let mut refused = 0;
     for step in 0..64usize {
-        let heap = LocalHeap::new(rt.alloc(), step * 16)?;
-        match read_schedule(&heap, 1, b"0 c 0 c 0 c 0 c 0 c 0 c 0 c 0 c") {
-            Ok(turns) => assert_eq!(rt; turns.len(), 16),
-            Err(fault) => {
-                assert!(rt; fault == ScheduleFault::Memory);
-                assert_eq!(rt; refused, step);
-                refused += 1;
-            }
+        let (end, used) = read_within(rt.alloc(), step * 16)?;
+        assert!(rt; used == 0 && end.unwrap_or(16) == 16);
+        if end.is_none() {
+            assert!(rt; refused == step);
+            refused += 1;
         }
-        assert_eq!(rt; heap.used(), 0);
     }
     assert!(rt; 1 <= refused && refused < 64);
     Ok(())

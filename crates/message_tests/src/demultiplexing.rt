@@ -1,9 +1,12 @@
 //! Messages that are accepted and messages that are not.
 
+use self::Call::{Accept, AcceptLossy};
 use super::messages::message;
-use super::same::{same, same_at};
-use message::{Demux, DemuxFault};
+use super::same::{is_same, same};
+use message::DemuxFault::{AfterClose, Gap, Repeat, Stranger};
+use message::{Demux, DemuxFault, Message};
 use payload::{Mode, PackFault, Packet, Support};
+use std::alloc::Global;
 use std::test::Fail;
 
 const OPEN: &[u8] = &[0x1f];
@@ -16,179 +19,153 @@ const ENDED: &[u8] = &[0x4f];
 
 const RESERVED: &[u8] = &[0x53];
 
-/// Messages in order: hart, number, payload, whether it is accepted and else why not.
-const MESSAGES: [(u16, u64, &[u8], Option<DemuxFault>); 18] = [
-    (0, 1, OPEN, Some(DemuxFault::Gap { expected: 0 })),
-    (0, 0, OPEN, None),
-    (0, 0, OPEN, Some(DemuxFault::Repeat)),
-    (0, 2, SYNC, Some(DemuxFault::Gap { expected: 1 })),
-    (
-        0,
-        1,
-        RESERVED,
-        Some(DemuxFault::Packet(PackFault::BadPrivilege)),
-    ),
-    (0, 2, RESERVED, Some(DemuxFault::Gap { expected: 1 })),
-    (0, 0, RESERVED, Some(DemuxFault::Repeat)),
-    (1, 0, OPEN, None),
-    (2, 0, OPEN, Some(DemuxFault::Stranger)),
-    (65535, 9, RESERVED, Some(DemuxFault::Stranger)),
-    (0, 1, SYNC, None),
-    (0, 2, MAP, None),
-    (0, u64::MAX, ENDED, Some(DemuxFault::Gap { expected: 3 })),
-    (0, 3, ENDED, None),
-    (0, 4, ENDED, Some(DemuxFault::AfterClose)),
-    (0, 3, ENDED, Some(DemuxFault::AfterClose)),
-    (0, 9, RESERVED, Some(DemuxFault::AfterClose)),
-    (1, 1, ENDED, None),
+/// Why a reserved packet is not accepted.
+const BAD: DemuxFault = DemuxFault::Packet(PackFault::BadPrivilege);
+
+/// By which call a message is handed over.
+#[derive(Clone, Copy)]
+enum Call {
+    Accept,
+    AcceptLossy,
+}
+
+/// A message: by which call it is handed over, its hart, its number and its payload; and how many were missed before
+/// it, or why it is not accepted.
+type Row = (Call, u16, u64, &'static [u8], Result<u64, DemuxFault>);
+
+/// A name, a count of harts, messages in order, and the rows from which on harts 0 and 1 are closed.
+type Run = (&'static str, u16, &'static [Row], [usize; 2]);
+
+const NEVER: [usize; 2] = [usize::MAX, usize::MAX];
+
+const RUNS: [Run; 4] = [
+    ("none may be missed", 2, &WITHOUT_LOSSES, [13, 17]),
+    ("some may be missed", 2, &AFTER_LOSSES, [14, usize::MAX]),
+    ("both calls", 1, &BOTH_CALLS, NEVER),
+    ("no more than 2^63", 1, &TO_THE_LAST, NEVER),
 ];
 
+const WITHOUT_LOSSES: [Row; 18] = [
+    (Accept, 0, 1, OPEN, Err(Gap { expected: 0 })),
+    (Accept, 0, 0, OPEN, Ok(0)),
+    (Accept, 0, 0, OPEN, Err(Repeat)),
+    (Accept, 0, 2, SYNC, Err(Gap { expected: 1 })),
+    (Accept, 0, 1, RESERVED, Err(BAD)),
+    (Accept, 0, 2, RESERVED, Err(Gap { expected: 1 })),
+    (Accept, 0, 0, RESERVED, Err(Repeat)),
+    (Accept, 1, 0, OPEN, Ok(0)),
+    (Accept, 2, 0, OPEN, Err(Stranger)),
+    (Accept, 65535, 9, RESERVED, Err(Stranger)),
+    (Accept, 0, 1, SYNC, Ok(0)),
+    (Accept, 0, 2, MAP, Ok(0)),
+    (Accept, 0, u64::MAX, ENDED, Err(Gap { expected: 3 })),
+    (Accept, 0, 3, ENDED, Ok(0)),
+    (Accept, 0, 4, ENDED, Err(AfterClose)),
+    (Accept, 0, 3, ENDED, Err(AfterClose)),
+    (Accept, 0, 9, RESERVED, Err(AfterClose)),
+    (Accept, 1, 1, ENDED, Ok(0)),
+];
+
+const FAR: u64 = 1 << 63;
+
+const AFTER_LOSSES: [Row; 23] = [
+    (AcceptLossy, 2, 0, OPEN, Err(Stranger)),
+    (AcceptLossy, 65535, FAR, RESERVED, Err(Stranger)),
+    (AcceptLossy, 0, FAR, OPEN, Err(Gap { expected: 0 })),
+    (AcceptLossy, 0, u64::MAX, RESERVED, Err(Gap { expected: 0 })),
+    (AcceptLossy, 0, 0, OPEN, Ok(0)),
+    (AcceptLossy, 0, 0, OPEN, Err(Repeat)),
+    (AcceptLossy, 0, 1, SYNC, Ok(0)),
+    (AcceptLossy, 0, 1, SYNC, Err(Repeat)),
+    (AcceptLossy, 0, 5, RESERVED, Err(BAD)),
+    (AcceptLossy, 0, 0, RESERVED, Err(Repeat)),
+    (AcceptLossy, 0, 3, MAP, Ok(1)),
+    (AcceptLossy, 0, 2, SYNC, Err(Repeat)),
+    (AcceptLossy, 0, 8, SYNC, Ok(4)),
+    (AcceptLossy, 0, FAR, ENDED, Err(Gap { expected: 9 })),
+    (AcceptLossy, 0, 9, ENDED, Ok(0)),
+    (AcceptLossy, 0, 10, ENDED, Err(AfterClose)),
+    (AcceptLossy, 0, 9, ENDED, Err(AfterClose)),
+    (AcceptLossy, 0, FAR, RESERVED, Err(AfterClose)),
+    (AcceptLossy, 1, FAR - 1, SYNC, Ok(FAR - 1)),
+    (AcceptLossy, 1, FAR, ENDED, Err(AfterClose)),
+    (AcceptLossy, 1, FAR - 1, SYNC, Err(AfterClose)),
+    (AcceptLossy, 1, 0, RESERVED, Err(AfterClose)),
+    (Accept, 1, FAR, OPEN, Err(AfterClose)),
+];
+
+/// Without losses both calls answer the same, and one may be called after the other.
+const BOTH_CALLS: [Row; 5] = [
+    (Accept, 0, 0, OPEN, Ok(0)),
+    (AcceptLossy, 0, 2, OPEN, Ok(1)),
+    (Accept, 0, 2, OPEN, Err(Repeat)),
+    (Accept, 0, 3, OPEN, Ok(0)),
+    (AcceptLossy, 0, 4, OPEN, Ok(0)),
+];
+
+const LAST: u64 = FAR - 1;
+
+const TO_THE_LAST: [Row; 7] = [
+    (AcceptLossy, 0, LAST - 1, OPEN, Ok(LAST - 1)),
+    (Accept, 0, LAST - 1, OPEN, Err(Repeat)),
+    (Accept, 0, LAST, OPEN, Ok(0)),
+    (Accept, 0, 0, OPEN, Err(AfterClose)),
+    (Accept, 0, LAST, OPEN, Err(AfterClose)),
+    (Accept, 0, LAST + 1, OPEN, Err(AfterClose)),
+    (Accept, 0, LAST + 2, OPEN, Err(AfterClose)),
+];
+
+/// What a call answers to a message, and how many were missed before it.
+fn answer(demux: &mut Demux, call: Call, message: &Message) -> Result<(Packet, u64), DemuxFault> {
+    match call {
+        Accept => match demux.accept(message) {
+            Ok(packet) => Ok((packet, 0)),
+            Err(fault) => Err(fault),
+        },
+        AcceptLossy => demux.accept_lossy(message),
+    }
+}
+
 /// Whether a message is accepted, or refused, as its row says.
-fn is_told(demux: &mut Demux, row: (u16, u64, &[u8], Option<DemuxFault>)) -> Result<bool, Fail> {
-    let (hart, number, bytes, fault) = row;
-    let want = match fault {
-        Some(fault) => Err(fault),
-        None => Ok(payload::unpack(bytes)?),
+fn is_told(demux: &mut Demux, row: Row) -> Result<bool, Fail> {
+    let (call, hart, number, bytes, told) = row;
+    let want = match told {
+        Ok(missed) => Ok((payload::unpack(bytes)?, missed)),
+        Err(fault) => Err(fault),
     };
-    Ok(demux.accept(&message(hart, number, bytes)?) == want)
+    let message = message(hart, number, bytes)?;
+    Ok(is_same(answer(demux, call, &message), want))
+}
+
+/// Whether harts 0 and 1 are closed, and others.
+fn closed(demux: &Demux) -> [bool; 4] {
+    [
+        demux.is_closed(0),
+        demux.is_closed(1),
+        demux.is_closed(2),
+        demux.is_closed(65535),
+    ]
+}
+
+/// The first row that is answered otherwise than it says, or behind which other harts are closed.
+fn first_wrong(alloc: Global, run: Run) -> Result<Option<(&'static str, usize)>, Fail> {
+    let (name, harts, rows, [first, second]) = run;
+    let mut demux = Demux::new(alloc, harts)?;
+    for (place, row) in rows.iter().enumerate() {
+        let told = is_told(&mut demux, *row)?;
+        if !told || closed(&demux) != [place >= first, place >= second, false, false] {
+            return Ok(Some((name, place)));
+        }
+    }
+    Ok(None)
 }
 
 #[test]
 fn messages_by_table(rt: HostRuntime) -> Result<(), Fail> {
-    let mut demux = Demux::new(rt.alloc(), 2)?;
-    for (place, row) in MESSAGES.iter().enumerate() {
-        let told = is_told(&mut demux, *row)?;
-        let closed = [
-            demux.is_closed(0),
-            demux.is_closed(1),
-            demux.is_closed(2),
-            demux.is_closed(65535),
-        ];
-        assert!(rt;
-            told && closed == [place >= 13, place >= 17, false, false],
-            "row {place}"
-        );
-    }
-    Ok(())
-}
-
-#[test]
-fn messages_after_losses_by_table(rt: HostRuntime) -> Result<(), Fail> {
-    const FAR: u64 = 1 << 63;
-    // In order: hart, number, payload, how many were missed or why it is not accepted.
-    let table: [(u16, u64, &[u8], Result<u64, DemuxFault>); 22] = [
-        (2, 0, OPEN, Err(DemuxFault::Stranger)),
-        (65535, FAR, RESERVED, Err(DemuxFault::Stranger)),
-        (0, FAR, OPEN, Err(DemuxFault::Gap { expected: 0 })),
-        (0, u64::MAX, RESERVED, Err(DemuxFault::Gap { expected: 0 })),
-        (0, 0, OPEN, Ok(0)),
-        (0, 0, OPEN, Err(DemuxFault::Repeat)),
-        (0, 1, SYNC, Ok(0)),
-        (0, 1, SYNC, Err(DemuxFault::Repeat)),
-        (
-            0,
-            5,
-            RESERVED,
-            Err(DemuxFault::Packet(PackFault::BadPrivilege)),
-        ),
-        (0, 0, RESERVED, Err(DemuxFault::Repeat)),
-        (0, 3, MAP, Ok(1)),
-        (0, 2, SYNC, Err(DemuxFault::Repeat)),
-        (0, 8, SYNC, Ok(4)),
-        (0, FAR, ENDED, Err(DemuxFault::Gap { expected: 9 })),
-        (0, 9, ENDED, Ok(0)),
-        (0, 10, ENDED, Err(DemuxFault::AfterClose)),
-        (0, 9, ENDED, Err(DemuxFault::AfterClose)),
-        (0, FAR, RESERVED, Err(DemuxFault::AfterClose)),
-        (1, FAR - 1, SYNC, Ok(FAR - 1)),
-        (1, FAR, ENDED, Err(DemuxFault::AfterClose)),
-        (1, FAR - 1, SYNC, Err(DemuxFault::AfterClose)),
-        (1, 0, RESERVED, Err(DemuxFault::AfterClose)),
-    ];
-    let mut demux = Demux::new(rt.alloc(), 2)?;
-    for (row, (hart, number, bytes, answer)) in table.into_iter().enumerate() {
-        let message = message(hart, number, bytes)?;
-        match answer {
-            Ok(missed) => {
-                let packet = payload::unpack(bytes)?;
-                same_at(&rt, row, demux.accept_lossy(&message), Ok((packet, missed)));
-            }
-            Err(fault) => same_at(&rt, row, demux.accept_lossy(&message), Err(fault)),
-        }
-        same_at(&rt, row, demux.is_closed(0), row >= 14);
-        assert!(rt; !demux.is_closed(1) && !demux.is_closed(2));
-    }
-    same(
-        &rt,
-        demux.accept(&message(1, FAR, OPEN)?),
-        Err(DemuxFault::AfterClose),
-    );
-    Ok(())
-}
-
-/// Without losses both calls answer the same, and one may be called after the other.
-#[test]
-fn next_messages_of_both_calls(rt: HostRuntime) -> Result<(), Fail> {
-    let mut demux = Demux::new(rt.alloc(), 1)?;
     let open = Packet::Support(Support::Open(Mode::Differential));
-    same(&rt, demux.accept(&message(0, 0, OPEN)?), Ok(open));
-    same(
-        &rt,
-        demux.accept_lossy(&message(0, 2, OPEN)?),
-        Ok((open, 1)),
-    );
-    same(
-        &rt,
-        demux.accept(&message(0, 2, OPEN)?),
-        Err(DemuxFault::Repeat),
-    );
-    same(&rt, demux.accept(&message(0, 3, OPEN)?), Ok(open));
-    same(
-        &rt,
-        demux.accept_lossy(&message(0, 4, OPEN)?),
-        Ok((open, 0)),
-    );
-    Ok(())
-}
-
-#[test]
-fn no_more_than_2_to_the_63(rt: HostRuntime) -> Result<(), Fail> {
-    let last = (1 << 63) - 1;
-    let mut demux = Demux::new(rt.alloc(), 1)?;
-    let open = Packet::Support(Support::Open(Mode::Differential));
-    same(
-        &rt,
-        demux.accept_lossy(&message(0, last - 1, OPEN)?),
-        Ok((open, last - 1)),
-    );
-    same(
-        &rt,
-        demux.accept(&message(0, last - 1, OPEN)?),
-        Err(DemuxFault::Repeat),
-    );
-    same(&rt, demux.accept(&message(0, last, OPEN)?), Ok(open));
-    for number in [0, last, last + 1, last + 2] {
-        same(
-            &rt,
-            demux.accept(&message(0, number, OPEN)?),
-            Err(DemuxFault::AfterClose),
-        );
-    }
-    assert!(rt; !demux.is_closed(0));
-    Ok(())
-}
-
-#[test]
-fn texts(rt: HostRuntime) -> Result<(), Fail> {
-    let table = [
-        (DemuxFault::Stranger, "stranger"),
-        (DemuxFault::Repeat, "repeat"),
-        (DemuxFault::AfterClose, "after close"),
-        (DemuxFault::Gap { expected: 12 }, "gap, expected number 12"),
-        (DemuxFault::Packet(PackFault::BadPad), "bad packet: BadPad"),
-    ];
-    for (fault, text) in table {
-        same(&rt, format!(in rt.alloc(); "{fault}")?.as_str(), text);
+    same(&rt, payload::unpack(OPEN), Ok(open));
+    for run in &RUNS {
+        same(&rt, first_wrong(rt.alloc(), *run)?, None);
     }
     Ok(())
 }

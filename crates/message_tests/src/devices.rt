@@ -1,9 +1,12 @@
 //! Readers and writers that fail, or move one byte a call.
 
 use super::messages::message;
-use super::same::{same, same_at};
-use message::{Header, MessageFault, Start, read_message, read_start, write_header, write_message};
+use super::same::is_same;
+use message::{
+    Header, Message, MessageFault, Start, read_message, read_start, write_header, write_message,
+};
 use payload::Mode;
+use std::alloc::Global;
 use std::io;
 use std::io::{ErrorKind, Read, Write};
 use std::test::Fail;
@@ -42,25 +45,52 @@ impl Read for FailingReader<'_> {
     }
 }
 
+/// What is read of bytes, one a call, as a message.
+fn message_of(rest: &[u8], calls: usize, kind: ErrorKind) -> Result<Option<Message>, MessageFault> {
+    read_message(&mut FailingReader { rest, calls, kind })
+}
+
+/// What is read of bytes, one a call, as the start of a capture.
+fn start_of(rest: &[u8], calls: usize, kind: ErrorKind) -> Result<Start, MessageFault> {
+    read_start(&mut FailingReader { rest, calls, kind })
+}
+
+/// Whether so many bytes of the message, and of the header, are read with this fault.
+fn are_refused(length: usize, calls: usize, kind: ErrorKind, fault: MessageFault) -> bool {
+    let length = length.min(16);
+    is_same(message_of(&WHOLE[..length], calls, kind), Err(fault))
+        && is_same(start_of(&HEADER[..length], calls, kind), Err(fault))
+}
+
+/// Whether the message, and the header, are read by readers that fail at one call; and what is read behind the message.
+fn are_read(
+    calls: usize,
+    kind: ErrorKind,
+    behind: Result<Option<Message>, MessageFault>,
+) -> Result<bool, Fail> {
+    let mut reader = FailingReader {
+        rest: WHOLE.as_slice(),
+        calls,
+        kind,
+    };
+    let sent = message(7, 9, &[0x73, 0, 0, 0, 0x20])?;
+    Ok(
+        is_same(read_message(&mut reader), Ok(Some(sent)))
+            && is_same(read_message(&mut reader), behind)
+            && is_same(start_of(&HEADER, calls, kind), Ok(Start::Version2(TOLD))),
+    )
+}
+
 #[test]
 fn reader_fails_at_each_call(rt: HostRuntime) -> Result<(), Fail> {
     for kind in [ErrorKind::UnexpectedEof, ErrorKind::TimedOut] {
-        for calls in 0..=16usize {
-            let mut reader = FailingReader {
-                rest: WHOLE.as_slice(),
-                calls,
-                kind,
-            };
-            if calls == 16 {
-                assert!(rt; read_message(&mut reader)?.is_some());
-            }
-            same_at(
-                &rt,
-                calls,
-                read_message(&mut reader),
-                Err(MessageFault::Read),
+        for calls in 0..16usize {
+            assert!(rt;
+                are_refused(16, calls, kind, MessageFault::Read),
+                "call {calls}"
             );
         }
+        assert!(rt; are_read(16, kind, Err(MessageFault::Read))?);
     }
     Ok(())
 }
@@ -68,34 +98,20 @@ fn reader_fails_at_each_call(rt: HostRuntime) -> Result<(), Fail> {
 #[test]
 fn interrupted_reader_is_asked_again(rt: HostRuntime) -> Result<(), Fail> {
     for calls in 0..20usize {
-        let mut reader = FailingReader {
-            rest: WHOLE.as_slice(),
-            calls,
-            kind: ErrorKind::Interrupted,
-        };
-        let sent = message(7, 9, &[0x73, 0, 0, 0, 0x20])?;
-        same_at(&rt, calls, read_message(&mut reader), Ok(Some(sent)));
-        same_at(&rt, calls, read_message(&mut reader), Ok(None));
+        assert!(rt;
+            are_read(calls, ErrorKind::Interrupted, Ok(None))?,
+            "call {calls}"
+        );
     }
     Ok(())
 }
 
 #[test]
-fn cut_is_short_one_byte_a_call(rt: HostRuntime) -> Result<(), Fail> {
+fn cut_is_short_one_byte_a_call(rt: HostRuntime) {
     for length in 1..16usize {
-        let mut reader = FailingReader {
-            rest: &WHOLE[..length],
-            calls: 100,
-            kind: ErrorKind::TimedOut,
-        };
-        same_at(
-            &rt,
-            length,
-            read_message(&mut reader),
-            Err(MessageFault::Short),
-        );
+        let short = are_refused(length, 100, ErrorKind::TimedOut, MessageFault::Short);
+        assert!(rt; short, "{length} bytes");
     }
-    Ok(())
 }
 
 /// A writer that keeps what it takes, one byte a call, and fails once its calls are used up.
@@ -121,97 +137,32 @@ impl Write for FailingWriter {
     }
 }
 
+/// Whether a message, and a header, are written so by writers that fail after so many calls, of which each then holds
+/// that many bytes of it.
+fn are_written(alloc: Global, calls: usize, end: Result<(), MessageFault>) -> Result<bool, Fail> {
+    let length = calls.min(16);
+    let mut of_message = FailingWriter {
+        held: Vec::new(alloc),
+        calls,
+    };
+    let sent = message(7, 9, &[0x73, 0, 0, 0, 0x20])?;
+    let message = is_same(write_message(&mut of_message, &sent), end)
+        && is_same(of_message.held.as_slice(), &WHOLE[..length]);
+    let mut of_header = FailingWriter {
+        held: Vec::new(alloc),
+        calls,
+    };
+    let header = is_same(write_header(&mut of_header, &TOLD), end)
+        && is_same(of_header.held.as_slice(), &HEADER[..length]);
+    Ok(message && header)
+}
+
 #[test]
 fn writer_fails_at_each_call(rt: HostRuntime) -> Result<(), Fail> {
-    for calls in 0..=16usize {
-        let mut writer = FailingWriter {
-            held: Vec::new(rt.alloc()),
-            calls,
-        };
-        let answer = write_message(&mut writer, &message(7, 9, &[0x73, 0, 0, 0, 0x20])?);
-        if calls == 16 {
-            same(&rt, answer, Ok(()));
-        } else {
-            same_at(&rt, calls, answer, Err(MessageFault::Write));
-        }
-        same(&rt, writer.held.as_slice(), &WHOLE[..calls]);
+    for calls in 0..16usize {
+        let failed = are_written(rt.alloc(), calls, Err(MessageFault::Write))?;
+        assert!(rt; failed, "call {calls}");
     }
-    Ok(())
-}
-
-#[test]
-fn devices_of_a_header_fail_at_each_call(rt: HostRuntime) -> Result<(), Fail> {
-    for calls in 0..=16usize {
-        let mut reader = FailingReader {
-            rest: HEADER.as_slice(),
-            calls,
-            kind: ErrorKind::TimedOut,
-        };
-        let mut writer = FailingWriter {
-            held: Vec::new(rt.alloc()),
-            calls,
-        };
-        let read = read_start(&mut reader);
-        let written = write_header(&mut writer, &TOLD);
-        if calls == 16 {
-            same(&rt, read, Ok(Start::Version2(TOLD)));
-            same(&rt, written, Ok(()));
-        } else {
-            same_at(&rt, calls, read, Err(MessageFault::Read));
-            same_at(&rt, calls, written, Err(MessageFault::Write));
-        }
-        same(&rt, writer.held.as_slice(), &HEADER[..calls]);
-    }
-    Ok(())
-}
-
-#[test]
-fn interrupted_reader_is_asked_again_for_a_header(rt: HostRuntime) -> Result<(), Fail> {
-    for calls in 0..20usize {
-        let mut reader = FailingReader {
-            rest: HEADER.as_slice(),
-            calls,
-            kind: ErrorKind::Interrupted,
-        };
-        same_at(
-            &rt,
-            calls,
-            read_start(&mut reader),
-            Ok(Start::Version2(TOLD)),
-        );
-    }
-    Ok(())
-}
-
-#[test]
-fn cut_header_is_short_one_byte_a_call(rt: HostRuntime) -> Result<(), Fail> {
-    for length in 1..16usize {
-        let mut reader = FailingReader {
-            rest: &HEADER[..length],
-            calls: 100,
-            kind: ErrorKind::TimedOut,
-        };
-        same_at(
-            &rt,
-            length,
-            read_start(&mut reader),
-            Err(MessageFault::Short),
-        );
-    }
-    Ok(())
-}
-
-#[test]
-fn texts(rt: HostRuntime) -> Result<(), Fail> {
-    let table = [
-        (MessageFault::Short, "the capture ends inside a message"),
-        (MessageFault::BadLength, "payload length is not 1 to 18"),
-        (MessageFault::Read, "cannot be read"),
-        (MessageFault::Write, "cannot be written"),
-        (MessageFault::BadHeader, "capture header is not valid"),
-    ];
-    for (fault, text) in table {
-        same(&rt, format!(in rt.alloc(); "{fault}")?.as_str(), text);
-    }
+    assert!(rt; are_written(rt.alloc(), 16, Ok(()))?);
     Ok(())
 }

@@ -16,4 +16,6 @@ mod messages;
 #[cfg(test)]
 mod same;
 #[cfg(test)]
+mod texts;
+#[cfg(test)]
 mod worked_captures;

@@ -1,7 +1,7 @@
 //! Worked captures, whole and cut.
 
 use super::messages::message;
-use super::same::{same, same_at};
+use super::same::{is_same, same};
 use message::{Message, MessageFault, Messages, read_message, write_message};
 use std::test::Fail;
 
@@ -12,32 +12,64 @@ const GAP: [u8; 40] = [
     0x00, 0x00, 0x03, 0x00, 0x00, 0x00, 0x00, 0x00, 0x00, 0x00, 0x01, 0x4f,
 ];
 
-fn gap() -> Result<[Message; 3], Fail> {
-    Ok([
-        message(0, 0, &[0x1f])?,
-        message(0, 1, &[0x73, 0, 0, 0, 0x20])?,
-        message(0, 3, &[0x4f])?,
-    ])
-}
+/// The numbers and payloads of its messages.
+const MESSAGES: [(u64, &[u8]); 3] = [(0, &[0x1f]), (1, &[0x73, 0, 0, 0, 0x20]), (3, &[0x4f])];
 
 #[test]
 fn capture_is_written(rt: HostRuntime) -> Result<(), Fail> {
     let mut bytes = Vec::new(rt.alloc());
-    for message in &gap()? {
-        write_message(&mut bytes, message)?;
+    for (number, payload) in MESSAGES {
+        write_message(&mut bytes, &message(0, number, payload)?)?;
     }
     same(&rt, bytes.as_slice(), GAP.as_slice());
     Ok(())
 }
 
-#[test]
-fn capture_is_read(rt: HostRuntime) -> Result<(), Fail> {
-    let mut rest = GAP.as_slice();
-    for message in gap()? {
-        same(&rt, read_message(&mut rest)?, Some(message));
+/// Whether so many messages of the capture are read of its beginning, both ways, and this behind them.
+fn are_read(bytes: &[u8], count: usize, end: Result<(), MessageFault>) -> Result<bool, Fail> {
+    let mut rest = bytes;
+    let mut messages = Messages::new(bytes);
+    for (number, payload) in MESSAGES.iter().take(count) {
+        let read = is_same(
+            read_message(&mut rest)?,
+            Some(message(0, *number, payload)?),
+        );
+        let in_memory = is_same(messages.next()?, Some(message(0, *number, payload)?));
+        if !read || !in_memory {
+            return Ok(false);
+        }
     }
-    same(&rt, read_message(&mut rest)?, None);
-    same(&rt, read_message(&mut rest)?, None);
+    Ok(
+        is_end(read_message(&mut rest), end)
+            && is_end(messages.next(), end)
+            && is_end(messages.next(), end)
+            && (end.is_err() || is_end(read_message(&mut rest), end)),
+    )
+}
+
+/// Whether no message is read, at the end of a capture or by a fault.
+fn is_end(read: Result<Option<Message>, MessageFault>, end: Result<(), MessageFault>) -> bool {
+    match end {
+        Ok(()) => is_same(read, Ok(None)),
+        Err(fault) => is_same(read, Err(fault)),
+    }
+}
+
+/// It goes on to answer so.
+#[test]
+fn capture_is_read_and_cut_it_is_short(rt: HostRuntime) -> Result<(), Fail> {
+    for length in 0..=40usize {
+        let (count, end) = match length {
+            0 => (0, Ok(())),
+            1..12 => (0, Err(MessageFault::Short)),
+            12 => (1, Ok(())),
+            13..28 => (1, Err(MessageFault::Short)),
+            28 => (2, Ok(())),
+            29..40 => (2, Err(MessageFault::Short)),
+            _ => (3, Ok(())),
+        };
+        assert!(rt; are_read(&GAP[..length], count, end)?, "{length} bytes");
+    }
     Ok(())
 }
 
@@ -55,109 +87,38 @@ fn bytes_stand_in_their_order(rt: HostRuntime) -> Result<(), Fail> {
     Ok(())
 }
 
-#[test]
-fn cut_capture_is_short(rt: HostRuntime) -> Result<(), Fail> {
-    for length in 0..40usize {
-        let mut rest = &GAP[..length];
-        let whole = match length {
-            0..12 => 0,
-            12..28 => 1,
-            _ => 2,
-        };
-        for _message in 0..whole {
-            assert!(rt; read_message(&mut rest)?.is_some());
-        }
-        let end = read_message(&mut rest);
-        if matches!(length, 0 | 12 | 28) {
-            same_at(&rt, length, end, Ok(None));
-        } else {
-            same_at(&rt, length, end, Err(MessageFault::Short));
-        }
+/// Whether bytes are refused for the length that they tell, both ways.
+fn are_bad(mut bytes: &[u8]) -> bool {
+    is_same(Messages::new(bytes).next(), Err(MessageFault::BadLength))
+        && is_same(read_message(&mut bytes), Err(MessageFault::BadLength))
+}
+
+/// Whether a message of these bytes is read, both ways.
+fn are_payload(mut bytes: &[u8], payload: &[u8]) -> Result<bool, Fail> {
+    let sent = message(0x0707, 0x0707_0707_0707_0707, payload)?;
+    let in_memory = message(0x0707, 0x0707_0707_0707_0707, payload)?;
+    Ok(
+        is_same(Messages::new(bytes).next(), Ok(Some(in_memory)))
+            && is_same(read_message(&mut bytes), Ok(Some(sent))),
+    )
+}
+
+/// Whether a length of a payload is taken where it is 1 to 18, and else is refused, also where no byte of the payload
+/// stands.
+fn is_taken(length: u8) -> Result<bool, Fail> {
+    let mut bytes = [7; 29];
+    bytes[10] = length;
+    if (1..=18).contains(&length) {
+        are_payload(&bytes, &bytes[11..11 + usize::from(length)])
+    } else {
+        Ok(are_bad(&bytes) && are_bad(&bytes[..11]))
     }
-    Ok(())
 }
 
 #[test]
 fn length_is_1_to_18(rt: HostRuntime) -> Result<(), Fail> {
     for length in 0..=255u8 {
-        let mut bytes = [7; 29];
-        bytes[10] = length;
-        let answer = read_message(&mut bytes.as_slice());
-        if (1..=18).contains(&length) {
-            let sent = message(
-                0x0707,
-                0x0707_0707_0707_0707,
-                &bytes[11..11 + usize::from(length)],
-            )?;
-            same(&rt, answer, Ok(Some(sent)));
-        } else {
-            same(&rt, answer, Err(MessageFault::BadLength));
-            // It is told before the bytes of the payload are asked for.
-            same(
-                &rt,
-                read_message(&mut &bytes[..11]),
-                Err(MessageFault::BadLength),
-            );
-        }
-    }
-    Ok(())
-}
-
-#[test]
-fn messages_come_one_at_a_time(rt: HostRuntime) -> Result<(), Fail> {
-    let mut messages = Messages::new(&GAP[..39]);
-    let [first, second, _] = gap()?;
-    same(&rt, messages.next(), Ok(Some(first)));
-    same(&rt, messages.next(), Ok(Some(second)));
-    same(&rt, messages.next(), Err(MessageFault::Short));
-    same(&rt, messages.next(), Err(MessageFault::Short));
-    let mut messages = Messages::new(&GAP);
-    for message in gap()? {
-        same(&rt, messages.next(), Ok(Some(message)));
-    }
-    same(&rt, messages.next(), Ok(None));
-    same(&rt, messages.next(), Ok(None));
-    Ok(())
-}
-
-#[test]
-fn cut_capture_in_memory_is_short(rt: HostRuntime) -> Result<(), Fail> {
-    for length in 0..40usize {
-        let mut messages = Messages::new(&GAP[..length]);
-        let whole = match length {
-            0..12 => 0,
-            12..28 => 1,
-            _ => 2,
-        };
-        for _message in 0..whole {
-            assert!(rt; messages.next()?.is_some());
-        }
-        let wanted = if matches!(length, 0 | 12 | 28) {
-            Ok(None)
-        } else {
-            Err(MessageFault::Short)
-        };
-        same_at(&rt, length, messages.next(), wanted);
-    }
-    Ok(())
-}
-
-#[test]
-fn length_in_memory_is_1_to_18(rt: HostRuntime) -> Result<(), Fail> {
-    for length in 0..=255u8 {
-        let mut bytes = [7; 29];
-        bytes[10] = length;
-        let answer = Messages::new(&bytes).next();
-        if (1..=18).contains(&length) {
-            let payload = &bytes[11..11 + usize::from(length)];
-            let sent = message(0x0707, 0x0707_0707_0707_0707, payload)?;
-            same(&rt, answer, Ok(Some(sent)));
-        } else {
-            same(&rt, answer, Err(MessageFault::BadLength));
-            // It is told where no byte of the payload stands.
-            let cut = Messages::new(&bytes[..11]).next();
-            same(&rt, cut, Err(MessageFault::BadLength));
-        }
+        assert!(rt; is_taken(length)?, "{length} bytes");
     }
     Ok(())
 }

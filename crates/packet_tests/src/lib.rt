@@ -7,3 +7,5 @@
 mod formats;
 #[cfg(test)]
 mod packets_of_logs;
+#[cfg(test)]
+mod same;

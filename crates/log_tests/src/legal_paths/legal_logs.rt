@@ -1,6 +1,7 @@
 //! Logs kept with the program that they are legal for.
 
-use super::{BASE, BEQ, NOP, program_of, retired};
+use super::{BEQ, NOP, retired};
+use crate::fixtures::{BASE, program_of};
 use legalpath::{LegalLog, PathFault, Why};
 use std::test::Fail;
 
@@ -11,8 +12,7 @@ fn legal_log_is_kept(rt: HostRuntime) -> Result<(), Fail> {
     let Ok(log) = LegalLog::new(&program, events.to_vec(rt.alloc())?) else {
         return Err(Fail::from("refused"));
     };
-    assert!(rt; log.events() == events.as_slice());
-    assert!(rt; log.program().at(BASE) == program.at(BASE));
+    assert!(rt; log.events() == events.as_slice() && log.program().at(BASE) == program.at(BASE));
     Ok(())
 }
 
@@ -27,7 +27,6 @@ fn illegal_log_is_given_back(rt: HostRuntime) -> Result<(), Fail> {
         row: 2,
         why: Why::WrongNext,
     };
-    assert!(rt; fault == want);
-    assert!(rt; back.as_slice() == events.as_slice());
+    assert!(rt; fault == want && back.as_slice() == events.as_slice());
     Ok(())
 }

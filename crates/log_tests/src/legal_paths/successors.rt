@@ -1,11 +1,19 @@
 //! Where events lead.
 
-use super::{BASE, BEQ, ECALL, JAL, MRET, NOP, RET, SRET, program_of, retired, trap};
+use super::{BEQ, ECALL, JAL, MRET, NOP, RET, SRET, retired, trap};
+use crate::fixtures::{BASE, program_of, same};
 use legalpath::{Next, successor};
+use retire::Event;
+use std::alloc::Global;
 use std::test::Fail;
 
 /// C.NOP, in both halves.
 const SHORT_NOPS: u32 = 0x0001_0001;
+
+/// Where an event of the program of a word leads.
+fn leads(alloc: Global, word: u32, event: Event) -> Result<Next, Fail> {
+    Ok(successor(&program_of(alloc, &[word])?, &event))
+}
 
 #[test]
 fn successor_of_each_kind(rt: HostRuntime) -> Result<(), Fail> {
@@ -23,12 +31,7 @@ fn successor_of_each_kind(rt: HostRuntime) -> Result<(), Fail> {
         (NOP, trap(BASE, 3, false, 2, 0), Next::Any),
         (NOP, trap(0x4000, 0, true, 7, 0), Next::Any),
     ] {
-        let program = program_of(rt.alloc(), &[word])?;
-        assert_eq!(rt;
-            successor(&program, &event),
-            want,
-            "word {word:x}, event {event:?}"
-        );
+        same(&rt, (event, leads(rt.alloc(), word, event)?), (event, want));
     }
     Ok(())
 }

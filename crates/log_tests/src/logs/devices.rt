@@ -1,6 +1,6 @@
 //! Readers and writers that fail.
 
-use super::{HEADER, text_of_rows};
+use super::{RETIRED, ROW, text_of_rows};
 use retire::{Event, LogFault, WriteFault, read_log, write_log};
 use std::alloc::Global;
 use std::io;
@@ -37,11 +37,11 @@ fn read_failing(alloc: Global, rest: &[u8], most: usize, calls: usize) -> Result
 
 #[test]
 fn reader_fails_at_each_call(rt: HostRuntime) -> Result<(), Fail> {
-    let text = format!(in rt.alloc(); "{HEADER}80000000,0,3,,\n80000004,2,3,7,0\n")?;
+    let text = text_of_rows(rt.alloc(), "80000000,0,3,,\n80000004,2,3,7,0", 1)?;
     for most in [1, 7, 1000] {
         let mut failed = 0;
         for calls in 0..200 {
-            match read_failing(rt.alloc(), text.as_bytes(), most, calls) {
+            match read_failing(rt.alloc(), text.as_slice(), most, calls) {
                 Ok(count) => assert!(rt; count == 2),
                 Err(fault) => {
                     let read = fault == LogFault::Read;
@@ -97,14 +97,9 @@ fn write_failing(
 
 #[test]
 fn writer_fails_at_each_call(rt: HostRuntime) -> Result<(), Fail> {
-    let event = Event::Retire {
-        addr: 0x8000_0000,
-        itype: 0,
-        privilege: 3,
-    };
     // More text than is held at a time.
-    let events = vec![in rt.alloc(); event; 10_000]?;
-    let want = text_of_rows(rt.alloc(), 10_000)?;
+    let events = vec![in rt.alloc(); RETIRED; 10_000]?;
+    let want = text_of_rows(rt.alloc(), ROW, 10_000)?;
     for most in [10_007, 1_000_000] {
         let mut failed = 0;
         for calls in 0..20 {

@@ -1,5 +1,6 @@
 //! What the faults are told as.
 
+use crate::fixtures::same;
 use retire::{LogFault, WriteFault};
 use std::alloc::{AllocError, Global};
 use std::fmt::Display;
@@ -46,7 +47,7 @@ fn first_wrong<F: Display>(
 
 #[test]
 fn texts_of_faults(rt: HostRuntime) -> Result<(), Fail> {
-    assert_eq!(rt; first_wrong(rt.alloc(), &LOG_FAULTS)?, None);
-    assert_eq!(rt; first_wrong(rt.alloc(), &WRITE_FAULTS)?, None);
+    same(&rt, first_wrong(rt.alloc(), &LOG_FAULTS)?, None);
+    same(&rt, first_wrong(rt.alloc(), &WRITE_FAULTS)?, None);
     Ok(())
 }

@@ -1,15 +1,10 @@
 //! What texts hold.
 
-use super::HEADER;
-use retire::{Event, LogFault, read_log, read_log_from_slice};
-use std::alloc::{AllocError, Global};
+use super::{RETIRED, ROW, read_both_ways, text_of_rows};
+use crate::fixtures::same;
+use retire::{Event, LogFault};
+use std::alloc::Global;
 use std::test::Fail;
-
-const RETIRED: Event = Event::Retire {
-    addr: 0x8000_0000,
-    itype: 0,
-    privilege: 3,
-};
 
 const RETIRED_AT_0: Event = Event::Retire {
     addr: 0,
@@ -57,7 +52,7 @@ fn count_of(read: Result<Vec<Event>, LogFault>) -> Result<usize, LogFault> {
 
 /// A row behind the header, and how it is read.
 const ROWS: [(&str, Result<Event, LogFault>); 42] = [
-    ("80000000,0,3,,", Ok(RETIRED)),
+    (ROW, Ok(RETIRED)),
     ("80000000,0,3,,\r", Ok(RETIRED)),
     ("0000000080000000,0,3,,", Ok(RETIRED)),
     ("080000000,0,3,,", Ok(RETIRED)),
@@ -101,26 +96,22 @@ const ROWS: [(&str, Result<Event, LogFault>); 42] = [
     ("80000000,2,3,7,1", Err(LogFault::InterruptValue(1))),
 ];
 
-/// The text of a log of one row.
-fn text_of_row(alloc: Global, row: &str) -> Result<String, AllocError> {
-    format!(in alloc; "{HEADER}{row}\n")
-}
-
-/// Whether a text is read as a log of one row, from a reader and from memory.
-fn reads_row(alloc: Global, text: &str, want: Result<Event, LogFault>) -> (bool, bool) {
-    let read = read_log(alloc, alloc, text.as_bytes());
-    let in_memory = read_log_from_slice(alloc, alloc, text.as_bytes());
-    (is_row(read, want), is_row(in_memory, want))
+/// The first row that is read otherwise than it says, and whether it is so from a reader and from memory.
+fn first_wrong_row(alloc: Global) -> Result<Option<(&'static str, [bool; 2])>, Fail> {
+    for (row, want) in ROWS {
+        let text = text_of_rows(alloc, row, 1)?;
+        let [read, in_memory] = read_both_ways(alloc, text.as_slice());
+        let told = [is_row(read, want), is_row(in_memory, want)];
+        if told != [true, true] {
+            return Ok(Some((row, told)));
+        }
+    }
+    Ok(None)
 }
 
 #[test]
 fn one_row(rt: HostRuntime) -> Result<(), Fail> {
-    for (row, want) in ROWS {
-        let text = text_of_row(rt.alloc(), row)?;
-        let (read, in_memory) = reads_row(rt.alloc(), text.as_str(), want);
-        assert!(rt; read, "{row}");
-        assert!(rt; in_memory, "{row} in memory");
-    }
+    same(&rt, first_wrong_row(rt.alloc())?, None);
     Ok(())
 }
 
@@ -166,19 +157,19 @@ const TEXTS: [(&str, Result<usize, LogFault>); 20] = [
     ),
 ];
 
-/// Whether so many events are read of a text, from a reader and from memory.
-fn reads_text(alloc: Global, text: &str, want: Result<usize, LogFault>) -> (bool, bool) {
-    let read = read_log(alloc, alloc, text.as_bytes());
-    let in_memory = read_log_from_slice(alloc, alloc, text.as_bytes());
-    (count_of(read) == want, count_of(in_memory) == want)
+/// What is read of a text, from a reader and from memory.
+fn counts_of(alloc: Global, text: &str) -> [Result<usize, LogFault>; 2] {
+    let [read, in_memory] = read_both_ways(alloc, text.as_bytes());
+    [count_of(read), count_of(in_memory)]
 }
 
 #[test]
-fn whole_texts(rt: HostRuntime) -> Result<(), Fail> {
+fn whole_texts(rt: HostRuntime) {
     for (text, want) in TEXTS {
-        let (read, in_memory) = reads_text(rt.alloc(), text, want);
-        assert!(rt; read, "{text:?}");
-        assert!(rt; in_memory, "{text:?} in memory");
+        same(
+            &rt,
+            (text, counts_of(rt.alloc(), text)),
+            (text, [want, want]),
+        );
     }
-    Ok(())
 }

@@ -2,57 +2,62 @@
 
 use payload::{Mode, Outcomes, Packet, Report, Support};
 
-pub(crate) const OPEN: Packet = Packet::Support(Support::Open(Mode::Differential));
+pub(crate) const OPEN: Form = Form::Supports(Support::Open(Mode::Differential));
 
-pub(crate) const OPEN_FULL: Packet = Packet::Support(Support::Open(Mode::Full));
+pub(crate) const OPEN_FULL: Form = Form::Supports(Support::Open(Mode::Full));
 
-pub(crate) const ENDED_REP: Packet = Packet::Support(Support::EndedRep);
+pub(crate) const ENDED_REP: Form = Form::Supports(Support::EndedRep);
 
-pub(crate) const ENDED_NTR: Packet = Packet::Support(Support::EndedNtr);
+pub(crate) const ENDED_NTR: Form = Form::Supports(Support::EndedNtr);
 
-pub(crate) fn sync(taken: bool, privilege: u8, address: u64) -> Packet {
-    Packet::Sync {
-        taken,
-        privilege,
-        address,
-    }
+/// A packet by what its row tells of it.
+#[derive(Clone, Copy)]
+pub(crate) enum Form {
+    Supports(Support),
+    /// Whether a branch is taken, a privilege and an address.
+    Syncs(bool, u8, u64),
+    /// At privilege 3, of a cause, with or without a handler, an address and a value.
+    Excepts(u8, bool, u64, u64),
+    /// At privilege 3, of a cause, at an address.
+    Interrupts(u8, u64),
+    /// Outcomes, a difference or an address, and what it reports.
+    Addresses(&'static [bool], u64, Report),
+    Maps(&'static [bool]),
 }
 
-/// An exception at privilege 3.
-pub(crate) fn exception(cause: u8, handler: bool, address: u64, tval: u64) -> Packet {
-    Packet::Trap {
-        taken: false,
-        privilege: 3,
-        cause,
-        interrupt: false,
-        handler,
-        address,
-        tval,
-    }
-}
-
-/// An interrupt at privilege 3.
-pub(crate) fn interrupt(cause: u8, address: u64) -> Packet {
-    Packet::Trap {
-        taken: false,
-        privilege: 3,
-        cause,
-        interrupt: true,
-        handler: false,
-        address,
-        tval: 0,
-    }
-}
-
-pub(crate) fn address(delta: u64, report: Report) -> Packet {
-    branches(&[], delta, report)
-}
-
-pub(crate) fn branches(taken: &[bool], delta: u64, report: Report) -> Packet {
-    Packet::Address {
-        outcomes: outcomes(taken),
-        delta,
-        report,
+/// The packet of a row.
+pub(crate) fn packet_of(form: Form) -> Packet {
+    match form {
+        Form::Supports(support) => Packet::Support(support),
+        Form::Syncs(taken, privilege, address) => Packet::Sync {
+            taken,
+            privilege,
+            address,
+        },
+        Form::Excepts(cause, handler, address, tval) => Packet::Trap {
+            taken: false,
+            privilege: 3,
+            cause,
+            interrupt: false,
+            handler,
+            address,
+            tval,
+        },
+        Form::Interrupts(cause, address) => Packet::Trap {
+            taken: false,
+            privilege: 3,
+            cause,
+            interrupt: true,
+            handler: false,
+            address,
+            tval: 0,
+        },
+        Form::Addresses(taken, delta, report) => Packet::Address {
+            outcomes: outcomes(taken),
+            delta,
+            report,
+        },
+        Form::Maps(taken) => Packet::Map(outcomes(taken)),
     }
 }
 

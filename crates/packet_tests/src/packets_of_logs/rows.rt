@@ -5,6 +5,7 @@ use super::{
     BASE, BEQ, BEQ_8, ECALL, JAL, MRET, NOP, RET, at, legal_log, packets_of, payloads_of,
     program_of, sourced, trap,
 };
+use crate::same::same;
 use payload::{Mode, Payload};
 use retire::Event;
 use std::alloc::{AllocError, Global};
@@ -279,8 +280,7 @@ fn gives_payloads(alloc: Global, row: &Row) -> Result<(bool, bool), Fail> {
 fn payloads_of_worked_logs(rt: HostRuntime) -> Result<(), Fail> {
     for (i, row) in ROWS.iter().enumerate() {
         let (pushed, pulled) = gives_payloads(rt.alloc(), row)?;
-        assert!(rt; pushed, "pushed, log {i}");
-        assert!(rt; pulled, "pulled, log {i}");
+        same(&rt, (i, pushed, pulled), (i, true, true));
     }
     Ok(())
 }

@@ -1,0 +1,60 @@
+//! The texts of faults.
+
+use crate::hold::hold_at;
+use captures::CaptureFault;
+use decoder::DecodeFault;
+use message::{DemuxFault, MessageFault};
+use receiver::ReceiveFault;
+use std::alloc::Global;
+use std::test::Fail;
+
+/// Whether this is the text of the fault.
+fn tells(alloc: Global, fault: CaptureFault, text: &str) -> Result<bool, Fail> {
+    Ok(format!(in alloc; "{fault}")?.as_str() == text)
+}
+
+/// Whether this is the text of the fault of a receiver.
+fn receiver_tells(alloc: Global, fault: ReceiveFault, text: &str) -> Result<bool, Fail> {
+    Ok(format!(in alloc; "{fault}")?.as_str() == text)
+}
+
+const OF_CAPTURES: [(CaptureFault, &str); 6] = [
+    (
+        CaptureFault::Message(MessageFault::Short),
+        "the capture ends inside a message",
+    ),
+    (
+        CaptureFault::Demux(DemuxFault::Gap { expected: 2 }),
+        "gap, expected number 2",
+    ),
+    (
+        CaptureFault::Decode(DecodeFault::WrongPlace),
+        "not decoded: WrongPlace",
+    ),
+    (CaptureFault::Decode(DecodeFault::Memory), "out of memory"),
+    (
+        CaptureFault::Message(MessageFault::BadHeader),
+        "capture header is not valid",
+    ),
+    (CaptureFault::Mode, "open of another mode"),
+];
+
+const OF_RECEIVERS: [(ReceiveFault, &str); 3] = [
+    (ReceiveFault::Demux(DemuxFault::Stranger), "stranger"),
+    (ReceiveFault::Mode, "open of another mode"),
+    (
+        ReceiveFault::Decode(DecodeFault::WrongPlace),
+        "not decoded: WrongPlace",
+    ),
+];
+
+#[test]
+fn faults_as_text(rt: HostRuntime) -> Result<(), Fail> {
+    for (fault, text) in OF_CAPTURES {
+        hold_at(text, tells(rt.alloc(), fault, text)?)?;
+    }
+    for (fault, text) in OF_RECEIVERS {
+        hold_at(text, receiver_tells(rt.alloc(), fault, text)?)?;
+    }
+    Ok(())
+}
