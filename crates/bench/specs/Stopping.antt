@@ -21,11 +21,11 @@ NoRefusedIsClosed harts = All (λ came. came.refused ≡ true → came.closed �
 abbrev pub IsOpenHart : {A : Type 0} → List (HartOutcome A) → ℕ → Type 0
 IsOpenHart harts hart = IsSomeAnd (slice_get harts hart) (λ came. IsFalse came.closed)
 
--- The hart is neither closed nor is it one for which memory was refused.
+-- The hart is neither closed nor is it one for which memory, or the start of its worker, was refused.
 abbrev pub IsEndedHart : {A : Type 0} → List (HartOutcome A) → ℕ → Type 0
 IsEndedHart harts hart = IsSomeAnd (slice_get harts hart) (λ came. IsFalse came.closed × IsFalse came.refused)
 
--- Every hart for which memory was not refused is closed.
+-- Every hart for which neither memory nor the start of its worker was refused is closed.
 abbrev pub NoneEnded : {A : Type 0} → List (HartOutcome A) → Type 0
 NoneEnded harts = All (λ came. came.refused ≡ false → came.closed ≡ true) harts
 
@@ -33,8 +33,8 @@ NoneEnded harts = All (λ came. came.refused ≡ false → came.closed ≡ true)
 abbrev pub IsFirst : (ℕ → Type 0) → ℕ → Type 0
 IsFirst P hart = P hart × ((before : ℕ) → before < hart → ¬ P before)
 
--- A hart that is not closed is named: for want of memory the first of them, where memory was refused for it and every
--- hart for which it was not is closed, and as one whose channel ended the first of those for which it was not.
+-- A hart that is not closed is named: for want of memory the first that is not closed, where memory was refused for it
+-- and every hart for which it was not is closed, and as one whose channel ended the first for which it was not.
 abbrev pub IsStopOf : {A : Type 0} → Stop → List (HartOutcome A) → Type 0
 IsStopOf (stop.Memory hart) harts =
     IsFirst (IsOpenHart harts) hart × IsSomeAnd (slice_get harts hart) (λ came. IsTrue came.refused) × NoneEnded harts

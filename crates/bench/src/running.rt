@@ -30,7 +30,7 @@ use std::thread::{Scope, Threads};
 /// Each send waits for the gate, and for room in the funnel. The caller's thread takes until the closing message of every
 /// hart came whose thread was started, or the channel ended. A hart whose thread was not started is refused, as is one
 /// for which memory is refused; the others go on. The stop tells of a payload that was handed back before it tells of a
-/// channel that ended, and of that before memory; of each it names the first hart of which it can.
+/// channel that ended, and of that before memory; of each kind it names the first hart.
 ///
 /// The funnel takes its memory of `global`, and all else is of `alloc`. A fault says why nothing is sent at all: the count
 /// of logs, the capacity or the period, in this order and before memory is taken, or want of memory that is for no single

@@ -246,6 +246,7 @@ fn is_right<A: Allocator>(came: &HartOutcome<A>, sent: Sent, events: &[Event]) -
         && came.closed == (sent.refused == 0)
         && came.packets.len() as u64 == came.taken
         && events.starts_with(&came.decoded)
+        && (!came.closed || came.decoded.len() == events.len())
 }
 
 /// Takes the messages of the first log in over this heap, and tells whether memory for its hart was refused, where it

@@ -1,20 +1,16 @@
 //! The texts of faults.
 
 use crate::hold::hold_at;
-use captures::CaptureFault;
+use captures::{CaptureFault, ReadFault};
 use decoder::DecodeFault;
 use message::{DemuxFault, MessageFault};
 use receiver::ReceiveFault;
 use std::alloc::Global;
+use std::fmt::Display;
 use std::test::Fail;
 
 /// Whether this is the text of the fault.
-fn tells(alloc: Global, fault: CaptureFault, text: &str) -> Result<bool, Fail> {
-    Ok(format!(in alloc; "{fault}")?.as_str() == text)
-}
-
-/// Whether this is the text of the fault of a receiver.
-fn receiver_tells(alloc: Global, fault: ReceiveFault, text: &str) -> Result<bool, Fail> {
+fn tells<F: Display + Drop>(alloc: Global, fault: F, text: &str) -> Result<bool, Fail> {
     Ok(format!(in alloc; "{fault}")?.as_str() == text)
 }
 
@@ -48,13 +44,28 @@ const OF_RECEIVERS: [(ReceiveFault, &str); 3] = [
     ),
 ];
 
+const OF_READINGS: [(ReadFault, &str); 3] = [
+    (
+        ReadFault::Message(3, MessageFault::Short),
+        "the capture ends inside a message",
+    ),
+    (
+        ReadFault::Message(0, MessageFault::BadHeader),
+        "capture header is not valid",
+    ),
+    (ReadFault::Memory, "out of memory"),
+];
+
 #[test]
 fn faults_as_text(rt: HostRuntime) -> Result<(), Fail> {
     for (fault, text) in OF_CAPTURES {
         hold_at(text, tells(rt.alloc(), fault, text)?)?;
     }
     for (fault, text) in OF_RECEIVERS {
-        hold_at(text, receiver_tells(rt.alloc(), fault, text)?)?;
+        hold_at(text, tells(rt.alloc(), fault, text)?)?;
+    }
+    for (fault, text) in OF_READINGS {
+        hold_at(text, tells(rt.alloc(), fault, text)?)?;
     }
     Ok(())
 }

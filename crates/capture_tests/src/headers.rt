@@ -121,7 +121,8 @@ fn is_told_cut(alloc: Global, program: &Program, mode: u8, length: usize) -> Res
     )
 }
 
-/// Sets the byte of the header at a place to each value, and answers how often the capture is good.
+/// Sets the byte of the header at a place to each value, and answers how often the capture is good. A failure tells 256
+/// times the place, and the value.
 fn good_at(alloc: Global, program: &Program, place: usize) -> Result<usize, Fail> {
     let mut bytes = HEADER.to_vec(alloc)?;
     bytes.extend_from_slice(&WORKED)?;
@@ -131,7 +132,8 @@ fn good_at(alloc: Global, program: &Program, place: usize) -> Result<usize, Fail
             *byte = value;
         }
         let outcome = decode_capture(alloc, program, 2, &bytes)?;
-        hold_at(value, is_answer(&bytes, &outcome))?;
+        let at = place.saturating_mul(256).saturating_add(usize::from(value));
+        hold_at(at, is_answer(&bytes, &outcome))?;
         if outcome.fault.is_none() {
             good = good.saturating_add(1);
         }

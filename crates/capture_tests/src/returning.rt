@@ -128,16 +128,19 @@ fn come_back(
 
 #[test]
 fn logs_come_back(rt: HostRuntime) -> Result<(), Fail> {
-    for (harts, count, mode, version) in [
+    for (row, (harts, count, mode, version)) in [
         (64, 10_000, Mode::Differential, Version::One),
         (8, 10_000, Mode::Full, Version::One),
         (1, 10_000, Mode::Full, Version::Two),
         (100, 33, Mode::Differential, Version::Two),
         (1024, 100, Mode::Differential, Version::Two),
         (1024, 0, Mode::Full, Version::Two),
-    ] {
+    ]
+    .into_iter()
+    .enumerate()
+    {
         let back = come_back(rt.alloc(), harts, count, mode, version)?;
-        hold_at(harts, back)?;
+        hold_at(row, back)?;
     }
     Ok(())
 }

@@ -172,7 +172,7 @@ fn told(alloc: Global, row: &Row) -> Result<(Result<usize, DecodeFault>, bool), 
     let measured = count_behind(&program, &mut decoder, sent, &mut small);
     let found = count_behind(&program, &mut twin, sent, &mut ample);
     let alike = measured == found && small.as_slice() == ample.as_slice();
-    let kept = measured.is_ok() || small.len() == 1;
+    let kept = measured.is_ok() || small.as_slice() == log.as_slice();
     Ok((measured, full && alike && kept))
 }
 

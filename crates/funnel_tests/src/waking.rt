@@ -6,7 +6,8 @@
 use super::workers::is_whole;
 use std::test::Fail;
 
-// Were no port called, 60,000 messages through 8 places would take some 65 seconds, and 10,000 through one place 30 more.
+// Were no port called, a port would wait 10 ms about once for 9 messages through 8 places, and once for 3 through one
+// place: well over 60 seconds in all.
 #[test]
 fn a_sender_is_woken(rt: HostRuntime) -> Result<(), Fail> {
     for (capacity, count) in [(8, 60_000), (1, 10_000)] {
@@ -18,7 +19,7 @@ fn a_sender_is_woken(rt: HostRuntime) -> Result<(), Fail> {
     Ok(())
 }
 
-// Senders sleep side by side, so each has to send as many.
+// Senders sleep side by side, so each sends as many as one alone would.
 #[test]
 fn each_of_several_senders_is_woken(rt: HostRuntime) -> Result<(), Fail> {
     assert!(rt; is_whole(&rt, rt.alloc(), 2, 8, 70_000));

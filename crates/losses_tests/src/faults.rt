@@ -106,6 +106,26 @@ fn faults_have_places(rt: HostRuntime) -> Result<(), Fail> {
     Ok(())
 }
 
+/// Faults and their texts, in which no place stands.
+const TEXTS: [(LossyFault, &str); 4] = [
+    (LossyFault::Demux(7, DemuxFault::Stranger), "stranger"),
+    (
+        LossyFault::Decode(7, DecodeFault::WrongPlace),
+        "not decoded: WrongPlace",
+    ),
+    (LossyFault::Decode(7, DecodeFault::Memory), "out of memory"),
+    (LossyFault::Memory, "out of memory"),
+];
+
+#[test]
+fn faults_as_text(rt: HostRuntime) -> Result<(), Fail> {
+    for (fault, text) in TEXTS {
+        let told = format!(in rt.alloc(); "{fault}")?;
+        hold_at(text, told.as_str() == text)?;
+    }
+    Ok(())
+}
+
 /// Where there are no harts and no messages, nothing is left of nobody's log.
 #[test]
 fn no_harts(rt: HostRuntime) -> Result<(), Fail> {

@@ -109,13 +109,14 @@ const OF_A_FULL_MAP: [Row; 7] = [
     (&[4], &[Wanted::Events(0, 32)], false),
 ];
 
-/// The log of a branch to itself that is taken 33 times, of five packets: 0 opens the trace; 1 is a synchronisation at
+/// The log of a branch to itself that is taken 32 times and then not, of five packets: 0 opens the trace; 1 is a synchronisation at
 /// event 0; 2 is a full branch map, of events 1 to 31, which waits for nothing; 3 waits, of the last event; 4 closes
 /// the trace.
 #[test]
 fn a_full_branch_map(rt: HostRuntime) -> Result<(), Fail> {
     let program = program_of(rt.alloc(), &[0x0000_0063])?;
-    let events = vec![in rt.alloc(); retired(0, 5); 33]?;
+    let mut events = vec![in rt.alloc(); retired(0, 5); 32]?;
+    events.push(retired(0, 4))?;
     for mode in MODES {
         for (place, row) in OF_A_FULL_MAP.into_iter().enumerate() {
             let is_wanted = is_left(rt.alloc(), &program, &events, (1024, 5), mode, row)?;

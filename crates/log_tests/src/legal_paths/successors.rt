@@ -31,7 +31,8 @@ fn successor_of_each_kind(rt: HostRuntime) -> Result<(), Fail> {
         (NOP, trap(BASE, 3, false, 2, 0), Next::Any),
         (NOP, trap(0x4000, 0, true, 7, 0), Next::Any),
     ] {
-        same(&rt, (event, leads(rt.alloc(), word, event)?), (event, want));
+        let led = leads(rt.alloc(), word, event)?;
+        same(&rt, (word, event, led), (word, event, want));
     }
     Ok(())
 }
