@@ -1,18 +1,17 @@
 //! Messages that are taken in by hand.
 
+use crate::came::{End, came_at};
 use crate::made::{logs, program};
 use crate::same::same_at;
-use bench::{CollectFault, Collector, HartOutcome, Outcome};
+use bench::{CollectFault, Collector};
 use decoder::DecodeFault;
 use encoder::Source;
 use legalpath::LegalLog;
 use linked_list_allocator::LocalHeap;
 use message::{DemuxFault, Message};
-use payload::{Mode, PackFault, Payload};
-use retire::Event;
+use payload::{Mode, Payload};
 use std::alloc::Allocator;
 use std::process::Abort;
-use std::test::Fail;
 
 /// How many messages of a log were taken in, how many bytes their payloads have, and how many messages were refused for
 /// want of memory.
@@ -56,60 +55,12 @@ fn send<A: Allocator + Copy>(
     sent
 }
 
-/// A message of a hart.
-fn message(hart: u16, number: u64, bytes: &[u8]) -> Result<Message, PackFault> {
-    Ok(Message {
-        hart,
-        number,
-        payload: Payload::new(bytes)?,
-    })
-}
-
-/// What came of a hart, but for its events: how many packets, how many bytes their payloads had, how many packets were
-/// kept, whether it closed, and whether memory was refused.
-#[derive(Clone, Copy, Debug, PartialEq, Eq)]
-struct End {
-    taken: u64,
-    bytes: u64,
-    kept: usize,
-    closed: bool,
-    refused: bool,
-}
-
-/// What came of this hart, but for its events.
-fn end_of<A: Allocator>(came: &HartOutcome<A>) -> End {
-    End {
-        taken: came.taken,
-        bytes: came.bytes,
-        kept: came.packets.len(),
-        closed: came.closed,
-        refused: came.refused,
-    }
-}
-
-/// Ends the test unless this came of a hart, whose events are the first of these, and all of them where it closed.
-fn came<A: Allocator>(
-    rt: &impl Abort,
-    outcome: &Outcome<A>,
-    hart: usize,
-    end: End,
-    events: &[Event],
-) {
-    let Some(came) = outcome.harts.get(hart) else {
-        panic!(rt; "no outcome");
-    };
-    same_at(rt, hart, end_of(came), end);
-    let decoded = came.decoded.as_slice();
-    assert!(rt; events.starts_with(decoded) && (!end.closed || decoded.len() == events.len()));
-}
-
 #[test]
-fn what_comes_of_messages(rt: HostRuntime) -> Result<(), Fail> {
-    let alloc = rt.alloc();
-    let program = program(alloc)?;
-    let logs = logs(alloc, &program)?;
+fn what_comes_of_messages(rt: HostRuntime) {
+    let program = program(&rt);
+    let logs = logs(&rt, &program);
     for keep in [true, false] {
-        let mut collector = Collector::new(alloc, &logs, keep)?;
+        let mut collector = Collector::new(rt.alloc(), &logs, keep).expect(&rt, "memory");
         same_at(&rt, keep, send(&mut collector, &logs[0], 0, 9).taken, 5);
         let some = send(&mut collector, &logs[1], 1, 3);
         let whole = End {
@@ -128,11 +79,11 @@ fn what_comes_of_messages(rt: HostRuntime) -> Result<(), Fail> {
         };
         same_at(&rt, keep, some.taken, 3);
         let outcome = collector.finish();
-        assert!(rt; outcome.stop.is_none() && outcome.harts.len() == 2);
-        came(&rt, &outcome, 0, whole, logs[0].events());
-        came(&rt, &outcome, 1, beginning, logs[1].events());
+        same_at(&rt, keep, outcome.stop, None);
+        same_at(&rt, keep, outcome.harts.len(), 2);
+        came_at(&rt, keep, &outcome, 0, whole, logs[0].events());
+        came_at(&rt, keep, &outcome, 1, beginning, logs[1].events());
     }
-    Ok(())
 }
 
 /// A message, by its hart, its number and its payload, and the answer to it.
@@ -162,26 +113,29 @@ const ANSWERS: [Answer; 5] = [
     ),
 ];
 
-/// The first of these messages, by its hart and its number, to which another answer comes.
-fn first_answered_otherwise<A: Allocator + Copy>(
+/// Ends the test unless this is answered to a message of these bytes.
+fn answers<A: Allocator + Copy>(
+    rt: &impl Abort,
     collector: &mut Collector<'_, '_, A>,
-) -> Result<Option<(u16, u64)>, PackFault> {
-    for (hart, number, bytes, answer) in ANSWERS {
-        if collector.take_in(message(hart, number, bytes)?) != answer {
-            return Ok(Some((hart, number)));
-        }
-    }
-    Ok(None)
+    (hart, number, bytes, answer): Answer<'_>,
+) {
+    let payload = Payload::new(bytes).expect(rt, "a payload");
+    let found = collector.take_in(Message {
+        hart,
+        number,
+        payload,
+    });
+    same_at(rt, (hart, number), found, answer);
 }
 
 #[test]
-fn messages_that_are_not_taken_in(rt: HostRuntime) -> Result<(), Fail> {
-    let alloc = rt.alloc();
-    let program = program(alloc)?;
-    let logs = logs(alloc, &program)?;
-    let mut collector = Collector::new(alloc, &logs, true)?;
-    let wrong = first_answered_otherwise(&mut collector)?;
-    assert!(rt; wrong == None, "{wrong:?}");
+fn messages_that_are_not_taken_in(rt: HostRuntime) {
+    let program = program(&rt);
+    let logs = logs(&rt, &program);
+    let mut collector = Collector::new(rt.alloc(), &logs, true).expect(&rt, "memory");
+    for answer in ANSWERS {
+        answers(&rt, &mut collector, answer);
+    }
     let one = End {
         taken: 1,
         bytes: 1,
@@ -196,28 +150,19 @@ fn messages_that_are_not_taken_in(rt: HostRuntime) -> Result<(), Fail> {
         ..one
     };
     let outcome = collector.finish();
-    came(&rt, &outcome, 0, one, logs[0].events());
-    came(&rt, &outcome, 1, none, &[]);
-    Ok(())
+    came_at(&rt, "one", &outcome, 0, one, logs[0].events());
+    came_at(&rt, "none", &outcome, 1, none, &[]);
 }
 
 #[test]
-fn a_refused_hart_is_passed_over(rt: HostRuntime) -> Result<(), Fail> {
-    let alloc = rt.alloc();
-    let program = program(alloc)?;
-    let logs = logs(alloc, &program)?;
-    let mut collector = Collector::new(alloc, &logs, true)?;
+fn a_refused_hart_is_passed_over(rt: HostRuntime) {
+    let program = program(&rt);
+    let logs = logs(&rt, &program);
+    let mut collector = Collector::new(rt.alloc(), &logs, true).expect(&rt, "memory");
     collector.refuse(0);
-    same_at(&rt, 0, collector.take_in(message(0, 7, &[0x4f])?), Ok(()));
-    for (hart, count) in [(0u16, 5), (1, 4)] {
-        let log = &logs[usize::from(hart).min(1)];
-        same_at(
-            &rt,
-            hart,
-            send(&mut collector, log, hart, count).taken,
-            count,
-        );
-    }
+    answers(&rt, &mut collector, (0, 7, &[0x4f], Ok(())));
+    same_at(&rt, 0, send(&mut collector, &logs[0], 0, 5).taken, 5);
+    same_at(&rt, 1, send(&mut collector, &logs[1], 1, 4).taken, 4);
     let nothing = End {
         taken: 0,
         bytes: 0,
@@ -233,52 +178,54 @@ fn a_refused_hart_is_passed_over(rt: HostRuntime) -> Result<(), Fail> {
         refused: false,
     };
     let outcome = collector.finish();
-    came(&rt, &outcome, 0, nothing, &[]);
-    came(&rt, &outcome, 1, whole, logs[1].events());
-    Ok(())
-}
-
-/// Whether this came of a hart of which so many messages were taken in: each of five was or was refused, and what came is
-/// a beginning of the events, and all of them where no message was refused.
-fn is_right<A: Allocator>(came: &HartOutcome<A>, sent: Sent, events: &[Event]) -> bool {
-    sent.taken.saturating_add(sent.refused) == 5
-        && came.refused == (sent.refused == 1)
-        && came.closed == (sent.refused == 0)
-        && came.packets.len() as u64 == came.taken
-        && events.starts_with(&came.decoded)
-        && (!came.closed || came.decoded.len() == events.len())
+    came_at(&rt, "refused", &outcome, 0, nothing, &[]);
+    came_at(&rt, "whole", &outcome, 1, whole, logs[1].events());
 }
 
 /// Takes the messages of the first log in over this heap, and tells whether memory for its hart was refused, where it
-/// was not for the collector.
-fn is_refused(heap: &LocalHeap, logs: &[LegalLog<'_>; 2]) -> Result<Option<bool>, Fail> {
+/// was not for the collector: each of five messages was taken in or was refused, and what came is a beginning of the
+/// events, and all of them where no message was refused.
+fn is_refused(
+    rt: &impl Abort,
+    step: usize,
+    heap: &LocalHeap,
+    logs: &[LegalLog<'_>; 2],
+) -> Option<bool> {
     let Ok(mut collector) = Collector::new(heap, logs, true) else {
-        return Ok(None);
+        return None;
     };
     let sent = send(&mut collector, &logs[0], 0, 5);
+    same_at(rt, step, sent.taken.saturating_add(sent.refused), 5);
     let outcome = collector.finish();
-    match outcome.harts.get(0) {
-        Some(came) if is_right(came, sent, logs[0].events()) => Ok(Some(came.refused)),
-        _ => Err(Fail::new("not what was taken in")),
-    }
+    let came = outcome.harts.first().expect(rt, "an outcome");
+    let end = End {
+        taken: came.taken,
+        bytes: came.bytes,
+        kept: came.taken as usize,
+        closed: sent.refused == 0,
+        refused: sent.refused == 1,
+    };
+    came_at(rt, step, &outcome, 0, end, logs[0].events());
+    Some(end.refused)
 }
 
 #[test]
-fn memory_is_refused_for_one_hart(rt: HostRuntime) -> Result<(), Fail> {
-    let alloc = rt.alloc();
-    let program = program(alloc)?;
-    let logs = logs(alloc, &program)?;
+fn memory_is_refused_for_one_hart(rt: HostRuntime) {
+    let program = program(&rt);
+    let logs = logs(&rt, &program);
     let mut refused = 0u32;
     let mut whole = 0u32;
     for step in 0..300usize {
-        let heap = LocalHeap::new(alloc, step * 16)?;
-        match is_refused(&heap, &logs)? {
+        let heap = LocalHeap::new(rt.alloc(), step * 16).expect(&rt, "memory");
+        match is_refused(&rt, step, &heap, &logs) {
             None => {}
             Some(true) => refused = refused.saturating_add(1),
             Some(false) => whole = whole.saturating_add(1),
         }
         same_at(&rt, step, heap.used(), 0);
     }
-    assert!(rt; 0 < refused && 0 < whole);
-    Ok(())
+    assert!(rt;
+        0 < refused && 0 < whole,
+        "{refused} refused, {whole} whole"
+    );
 }

@@ -4,6 +4,8 @@
 #![tactic(auto)]
 
 #[cfg(test)]
+mod came;
+#[cfg(test)]
 mod collect;
 #[cfg(test)]
 mod made;

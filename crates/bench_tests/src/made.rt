@@ -1,12 +1,14 @@
 //! A program of four words, the logs of two harts that run it, and the report of what came of them.
 
-use bench::{Outcome, Turn, report};
+use crate::same::same_at;
+use bench::{Outcome, Turn, is_whole, report};
 use legalpath::LegalLog;
 use payload::Mode;
 use retire::Event;
 use rvclass::Program;
-use std::alloc::{AllocError, Allocator, Global};
-use std::test::Fail;
+use std::alloc::Allocator;
+use std::fmt::Debug;
+use std::process::Abort;
 
 /// Where the program stands.
 const BASE: u64 = 0x8000_0000;
@@ -41,94 +43,110 @@ pub(crate) fn retired(offset: u64, itype: u8) -> Event {
 }
 
 /// The program.
-pub(crate) fn program(alloc: Global) -> Result<Program, Fail> {
-    let mut image = Vec::new(alloc);
+pub(crate) fn program<R: Abort + AllocGlobal>(rt: &R) -> Program {
+    let mut image = Vec::new(rt.alloc());
     for word in WORDS {
-        image.extend_from_slice(&word.to_le_bytes())?;
+        let added = image.extend_from_slice(&word.to_le_bytes());
+        added.expect(rt, "memory");
     }
-    Ok(Program::new(BASE, image)?)
+    Program::new(BASE, image).expect(rt, "a program")
 }
 
 /// The events of the hart that takes the branch 33 times.
-pub(crate) fn branches(alloc: Global) -> Result<Vec<Event>, AllocError> {
-    vec![in alloc; retired(12, 5); 33]
+pub(crate) fn branches<R: Abort + AllocGlobal>(rt: &R) -> Vec<Event> {
+    vec![in rt.alloc(); retired(12, 5); 33].expect(rt, "memory")
 }
 
 /// The events of the hart that goes on at the second word after the jump.
-pub(crate) fn returns(alloc: Global) -> Result<Vec<Event>, Fail> {
-    Ok(vec![in alloc; retired(0, 0), retired(4, 0), retired(8, 6), retired(4, 0)]?)
+pub(crate) fn returns<R: Abort + AllocGlobal>(rt: &R) -> Vec<Event> {
+    let events = vec![in rt.alloc(); retired(0, 0), retired(4, 0), retired(8, 6), retired(4, 0)];
+    events.expect(rt, "memory")
 }
 
 /// The log of these events, which are legal for the program.
-fn legal_log<'p>(program: &'p Program, events: Vec<Event>) -> Result<LegalLog<'p>, Fail> {
-    if events.len() > 1 << 24 {
-        return Err(Fail::new("too many events"));
-    }
-    match LegalLog::new(program, events) {
-        Ok(log) => Ok(log),
-        Err((why, _)) => Err(Fail::new(why)),
-    }
+fn legal_log<'p, R: Abort>(rt: &R, program: &'p Program, events: Vec<Event>) -> LegalLog<'p> {
+    assert!(rt; events.len() <= 1 << 24, "too many events");
+    LegalLog::new(program, events).expect(rt, "a legal log")
 }
 
 /// The logs of both harts.
-pub(crate) fn logs<'p>(alloc: Global, program: &'p Program) -> Result<[LegalLog<'p>; 2], Fail> {
-    Ok([
-        legal_log(program, branches(alloc)?)?,
-        legal_log(program, returns(alloc)?)?,
-    ])
+pub(crate) fn logs<'p, R: Abort + AllocGlobal>(rt: &R, program: &'p Program) -> [LegalLog<'p>; 2] {
+    [
+        legal_log(rt, program, branches(rt)),
+        legal_log(rt, program, returns(rt)),
+    ]
 }
 
 /// The logs of so many harts, of both kinds in turn.
-pub(crate) fn kinds<'p>(
-    alloc: Global,
+pub(crate) fn kinds<'p, R: Abort + AllocGlobal>(
+    rt: &R,
     program: &'p Program,
     harts: u16,
-) -> Result<Vec<LegalLog<'p>>, Fail> {
-    let mut logs = Vec::new(alloc);
+) -> Vec<LegalLog<'p>> {
+    let mut logs = Vec::new(rt.alloc());
     for hart in 0..harts {
         let events = if hart % 2 == 0 {
-            branches(alloc)?
+            branches(rt)
         } else {
-            returns(alloc)?
+            returns(rt)
         };
-        logs.push(legal_log(program, events)?)?;
+        logs.push(legal_log(rt, program, events))
+            .expect(rt, "memory");
     }
-    Ok(logs)
+    logs
 }
 
 /// Turns by which each message is taken at once: five of the first hart and four of the second, which are all.
-pub(crate) fn turns(alloc: Global) -> Result<Vec<Turn>, AllocError> {
-    let mut turns = Vec::new(alloc);
-    for (hart, count) in [(0, 5), (1, 4)] {
-        for _ in 0..count {
-            turns.push(Turn::Hart(hart))?;
-            turns.push(Turn::Collect)?;
-        }
-    }
-    Ok(turns)
-}
+pub(crate) const TURNS: [Turn; 18] = [
+    Turn::Hart(0),
+    Turn::Collect,
+    Turn::Hart(0),
+    Turn::Collect,
+    Turn::Hart(0),
+    Turn::Collect,
+    Turn::Hart(0),
+    Turn::Collect,
+    Turn::Hart(0),
+    Turn::Collect,
+    Turn::Hart(1),
+    Turn::Collect,
+    Turn::Hart(1),
+    Turn::Collect,
+    Turn::Hart(1),
+    Turn::Collect,
+    Turn::Hart(1),
+    Turn::Collect,
+];
 
 /// The report of an outcome that has as many harts as there are logs.
-pub(crate) fn text_of<A: Allocator>(
-    alloc: Global,
+pub(crate) fn text_of<R: Abort + AllocGlobal, A: Allocator>(
+    rt: &R,
     outcome: &Outcome<A>,
     logs: &[LegalLog<'_>],
-) -> Result<Vec<u8>, Fail> {
-    let mut text = Vec::new(alloc);
-    if logs.len() != outcome.harts.len() {
-        return Err(Fail::new("another number of harts"));
-    }
-    report(outcome, logs, &mut text)?;
-    Ok(text)
+) -> Vec<u8> {
+    let mut text = Vec::new(rt.alloc());
+    assert!(rt;
+        logs.len() == outcome.harts.len(),
+        "another number of harts"
+    );
+    report(outcome, logs, &mut text).expect(rt, "the report is written");
+    text
 }
 
-/// Whether this is the report of an outcome that has as many harts as there are logs.
-pub(crate) fn is_text<A: Allocator>(
-    alloc: Global,
+/// Ends the test unless this is the report of an outcome that has as many harts as there are logs.
+pub(crate) fn reports_at<P: Debug + Drop, R: Abort + AllocGlobal, A: Allocator>(
+    rt: &R,
+    place: P,
     outcome: &Outcome<A>,
     logs: &[LegalLog<'_>],
     wanted: &str,
-) -> Result<bool, Fail> {
-    let text = text_of(alloc, outcome, logs)?;
-    Ok(text.as_slice() == wanted.as_bytes())
+) {
+    let text = text_of(rt, outcome, logs);
+    let found = str::from_utf8(text.as_slice()).expect(rt, "a text");
+    same_at(rt, place, found, wanted);
+}
+
+/// Whether every log came back whole.
+pub(crate) fn came_back<A: Allocator>(outcome: &Outcome<A>, logs: &[LegalLog<'_>]) -> bool {
+    logs.len() == outcome.harts.len() && is_whole(outcome, logs)
 }

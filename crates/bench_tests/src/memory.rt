@@ -1,16 +1,15 @@
 //! Memory that is refused.
 
-use crate::made::{is_text, logs, program, turns};
+use crate::made::{TURNS, logs, program, reports_at};
 use crate::same::same_at;
-use bench::{CollectFault, Collector, Config, Outcome, Setup, Stop, Turn, replay};
+use bench::{CollectFault, Collector, Config, Outcome, Setup, Stop, replay};
 use encoder::Source;
 use legalpath::LegalLog;
 use linked_list_allocator::LocalHeap;
 use message::Message;
 use payload::Mode;
-use std::alloc::{Allocator, Global};
+use std::alloc::Allocator;
 use std::process::Abort;
-use std::test::Fail;
 
 /// One message at a time.
 const CONFIG: Config = Config {
@@ -39,54 +38,53 @@ enum End {
     Whole,
 }
 
-/// How this came of a replay; a fault where the stop is no stop of it.
-fn end_of<A: Allocator>(outcome: &Outcome<A>) -> Result<End, Fail> {
+/// How this came of a replay, whose stop is a stop of it.
+fn end_of<A: Allocator>(rt: &impl Abort, step: usize, outcome: &Outcome<A>) -> End {
     let stop = outcome.stop;
     let (Some(zero), Some(one)) = (outcome.harts.get(0), outcome.harts.get(1)) else {
-        return Err(Fail::new("another number of harts"));
+        panic!(rt; "{step}: another number of harts");
     };
     match stop {
-        None if zero.closed && one.closed && !zero.refused && !one.refused => Ok(End::Whole),
-        Some(Stop::Memory(0)) if zero.refused && !zero.closed && !one.refused => Ok(End::First),
-        Some(Stop::Memory(0)) if zero.refused && !zero.closed => Ok(End::Second),
-        Some(Stop::Memory(1)) if one.refused && !one.closed => Ok(End::Second),
-        _ => Err(Fail::new("another stop")),
+        None if zero.closed && one.closed && !zero.refused && !one.refused => End::Whole,
+        Some(Stop::Memory(0)) if zero.refused && !zero.closed && !one.refused => End::First,
+        Some(Stop::Memory(0)) if zero.refused && !zero.closed => End::Second,
+        Some(Stop::Memory(1)) if one.refused && !one.closed => End::Second,
+        _ => panic!(rt; "{step}: another stop, {stop:?}"),
     }
 }
 
 /// How a replay over this heap ends.
-fn replayed(
-    rt: &impl Abort,
-    alloc: Global,
+fn replayed<R: Abort + AllocGlobal>(
+    rt: &R,
+    step: usize,
     heap: &LocalHeap,
     logs: &[LegalLog<'_>; 2],
-    turns: &[Turn],
-) -> Result<End, Fail> {
-    match replay(heap, logs, CONFIG, turns) {
+) -> End {
+    match replay(heap, logs, CONFIG, &TURNS) {
         Ok(outcome) => {
-            let end = end_of(&outcome)?;
+            let end = end_of(rt, step, &outcome);
             if end == End::First {
-                assert!(rt; is_text(alloc, &outcome, logs, FIRST_REFUSED)?);
+                reports_at(rt, step, &outcome, logs, FIRST_REFUSED);
             }
-            Ok(end)
+            end
         }
-        Err(Setup::Memory) => Ok(End::Setup),
-        Err(_) => Err(Fail::new("another fault")),
+        Err(fault) => {
+            same_at(rt, step, fault, Setup::Memory);
+            End::Setup
+        }
     }
 }
 
 #[test]
-fn replay_is_refused(rt: HostRuntime) -> Result<(), Fail> {
-    let alloc = rt.alloc();
-    let program = program(alloc)?;
-    let logs = logs(alloc, &program)?;
-    let turns = turns(alloc)?;
+fn replay_is_refused(rt: HostRuntime) {
+    let program = program(&rt);
+    let logs = logs(&rt, &program);
     let mut setups = 0u32;
     let mut first = 0u32;
     let mut whole = 0u32;
     for step in 0..400usize {
-        let heap = LocalHeap::new(alloc, step * 16)?;
-        match replayed(&rt, alloc, &heap, &logs, &turns)? {
+        let heap = LocalHeap::new(rt.alloc(), step * 16).expect(&rt, "memory");
+        match replayed(&rt, step, &heap, &logs) {
             End::Setup => setups = setups.saturating_add(1),
             End::First => first = first.saturating_add(1),
             End::Second => {}
@@ -94,8 +92,10 @@ fn replay_is_refused(rt: HostRuntime) -> Result<(), Fail> {
         }
         same_at(&rt, step, heap.used(), 0);
     }
-    assert!(rt; 0 < setups && 0 < first && 0 < whole);
-    Ok(())
+    assert!(rt;
+        0 < setups && 0 < first && 0 < whole,
+        "{setups}, {first}, {whole}"
+    );
 }
 
 /// Takes the messages of a log in; while that of this number is, all that is free of the heap is held.
@@ -107,41 +107,35 @@ fn send(
     hart: u16,
     count: u64,
     refused: u64,
-) -> Result<(), Fail> {
+) {
     let mut source = Source::new(log, 1024, Mode::Differential);
     for number in 0..count {
-        let Some(payload) = source.next() else {
-            return Err(Fail::new("too few payloads"));
+        let payload = source.next().expect(rt, "a payload");
+        let (room, wanted) = if number == refused {
+            (heap.free(), Err(CollectFault::Memory))
+        } else {
+            (0, Ok(()))
         };
-        let room = if number == refused { heap.free() } else { 0 };
-        let held: Vec<u8, &LocalHeap> = Vec::with_capacity(heap, room)?;
+        let held: Vec<u8, &LocalHeap> = Vec::with_capacity(heap, room).expect(rt, "memory");
         let answer = collector.take_in(Message {
             hart,
             number,
             payload,
         });
         drop(held);
-        let wanted = if number == refused {
-            Err(CollectFault::Memory)
-        } else {
-            Ok(())
-        };
         same_at(rt, (hart, number), answer, wanted);
     }
-    Ok(())
 }
 
 #[test]
-fn memory_is_refused_once(rt: HostRuntime) -> Result<(), Fail> {
-    let alloc = rt.alloc();
-    let program = program(alloc)?;
-    let logs = logs(alloc, &program)?;
-    let heap = LocalHeap::new(alloc, 8192)?;
-    let mut collector = Collector::new(&heap, &logs, false)?;
-    send(&rt, &heap, &mut collector, &logs[0], 0, 5, 1)?;
-    send(&rt, &heap, &mut collector, &logs[1], 1, 4, 4)?;
+fn memory_is_refused_once(rt: HostRuntime) {
+    let program = program(&rt);
+    let logs = logs(&rt, &program);
+    let heap = LocalHeap::new(rt.alloc(), 8192).expect(&rt, "memory");
+    let mut collector = Collector::new(&heap, &logs, false).expect(&rt, "memory");
+    send(&rt, &heap, &mut collector, &logs[0], 0, 5, 1);
+    send(&rt, &heap, &mut collector, &logs[1], 1, 4, 4);
     let mut outcome = collector.finish();
     outcome.stop = Some(Stop::Memory(0));
-    assert!(rt; is_text(alloc, &outcome, &logs, FIRST_REFUSED)?);
-    Ok(())
+    reports_at(&rt, "the report", &outcome, &logs, FIRST_REFUSED);
 }

@@ -1,61 +1,58 @@
 //! Calls that take no memory, over a heap that has none left.
 
 use crate::made::{logs, program, retired};
+use crate::same::same_at;
 use bench::Collector;
 use legalpath::LegalLog;
 use linked_list_allocator::LocalHeap;
-use std::alloc::Global;
-use std::test::Fail;
+use std::process::Abort;
 
 /// All that a heap has left: it refuses everything as long as this lives.
-fn all_of<'h>(alloc: Global, heap: &'h LocalHeap) -> Result<Vec<Vec<u8, &'h LocalHeap>>, Fail> {
-    let mut taken = Vec::new(alloc);
+fn all_of<'h, R: Abort + AllocGlobal>(rt: &R, heap: &'h LocalHeap) -> Vec<Vec<u8, &'h LocalHeap>> {
+    let mut taken = Vec::new(rt.alloc());
     for _ in 0..4096u32 {
         match Vec::with_capacity(heap, 1) {
-            Ok(room) => taken.push(room)?,
-            Err(_) => return Ok(taken),
+            Ok(room) => taken.push(room).expect(rt, "memory"),
+            Err(_) => {
+                assert!(rt; !taken.is_empty(), "the heap had nothing left");
+                return taken;
+            }
         }
     }
-    Err(Fail::new("more than the heap had"))
+    panic!(rt; "more than the heap had");
 }
 
 #[test]
-fn collector_ends_with_no_memory_left(rt: HostRuntime) -> Result<(), Fail> {
-    let alloc = rt.alloc();
-    let program = program(alloc)?;
-    let logs = logs(alloc, &program)?;
-    let heap = LocalHeap::new(alloc, 4096)?;
-    let mut collector = Collector::new(&heap, &logs, false)?;
-    let taken = all_of(alloc, &heap)?;
-    assert!(rt; !taken.is_empty());
+fn collector_ends_with_no_memory_left(rt: HostRuntime) {
+    let program = program(&rt);
+    let logs = logs(&rt, &program);
+    let heap = LocalHeap::new(rt.alloc(), 4096).expect(&rt, "memory");
+    let mut collector = Collector::new(&heap, &logs, false).expect(&rt, "memory");
+    let _taken = all_of(&rt, &heap);
     collector.refuse(1);
     let outcome = collector.finish();
-    let refused: [bool; 2] = [false, true];
-    assert!(rt; outcome.harts.len() == 2);
-    for (hart, refused) in outcome.harts.iter().zip(&refused) {
-        assert!(rt; hart.refused == *refused && !hart.closed && hart.decoded.is_empty());
+    same_at(&rt, "harts", outcome.harts.len(), 2);
+    for (hart, came) in outcome.harts.iter().enumerate() {
+        let found = (came.refused, came.closed, came.decoded.len());
+        same_at(&rt, hart, found, (hart == 1, false, 0));
     }
-    Ok(())
 }
 
 #[test]
-fn log_is_kept_with_no_memory_left(rt: HostRuntime) -> Result<(), Fail> {
-    let alloc = rt.alloc();
-    let program = program(alloc)?;
+fn log_is_kept_with_no_memory_left(rt: HostRuntime) {
+    let program = program(&rt);
     let legal = [retired(0, 0), retired(4, 0)];
     let illegal = [retired(0, 0), retired(8, 6)];
-    let heap = LocalHeap::new(alloc, 4096)?;
-    let first = legal.to_vec(&heap)?;
-    let second = illegal.to_vec(&heap)?;
-    let taken = all_of(alloc, &heap)?;
-    assert!(rt; !taken.is_empty());
-    match LegalLog::new(&program, first) {
-        Ok(log) => assert!(rt; log.events() == legal.as_slice()),
-        Err((fault, _)) => return Err(Fail::new(fault)),
-    }
-    match LegalLog::new(&program, second) {
-        Ok(_) => return Err(Fail::new("an illegal log is kept")),
-        Err((_, back)) => assert!(rt; back.as_slice() == illegal.as_slice()),
-    }
-    Ok(())
+    let heap = LocalHeap::new(rt.alloc(), 4096).expect(&rt, "memory");
+    let first = legal.to_vec(&heap).expect(&rt, "memory");
+    let second = illegal.to_vec(&heap).expect(&rt, "memory");
+    let _taken = all_of(&rt, &heap);
+    let log = LegalLog::new(&program, first)
+        .ok()
+        .expect(&rt, "a legal log");
+    same_at(&rt, "legal", log.events(), legal.as_slice());
+    let (_, back) = LegalLog::new(&program, second)
+        .err()
+        .expect(&rt, "a refused log");
+    same_at(&rt, "illegal", back.as_slice(), illegal.as_slice());
 }

@@ -1,13 +1,14 @@
 //! Random schedules against a plain machine: lists of harts, no ring, and what the payloads of a log are.
 
+use crate::came::{End, came_at};
 use crate::made::{kinds, program};
-use bench::{Config, HartOutcome, Outcome, Turn, replay};
+use crate::same::same_at;
+use bench::{Config, Outcome, Turn, replay};
 use encoder::Source;
 use legalpath::LegalLog;
 use payload::Mode;
 use rvclass::Program;
-use std::alloc::Global;
-use std::test::Fail;
+use std::process::Abort;
 
 /// What waits, and how many messages each hart sent and were taken of it.
 #[derive(Drop)]
@@ -32,44 +33,46 @@ fn below(state: &mut u64, bound: u16) -> u16 {
 }
 
 /// The lengths of the payloads of a log, at the period and in the mode of this configuration.
-fn sizes_of(alloc: Global, log: &LegalLog<'_>, config: Config) -> Result<Vec<u64>, Fail> {
+fn sizes_of<R: Abort + AllocGlobal>(rt: &R, log: &LegalLog<'_>, config: Config) -> Vec<u64> {
     let mut source = Source::new(log, config.period.max(1), config.mode);
-    let mut sizes = Vec::new(alloc);
+    let mut sizes = Vec::new(rt.alloc());
     for _ in 0..log.events().len().saturating_add(2) {
         if let Some(payload) = source.next() {
-            sizes.push(payload.bytes().len() as u64)?;
+            let size = payload.bytes().len() as u64;
+            sizes.push(size).expect(rt, "memory");
         }
     }
-    Ok(sizes)
+    sizes
 }
 
 /// The lists where nothing was sent, of harts with these logs.
-fn begin(alloc: Global, logs: &[LegalLog<'_>], config: Config) -> Result<Plain, Fail> {
+fn begin<R: Abort + AllocGlobal>(rt: &R, logs: &[LegalLog<'_>], config: Config) -> Plain {
     let mut plain = Plain {
-        queue: Vec::new(alloc),
-        sent: Vec::new(alloc),
-        taken: Vec::new(alloc),
-        sizes: Vec::new(alloc),
+        queue: Vec::new(rt.alloc()),
+        sent: Vec::new(rt.alloc()),
+        taken: Vec::new(rt.alloc()),
+        sizes: Vec::new(rt.alloc()),
     };
     for log in logs {
-        plain.sizes.push(sizes_of(alloc, log, config)?)?;
-        plain.sent.push(0)?;
-        plain.taken.push(0)?;
+        let sizes = sizes_of(rt, log, config);
+        plain.sizes.push(sizes).expect(rt, "memory");
+        plain.sent.push(0).expect(rt, "memory");
+        plain.taken.push(0).expect(rt, "memory");
     }
-    Ok(plain)
+    plain
 }
 
 /// What a turn does to the lists.
-fn act(plain: &mut Plain, turn: Turn, capacity: usize) -> Result<(), Fail> {
+fn act(rt: &impl Abort, plain: &mut Plain, turn: Turn, capacity: usize) {
     match turn {
         Turn::Hart(hart) => {
             let hart = usize::from(hart);
             if hart >= plain.sizes.len() || hart >= plain.sent.len() {
-                return Ok(());
+                return;
             }
             if plain.queue.len() < capacity && plain.sent[hart] < plain.sizes[hart].len() {
                 plain.sent[hart] += 1;
-                plain.queue.push(hart)?;
+                plain.queue.push(hart).expect(rt, "memory");
             }
         }
         Turn::Collect => {
@@ -81,34 +84,26 @@ fn act(plain: &mut Plain, turn: Turn, capacity: usize) -> Result<(), Fail> {
             }
         }
     }
-    Ok(())
 }
 
-/// Whether this came of a hart of which so many messages were taken.
-fn is_right(
-    came: &HartOutcome,
-    log: &LegalLog<'_>,
-    sizes: &[u64],
-    taken: usize,
-    keep: bool,
-) -> bool {
+/// What comes of a hart of which so many messages were taken, of payloads of these lengths, but for its events.
+fn end_by_lists(sizes: &[u64], taken: usize, keep: bool) -> End {
     let mut bytes = 0u64;
     for size in sizes.iter().take(taken) {
         bytes = bytes.saturating_add(*size);
     }
-    let kept = if keep { taken } else { 0 };
-    came.taken == taken as u64
-        && came.bytes == bytes
-        && came.closed == (taken == sizes.len())
-        && came.packets.len() == kept
-        && !came.refused
-        && log.events().starts_with(came.decoded.as_slice())
-        && (!came.closed || came.decoded.len() == log.events().len())
+    End {
+        taken: taken as u64,
+        bytes,
+        kept: if keep { taken } else { 0 },
+        closed: taken == sizes.len(),
+        refused: false,
+    }
 }
 
 /// Random turns of so many harts, of one strange hart and of the collector.
-fn drawn(alloc: Global, state: &mut u64, harts: u16) -> Result<Vec<Turn>, Fail> {
-    let mut turns = Vec::new(alloc);
+fn drawn<R: Abort + AllocGlobal>(rt: &R, state: &mut u64, harts: u16) -> Vec<Turn> {
+    let mut turns = Vec::new(rt.alloc());
     for _ in 0..below(state, 700) {
         let hart = below(state, harts.saturating_add(1));
         let turn = if below(state, 5) < 2 {
@@ -116,44 +111,39 @@ fn drawn(alloc: Global, state: &mut u64, harts: u16) -> Result<Vec<Turn>, Fail> 
         } else {
             Turn::Hart(hart)
         };
-        turns.push(turn)?;
+        turns.push(turn).expect(rt, "memory");
     }
-    Ok(turns)
+    turns
 }
 
 /// How many harts came whole, where of each came what the lists say.
 fn whole_harts(
+    rt: &impl Abort,
+    round: u32,
     outcome: &Outcome,
     logs: &[LegalLog<'_>],
     plain: &Plain,
     keep: bool,
-) -> Result<u32, Fail> {
+) -> u32 {
+    same_at(rt, round, outcome.stop, None);
+    same_at(rt, round, outcome.harts.len(), logs.len());
     let mut whole = 0u32;
-    if outcome.stop.is_some() || outcome.harts.len() != logs.len() {
-        return Err(Fail::new("a stop, or another number of harts"));
-    }
     for (hart, log) in logs.iter().enumerate() {
-        let (Some(came), Some(sizes), Some(taken)) = (
-            outcome.harts.get(hart),
-            plain.sizes.get(hart),
-            plain.taken.get(hart),
-        ) else {
-            return Err(Fail::new("another number of harts"));
-        };
-        if !is_right(came, log, sizes, *taken, keep) {
-            return Err(Fail::new("not what the lists say"));
-        }
-        if came.closed {
+        let sizes = plain.sizes.get(hart).expect(rt, "the lengths of a hart");
+        let taken = plain.taken.get(hart).expect(rt, "the count of a hart");
+        let end = end_by_lists(sizes, *taken, keep);
+        came_at(rt, round, outcome, hart, end, log.events());
+        if end.closed {
             whole = whole.saturating_add(1);
         }
     }
-    Ok(whole)
+    whole
 }
 
 /// How many harts came whole by random turns, where of each came what the lists say.
-fn agrees(alloc: Global, program: &Program, state: &mut u64, round: u32) -> Result<u32, Fail> {
+fn agrees<R: Abort + AllocGlobal>(rt: &R, program: &Program, state: &mut u64, round: u32) -> u32 {
     let harts = 3 + below(state, 62).min(61);
-    let logs = kinds(alloc, program, harts)?;
+    let logs = kinds(rt, program, harts);
     let config = Config {
         period: 1024,
         mode: if round % 4 < 2 {
@@ -164,24 +154,22 @@ fn agrees(alloc: Global, program: &Program, state: &mut u64, round: u32) -> Resu
         capacity: 1 + round % 9,
         keep: round % 2 == 0,
     };
-    let mut plain = begin(alloc, &logs, config)?;
-    let turns = drawn(alloc, state, harts)?;
+    let mut plain = begin(rt, &logs, config);
+    let turns = drawn(rt, state, harts);
     for turn in &turns {
-        act(&mut plain, *turn, config.capacity as usize)?;
+        act(rt, &mut plain, *turn, config.capacity as usize);
     }
-    let outcome = replay(alloc, &logs, config, &turns)?;
-    whole_harts(&outcome, &logs, &plain, config.keep)
+    let outcome = replay(rt.alloc(), &logs, config, &turns).expect(rt, "a replay");
+    whole_harts(rt, round, &outcome, &logs, &plain, config.keep)
 }
 
 #[test]
-fn agrees_with_lists(rt: HostRuntime) -> Result<(), Fail> {
-    let alloc = rt.alloc();
-    let program = program(alloc)?;
+fn agrees_with_lists(rt: HostRuntime) {
+    let program = program(&rt);
     let mut state = 11;
     let mut whole = 0u32;
     for round in 0..1000u32 {
-        whole = whole.saturating_add(agrees(alloc, &program, &mut state, round)?);
+        whole = whole.saturating_add(agrees(&rt, &program, &mut state, round));
     }
     assert!(rt; 100 < whole, "{whole} harts came whole");
-    Ok(())
 }

@@ -1,19 +1,24 @@
 //! The text of reports.
 
-use crate::made::{branches, is_text, logs, program, retired, returns, text_of};
-use bench::{HartOutcome, Outcome, Stop, is_whole, report};
+use crate::made::{branches, came_back, logs, program, reports_at, retired, returns, text_of};
+use crate::same::same_at;
+use bench::{HartOutcome, Outcome, Stop, report};
 use legalpath::LegalLog;
 use retire::{Event, WriteFault};
-use std::alloc::Global;
 use std::io;
 use std::io::{ErrorKind, Write};
 use std::process::Abort;
-use std::test::Fail;
 
 /// What came of a hart whose events these are, with so many packets of so many payload bytes.
-fn hart(alloc: Global, decoded: Vec<Event>, taken: u64, bytes: u64, closed: bool) -> HartOutcome {
+fn hart<R: AllocGlobal>(
+    rt: &R,
+    decoded: Vec<Event>,
+    taken: u64,
+    bytes: u64,
+    closed: bool,
+) -> HartOutcome {
     HartOutcome {
-        packets: Vec::new(alloc),
+        packets: Vec::new(rt.alloc()),
         taken,
         bytes,
         decoded,
@@ -22,95 +27,88 @@ fn hart(alloc: Global, decoded: Vec<Event>, taken: u64, bytes: u64, closed: bool
     }
 }
 
-/// What came of these two harts.
-fn outcome_of(
-    alloc: Global,
+/// What came of these two harts, whose run ended so.
+fn outcome_of<R: Abort + AllocGlobal>(
+    rt: &R,
     first: HartOutcome,
     second: HartOutcome,
     stop: Option<Stop>,
-) -> Result<Outcome, Fail> {
-    Ok(Outcome {
-        harts: vec![in alloc; first, second]?,
+) -> Outcome {
+    Outcome {
+        harts: vec![in rt.alloc(); first, second].expect(rt, "memory"),
         stop,
-    })
+    }
 }
 
-/// Whether every log came back whole.
-fn came_back(outcome: &Outcome, logs: &[LegalLog<'_>]) -> bool {
-    logs.len() == outcome.harts.len() && is_whole(outcome, logs)
+/// What came of both harts where all of their events came back, and their run ended so.
+fn all_of<R: Abort + AllocGlobal>(rt: &R, stop: Stop) -> Outcome {
+    let first = hart(rt, branches(rt), 5, 9, true);
+    let second = hart(rt, returns(rt), 4, 9, true);
+    outcome_of(rt, first, second, Some(stop))
 }
 
-/// Ends the test unless this is the report of the outcome, and says whether every log came back whole.
-fn reports(
-    rt: &impl Abort,
-    alloc: Global,
-    outcome: &Outcome,
-    logs: &[LegalLog<'_>],
+/// Ends the test unless this is the report of these two harts, and so every log came back whole.
+fn reports<R: Abort + AllocGlobal>(
+    rt: &R,
+    first: HartOutcome,
+    second: HartOutcome,
     whole: bool,
     want: &str,
-) -> Result<(), Fail> {
-    assert!(rt; is_text(alloc, outcome, logs, want)? && came_back(outcome, logs) == whole);
-    Ok(())
+) {
+    let program = program(rt);
+    let logs = logs(rt, &program);
+    let outcome = outcome_of(rt, first, second, None);
+    reports_at(rt, "the report", &outcome, &logs, want);
+    same_at(rt, "whole", came_back(&outcome, &logs), whole);
 }
 
 #[test]
-fn all_came_back(rt: HostRuntime) -> Result<(), Fail> {
-    let alloc = rt.alloc();
-    let program = program(alloc)?;
-    let logs = logs(alloc, &program)?;
-    let first = hart(alloc, branches(alloc)?, 5, 9, true);
-    let second = hart(alloc, returns(alloc)?, 4, 9, true);
-    let outcome = outcome_of(alloc, first, second, None)?;
+fn all_came_back(rt: HostRuntime) {
+    let first = hart(&rt, branches(&rt), 5, 9, true);
+    let second = hart(&rt, returns(&rt), 4, 9, true);
     let want = "hart 0: 33 events, 5 packets, 9 payload bytes, decoded 33, whole\n\
         hart 1: 4 events, 4 packets, 9 payload bytes, decoded 4, whole\n\
         result: whole\n";
-    reports(&rt, alloc, &outcome, &logs, true, want)
+    reports(&rt, first, second, true, want);
 }
 
 #[test]
-fn beginnings(rt: HostRuntime) -> Result<(), Fail> {
-    let alloc = rt.alloc();
-    let program = program(alloc)?;
-    let logs = logs(alloc, &program)?;
-    let first = hart(alloc, Vec::new(alloc), 1, 1, false);
-    let second = hart(alloc, Vec::new(alloc), 0, 0, false);
-    let outcome = outcome_of(alloc, first, second, None)?;
+fn beginnings(rt: HostRuntime) {
+    let first = hart(&rt, Vec::new(rt.alloc()), 1, 1, false);
+    let second = hart(&rt, Vec::new(rt.alloc()), 0, 0, false);
     let want = "hart 0: 33 events, 1 packets, 1 payload bytes, decoded 0, beginning\n\
         hart 1: 4 events, 0 packets, 0 payload bytes, decoded 0, beginning\n\
         result: not whole\n";
-    reports(&rt, alloc, &outcome, &logs, false, want)
+    reports(&rt, first, second, false, want);
 }
 
 // The whole log with no closing packet, and less than it with one.
 #[test]
-fn closing_packets(rt: HostRuntime) -> Result<(), Fail> {
-    let alloc = rt.alloc();
-    let program = program(alloc)?;
-    let logs = logs(alloc, &program)?;
-    let first = hart(alloc, branches(alloc)?, 4, 8, false);
-    let second = hart(alloc, vec![in alloc; retired(0, 0)]?, 4, 9, true);
-    let outcome = outcome_of(alloc, first, second, None)?;
+fn closing_packets(rt: HostRuntime) {
+    let less = [retired(0, 0)].to_vec(rt.alloc()).expect(&rt, "memory");
+    let first = hart(&rt, branches(&rt), 4, 8, false);
+    let second = hart(&rt, less, 4, 9, true);
     let want = "hart 0: 33 events, 4 packets, 8 payload bytes, decoded 33, beginning\n\
         hart 1: 4 events, 4 packets, 9 payload bytes, decoded 1, beginning\n\
         result: not whole\n";
-    reports(&rt, alloc, &outcome, &logs, false, want)
+    reports(&rt, first, second, false, want);
 }
 
 // One event more than the log has, and another second event.
 #[test]
-fn other_events(rt: HostRuntime) -> Result<(), Fail> {
-    let alloc = rt.alloc();
-    let program = program(alloc)?;
-    let logs = logs(alloc, &program)?;
-    let longer = vec![in alloc; retired(12, 5); 34]?;
-    let other = vec![in alloc; retired(0, 0), retired(8, 6)]?;
-    let first = hart(alloc, longer, 5, 9, true);
-    let second = hart(alloc, other, 3, 7, false);
-    let outcome = outcome_of(alloc, first, second, None)?;
+fn other_events(rt: HostRuntime) {
+    let longer = [retired(12, 5); 34]
+        .to_vec(rt.alloc())
+        .expect(&rt, "memory");
+    let other = [retired(0, 0), retired(8, 6)]
+        .to_vec(rt.alloc())
+        .expect(&rt, "memory");
+    let first = hart(&rt, longer, 5, 9, true);
+    let second = hart(&rt, other, 3, 7, false);
     let want = "hart 0: 33 events, 5 packets, 9 payload bytes, decoded 34, differs at row 34\n\
         hart 1: 4 events, 3 packets, 7 payload bytes, decoded 2, differs at row 2\n\
         result: not whole\n";
-    reports(&rt, alloc, &outcome, &logs, false, want)
+    reports(&rt, first, second, false, want);
 }
 
 /// The stops, each with the end of its report.
@@ -129,20 +127,23 @@ const STOPS: [(Stop, &str); 3] = [
     ),
 ];
 
+/// Ends the test unless the report of this stop ends so, and not every log came back whole.
+fn ends<R: Abort + AllocGlobal>(rt: &R, logs: &[LegalLog<'_>], stop: Stop, end: &str) {
+    let outcome = all_of(rt, stop);
+    let text = text_of(rt, &outcome, logs);
+    let found = text.as_slice();
+    let begins = found.len().saturating_sub(end.len());
+    same_at(rt, stop, &found[begins..], end.as_bytes());
+    assert!(rt; !came_back(&outcome, logs), "{stop:?}");
+}
+
 #[test]
-fn stops(rt: HostRuntime) -> Result<(), Fail> {
-    let alloc = rt.alloc();
-    let program = program(alloc)?;
-    let logs = logs(alloc, &program)?;
-    let first = hart(alloc, branches(alloc)?, 5, 9, true);
-    let second = hart(alloc, returns(alloc)?, 4, 9, true);
-    let mut outcome = outcome_of(alloc, first, second, None)?;
+fn stops(rt: HostRuntime) {
+    let program = program(&rt);
+    let logs = logs(&rt, &program);
     for (stop, end) in STOPS {
-        outcome.stop = Some(stop);
-        let text = text_of(alloc, &outcome, &logs)?;
-        assert!(rt; !came_back(&outcome, &logs) && text.as_slice().ends_with(end.as_bytes()));
+        ends(&rt, &logs, stop, end);
     }
-    Ok(())
 }
 
 /// A writer that keeps what it takes, and fails once its calls are used up.
@@ -168,39 +169,45 @@ impl Write for FailingWriter {
     }
 }
 
-/// Whether a writer that fails behind so many calls takes as many bytes of this report, and its fault is told.
-fn is_cut(
-    alloc: Global,
+/// Ends the test unless a writer that fails behind so many calls takes as many bytes of this report, and its fault is
+/// told.
+fn cut_at<R: Abort + AllocGlobal>(
+    rt: &R,
+    calls: usize,
     outcome: &Outcome,
     logs: &[LegalLog<'_>],
-    calls: usize,
     want: &[u8],
-) -> Result<bool, Fail> {
+) {
     let mut sink = FailingWriter {
-        held: Vec::new(alloc),
+        held: Vec::new(rt.alloc()),
         calls,
     };
-    if logs.len() != outcome.harts.len() {
-        return Err(Fail::new("another number of harts"));
-    }
-    let right = match report(outcome, logs, &mut sink) {
-        Ok(()) => calls == want.len(),
-        Err(fault) => fault == WriteFault::Write && calls < want.len(),
+    assert!(rt;
+        logs.len() == outcome.harts.len(),
+        "another number of harts"
+    );
+    let told = report(outcome, logs, &mut sink);
+    let fault = if calls < want.len() {
+        Err(WriteFault::Write)
+    } else {
+        Ok(())
     };
-    Ok(right && sink.held.len() == calls && want.starts_with(sink.held.as_slice()))
+    same_at(rt, calls, told, fault);
+    same_at(
+        rt,
+        calls,
+        sink.held.as_slice(),
+        &want[..calls.min(want.len())],
+    );
 }
 
 #[test]
-fn writer_fails_at_each_call(rt: HostRuntime) -> Result<(), Fail> {
-    let alloc = rt.alloc();
-    let program = program(alloc)?;
-    let logs = logs(alloc, &program)?;
-    let first = hart(alloc, branches(alloc)?, 5, 9, true);
-    let second = hart(alloc, returns(alloc)?, 4, 9, true);
-    let outcome = outcome_of(alloc, first, second, Some(Stop::Memory(1)))?;
-    let want = text_of(alloc, &outcome, &logs)?;
+fn writer_fails_at_each_call(rt: HostRuntime) {
+    let program = program(&rt);
+    let logs = logs(&rt, &program);
+    let outcome = all_of(&rt, Stop::Memory(1));
+    let want = text_of(&rt, &outcome, &logs);
     for calls in 0..want.len() + 1 {
-        assert!(rt; is_cut(alloc, &outcome, &logs, calls, &want)?);
+        cut_at(&rt, calls, &outcome, &logs, want.as_slice());
     }
-    Ok(())
 }

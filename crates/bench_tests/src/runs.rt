@@ -1,14 +1,15 @@
 //! Logs through the funnel over threads.
 
-use crate::made::{WHOLE, is_text, kinds, logs, program, turns};
+use crate::came::end_of;
+use crate::made::{TURNS, WHOLE, came_back, kinds, logs, program, reports_at};
 use crate::same::same_at;
-use bench::{Config, Gate, HartOutcome, Open, Outcome, Setup, Stop, is_whole, replay, run};
+use bench::{Config, Gate, HartOutcome, Open, Outcome, Setup, Stop, replay, run};
 use linked_list_allocator::LocalHeap;
 use payload::Mode;
 use std::alloc::Allocator;
+use std::process::Abort;
 use std::sync::Wait;
 use std::sync::atomic::{AtomicBool, AtomicU64, Ordering};
-use std::test::Fail;
 use std::thread;
 use std::time::Duration;
 
@@ -20,44 +21,29 @@ const CONFIG: Config = Config {
     keep: true,
 };
 
-/// Whether the same came of a hart.
-fn is_same(one: &HartOutcome, other: &HartOutcome) -> bool {
-    one.packets.as_slice() == other.packets.as_slice()
-        && one.taken == other.taken
-        && one.bytes == other.bytes
-        && one.decoded.as_slice() == other.decoded.as_slice()
-        && one.closed == other.closed
-        && one.refused == other.refused
-}
-
-/// Whether there is no stop of this run, and the same came of two harts.
-fn are_same(run: &Outcome, by_turns: &Outcome) -> bool {
-    let (Some(zero), Some(one)) = (run.harts.get(0), run.harts.get(1)) else {
-        return false;
-    };
-    let (Some(other_zero), Some(other_one)) = (by_turns.harts.get(0), by_turns.harts.get(1)) else {
-        return false;
-    };
-    run.stop.is_none()
-        && run.harts.len() == 2
-        && is_same(zero, other_zero)
-        && is_same(one, other_one)
+/// Ends the test unless the same came of a hart.
+fn same_hart(rt: &impl Abort, place: (Mode, usize), one: &HartOutcome, other: &HartOutcome) {
+    same_at(rt, place, end_of(one), end_of(other));
+    same_at(rt, place, one.packets.as_slice(), other.packets.as_slice());
+    same_at(rt, place, one.decoded.as_slice(), other.decoded.as_slice());
 }
 
 #[test]
-fn what_comes_is_what_comes_by_turns(rt: HostRuntime) -> Result<(), Fail> {
-    let alloc = rt.alloc();
-    let program = program(alloc)?;
-    let logs = logs(alloc, &program)?;
-    let turns = turns(alloc)?;
+fn what_comes_is_what_comes_by_turns(rt: HostRuntime) {
+    let program = program(&rt);
+    let logs = logs(&rt, &program);
     for (mode, want) in WHOLE {
         let config = Config { mode, ..CONFIG };
-        let by_turns = replay(alloc, &logs, config, &turns)?;
-        let outcome = run(alloc, alloc, &logs, config, &Open, &rt)?;
-        assert!(rt; are_same(&outcome, &by_turns), "{mode:?}");
-        assert!(rt; is_text(alloc, &outcome, &logs, want)?, "{mode:?}");
+        let by_turns = replay(rt.alloc(), &logs, config, &TURNS).expect(&rt, "a replay");
+        let outcome = run(rt.alloc(), rt.alloc(), &logs, config, &Open, &rt).expect(&rt, "a run");
+        same_at(&rt, mode, outcome.stop, None);
+        same_at(&rt, mode, outcome.harts.len(), 2);
+        same_at(&rt, mode, by_turns.harts.len(), 2);
+        for (hart, (one, other)) in outcome.harts.iter().zip(&by_turns.harts).enumerate() {
+            same_hart(&rt, (mode, hart), one, other);
+        }
+        reports_at(&rt, mode, &outcome, &logs, want);
     }
-    Ok(())
 }
 
 /// Counts what two harts try to send and what they sent, and notes a number that is not the next of its hart.
@@ -88,25 +74,31 @@ impl Gate for Counts {
     }
 }
 
-/// Whether these counts are of all messages of both harts.
-fn are_all(counts: &[AtomicU64; 2]) -> bool {
-    counts[0].load(Ordering::SeqCst) == 5 && counts[1].load(Ordering::SeqCst) == 4
+/// What was counted of each hart.
+fn counted(counts: &[AtomicU64; 2]) -> (u64, u64) {
+    (
+        counts[0].load(Ordering::SeqCst),
+        counts[1].load(Ordering::SeqCst),
+    )
 }
 
 #[test]
-fn each_send_passes_the_gate(rt: HostRuntime) -> Result<(), Fail> {
-    let alloc = rt.alloc();
-    let program = program(alloc)?;
-    let logs = logs(alloc, &program)?;
+fn each_send_passes_the_gate(rt: HostRuntime) {
+    let program = program(&rt);
+    let logs = logs(&rt, &program);
     let gate = Counts {
         tried: [AtomicU64::new(0), AtomicU64::new(0)],
         sent: [AtomicU64::new(0), AtomicU64::new(0)],
         strange: AtomicBool::new(false),
     };
-    let outcome = run(alloc, alloc, &logs, CONFIG, &gate, &rt)?;
-    assert!(rt; outcome.stop.is_none() && !gate.strange.load(Ordering::SeqCst));
-    assert!(rt; are_all(&gate.tried) && are_all(&gate.sent));
-    Ok(())
+    let outcome = run(rt.alloc(), rt.alloc(), &logs, CONFIG, &gate, &rt).expect(&rt, "a run");
+    same_at(&rt, "stop", outcome.stop, None);
+    same_at(&rt, "tried", counted(&gate.tried), (5, 4));
+    same_at(&rt, "sent", counted(&gate.sent), (5, 4));
+    assert!(rt;
+        !gate.strange.load(Ordering::SeqCst),
+        "a number that is not the next"
+    );
 }
 
 /// Two harts that wait for one another before they send.
@@ -147,26 +139,27 @@ impl Gate for Crossing {
 }
 
 #[test]
-fn gate_crosses(rt: HostRuntime) -> Result<(), Fail> {
-    let alloc = rt.alloc();
-    let program = program(alloc)?;
-    let logs = logs(alloc, &program)?;
+fn gate_crosses(rt: HostRuntime) {
+    let program = program(&rt);
+    let logs = logs(&rt, &program);
     let gate = Crossing {
         rt,
         zero: AtomicBool::new(false),
         one: AtomicBool::new(false),
         gave_up: AtomicBool::new(false),
     };
-    let outcome = run(alloc, alloc, &logs, CONFIG, &gate, &rt)?;
-    assert!(rt; outcome.stop.is_none() && !gate.gave_up.load(Ordering::SeqCst));
-    Ok(())
+    let outcome = run(rt.alloc(), rt.alloc(), &logs, CONFIG, &gate, &rt).expect(&rt, "a run");
+    same_at(&rt, "stop", outcome.stop, None);
+    assert!(rt;
+        !gate.gave_up.load(Ordering::SeqCst),
+        "a hart waited in vain"
+    );
 }
 
 #[test]
-fn sixty_four_harts(rt: HostRuntime) -> Result<(), Fail> {
-    let alloc = rt.alloc();
-    let program = program(alloc)?;
-    let logs = kinds(alloc, &program, 64)?;
+fn sixty_four_harts(rt: HostRuntime) {
+    let program = program(&rt);
+    let logs = kinds(&rt, &program, 64);
     for mode in [Mode::Differential, Mode::Full] {
         for capacity in [1, 16, 65_536] {
             let config = Config {
@@ -175,68 +168,63 @@ fn sixty_four_harts(rt: HostRuntime) -> Result<(), Fail> {
                 capacity,
                 keep: false,
             };
-            let outcome = run(alloc, alloc, logs.as_slice(), config, &Open, &rt)?;
-            if outcome.harts.len() != logs.len() {
-                return Err(Fail::new("another number of harts"));
-            }
-            assert!(rt; is_whole(&outcome, logs.as_slice()), "{config:?}");
+            let outcome = run(rt.alloc(), rt.alloc(), &logs, config, &Open, &rt);
+            let outcome = outcome.expect(&rt, "a run");
+            assert!(rt; came_back(&outcome, &logs), "{config:?}");
         }
     }
-    Ok(())
 }
 
 #[test]
-fn sixty_five_harts(rt: HostRuntime) -> Result<(), Fail> {
-    let alloc = rt.alloc();
-    let program = program(alloc)?;
-    let logs = kinds(alloc, &program, 65)?;
-    let fault = run(alloc, alloc, logs.as_slice(), CONFIG, &Open, &rt).err();
-    assert!(rt; fault == Some(Setup::TooManyHarts));
-    Ok(())
+fn sixty_five_harts(rt: HostRuntime) {
+    let program = program(&rt);
+    let logs = kinds(&rt, &program, 65);
+    let fault = run(rt.alloc(), rt.alloc(), &logs, CONFIG, &Open, &rt).err();
+    same_at(&rt, "65", fault, Some(Setup::TooManyHarts));
 }
 
 /// Whether a run is whole, where its stop goes by what came of two harts.
-fn came_whole<A: Allocator>(outcome: &Outcome<A>) -> Result<bool, Fail> {
+fn came_whole<A: Allocator>(rt: &impl Abort, step: usize, outcome: &Outcome<A>) -> bool {
     let stop = outcome.stop;
     let (Some(zero), Some(one)) = (outcome.harts.get(0), outcome.harts.get(1)) else {
-        return Err(Fail::new("another number of harts"));
+        panic!(rt; "{step}: another number of harts");
     };
-    if zero.closed == zero.refused || one.closed == one.refused {
-        return Err(Fail::new("closed and refused, or neither"));
-    }
+    same_at(rt, (step, 0), zero.closed, !zero.refused);
+    same_at(rt, (step, 1), one.closed, !one.refused);
     match stop {
-        None if zero.closed && one.closed => Ok(true),
-        Some(Stop::Memory(0)) if zero.refused => Ok(false),
-        Some(Stop::Memory(1)) if zero.closed && one.refused => Ok(false),
-        _ => Err(Fail::new("another stop")),
+        None if zero.closed && one.closed => true,
+        Some(Stop::Memory(0)) if zero.refused => false,
+        Some(Stop::Memory(1)) if zero.closed && one.refused => false,
+        _ => panic!(rt; "{step}: another stop, {stop:?}"),
     }
 }
 
 #[test]
-fn memory_is_refused(rt: HostRuntime) -> Result<(), Fail> {
-    let alloc = rt.alloc();
-    let program = program(alloc)?;
-    let logs = logs(alloc, &program)?;
+fn memory_is_refused(rt: HostRuntime) {
+    let program = program(&rt);
+    let logs = logs(&rt, &program);
     let mut setups = 0u32;
     let mut stops = 0u32;
     let mut whole = 0u32;
     for step in 0..200usize {
-        let heap = LocalHeap::new(alloc, step * 32)?;
-        match run(&heap, alloc, &logs, CONFIG, &Open, &rt) {
+        let heap = LocalHeap::new(rt.alloc(), step * 32).expect(&rt, "memory");
+        match run(&heap, rt.alloc(), &logs, CONFIG, &Open, &rt) {
             Ok(outcome) => {
-                if came_whole(&outcome)? {
+                if came_whole(&rt, step, &outcome) {
                     whole = whole.saturating_add(1);
                 } else {
                     stops = stops.saturating_add(1);
                 }
             }
             Err(fault) => {
-                assert!(rt; fault == Setup::Memory);
+                same_at(&rt, step, fault, Setup::Memory);
                 setups = setups.saturating_add(1);
             }
         }
         same_at(&rt, step, heap.used(), 0);
     }
-    assert!(rt; 0 < setups && 0 < stops && 0 < whole);
-    Ok(())
+    assert!(rt;
+        0 < setups && 0 < stops && 0 < whole,
+        "{setups}, {stops}, {whole}"
+    );
 }

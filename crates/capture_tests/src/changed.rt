@@ -6,8 +6,7 @@ use captures::{CaptureFault, CaptureOutcome, decode_capture};
 use message::{DemuxFault, MessageFault};
 use retire::Event;
 use rvclass::Program;
-use std::alloc::Global;
-use std::test::Fail;
+use std::process::Abort;
 
 /// A hart that retires two words.
 const TWO_WORDS: [Sent; 4] = [(0, 0, OPEN), (0, 1, FIRST), (0, 2, SECOND), (0, 3, END)];
@@ -65,59 +64,45 @@ fn is_answer(outcome: &CaptureOutcome, place: Place<'_>, told: Option<CaptureFau
         && (told.is_none() || list.len() == place.events.len())
 }
 
-/// Whether that is so of the outcome of these bytes.
-fn answers(
-    alloc: Global,
-    program: &Program,
-    bytes: &[u8],
-    place: Place<'_>,
-    told: Option<CaptureFault>,
-) -> Result<bool, Fail> {
-    let outcome = decode_capture(alloc, program, 1, bytes)?;
-    Ok(is_answer(&outcome, place, told))
-}
-
 /// Sets the byte at an offset of a message to each value.
-fn change(
-    alloc: Global,
+fn change<R: Abort + AllocGlobal>(
+    rt: &R,
     program: &Program,
-    capture: &[u8],
+    capture: &mut [u8],
     place: Place<'_>,
     offset: usize,
-) -> Result<(), Fail> {
-    let mut bytes = capture.to_vec(alloc)?;
+) {
     let at = place.begins.saturating_add(offset);
-    let Some(was) = bytes.get(at).copied() else {
-        return Err(Fail::new("no such byte"));
-    };
+    let was = capture.get(at).copied().expect(rt, "such a byte");
     for value in 0..=u8::MAX {
-        if let Some(byte) = bytes.get_mut(at) {
-            *byte = value;
-        }
+        set(capture, at, value);
+        let outcome = decode_capture(rt.alloc(), program, 1, capture).expect(rt, "memory");
         let told = told_by_the_head(offset, was, value, place.count);
-        if !answers(alloc, program, &bytes, place, told)? {
-            return Err(Fail::new(at));
-        }
+        assert!(rt; is_answer(&outcome, place, told), "{at}: {value}");
     }
-    Ok(())
+    set(capture, at, was);
+}
+
+/// Sets the byte at a place.
+fn set(bytes: &mut [u8], at: usize, value: u8) {
+    if let Some(byte) = bytes.get_mut(at) {
+        *byte = value;
+    }
 }
 
 /// The events of the only hart of a capture.
-fn events_of(alloc: Global, program: &Program, bytes: &[u8]) -> Result<Vec<Event>, Fail> {
-    let outcome = decode_capture(alloc, program, 1, bytes)?;
-    match outcome.harts.first() {
-        Some(events) => Ok(events.as_slice().to_vec(alloc)?),
-        None => Err(Fail::new("no hart")),
-    }
+fn events_of<R: Abort + AllocGlobal>(rt: &R, program: &Program, bytes: &[u8]) -> Vec<Event> {
+    let mut outcome = decode_capture(rt.alloc(), program, 1, bytes).expect(rt, "memory");
+    outcome.harts.pop().expect(rt, "a hart")
 }
 
 /// Sets each byte of the capture of these messages to each value.
-fn change_each_byte(alloc: Global, words: &[u8], messages: &[Sent]) -> Result<(), Fail> {
-    let program = program_of(alloc, words)?;
-    let capture = capture_of(alloc, None, messages)?;
+fn change_each_byte<R: Abort + AllocGlobal>(rt: &R, words: &[u8], messages: &[Sent]) {
+    let program = program_of(rt, words);
+    let mut capture = capture_of(rt, None, messages);
     let mut begins = 0usize;
     for (_, count, payload) in messages {
-        let before = events_of(alloc, &program, capture.get(..begins).unwrap_or(&[]))?;
+        let before = events_of(rt, &program, capture.get(..begins).unwrap_or(&[]));
         let place = Place {
             begins,
             count: *count,
@@ -125,20 +110,19 @@ fn change_each_byte(alloc: Global, words: &[u8], messages: &[Sent]) -> Result<()
         };
         let length = payload.len().saturating_add(11);
         for offset in 0..length {
-            change(alloc, &program, &capture, place, offset)?;
+            change(rt, &program, &mut capture, place, offset);
         }
         begins = begins.saturating_add(length);
     }
-    Ok(())
 }
 
 #[test]
-fn each_byte_changed(rt: HostRuntime) -> Result<(), Fail> {
+fn each_byte_changed(rt: HostRuntime) {
     let mut far = [0; 260];
     far[0] = 0x13;
     far[4] = 0x73;
     far[256] = 0x13;
-    change_each_byte(rt.alloc(), &NOPS, &TWO_WORDS)?;
-    change_each_byte(rt.alloc(), &[0x6f, 0, 0, 0], &JUMPS)?;
-    change_each_byte(rt.alloc(), &far, &EXCEPTION)
+    change_each_byte(&rt, &NOPS, &TWO_WORDS);
+    change_each_byte(&rt, &[0x6f, 0, 0, 0], &JUMPS);
+    change_each_byte(&rt, &far, &EXCEPTION);
 }

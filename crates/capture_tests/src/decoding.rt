@@ -1,77 +1,73 @@
 //! Logs that come back from their packets.
 
-use crate::hold::hold_at;
 use crate::made::{MODES, PERIODS, WORDS, legal_log, log_of, program_of};
+use crate::same::same_at;
 use decoder::{DecodeFault, Decoder};
 use encoder::Encoder;
 use legalpath::LegalLog;
 use payload::{Mode, Packet, pack, unpack};
 use retire::Event;
 use rvclass::Program;
-use std::alloc::Global;
-use std::test::Fail;
+use std::process::Abort;
 
 /// Feeds packets by way of their payloads.
-fn take(
+fn take<R: Abort>(
+    rt: &R,
     decoder: &mut Decoder,
     program: &Program,
     packets: &[Packet],
     events: &mut Vec<Event>,
-) -> Result<(), Fail> {
+) {
     for packet in packets {
-        if !packet.in_profile() {
-            return Err(Fail::new("a packet that is not of the profile"));
-        }
-        let unpacked = unpack(pack(packet).bytes())?;
-        decoder.feed(program, &unpacked, events)?;
+        assert!(rt;
+            packet.in_profile(),
+            "a packet that is not of the profile: {packet:?}"
+        );
+        let unpacked = unpack(pack(packet).bytes()).expect(rt, "a packet");
+        decoder
+            .feed(program, &unpacked, events)
+            .expect(rt, "events");
     }
-    Ok(())
 }
 
-/// Whether the packets of a log give it back, and no packet comes after them.
-fn comes_back(
-    alloc: Global,
+/// The packets of a log give it back, and no packet comes after them.
+fn comes_back<R: Abort + AllocGlobal>(
+    rt: &R,
     program: &Program,
     log: &LegalLog<'_>,
     period: u16,
     mode: Mode,
-) -> Result<bool, Fail> {
+) {
     let mut encoder = Encoder::new(period.max(1), mode);
     let mut decoder = Decoder::new();
-    let mut events = Vec::new(alloc);
+    let mut events = Vec::new(rt.alloc());
     let open = encoder.open();
-    take(&mut decoder, program, &[open], &mut events)?;
+    take(rt, &mut decoder, program, &[open], &mut events);
     for event in log.events() {
         let burst = encoder.push(program, *event);
-        take(&mut decoder, program, burst.as_slice(), &mut events)?;
+        take(rt, &mut decoder, program, burst.as_slice(), &mut events);
     }
-    let early = decoder.is_closed();
+    assert!(rt; !decoder.is_closed(), "{period}, {mode:?}: closed early");
     let burst = encoder.finish(program);
-    take(&mut decoder, program, burst.as_slice(), &mut events)?;
-    let closed = decoder.is_closed();
+    take(rt, &mut decoder, program, burst.as_slice(), &mut events);
+    assert!(rt; decoder.is_closed(), "{period}, {mode:?}: not closed");
     let again = decoder.feed(program, &open, &mut events);
-    let refused = again == Err(DecodeFault::AfterClose);
-    Ok(!early && closed && refused && events.as_slice() == log.events())
+    same_at(rt, (period, mode), again, Err(DecodeFault::AfterClose));
+    same_at(rt, (period, mode), events.len(), log.events().len());
+    assert!(rt;
+        events.as_slice() == log.events(),
+        "{period}, {mode:?}: other events"
+    );
 }
 
-/// Whether fifty thousand events come back in both modes.
-fn log_comes_back(alloc: Global, program: &Program, seed: u64, period: u16) -> Result<bool, Fail> {
-    let log = legal_log(program, log_of(alloc, seed, 50_000)?)?;
-    for mode in MODES {
-        if !comes_back(alloc, program, &log, period, mode)? {
-            return Ok(false);
+/// Logs of fifty thousand events, one of each period, encoded in each mode.
+#[test]
+fn has_logs_back(rt: HostRuntime) {
+    let program = program_of(&rt, &WORDS);
+    for (seed, period) in PERIODS.into_iter().enumerate() {
+        let log = legal_log(&rt, &program, log_of(&rt, seed as u64, 50_000));
+        for mode in MODES {
+            comes_back(&rt, &program, &log, period, mode);
         }
     }
-    Ok(true)
-}
-
-/// Logs of each period, encoded in each mode.
-#[test]
-fn has_logs_back(rt: HostRuntime) -> Result<(), Fail> {
-    let program = program_of(rt.alloc(), &WORDS)?;
-    for (seed, period) in PERIODS.into_iter().enumerate() {
-        let back = log_comes_back(rt.alloc(), &program, seed as u64, period)?;
-        hold_at(period, back)?;
-    }
-    Ok(())
 }

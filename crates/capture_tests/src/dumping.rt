@@ -1,15 +1,15 @@
 //! Captures as text: worked lines, bad payloads, captures that end inside a message or a header.
 
-use crate::encoding::{FailingWriter, holds};
+use crate::encoding::FailingWriter;
 use crate::headers::{Beginning, HEADER, beginning_of};
-use crate::hold::hold_at;
-use crate::small_captures::{Start, capture_of};
+use crate::same::same_at;
+use crate::small_captures::{Start, add, capture_of};
 use captures::{Dumped, dump_capture};
 use message::MessageFault;
 use payload::Mode;
 use retire::WriteFault;
-use std::alloc::{AllocError, Global};
-use std::test::Fail;
+use std::fmt::Debug;
+use std::process::Abort;
 
 /// Payloads and the texts of their packets, where addresses are told as differences.
 const TEXTS: [(&[u8], &str); 28] = [
@@ -105,44 +105,53 @@ const ONE_BAD: Dumped = Dumped {
     fault: None,
 };
 
-/// Whether these bytes are told by this text and this answer.
-fn dumps(alloc: Global, bytes: &[u8], text: &[u8], wanted: Dumped) -> Result<bool, Fail> {
-    let mut told = Vec::new(alloc);
-    let dumped = dump_capture(bytes, &mut told)?;
-    Ok(dumped == wanted && told.as_slice() == text)
+/// These bytes are told by this text and this answer.
+fn dumps<R: Abort + AllocGlobal, P: Debug + Copy>(
+    rt: &R,
+    place: P,
+    bytes: &[u8],
+    text: &[u8],
+    wanted: Dumped,
+) {
+    let mut told = Vec::new(rt.alloc());
+    let dumped = dump_capture(bytes, &mut told).expect(rt, "memory");
+    same_at(rt, place, dumped, wanted);
+    same_at(rt, place, told.as_slice(), text);
 }
 
 /// The first line, and the line of a message whose packet has this text but for the name of an address packet's field.
-fn lines_of(alloc: Global, first: &str, field: &str, text: &str) -> Result<Vec<u8>, AllocError> {
-    let mut lines = first.as_bytes().to_vec(alloc)?;
-    lines.extend_from_slice(b"65535 18446744073709551615 ")?;
+fn lines_of<R: Abort + AllocGlobal>(rt: &R, first: &str, field: &str, text: &str) -> Vec<u8> {
+    let mut lines = Vec::new(rt.alloc());
+    add(rt, &mut lines, first.as_bytes());
+    add(rt, &mut lines, b"65535 18446744073709551615 ");
     match text.strip_prefix("address diff") {
         Some(rest) => {
-            lines.extend_from_slice(b"address ")?;
-            lines.extend_from_slice(field.as_bytes())?;
-            lines.extend_from_slice(rest.as_bytes())?;
+            add(rt, &mut lines, b"address ");
+            add(rt, &mut lines, field.as_bytes());
+            add(rt, &mut lines, rest.as_bytes());
         }
-        None => lines.extend_from_slice(text.as_bytes())?,
+        None => add(rt, &mut lines, text.as_bytes()),
     }
-    lines.extend_from_slice(b"\n")?;
-    Ok(lines)
+    add(rt, &mut lines, b"\n");
+    lines
 }
 
-/// Whether the capture of one message with this payload has these two lines.
-fn is_line(
-    alloc: Global,
+/// The capture of one message with this payload has these two lines.
+fn is_line<R: Abort + AllocGlobal>(
+    rt: &R,
     start: Start,
     (first, field): (&str, &str),
-    (bytes, text): (&'static [u8], &str),
-) -> Result<bool, Fail> {
-    let capture = capture_of(alloc, start, &[(65535, u64::MAX, bytes)])?;
-    let lines = lines_of(alloc, first, field, text)?;
+    bytes: &'static [u8],
+    text: &str,
+) {
+    let capture = capture_of(rt, start, &[(65535, u64::MAX, bytes)]);
+    let lines = lines_of(rt, first, field, text);
     let wanted = if text.starts_with("bad ") {
         ONE_BAD
     } else {
         ALL_GOOD
     };
-    dumps(alloc, &capture, &lines, wanted)
+    dumps(rt, (start, text), &capture, &lines, wanted);
 }
 
 /// What stands before the message, its line, and the name of an address packet's field.
@@ -158,14 +167,12 @@ const STARTS: [(Start, &str, &str); 3] = [
 
 /// Behind no header, one of differences and one of full addresses, whatever the packets open.
 #[test]
-fn text_of_each_packet(rt: HostRuntime) -> Result<(), Fail> {
-    for (start, first, field) in STARTS {
-        for row in TEXTS {
-            let holds = is_line(rt.alloc(), start, (first, field), row)?;
-            hold_at(row.1, holds)?;
+fn text_of_each_packet(rt: HostRuntime) {
+    for (start, first, field) in &STARTS {
+        for (bytes, text) in &TEXTS {
+            is_line(&rt, *start, (first, field), bytes, text);
         }
     }
-    Ok(())
 }
 
 /// Captures and their texts, of which those with a payload that is no packet are the last.
@@ -218,30 +225,25 @@ const BAD_LENGTH: [u8; 47] = [
 
 /// Whole captures.
 #[test]
-fn dumps_by_table(rt: HostRuntime) -> Result<(), Fail> {
-    for (bytes, text, wanted) in DUMPS {
-        hold_at(text, dumps(rt.alloc(), bytes, text.as_bytes(), wanted)?)?;
+fn dumps_by_table(rt: HostRuntime) {
+    for (bytes, text, wanted) in &DUMPS {
+        dumps(&rt, *text, bytes, text.as_bytes(), *wanted);
     }
-    Ok(())
 }
 
-/// Whether a message with this length is told behind those before it.
-fn ends_at_length(alloc: Global, length: u8) -> Result<bool, Fail> {
+/// A message with a bad length is told behind those before it.
+#[test]
+fn dumps_to_a_bad_length(rt: HostRuntime) {
     let ended = Dumped {
         bad: true,
         fault: Some((2, MessageFault::BadLength)),
     };
-    let mut bytes = BAD_LENGTH;
-    bytes[34] = length;
-    dumps(alloc, &bytes, b"0 0 open\n0 1 bad Unsupported\n", ended)
-}
-
-#[test]
-fn dumps_to_a_bad_length(rt: HostRuntime) -> Result<(), Fail> {
     for length in [0, 19, 255] {
-        hold_at(length, ends_at_length(rt.alloc(), length)?)?;
+        let mut bytes = BAD_LENGTH;
+        bytes[34] = length;
+        let text = b"0 0 open\n0 1 bad Unsupported\n";
+        dumps(&rt, length, &bytes, text, ended);
     }
-    Ok(())
 }
 
 /// How many messages of the worked capture end at this length or before, and how many bytes and bytes of text they take.
@@ -255,33 +257,31 @@ fn whole_lines(length: usize) -> (u64, usize, usize) {
     }
 }
 
-/// Whether the worked capture, cut to a length that is not its own, has the lines of its whole messages.
-fn dumps_cut(alloc: Global, length: usize) -> Result<bool, Fail> {
+/// The worked capture, cut to a length that is not its own, has the lines of its whole messages.
+fn dumps_cut<R: Abort + AllocGlobal>(rt: &R, length: usize) {
     let (whole, place, text) = whole_lines(length);
     let cut = Dumped {
         bad: false,
         fault: Some((whole, MessageFault::Short)),
     };
     let wanted = if length == place { ALL_GOOD } else { cut };
-    match (WORKED.get(..length), WORKED_TEXT.as_bytes().get(..text)) {
-        (Some(bytes), Some(text)) => dumps(alloc, bytes, text, wanted),
-        _ => Ok(false),
-    }
+    let bytes = WORKED.get(..length).expect(rt, "so many bytes");
+    let text = WORKED_TEXT.as_bytes().get(..text).expect(rt, "such a text");
+    dumps(rt, length, bytes, text, wanted);
 }
 
 /// The worked capture cut to each length.
 #[test]
-fn dumps_cut_captures(rt: HostRuntime) -> Result<(), Fail> {
+fn dumps_cut_captures(rt: HostRuntime) {
     for length in 0..78 {
-        hold_at(length, dumps_cut(rt.alloc(), length)?)?;
+        dumps_cut(&rt, length);
     }
-    Ok(())
 }
 
-/// Whether a header with one byte changed, or cut short, is told as what it is, and nothing else is written.
-fn is_told(alloc: Global, header: &[u8]) -> Result<bool, Fail> {
-    let mut told = Vec::new(alloc);
-    let dumped = dump_capture(header, &mut told)?;
+/// A header with one byte changed, or cut short, is told as what it is, and nothing else is written. A failure tells the
+/// place and the value of the byte, or the length.
+fn is_told<R: Abort + AllocGlobal>(rt: &R, place: (usize, Option<u8>), header: &[u8]) {
+    let mut line = String::new(rt.alloc());
     let fault = match beginning_of(header) {
         Beginning::Unmarked if header.is_empty() => None,
         Beginning::Unmarked if header.len() < 11 => Some(MessageFault::Short),
@@ -293,50 +293,46 @@ fn is_told(alloc: Global, header: &[u8]) -> Result<bool, Fail> {
                 Mode::Differential => "diff",
                 Mode::Full => "full",
             };
-            let line = format!(in alloc; "capture 2 mode={mode} period={period} harts={harts}\n")?;
-            return Ok(dumped == ALL_GOOD && told.as_slice() == line.as_bytes());
+            line = format!(in rt.alloc();
+                "capture 2 mode={mode} period={period} harts={harts}\n"
+            ).expect(rt, "memory");
+            None
         }
     };
     let wanted = Dumped {
         bad: false,
         fault: fault.map(|why| (0, why)),
     };
-    Ok(dumped == wanted && told.is_empty())
+    dumps(rt, place, header, line.as_bytes(), wanted);
 }
 
-/// Whether a header with the byte at a place set to each value is told as what it is.
-fn are_told(alloc: Global, place: usize) -> Result<bool, Fail> {
+/// A header with the byte at a place set to each value is told as what it is.
+fn are_told<R: Abort + AllocGlobal>(rt: &R, place: usize) {
     let mut header = HEADER;
     for value in 0..=u8::MAX {
-        match header.get_mut(place) {
-            Some(byte) => *byte = value,
-            None => return Ok(false),
-        }
-        if !is_told(alloc, &header)? {
-            return Ok(false);
-        }
+        let byte = header.get_mut(place).expect(rt, "such a byte");
+        *byte = value;
+        is_told(rt, (place, Some(value)), &header);
     }
-    Ok(true)
 }
 
 /// A header cut to each length, and each of its bytes set to each value, but for the 0 before the settings, where a
 /// message of version 1 has its length.
 #[test]
-fn headers_cut_and_changed(rt: HostRuntime) -> Result<(), Fail> {
+fn headers_cut_and_changed(rt: HostRuntime) {
     for length in 0..16 {
-        hold_at(length, is_told(rt.alloc(), &HEADER[..length])?)?;
+        is_told(&rt, (length, None), &HEADER[..length]);
     }
     for place in [0usize, 1, 2, 3, 4, 5, 6, 7, 8, 9, 11, 12, 13, 14, 15] {
-        hold_at(place, are_told(rt.alloc(), place)?)?;
+        are_told(&rt, place);
     }
-    Ok(())
 }
 
-/// Whether so much of this text of a capture is written by a writer of so many calls, which is told to fail just where
-/// that is not all.
-fn dump_is_cut(alloc: Global, capture: &[u8], calls: usize, text: &[u8]) -> bool {
+/// So much of this text of a capture is written by a writer of so many calls, which is told to fail just where that is
+/// not all.
+fn dump_is_cut<R: Abort + AllocGlobal>(rt: &R, capture: &[u8], calls: usize, text: &[u8]) {
     let mut sink = FailingWriter {
-        held: Vec::new(alloc),
+        held: Vec::new(rt.alloc()),
         calls,
     };
     let told = dump_capture(capture, &mut sink);
@@ -345,17 +341,24 @@ fn dump_is_cut(alloc: Global, capture: &[u8], calls: usize, text: &[u8]) -> bool
     } else {
         Ok(ALL_GOOD)
     };
-    told == wanted && holds(&sink.held, calls, text)
+    same_at(rt, calls, told, wanted);
+    same_at(
+        rt,
+        calls,
+        sink.held.as_slice(),
+        &text[..calls.min(text.len())],
+    );
 }
 
 #[test]
-fn writer_of_a_dump_fails_at_each_call(rt: HostRuntime) -> Result<(), Fail> {
-    let mut capture = HEADER.to_vec(rt.alloc())?;
-    capture.extend_from_slice(&WORKED)?;
-    let mut text = FIRST_LINE.as_bytes().to_vec(rt.alloc())?;
-    text.extend_from_slice(WORKED_TEXT.as_bytes())?;
+fn writer_of_a_dump_fails_at_each_call(rt: HostRuntime) {
+    let mut capture = Vec::new(rt.alloc());
+    add(&rt, &mut capture, &HEADER);
+    add(&rt, &mut capture, &WORKED);
+    let mut text = Vec::new(rt.alloc());
+    add(&rt, &mut text, FIRST_LINE.as_bytes());
+    add(&rt, &mut text, WORKED_TEXT.as_bytes());
     for calls in 0..text.len().saturating_add(1) {
-        hold_at(calls, dump_is_cut(rt.alloc(), &capture, calls, &text))?;
+        dump_is_cut(&rt, &capture, calls, &text);
     }
-    Ok(())
 }

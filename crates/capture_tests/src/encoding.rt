@@ -1,9 +1,9 @@
 //! Logs and their messages, as captures of both versions and as lines.
 
 use crate::headers::{Beginning, beginning_of, header_of};
-use crate::hold::hold_at;
 use crate::made::{MODES, PERIODS, WORDS, capture_of_logs, legal_log, log_of, program_of};
-use crate::small_captures::{BOTH, NOPS, WORKED};
+use crate::same::same_at;
+use crate::small_captures::{BOTH, NOPS, WORKED, add};
 use captures::{encode_capture, encode_hex};
 use encoder::Encoder;
 use legalpath::LegalLog;
@@ -11,10 +11,9 @@ use message::{MessageFault, Version};
 use payload::{Mode, Packet};
 use retire::Event;
 use rvclass::{Class, Program};
-use std::alloc::Global;
 use std::io;
 use std::io::{ErrorKind, Write};
-use std::test::Fail;
+use std::process::Abort;
 
 /// A writer that keeps what it takes, a byte a call, and fails once its calls are used up.
 #[derive(Drop)]
@@ -40,11 +39,10 @@ impl Write for FailingWriter {
 }
 
 /// The logs of a hart that retires both words and of one that retires the first.
-fn logs_of<'p>(alloc: Global, program: &'p Program) -> Result<[LegalLog<'p>; 2], Fail> {
-    Ok([
-        legal_log(program, BOTH.to_vec(alloc)?)?,
-        legal_log(program, BOTH[..1].to_vec(alloc)?)?,
-    ])
+fn logs_of<'p, R: Abort + AllocGlobal>(rt: &R, program: &'p Program) -> [LegalLog<'p>; 2] {
+    let both = BOTH.to_vec(rt.alloc()).expect(rt, "memory");
+    let one = BOTH[..1].to_vec(rt.alloc()).expect(rt, "memory");
+    [legal_log(rt, program, both), legal_log(rt, program, one)]
 }
 
 /// What the second log adds to the capture of the first, which is the worked one.
@@ -66,137 +64,117 @@ const LINES: &[u8] = b"0 0 1f\n0 1 7300000020\n0 2 0a\n0 3 4f\n1 0 1f\n1 1 73000
 
 const FULL_LINES: &[u8] = b"0 0 1f01\n0 1 7300000020\n0 2 0a00000001\n0 3 4f\n";
 
-/// Whether the first log alone has this capture in this mode, without a header and behind one.
-fn is_captured(
-    alloc: Global,
+/// The first log alone has this capture in this mode, without a header and behind one.
+fn is_captured<R: Abort + AllocGlobal>(
+    rt: &R,
     logs: &[LegalLog<'_>; 2],
     mode: Mode,
     capture: &[u8],
-) -> Result<bool, Fail> {
-    let one = capture_of_logs(alloc, &logs[..1], 1024, mode, Version::One)?;
-    let two = capture_of_logs(alloc, &logs[..1], 1024, mode, Version::Two)?;
-    let mut headed = header_of(mode, 1).to_vec(alloc)?;
-    headed.extend_from_slice(capture)?;
-    Ok(one.as_slice() == capture && two.as_slice() == headed.as_slice())
+) {
+    let one = capture_of_logs(rt, &logs[..1], 1024, mode, Version::One);
+    same_at(rt, (mode, "bare"), one.as_slice(), capture);
+    let two = capture_of_logs(rt, &logs[..1], 1024, mode, Version::Two);
+    let mut headed = Vec::new(rt.alloc());
+    add(rt, &mut headed, &header_of(mode, 1));
+    add(rt, &mut headed, capture);
+    same_at(rt, (mode, "headed"), two.as_slice(), headed.as_slice());
 }
 
 /// The first log alone in both versions and modes.
 #[test]
-fn captures_of_a_log(rt: HostRuntime) -> Result<(), Fail> {
-    let program = program_of(rt.alloc(), &NOPS)?;
-    let logs = logs_of(rt.alloc(), &program)?;
-    let differences = is_captured(rt.alloc(), &logs, Mode::Differential, &WORKED)?;
-    hold_at("differences", differences)?;
-    let full = is_captured(rt.alloc(), &logs, Mode::Full, &FULL_CAPTURE)?;
-    hold_at("full addresses", full)
+fn captures_of_a_log(rt: HostRuntime) {
+    let program = program_of(&rt, &NOPS);
+    let logs = logs_of(&rt, &program);
+    is_captured(&rt, &logs, Mode::Differential, &WORKED);
+    is_captured(&rt, &logs, Mode::Full, &FULL_CAPTURE);
 }
 
 /// The lines of the first log alone, and no logs.
 #[test]
-fn lines_of_a_log_and_no_logs(rt: HostRuntime) -> Result<(), Fail> {
-    let program = program_of(rt.alloc(), &NOPS)?;
-    let logs = logs_of(rt.alloc(), &program)?;
+fn lines_of_a_log_and_no_logs(rt: HostRuntime) {
+    let program = program_of(&rt, &NOPS);
+    let logs = logs_of(&rt, &program);
     let mut lines = Vec::new(rt.alloc());
-    encode_hex(&logs[..1], 1024, Mode::Full, &mut lines)?;
-    hold_at("lines", lines.as_slice() == FULL_LINES)?;
+    encode_hex(&logs[..1], 1024, Mode::Full, &mut lines).expect(&rt, "memory");
+    same_at(&rt, "lines", lines.as_slice(), FULL_LINES);
     let mode = Mode::Differential;
     let mut none = Vec::new(rt.alloc());
-    encode_capture(&logs[..0], 1024, mode, Version::One, &mut none)?;
-    encode_hex(&logs[..0], 1024, mode, &mut none)?;
-    hold_at("no logs", none.is_empty())
+    encode_capture(&logs[..0], 1024, mode, Version::One, &mut none).expect(&rt, "memory");
+    encode_hex(&logs[..0], 1024, mode, &mut none).expect(&rt, "memory");
+    same_at(&rt, "no logs", none.as_slice(), &[]);
 }
 
-/// Whether the header of the first so many of two logs tells what was asked for.
-fn is_headed(
-    alloc: Global,
+/// The header of the first so many of two logs tells the period, the mode and their count.
+fn is_headed<R: Abort + AllocGlobal>(
+    rt: &R,
     logs: &[LegalLog<'_>; 2],
     mode: Mode,
     period: u16,
     count: usize,
-) -> Result<bool, Fail> {
-    let Some(first) = logs.get(..count) else {
-        return Ok(false);
-    };
-    let bytes = capture_of_logs(alloc, first, period, mode, Version::Two)?;
-    Ok(beginning_of(&bytes) == Beginning::Header(mode, usize::from(period), count))
+) {
+    let first = logs.get(..count).expect(rt, "so many logs");
+    let bytes = capture_of_logs(rt, first, period, mode, Version::Two);
+    let wanted = Beginning::Header(mode, usize::from(period), count);
+    same_at(rt, (mode, period, count), beginning_of(&bytes), wanted);
 }
 
-/// The header tells the period, the mode and the count of logs.
+/// The header tells what was asked for.
 #[test]
-fn headers_tell_what_was_asked_for(rt: HostRuntime) -> Result<(), Fail> {
-    let program = program_of(rt.alloc(), &NOPS)?;
-    let logs = logs_of(rt.alloc(), &program)?;
+fn headers_tell_what_was_asked_for(rt: HostRuntime) {
+    let program = program_of(&rt, &NOPS);
+    let logs = logs_of(&rt, &program);
     for mode in MODES {
         for period in PERIODS {
-            let holds = is_headed(rt.alloc(), &logs, mode, period, 1)?
-                && is_headed(rt.alloc(), &logs, mode, period, 2)?;
-            hold_at(period, holds)?;
+            is_headed(&rt, &logs, mode, period, 1);
+            is_headed(&rt, &logs, mode, period, 2);
         }
     }
-    Ok(())
 }
 
-/// Whether a writer that took so many calls holds as many bytes of the whole, or all of it.
-pub(crate) fn holds(held: &[u8], calls: usize, whole: &[u8]) -> bool {
-    held.len() == calls.min(whole.len()) && whole.starts_with(held)
-}
-
-/// Whether a writer of so many calls holds a beginning of the whole, and was told to fail just where that is not all.
-fn is_cut(told: Result<(), MessageFault>, held: &[u8], calls: usize, whole: &[u8]) -> bool {
+/// A writer of so many calls holds as many bytes of the capture of two logs in this version, or of their lines where no
+/// version is named, or all of it; and it was told to fail just where that is not all.
+fn is_cut<R: Abort + AllocGlobal>(
+    rt: &R,
+    logs: &[LegalLog<'_>; 2],
+    version: Option<Version>,
+    calls: usize,
+    whole: &[u8],
+) {
+    let mode = Mode::Differential;
+    let mut sink = FailingWriter {
+        held: Vec::new(rt.alloc()),
+        calls,
+    };
+    let told = match version {
+        Some(Version::One) => encode_capture(logs, 1024, mode, Version::One, &mut sink),
+        Some(Version::Two) => encode_capture(logs, 1024, mode, Version::Two, &mut sink),
+        None => encode_hex(logs, 1024, mode, &mut sink),
+    };
     let expected = if calls < whole.len() {
         Err(MessageFault::Write)
     } else {
         Ok(())
     };
-    told == expected && holds(held, calls, whole)
-}
-
-/// Whether so much of the capture of two logs in this version is written by a writer of so many calls.
-fn capture_is_cut(
-    alloc: Global,
-    logs: &[LegalLog<'_>; 2],
-    version: Version,
-    calls: usize,
-    whole: &[u8],
-) -> bool {
-    let mode = Mode::Differential;
-    let mut sink = FailingWriter {
-        held: Vec::new(alloc),
-        calls,
-    };
-    let told = match version {
-        Version::One => encode_capture(logs, 1024, mode, Version::One, &mut sink),
-        Version::Two => encode_capture(logs, 1024, mode, Version::Two, &mut sink),
-    };
-    is_cut(told, &sink.held, calls, whole)
-}
-
-/// Whether so much of the lines of two logs is written by a writer of so many calls.
-fn lines_are_cut(alloc: Global, logs: &[LegalLog<'_>; 2], calls: usize) -> bool {
-    let mut sink = FailingWriter {
-        held: Vec::new(alloc),
-        calls,
-    };
-    let told = encode_hex(logs, 1024, Mode::Differential, &mut sink);
-    is_cut(told, &sink.held, calls, LINES)
+    same_at(rt, (version, calls), told, expected);
+    let begun = &whole[..calls.min(whole.len())];
+    same_at(rt, (version, calls), sink.held.as_slice(), begun);
 }
 
 /// The captures and the lines of two harts.
 #[test]
-fn two_harts_to_writers_that_fail(rt: HostRuntime) -> Result<(), Fail> {
-    let program = program_of(rt.alloc(), &NOPS)?;
-    let logs = logs_of(rt.alloc(), &program)?;
-    let mut whole = WORKED.to_vec(rt.alloc())?;
-    whole.extend_from_slice(&SECOND_CAPTURE)?;
-    let mut headed = header_of(Mode::Differential, 2).to_vec(rt.alloc())?;
-    headed.extend_from_slice(&whole)?;
+fn two_harts_to_writers_that_fail(rt: HostRuntime) {
+    let program = program_of(&rt, &NOPS);
+    let logs = logs_of(&rt, &program);
+    let mut headed = Vec::new(rt.alloc());
+    add(&rt, &mut headed, &header_of(Mode::Differential, 2));
+    add(&rt, &mut headed, &WORKED);
+    add(&rt, &mut headed, &SECOND_CAPTURE);
+    let whole = headed.get(16..).expect(&rt, "a capture");
     for calls in 0..111 {
-        let is_told = capture_is_cut(rt.alloc(), &logs, Version::One, calls, &whole)
-            && capture_is_cut(rt.alloc(), &logs, Version::Two, calls, &headed)
-            && lines_are_cut(rt.alloc(), &logs, calls);
-        hold_at(calls, is_told)?;
+        is_cut(&rt, &logs, Some(Version::One), calls, whole);
+        is_cut(&rt, &logs, Some(Version::Two), calls, &headed);
+        is_cut(&rt, &logs, None, calls, LINES);
     }
-    Ok(())
 }
 
 /// The branches that packets tell: outcomes, and those that a synchronisation or a handler reports.
@@ -261,29 +239,24 @@ fn branches_of(log: &LegalLog<'_>) -> usize {
     branches
 }
 
-/// Whether packets of this period tell each of so many branches once: none as an outcome where each retirement is a
-/// synchronisation, and else many.
-fn are_told_once(told: Told, period: u16, branches: usize) -> bool {
-    let many = if period == 1 {
-        told.outcomes == 0
-    } else {
-        1000 < told.outcomes
-    };
-    many && told.outcomes.saturating_add(told.reported) == branches
-}
-
-/// A hundred thousand events: each branch is told once, as an outcome, by a synchronisation or with its trap.
+/// A hundred thousand events: each branch is told once, as an outcome, by a synchronisation or with its trap. None is an
+/// outcome where each retirement is a synchronisation, and else many are.
 #[test]
-fn tells_each_branch_once(rt: HostRuntime) -> Result<(), Fail> {
-    let program = program_of(rt.alloc(), &WORDS)?;
-    let log = legal_log(&program, log_of(rt.alloc(), 1, 100_000)?)?;
+fn tells_each_branch_once(rt: HostRuntime) {
+    let program = program_of(&rt, &WORDS);
+    let log = legal_log(&rt, &program, log_of(&rt, 1, 100_000));
     let branches = branches_of(&log);
-    hold_at(branches, 10_000 < branches)?;
+    assert!(rt; 10_000 < branches, "{branches}");
     for mode in MODES {
         for period in PERIODS {
-            let told = told_by(&program, &log, period, mode);
-            hold_at(period, are_told_once(told, period, branches))?;
+            let Told { outcomes, reported } = told_by(&program, &log, period, mode);
+            let told = outcomes.saturating_add(reported);
+            same_at(&rt, (mode, period), told, branches);
+            let many = 1000 < outcomes;
+            assert!(rt;
+                if period == 1 { outcomes == 0 } else { many },
+                "{mode:?}, {period}: {outcomes}"
+            );
         }
     }
-    Ok(())
 }

@@ -1,17 +1,17 @@
 //! The texts of faults.
 
-use crate::hold::hold_at;
+use crate::same::same_at;
 use captures::{CaptureFault, ReadFault};
 use decoder::DecodeFault;
 use message::{DemuxFault, MessageFault};
 use receiver::ReceiveFault;
-use std::alloc::Global;
-use std::fmt::Display;
-use std::test::Fail;
+use std::fmt::{Debug, Display};
+use std::process::Abort;
 
-/// Whether this is the text of the fault.
-fn tells<F: Display + Drop>(alloc: Global, fault: F, text: &str) -> Result<bool, Fail> {
-    Ok(format!(in alloc; "{fault}")?.as_str() == text)
+/// This is the text of the fault.
+fn tells<R: Abort + AllocGlobal, F: Display + Debug>(rt: &R, fault: &F, text: &str) {
+    let told = format!(in rt.alloc(); "{fault}").expect(rt, "memory");
+    same_at(rt, fault, told.as_str(), text);
 }
 
 const OF_CAPTURES: [(CaptureFault, &str); 6] = [
@@ -57,15 +57,14 @@ const OF_READINGS: [(ReadFault, &str); 3] = [
 ];
 
 #[test]
-fn faults_as_text(rt: HostRuntime) -> Result<(), Fail> {
-    for (fault, text) in OF_CAPTURES {
-        hold_at(text, tells(rt.alloc(), fault, text)?)?;
+fn faults_as_text(rt: HostRuntime) {
+    for (fault, text) in &OF_CAPTURES {
+        tells(&rt, fault, text);
     }
-    for (fault, text) in OF_RECEIVERS {
-        hold_at(text, tells(rt.alloc(), fault, text)?)?;
+    for (fault, text) in &OF_RECEIVERS {
+        tells(&rt, fault, text);
     }
-    for (fault, text) in OF_READINGS {
-        hold_at(text, tells(rt.alloc(), fault, text)?)?;
+    for (fault, text) in &OF_READINGS {
+        tells(&rt, fault, text);
     }
-    Ok(())
 }

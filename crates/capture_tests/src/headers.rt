@@ -1,9 +1,9 @@
 //! Captures of version 2 to events: headers cut short and changed, and the modes that traces open in.
 
-use crate::hold::hold_at;
 use crate::made::program_of;
+use crate::same::same_at;
 use crate::small_captures::{
-    BOTH, END, FIRST, NOPS, OPEN, OPEN_FULL, SECOND, SECOND_FULL, Sent, Start, Stop, WORKED,
+    BOTH, END, FIRST, NOPS, OPEN, OPEN_FULL, SECOND, SECOND_FULL, Sent, Start, Stop, WORKED, add,
     capture_of, decodes,
 };
 use captures::{CaptureFault, CaptureOutcome, decode_capture};
@@ -11,8 +11,7 @@ use decoder::DecodeFault;
 use message::{DemuxFault, MessageFault};
 use payload::Mode;
 use rvclass::Program;
-use std::alloc::Global;
-use std::test::Fail;
+use std::process::Abort;
 
 /// A header that tells differences, a period of 1,024 and one hart.
 pub(crate) const HEADER: [u8; 16] = [
@@ -33,7 +32,7 @@ pub(crate) fn header_of(mode: Mode, harts: u16) -> [u8; 16] {
 }
 
 /// What bytes begin with, read one by one.
-#[derive(Clone, Copy, PartialEq, Eq)]
+#[derive(Clone, Copy, Debug, PartialEq, Eq)]
 pub(crate) enum Beginning {
     /// No header.
     Unmarked,
@@ -82,9 +81,9 @@ fn refused_message(bytes: &[u8]) -> Option<CaptureFault> {
     }
 }
 
-/// Whether this is what a capture of two words decodes to where two harts are asked for and only bytes of the header
-/// are changed or wanting.
-fn is_answer(bytes: &[u8], outcome: &CaptureOutcome) -> bool {
+/// This is what a capture of two words decodes to where two harts are asked for and only bytes of the header are changed
+/// or wanting. A failure tells the place and the value of the byte, or the length and the byte for the mode.
+fn is_answer<R: Abort>(rt: &R, place: (usize, u8), bytes: &[u8], outcome: &CaptureOutcome) {
     let (harts, events, fault) = match beginning_of(bytes) {
         Beginning::Unmarked => (2, 0, refused_message(bytes)),
         Beginning::Cut => (2, 0, Some(CaptureFault::Message(MessageFault::Short))),
@@ -92,69 +91,61 @@ fn is_answer(bytes: &[u8], outcome: &CaptureOutcome) -> bool {
         Beginning::Header(Mode::Full, _, harts) => (harts, 0, Some(CaptureFault::Mode)),
         Beginning::Header(Mode::Differential, _, harts) => (harts, 2, None),
     };
+    same_at(rt, place, outcome.fault, fault.map(|why| (0, why)));
+    same_at(rt, place, outcome.harts.len(), harts);
+    same_at(rt, place, outcome.closed.len(), harts);
     let closed = outcome.closed.iter().filter(|closed| **closed).count();
-    let mut lists = outcome.harts.iter();
-    let is_first = match lists.next() {
-        Some(list) => list.as_slice() == &BOTH[..events.min(2)],
-        None => false,
-    };
-    is_first
-        && lists.all(|list| list.is_empty())
-        && outcome.harts.len() == harts
-        && outcome.closed.len() == harts
-        && closed == events / 2
-        && outcome.fault == fault.map(|why| (0, why))
+    same_at(rt, place, closed, events / 2);
+    let mut wanted = &BOTH[..events.min(2)];
+    for list in &outcome.harts {
+        same_at(rt, place, list.as_slice(), wanted);
+        wanted = &[];
+    }
 }
 
-/// Whether a header that is cut to this length, where its byte for the mode is this one, is told as what it is.
-fn is_told_cut(alloc: Global, program: &Program, mode: u8, length: usize) -> Result<bool, Fail> {
+/// A header that is cut to this length, where its byte for the mode is this one, is told as what it is.
+fn is_told_cut<R: Abort + AllocGlobal>(rt: &R, program: &Program, mode: u8, length: usize) {
     let mut bytes = HEADER;
     bytes[11] = mode;
-    let Some(cut) = bytes.get(..length) else {
-        return Ok(false);
-    };
-    let outcome = decode_capture(alloc, program, 2, cut)?;
-    Ok(
-        is_answer(cut, &outcome)
-            && outcome.harts.len() == 2
-            && outcome.fault.is_some() == (length > 0),
-    )
+    let cut = bytes.get(..length).expect(rt, "so many bytes");
+    let outcome = decode_capture(rt.alloc(), program, 2, cut).expect(rt, "memory");
+    is_answer(rt, (length, mode), cut, &outcome);
+    same_at(rt, (length, mode), outcome.harts.len(), 2);
+    same_at(rt, (length, mode), outcome.fault.is_some(), length > 0);
 }
 
-/// Sets the byte of the header at a place to each value, and answers how often the capture is good. A failure tells 256
-/// times the place, and the value.
-fn good_at(alloc: Global, program: &Program, place: usize) -> Result<usize, Fail> {
-    let mut bytes = HEADER.to_vec(alloc)?;
-    bytes.extend_from_slice(&WORKED)?;
+/// Sets the byte of the header at a place to each value, and answers how often the capture is good.
+fn good_at<R: Abort + AllocGlobal>(rt: &R, program: &Program, place: usize) -> usize {
+    let mut bytes = Vec::new(rt.alloc());
+    add(rt, &mut bytes, &HEADER);
+    add(rt, &mut bytes, &WORKED);
     let mut good = 0usize;
     for value in 0..=u8::MAX {
         if let Some(byte) = bytes.get_mut(place) {
             *byte = value;
         }
-        let outcome = decode_capture(alloc, program, 2, &bytes)?;
-        let at = place.saturating_mul(256).saturating_add(usize::from(value));
-        hold_at(at, is_answer(&bytes, &outcome))?;
+        let outcome = decode_capture(rt.alloc(), program, 2, &bytes).expect(rt, "memory");
+        is_answer(rt, (place, value), &bytes, &outcome);
         if outcome.fault.is_none() {
             good = good.saturating_add(1);
         }
     }
-    Ok(good)
+    good
 }
 
 /// A header cut to each length, also where the bytes that are there name a bad mode, and each of its bytes set to each
 /// value.
 #[test]
-fn headers_cut_and_changed(rt: HostRuntime) -> Result<(), Fail> {
-    let program = program_of(rt.alloc(), &NOPS)?;
+fn headers_cut_and_changed(rt: HostRuntime) {
+    let program = program_of(&rt, &NOPS);
     let mut good = 0usize;
     for place in 0..16usize {
-        let holds = is_told_cut(rt.alloc(), &program, 0, place)?
-            && is_told_cut(rt.alloc(), &program, 2, place)?;
-        hold_at(place, holds)?;
-        good = good.saturating_add(good_at(rt.alloc(), &program, place)?);
+        is_told_cut(&rt, &program, 0, place);
+        is_told_cut(&rt, &program, 2, place);
+        good = good.saturating_add(good_at(&rt, &program, place));
     }
     // The bytes of the mark and the mode as they are, the period but for 0, 1 to 255 harts, and 1, 257, 513 and 769.
-    hold_at(good, good == 12 + 256 + 255 + 255 + 4)
+    same_at(&rt, "good", good, 12 + 256 + 255 + 255 + 4);
 }
 
 /// Two harts that open in modes of their own.
@@ -286,14 +277,13 @@ const ROWS: [Row; 14] = [
 
 /// Behind a header the count of harts that is asked for is another one, and does not hold.
 #[test]
-fn modes_by_table(rt: HostRuntime) -> Result<(), Fail> {
-    for (name, told, messages, counts, stop) in ROWS {
+fn modes_by_table(rt: HostRuntime) {
+    for (name, told, messages, counts, stop) in &ROWS {
         let (start, asked): (Start, u16) = match told {
             None => (None, 2),
-            Some(mode) => (Some((mode, 2)), 1),
+            Some(mode) => (Some((*mode, 2)), 1),
         };
-        let bytes = capture_of(rt.alloc(), start, messages)?;
-        hold_at(name, decodes(rt.alloc(), asked, &bytes, counts, stop)?)?;
+        let bytes = capture_of(&rt, start, messages);
+        decodes(&rt, *name, asked, &bytes, counts, *stop);
     }
-    Ok(())
 }

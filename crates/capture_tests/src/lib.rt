@@ -17,8 +17,6 @@ mod fault_texts;
 #[cfg(test)]
 mod headers;
 #[cfg(test)]
-mod hold;
-#[cfg(test)]
 mod made;
 #[cfg(test)]
 mod reading;
@@ -26,5 +24,7 @@ mod reading;
 mod receiving;
 #[cfg(test)]
 mod returning;
+#[cfg(test)]
+mod same;
 #[cfg(test)]
 mod small_captures;

@@ -6,8 +6,7 @@ use message::Version;
 use payload::Mode;
 use retire::Event;
 use rvclass::Program;
-use std::alloc::{AllocError, Global};
-use std::test::Fail;
+use std::process::Abort;
 
 pub(crate) const BASE: u64 = 0x8000_0000;
 
@@ -47,8 +46,9 @@ pub(crate) const WORDS: [u8; 64] = [
 ];
 
 /// The program of these bytes.
-pub(crate) fn program_of(alloc: Global, bytes: &[u8]) -> Result<Program, Fail> {
-    Ok(Program::new(BASE, bytes.to_vec(alloc)?)?)
+pub(crate) fn program_of<R: Abort + AllocGlobal>(rt: &R, bytes: &[u8]) -> Program {
+    let words = bytes.to_vec(rt.alloc()).expect(rt, "memory");
+    Program::new(BASE, words).expect(rt, "a program")
 }
 
 /// A hart that runs the program.
@@ -137,7 +137,7 @@ impl Hart {
 }
 
 /// The first events of a hart that begins at the first word, at user level, with this seed.
-pub(crate) fn log_of(alloc: Global, seed: u64, count: usize) -> Result<Vec<Event>, AllocError> {
+pub(crate) fn log_of<R: Abort + AllocGlobal>(rt: &R, seed: u64, count: usize) -> Vec<Event> {
     let mut hart = Hart {
         at: 0,
         privilege: USER,
@@ -145,46 +145,44 @@ pub(crate) fn log_of(alloc: Global, seed: u64, count: usize) -> Result<Vec<Event
         seed,
         trapped: false,
     };
-    let mut log = Vec::with_capacity(alloc, count)?;
+    let mut log = Vec::with_capacity(rt.alloc(), count).expect(rt, "memory");
     for _ in 0..count {
-        log.push(hart.step())?;
+        log.push(hart.step()).expect(rt, "memory");
     }
-    Ok(log)
+    log
 }
 
 /// The log of these events, which are legal for the program.
-pub(crate) fn legal_log<'p>(
+pub(crate) fn legal_log<'p, R: Abort>(
+    rt: &R,
     program: &'p Program,
     events: Vec<Event>,
-) -> Result<LegalLog<'p>, Fail> {
-    if events.len() > 1 << 24 {
-        return Err(Fail::new("too many events"));
-    }
+) -> LegalLog<'p> {
+    assert!(rt; events.len() <= 1 << 24, "too many events");
     match LegalLog::new(program, events) {
-        Ok(log) => Ok(log),
-        Err((why, _)) => Err(Fail::new(why)),
+        Ok(log) => log,
+        Err((why, _)) => panic!(rt; "{why}"),
     }
 }
 
 /// The capture of these logs, 1 to 1,024 of them.
-pub(crate) fn capture_of_logs(
-    alloc: Global,
+pub(crate) fn capture_of_logs<R: Abort + AllocGlobal>(
+    rt: &R,
     logs: &[LegalLog<'_>],
     period: u16,
     mode: Mode,
     version: Version,
-) -> Result<Vec<u8>, Fail> {
-    if logs.is_empty() || logs.len() > 1024 {
-        return Err(Fail::new("no logs or too many"));
-    }
-    let mut bytes = Vec::new(alloc);
-    match version {
-        Version::One => {
-            encode_capture(logs, period.max(1), mode, Version::One, &mut bytes)?;
-        }
-        Version::Two => {
-            encode_capture(logs, period.max(1), mode, Version::Two, &mut bytes)?;
-        }
-    }
-    Ok(bytes)
+) -> Vec<u8> {
+    assert!(rt;
+        !logs.is_empty() && logs.len() <= 1024,
+        "{} logs",
+        logs.len()
+    );
+    let mut bytes = Vec::new(rt.alloc());
+    let written = match version {
+        Version::One => encode_capture(logs, period.max(1), mode, Version::One, &mut bytes),
+        Version::Two => encode_capture(logs, period.max(1), mode, Version::Two, &mut bytes),
+    };
+    written.expect(rt, "memory");
+    bytes
 }

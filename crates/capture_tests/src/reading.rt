@@ -1,16 +1,15 @@
 //! The messages of captures, all of them or none.
 
 use crate::headers::HEADER;
-use crate::hold::hold_at;
+use crate::same::same_at;
 use crate::small_captures::{
     END, FIRST, OPEN, SECOND, Sent, Start, WORKED, capture_of, whole_messages,
 };
-use captures::{ReadFault, WholeCapture, read_messages};
+use captures::{ReadFault, read_messages};
 use linked_list_allocator::LocalHeap;
 use message::{Header, MessageFault};
 use payload::Mode;
-use std::alloc::{Allocator, Global};
-use std::test::Fail;
+use std::process::Abort;
 
 /// Messages that no demultiplexer takes in this order, one of them no packet.
 const ANY: [Sent; 6] = [
@@ -22,26 +21,6 @@ const ANY: [Sent; 6] = [
     (0, 2, SECOND),
 ];
 
-/// Whether a capture that was read has this header and the first of these messages.
-fn is_read<A: Allocator>(
-    whole: &WholeCapture<A>,
-    header: Option<Header>,
-    messages: &[Sent],
-) -> bool {
-    if whole.header != header || whole.messages.len() != messages.len() {
-        return false;
-    }
-    for (message, (hart, number, payload)) in whole.messages.iter().zip(messages) {
-        if message.hart != *hart
-            || message.number != *number
-            || message.payload.bytes() != *payload
-        {
-            return false;
-        }
-    }
-    true
-}
-
 /// The header of full addresses and the most harts.
 const FULL: Header = Header {
     mode: Mode::Full,
@@ -49,98 +28,91 @@ const FULL: Header = Header {
     harts: 1024,
 };
 
-/// Whether the capture of these messages is read, behind this start, which is this header.
-fn reads(
-    alloc: Global,
-    start: Start,
-    header: Option<Header>,
-    messages: &[Sent],
-) -> Result<bool, Fail> {
-    let bytes = capture_of(alloc, start, messages)?;
-    match read_messages(alloc, &bytes) {
-        Ok(whole) => Ok(is_read(&whole, header, messages)),
-        Err(_) => Ok(false),
+/// The capture of these messages is read, behind this start, which is this header.
+fn reads<R: Abort + AllocGlobal>(rt: &R, start: Start, header: Option<Header>, messages: &[Sent]) {
+    let bytes = capture_of(rt, start, messages);
+    let whole = read_messages(rt.alloc(), &bytes).expect(rt, "messages");
+    same_at(rt, start, whole.header, header);
+    same_at(rt, start, whole.messages.len(), messages.len());
+    for (row, (message, sent)) in whole.messages.iter().zip(messages).enumerate() {
+        let found = (message.hart, message.number, message.payload.bytes());
+        same_at(rt, (start, row), found, *sent);
     }
 }
 
 /// All messages are read, whatever their harts, numbers and payloads are.
 #[test]
-fn reads_any_messages(rt: HostRuntime) -> Result<(), Fail> {
+fn reads_any_messages(rt: HostRuntime) {
     for messages in [&[][..], &ANY] {
-        let bare = reads(rt.alloc(), None, None, messages)?;
-        hold_at("no header", bare)?;
-        let headed = reads(rt.alloc(), Some((Mode::Full, 1024)), Some(FULL), messages)?;
-        hold_at("a header", headed)?;
+        reads(&rt, None, None, messages);
+        reads(&rt, Some((Mode::Full, 1024)), Some(FULL), messages);
     }
-    Ok(())
 }
 
-/// Whether the worked capture, cut to this length, is read just where a message ends there.
-fn is_told_cut(alloc: Global, length: usize) -> bool {
+/// The worked capture, cut to this length, is read just where a message ends there.
+fn is_told_cut<R: Abort + AllocGlobal>(rt: &R, length: usize) {
     let (number, ends) = whole_messages(length);
-    let Some(bytes) = WORKED.get(..length) else {
-        return false;
+    let bytes = WORKED.get(..length).expect(rt, "so many bytes");
+    let told = match read_messages(rt.alloc(), bytes) {
+        Ok(whole) => Ok(whole.messages.len() as u64),
+        Err(fault) => Err(fault),
     };
-    match read_messages(alloc, bytes) {
-        Ok(whole) => ends && whole.messages.len() as u64 == number,
-        Err(fault) => !ends && fault == ReadFault::Message(number, MessageFault::Short),
-    }
+    let wanted = if ends {
+        Ok(number)
+    } else {
+        Err(ReadFault::Message(number, MessageFault::Short))
+    };
+    same_at(rt, length, told, wanted);
 }
 
 /// Bytes that end inside a message have none of the messages before.
 #[test]
-fn reads_no_cut_capture(rt: HostRuntime) -> Result<(), Fail> {
+fn reads_no_cut_capture(rt: HostRuntime) {
     for length in 0..53 {
-        hold_at(length, is_told_cut(rt.alloc(), length))?;
+        is_told_cut(&rt, length);
     }
-    Ok(())
 }
 
-/// Whether bytes are not read for this reason, before all messages.
-fn is_refused(alloc: Global, bytes: &[u8], why: MessageFault) -> bool {
-    match read_messages(alloc, bytes) {
-        Ok(_) => false,
-        Err(fault) => fault == ReadFault::Message(0, why),
-    }
+/// Bytes are not read for this reason, before all messages.
+fn is_refused<R: Abort + AllocGlobal>(rt: &R, place: usize, bytes: &[u8], why: MessageFault) {
+    let fault = read_messages(rt.alloc(), bytes).err();
+    same_at(rt, place, fault, Some(ReadFault::Message(0, why)));
 }
 
 /// A header that is cut short or bad is a fault before all messages.
 #[test]
-fn reads_no_bad_header(rt: HostRuntime) -> Result<(), Fail> {
+fn reads_no_bad_header(rt: HostRuntime) {
     for length in 11..16 {
-        let short = is_refused(rt.alloc(), &HEADER[..length], MessageFault::Short);
-        hold_at(length, short)?;
+        is_refused(&rt, length, &HEADER[..length], MessageFault::Short);
     }
     for (place, byte) in [(11usize, 2), (13, 0), (14, 0), (15, 5)] {
         let mut bytes = HEADER;
         if let Some(old) = bytes.get_mut(place) {
             *old = byte;
         }
-        let bad = is_refused(rt.alloc(), &bytes, MessageFault::BadHeader);
-        hold_at(place, bad)?;
+        is_refused(&rt, place, &bytes, MessageFault::BadHeader);
     }
-    Ok(())
 }
 
 /// Where memory ends that is told, and else all are read; nothing is kept of it afterwards.
 #[test]
-fn reads_with_little_memory(rt: HostRuntime) -> Result<(), Fail> {
-    let bytes = capture_of(rt.alloc(), Some((Mode::Differential, 1)), &ANY)?;
+fn reads_with_little_memory(rt: HostRuntime) {
+    let bytes = capture_of(&rt, Some((Mode::Differential, 1)), &ANY);
     let mut refused = 0usize;
     let mut read = 0usize;
     for step in 0..40usize {
-        let heap = LocalHeap::new(rt.alloc(), step.saturating_mul(32))?;
-        let is_told = match read_messages(&heap, &bytes) {
+        let heap = LocalHeap::new(rt.alloc(), step.saturating_mul(32)).expect(&rt, "memory");
+        match read_messages(&heap, &bytes) {
             Ok(whole) => {
                 read = read.saturating_add(1);
-                whole.messages.len() == ANY.len()
+                same_at(&rt, step, whole.messages.len(), ANY.len());
             }
             Err(fault) => {
                 refused = refused.saturating_add(1);
-                fault == ReadFault::Memory
+                same_at(&rt, step, fault, ReadFault::Memory);
             }
-        };
-        hold_at(step, is_told && heap.used() == 0)?;
+        }
+        same_at(&rt, step, heap.used(), 0);
     }
-    hold_at("both ends", 0 < refused && 0 < read)
+    assert!(rt; 0 < refused && 0 < read, "{refused} refused, {read} read");
 }

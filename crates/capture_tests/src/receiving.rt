@@ -1,7 +1,7 @@
 //! Messages of several harts, received.
 
-use crate::hold::hold_at;
 use crate::made::program_of;
+use crate::same::same_at;
 use crate::small_captures::{
     END, FIRST, NOPS, OPEN, OPEN_FULL, SECOND, Sent, are_told, message_of,
 };
@@ -12,7 +12,7 @@ use payload::{Mode, PackFault};
 use receiver::{ReceiveFault, Receiver};
 use rvclass::Program;
 use std::alloc::{AllocError, Allocator};
-use std::test::Fail;
+use std::process::Abort;
 
 /// Messages of three harts of whom one is not known, with what is answered to each and how many of both events each hart
 /// that is known has then.
@@ -61,51 +61,58 @@ const ROWS: [(Sent, Option<ReceiveFault>, &[usize]); 14] = [
     ((1, 4, SECOND), None, &[2, 1]),
 ];
 
-/// Why a message is not received, if it is not.
-fn fault_of(
+/// A message is received, or it is not for this reason.
+fn receives<R: Abort>(
+    rt: &R,
+    row: usize,
     receiver: &mut Receiver,
     program: &Program,
     told: Option<Mode>,
-    message: &Message,
-) -> Option<ReceiveFault> {
-    receiver.receive(program, told, message).err()
+    sent: &Sent,
+    fault: Option<ReceiveFault>,
+) {
+    let message = message_of(rt, sent);
+    let answer = receiver.receive(program, told, &message).err();
+    same_at(rt, row, answer, fault);
 }
 
 #[test]
-fn messages_by_table(rt: HostRuntime) -> Result<(), Fail> {
-    let program = program_of(rt.alloc(), &NOPS)?;
-    let mut receiver = Receiver::new(rt.alloc(), 2)?;
-    for (row, (sent, fault, counts)) in ROWS.into_iter().enumerate() {
-        let answer = fault_of(&mut receiver, &program, None, &message_of(&sent)?);
-        let is_told = are_told(receiver.lists(), receiver.closed(), counts);
-        hold_at(row, is_told && answer == fault)?;
+fn messages_by_table(rt: HostRuntime) {
+    let program = program_of(&rt, &NOPS);
+    let mut receiver = Receiver::new(rt.alloc(), 2).expect(&rt, "memory");
+    for (row, (sent, fault, counts)) in ROWS.iter().enumerate() {
+        receives(&rt, row, &mut receiver, &program, None, sent, *fault);
+        are_told(&rt, row, receiver.lists(), receiver.closed(), counts);
     }
     let (lists, closed) = receiver.into_parts();
-    hold_at("all", are_told(&lists, &closed, &[2, 1]))
+    are_told(&rt, "all", &lists, &closed, &[2, 1]);
 }
+
+/// What was told before, the payload of the first message, and why it is not received.
+const TOLD: [(Option<Mode>, &[u8], Option<ReceiveFault>); 6] = [
+    (None, OPEN, None),
+    (None, OPEN_FULL, None),
+    (Some(Mode::Differential), OPEN, None),
+    (
+        Some(Mode::Differential),
+        OPEN_FULL,
+        Some(ReceiveFault::Mode),
+    ),
+    (Some(Mode::Full), OPEN, Some(ReceiveFault::Mode)),
+    (Some(Mode::Full), OPEN_FULL, None),
+];
 
 /// Where a mode was told before, a message that opens a trace in another one is accepted and not decoded.
 #[test]
-fn opens_in_the_mode_that_was_told(rt: HostRuntime) -> Result<(), Fail> {
-    let another = Some(ReceiveFault::Mode);
-    let table: [(Option<Mode>, &[u8], Option<ReceiveFault>); 6] = [
-        (None, OPEN, None),
-        (None, OPEN_FULL, None),
-        (Some(Mode::Differential), OPEN, None),
-        (Some(Mode::Differential), OPEN_FULL, another),
-        (Some(Mode::Full), OPEN, another),
-        (Some(Mode::Full), OPEN_FULL, None),
-    ];
+fn opens_in_the_mode_that_was_told(rt: HostRuntime) {
     let repeat = Some(ReceiveFault::Demux(DemuxFault::Repeat));
-    let program = program_of(rt.alloc(), &NOPS)?;
-    for (row, (told, payload, fault)) in table.into_iter().enumerate() {
-        let mut receiver = Receiver::new(rt.alloc(), 1)?;
-        let open = message_of(&(0, 0, payload))?;
-        let first = fault_of(&mut receiver, &program, told, &open);
-        let again = fault_of(&mut receiver, &program, told, &open);
-        hold_at(row, first == fault && again == repeat)?;
+    let program = program_of(&rt, &NOPS);
+    for (row, (told, payload, fault)) in TOLD.iter().enumerate() {
+        let mut receiver = Receiver::new(rt.alloc(), 1).expect(&rt, "memory");
+        let open = (0, 0, *payload);
+        receives(&rt, row, &mut receiver, &program, *told, &open, *fault);
+        receives(&rt, row, &mut receiver, &program, *told, &open, repeat);
     }
-    Ok(())
 }
 
 /// How many events the only hart has.
@@ -117,25 +124,19 @@ fn count_of<A: Allocator + Copy>(receiver: &Receiver<A>) -> usize {
     count
 }
 
-/// Accepts a message and decodes its packet, and answers how many events the only hart had between the two.
-fn accepted(receiver: &mut Receiver, program: &Program, message: &Message) -> Result<usize, Fail> {
-    let packet = receiver.accept(message)?;
-    let between = count_of(receiver);
-    receiver.decode(program, message.hart, &packet)?;
-    Ok(between)
-}
-
 /// Between the two calls the list waits, and a packet that was refused is decoded no more.
 #[test]
-fn accepts_and_then_decodes(rt: HostRuntime) -> Result<(), Fail> {
-    let program = program_of(rt.alloc(), &NOPS)?;
-    let mut receiver = Receiver::new(rt.alloc(), 1)?;
+fn accepts_and_then_decodes(rt: HostRuntime) {
+    let program = program_of(&rt, &NOPS);
+    let mut receiver = Receiver::new(rt.alloc(), 1).expect(&rt, "memory");
     for (number, payload, events) in [(0, OPEN, 0), (1, FIRST, 0), (2, SECOND, 1), (3, END, 1)] {
-        let message = message_of(&(0, number, payload))?;
-        let between = accepted(&mut receiver, &program, &message)?;
-        hold_at(number, between == events)?;
+        let message = message_of(&rt, &(0, number, payload));
+        let packet = receiver.accept(&message).expect(&rt, "a packet");
+        same_at(&rt, number, count_of(&receiver), events);
+        let decoded = receiver.decode(&program, message.hart, &packet);
+        same_at(&rt, number, decoded, Ok(()));
     }
-    hold_at("all", are_told(receiver.lists(), receiver.closed(), &[2]))
+    are_told(&rt, "all", receiver.lists(), receiver.closed(), &[2]);
 }
 
 /// Receives messages with the memory that there is, and answers how many events came and why no more.
@@ -156,29 +157,33 @@ fn received<A: Allocator + Copy>(
 
 /// Memory that is refused is told, and the events before are there.
 #[test]
-fn memory_is_refused(rt: HostRuntime) -> Result<(), Fail> {
-    let program = program_of(rt.alloc(), &NOPS)?;
+fn memory_is_refused(rt: HostRuntime) {
+    let program = program_of(&rt, &NOPS);
     let messages = [
-        message_of(&(0, 0, OPEN))?,
-        message_of(&(0, 1, FIRST))?,
-        message_of(&(0, 2, SECOND))?,
-        message_of(&(0, 3, END))?,
+        message_of(&rt, &(0, 0, OPEN)),
+        message_of(&rt, &(0, 1, FIRST)),
+        message_of(&rt, &(0, 2, SECOND)),
+        message_of(&rt, &(0, 3, END)),
     ];
     let memory = Some(ReceiveFault::Decode(DecodeFault::Memory));
     let mut nothing = 0usize;
     let mut some = 0usize;
     let mut all = 0usize;
     for step in 0..64usize {
-        let heap = LocalHeap::new(rt.alloc(), step * 16)?;
+        let heap = LocalHeap::new(rt.alloc(), step * 16).expect(&rt, "memory");
         match received(&heap, &program, &messages) {
             Ok((2, None)) => all = all.saturating_add(1),
             Ok((count, fault)) => {
-                hold_at(step, count < 2 && fault == memory)?;
+                assert!(rt; count < 2, "{step}: {count} events");
+                same_at(&rt, step, fault, memory);
                 some = some.saturating_add(1);
             }
             Err(_) => nothing = nothing.saturating_add(1),
         }
-        hold_at(step, heap.used() == 0)?;
+        same_at(&rt, step, heap.used(), 0);
     }
-    hold_at("all ends", 0 < nothing && 0 < some && 0 < all)
+    assert!(rt;
+        0 < nothing && 0 < some && 0 < all,
+        "{nothing}, {some}, {all}"
+    );
 }

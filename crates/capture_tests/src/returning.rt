@@ -1,7 +1,7 @@
 //! Logs that come back from their captures, in both versions.
 
-use crate::hold::hold_at;
 use crate::made::{BASE, MODES, WORDS, capture_of_logs, legal_log, log_of, program_of};
+use crate::same::same_at;
 use captures::{CaptureFault, CaptureOutcome, decode_capture};
 use decoder::DecodeFault;
 use legalpath::LegalLog;
@@ -10,148 +10,148 @@ use message::{Messages, Version, write_message};
 use payload::Mode;
 use retire::Event;
 use rvclass::Program;
-use std::alloc::{Allocator, Global};
-use std::test::Fail;
+use std::alloc::Allocator;
+use std::fmt::Debug;
+use std::process::Abort;
 
 /// Logs of so many harts, each of so many events.
-fn logs_of<'p>(
-    alloc: Global,
+fn logs_of<'p, R: Abort + AllocGlobal>(
+    rt: &R,
     program: &'p Program,
     harts: u64,
     count: usize,
-) -> Result<Vec<LegalLog<'p>>, Fail> {
-    let mut logs = Vec::new(alloc);
+) -> Vec<LegalLog<'p>> {
+    let mut logs = Vec::new(rt.alloc());
     for seed in 0..harts {
-        logs.push(legal_log(program, log_of(alloc, seed, count)?)?)?;
+        let log = legal_log(rt, program, log_of(rt, seed, count));
+        logs.push(log).expect(rt, "memory");
     }
-    Ok(logs)
+    logs
 }
 
-/// What decoding gave where memory may be refused.
-#[derive(Clone, Copy, PartialEq, Eq)]
-enum Came {
-    Nothing,
-    Beginnings,
-    All,
-}
-
-/// Whether all lists are as long as the logs, and all harts closed.
-fn are_whole<A: Allocator>(outcome: &CaptureOutcome<A>, logs: &[LegalLog<'_>]) -> bool {
-    for (list, log) in outcome.harts.iter().zip(logs) {
-        if list.len() != log.events().len() {
-            return false;
-        }
-    }
-    for closed in &outcome.closed {
-        if !*closed {
-            return false;
-        }
-    }
-    true
-}
-
-/// Whether the lists are the logs, or for want of memory beginnings of them.
-fn compared<A: Allocator>(
+/// The lists are beginnings of the logs.
+fn begin<R: Abort, P: Debug + Copy, A: Allocator>(
+    rt: &R,
+    place: P,
     outcome: &CaptureOutcome<A>,
     logs: &[LegalLog<'_>],
-) -> Result<Came, Fail> {
-    if outcome.harts.len() != logs.len() || outcome.closed.len() != logs.len() {
-        return Err(Fail::new("another number of harts"));
+) {
+    same_at(rt, place, outcome.harts.len(), logs.len());
+    same_at(rt, place, outcome.closed.len(), logs.len());
+    for (hart, (list, log)) in outcome.harts.iter().zip(logs).enumerate() {
+        assert!(rt;
+            log.events().starts_with(list),
+            "{place:?}, hart {hart}: no beginning"
+        );
     }
-    for (list, log) in outcome.harts.iter().zip(logs) {
-        if !log.events().starts_with(list) {
-            return Err(Fail::new("no beginning"));
+}
+
+/// The lists are the logs, all harts closed, and no fault is told.
+fn are_whole<R: Abort, P: Debug + Copy, A: Allocator>(
+    rt: &R,
+    place: P,
+    outcome: &CaptureOutcome<A>,
+    logs: &[LegalLog<'_>],
+) {
+    begin(rt, place, outcome, logs);
+    same_at(rt, place, outcome.fault, None);
+    for (hart, (list, log)) in outcome.harts.iter().zip(logs).enumerate() {
+        same_at(rt, (place, hart), list.len(), log.events().len());
+    }
+    for (hart, closed) in outcome.closed.iter().enumerate() {
+        same_at(rt, (place, hart), *closed, true);
+    }
+}
+
+/// Whether all logs came whole; else memory was refused, and the lists are beginnings.
+fn came_whole<R: Abort, A: Allocator>(
+    rt: &R,
+    step: usize,
+    outcome: &CaptureOutcome<A>,
+    logs: &[LegalLog<'_>],
+) -> bool {
+    match outcome.fault {
+        Some((_, CaptureFault::Decode(DecodeFault::Memory))) => {
+            begin(rt, step, outcome, logs);
+            false
+        }
+        _ => {
+            are_whole(rt, step, outcome, logs);
+            true
         }
     }
-    match outcome.fault {
-        Some((_, CaptureFault::Decode(DecodeFault::Memory))) => Ok(Came::Beginnings),
-        Some((_, why)) => Err(Fail::new(why)),
-        None if are_whole(outcome, logs) => Ok(Came::All),
-        None => Err(Fail::new("not whole or not closed")),
-    }
 }
 
-/// What comes of the capture of two logs with the memory that there is.
-fn what_came<A: Allocator + Copy>(
-    alloc: A,
-    program: &Program,
-    bytes: &[u8],
-    logs: &[LegalLog<'_>],
-) -> Result<Came, Fail> {
-    match decode_capture(alloc, program, 2, bytes) {
-        Ok(outcome) => compared(&outcome, logs),
-        Err(_) => Ok(Came::Nothing),
-    }
-}
-
+/// From no memory on: at first nothing comes, then beginnings, and with enough of it all.
 #[test]
-fn memory_is_refused(rt: HostRuntime) -> Result<(), Fail> {
-    let program = program_of(rt.alloc(), &WORDS)?;
-    let logs = logs_of(rt.alloc(), &program, 2, 100)?;
-    let bytes = capture_of_logs(rt.alloc(), &logs, 31, Mode::Differential, Version::Two)?;
+fn memory_is_refused(rt: HostRuntime) {
+    let program = program_of(&rt, &WORDS);
+    let logs = logs_of(&rt, &program, 2, 100);
+    let bytes = capture_of_logs(&rt, &logs, 31, Mode::Differential, Version::Two);
     let mut nothing = 0usize;
     let mut beginnings = 0usize;
     let mut all = 0usize;
     for step in 0..640usize {
-        let heap = LocalHeap::new(rt.alloc(), step.saturating_mul(32))?;
-        let told = what_came(&heap, &program, &bytes, &logs)?;
-        match told {
-            Came::Nothing => nothing = nothing.saturating_add(1),
-            Came::Beginnings => beginnings = beginnings.saturating_add(1),
-            Came::All => all = all.saturating_add(1),
+        let heap = LocalHeap::new(rt.alloc(), step.saturating_mul(32)).expect(&rt, "memory");
+        match decode_capture(&heap, &program, 2, &bytes) {
+            Ok(outcome) => {
+                if came_whole(&rt, step, &outcome, &logs) {
+                    all = all.saturating_add(1);
+                } else {
+                    beginnings = beginnings.saturating_add(1);
+                }
+            }
+            Err(_) => {
+                same_at(&rt, step, nothing, step);
+                nothing = nothing.saturating_add(1);
+            }
         }
-        let is_first = told != Came::Nothing || nothing == step.saturating_add(1);
-        hold_at(step, is_first && heap.used() == 0)?;
+        same_at(&rt, step, heap.used(), 0);
     }
-    hold_at("all ends", 1 < nothing && 1 < beginnings && 1 < all)
+    assert!(rt;
+        1 < nothing && 1 < beginnings && 1 < all,
+        "{nothing}, {beginnings}, {all}"
+    );
 }
 
-/// Whether the logs of so many harts, of so many events each, come back whole in a mode, which nobody tells the
-/// decoder. In version 2 nobody tells it the count of harts either.
-fn come_back(
-    alloc: Global,
-    harts: u16,
-    count: usize,
+/// The logs come back whole in a mode, which nobody tells the decoder, where so many harts are asked for.
+fn come_back<R: Abort + AllocGlobal>(
+    rt: &R,
+    program: &Program,
+    logs: &[LegalLog<'_>],
     mode: Mode,
     version: Version,
-) -> Result<bool, Fail> {
-    let program = program_of(alloc, &WORDS)?;
-    let logs = logs_of(alloc, &program, u64::from(harts), count)?;
-    let bytes = capture_of_logs(alloc, &logs, 1024, mode, version)?;
-    let asked = match version {
-        Version::One => harts,
-        Version::Two => 0,
-    };
-    let outcome = decode_capture(alloc, &program, asked, &bytes)?;
-    Ok(compared(&outcome, &logs)? == Came::All)
+    asked: u16,
+) {
+    let bytes = capture_of_logs(rt, logs, 1024, mode, version);
+    let outcome = decode_capture(rt.alloc(), program, asked, &bytes).expect(rt, "memory");
+    are_whole(rt, (logs.len(), mode, version), &outcome, logs);
 }
 
+/// Logs of so many harts, of so many events each. In version 2 nobody tells the decoder the count of harts either.
 #[test]
-fn logs_come_back(rt: HostRuntime) -> Result<(), Fail> {
-    for (row, (harts, count, mode, version)) in [
-        (64, 10_000, Mode::Differential, Version::One),
-        (8, 10_000, Mode::Full, Version::One),
-        (1, 10_000, Mode::Full, Version::Two),
-        (100, 33, Mode::Differential, Version::Two),
-        (1024, 100, Mode::Differential, Version::Two),
-        (1024, 0, Mode::Full, Version::Two),
-    ]
-    .into_iter()
-    .enumerate()
-    {
-        let back = come_back(rt.alloc(), harts, count, mode, version)?;
-        hold_at(row, back)?;
+fn logs_come_back(rt: HostRuntime) {
+    let program = program_of(&rt, &WORDS);
+    for (harts, count, mode, version, asked) in [
+        (64, 10_000, Mode::Differential, Version::One, 64),
+        (8, 10_000, Mode::Full, Version::One, 8),
+        (1, 10_000, Mode::Full, Version::Two, 0),
+        (100, 33, Mode::Differential, Version::Two, 0),
+        (1024, 100, Mode::Differential, Version::Two, 0),
+        (1024, 0, Mode::Full, Version::Two, 0),
+    ] {
+        let logs = logs_of(&rt, &program, harts, count);
+        come_back(&rt, &program, &logs, mode, version, asked);
     }
-    Ok(())
 }
 
 /// The log of a branch to itself that is taken 33 times, which fills a branch map on the way, in each of a hundred harts.
 #[test]
-fn copies_of_a_log_come_back(rt: HostRuntime) -> Result<(), Fail> {
+fn copies_of_a_log_come_back(rt: HostRuntime) {
     let words = [
         0x13, 0, 0, 0, 0x13, 0, 0, 0, 0x67, 0x80, 0, 0, 0x63, 0, 0, 0,
     ];
-    let program = program_of(rt.alloc(), &words)?;
+    let program = program_of(&rt, &words);
     let branch = Event::Retire {
         addr: BASE + 12,
         itype: 5,
@@ -159,41 +159,39 @@ fn copies_of_a_log_come_back(rt: HostRuntime) -> Result<(), Fail> {
     };
     let mut logs = Vec::new(rt.alloc());
     for _ in 0..100 {
-        logs.push(legal_log(&program, vec![in rt.alloc(); branch; 33]?)?)?;
+        let events = vec![in rt.alloc(); branch; 33].expect(&rt, "memory");
+        let log = legal_log(&rt, &program, events);
+        logs.push(log).expect(&rt, "memory");
     }
     for mode in MODES {
-        let bytes = capture_of_logs(rt.alloc(), &logs, 1024, mode, Version::Two)?;
-        let outcome = decode_capture(rt.alloc(), &program, 1, &bytes)?;
-        hold_at("copies", compared(&outcome, &logs)? == Came::All)?;
+        come_back(&rt, &program, &logs, mode, Version::Two, 1);
     }
-    Ok(())
 }
 
 /// Copies the next of these messages to a capture, if there is one more.
-fn copy_message(messages: &mut Messages<'_>, copy: &mut Vec<u8>) -> Result<(), Fail> {
-    if let Some(message) = messages.next()? {
-        write_message(copy, &message)?;
+fn copy_message<R: Abort>(rt: &R, messages: &mut Messages<'_>, copy: &mut Vec<u8>) {
+    if let Some(message) = messages.next().expect(rt, "a message") {
+        write_message(copy, &message).expect(rt, "memory");
     }
-    Ok(())
 }
 
 /// The messages of two harts in turn give the same as those of one after the other.
 #[test]
-fn harts_in_turn(rt: HostRuntime) -> Result<(), Fail> {
-    let program = program_of(rt.alloc(), &WORDS)?;
-    let logs = logs_of(rt.alloc(), &program, 2, 1_000)?;
-    let alone = logs_of(rt.alloc(), &program, 1, 1_000)?;
-    let first = capture_of_logs(rt.alloc(), &alone, 31, Mode::Full, Version::One)?;
-    let both = capture_of_logs(rt.alloc(), &logs, 31, Mode::Full, Version::One)?;
+fn harts_in_turn(rt: HostRuntime) {
+    let program = program_of(&rt, &WORDS);
+    let logs = logs_of(&rt, &program, 2, 1_000);
+    let alone = logs.get(..1).expect(&rt, "a log");
+    let first = capture_of_logs(&rt, alone, 31, Mode::Full, Version::One);
+    let both = capture_of_logs(&rt, &logs, 31, Mode::Full, Version::One);
     let mut in_turn = Vec::new(rt.alloc());
     let mut of_first = Messages::new(&first);
     let mut of_second = Messages::new(&both[first.len().min(both.len())..]);
     for _ in 0..both.len() {
-        copy_message(&mut of_first, &mut in_turn)?;
-        copy_message(&mut of_second, &mut in_turn)?;
+        copy_message(&rt, &mut of_first, &mut in_turn);
+        copy_message(&rt, &mut of_second, &mut in_turn);
     }
-    let are_other = in_turn.len() == both.len() && in_turn.as_slice() != both.as_slice();
-    hold_at("in turn", are_other)?;
-    let outcome = decode_capture(rt.alloc(), &program, 2, &in_turn)?;
-    hold_at("events", compared(&outcome, &logs)? == Came::All)
+    same_at(&rt, "in turn", in_turn.len(), both.len());
+    assert!(rt; in_turn.as_slice() != both.as_slice(), "not in turn");
+    let outcome = decode_capture(rt.alloc(), &program, 2, &in_turn).expect(&rt, "memory");
+    are_whole(&rt, "in turn", &outcome, &logs);
 }

@@ -1,15 +1,15 @@
 //! Small captures to events, in both versions.
 
 use crate::headers::header_of;
-use crate::hold::hold_at;
 use crate::made::{BASE, program_of};
+use crate::same::same_at;
 use captures::{CaptureFault, decode_capture};
 use decoder::DecodeFault;
 use message::{DemuxFault, Message, MessageFault, write_message};
 use payload::{Mode, PackFault, Payload};
 use retire::Event;
-use std::alloc::{AllocError, Global};
-use std::test::Fail;
+use std::fmt::Debug;
+use std::process::Abort;
 
 /// Two words `nop`.
 pub(crate) const NOPS: [u8; 8] = [0x13, 0, 0, 0, 0x13, 0, 0, 0];
@@ -58,66 +58,76 @@ pub(crate) type Sent = (u16, u64, &'static [u8]);
 pub(crate) type Start = Option<(Mode, u16)>;
 
 /// What stands before the messages of a capture.
-pub(crate) fn start_of(alloc: Global, start: Start) -> Result<Vec<u8>, AllocError> {
-    match start {
-        None => Ok(Vec::new(alloc)),
-        Some((mode, harts)) => header_of(mode, harts).to_vec(alloc),
+pub(crate) fn start_of<R: Abort + AllocGlobal>(rt: &R, start: Start) -> Vec<u8> {
+    let mut bytes = Vec::new(rt.alloc());
+    if let Some((mode, harts)) = start {
+        add(rt, &mut bytes, &header_of(mode, harts));
     }
+    bytes
+}
+
+/// Appends the bytes.
+pub(crate) fn add<R: Abort>(rt: &R, bytes: &mut Vec<u8>, more: &[u8]) {
+    bytes.extend_from_slice(more).expect(rt, "memory");
 }
 
 /// A message that is sent.
-pub(crate) fn message_of(sent: &Sent) -> Result<Message, PackFault> {
-    let (hart, number, payload) = sent;
-    Ok(Message {
+pub(crate) fn message_of<R: Abort>(rt: &R, (hart, number, payload): &Sent) -> Message {
+    Message {
         hart: *hart,
         number: *number,
-        payload: Payload::new(payload)?,
-    })
+        payload: Payload::new(payload).expect(rt, "a payload"),
+    }
 }
 
 /// The capture of these messages.
-pub(crate) fn capture_of(alloc: Global, start: Start, messages: &[Sent]) -> Result<Vec<u8>, Fail> {
-    let mut bytes = start_of(alloc, start)?;
+pub(crate) fn capture_of<R: Abort + AllocGlobal>(
+    rt: &R,
+    start: Start,
+    messages: &[Sent],
+) -> Vec<u8> {
+    let mut bytes = start_of(rt, start);
     for sent in messages {
-        write_message(&mut bytes, &message_of(sent)?)?;
+        write_message(&mut bytes, &message_of(rt, sent)).expect(rt, "memory");
     }
-    Ok(bytes)
+    bytes
 }
 
 /// Why decoding stops, and at which message.
 pub(crate) type Stop = Option<(u64, CaptureFault)>;
 
-/// Whether these are the lists of harts that have so many of both events, and the flags tell that just those are closed
-/// that have both.
-pub(crate) fn are_told(lists: &[Vec<Event>], closed: &[bool], counts: &[usize]) -> bool {
-    if lists.len() != counts.len() || closed.len() != counts.len() {
-        return false;
+/// These are the lists of harts that have so many of both events, and the flags tell that just those are closed that have
+/// both.
+pub(crate) fn are_told<R: Abort, P: Debug + Copy>(
+    rt: &R,
+    place: P,
+    lists: &[Vec<Event>],
+    closed: &[bool],
+    counts: &[usize],
+) {
+    same_at(rt, place, lists.len(), counts.len());
+    same_at(rt, place, closed.len(), counts.len());
+    for (hart, (list, count)) in lists.iter().zip(counts).enumerate() {
+        same_at(rt, (place, hart), list.as_slice(), &BOTH[..(*count).min(2)]);
     }
-    for (list, count) in lists.iter().zip(counts) {
-        if list.as_slice() != &BOTH[..(*count).min(2)] {
-            return false;
-        }
+    for (hart, (closed, count)) in closed.iter().zip(counts).enumerate() {
+        same_at(rt, (place, hart), *closed, *count == 2);
     }
-    for (closed, count) in closed.iter().zip(counts) {
-        if *closed != (*count == 2) {
-            return false;
-        }
-    }
-    true
 }
 
-/// Whether these bytes decode to such lists and flags over two words `nop`, where so many harts are asked for, and stop
-/// like this.
-pub(crate) fn decodes(
-    alloc: Global,
+/// These bytes decode to such lists and flags over two words `nop`, where so many harts are asked for, and stop like this.
+pub(crate) fn decodes<R: Abort + AllocGlobal, P: Debug + Copy>(
+    rt: &R,
+    place: P,
     asked: u16,
     bytes: &[u8],
     counts: &[usize],
     stop: Stop,
-) -> Result<bool, Fail> {
-    let program = program_of(alloc, &NOPS)?;
-    let outcome = decode_capture(alloc, &program, asked, bytes)?;
-    Ok(outcome.fault == stop && are_told(&outcome.harts, &outcome.closed, counts))
+) {
+    let program = program_of(rt, &NOPS);
+    let outcome = decode_capture(rt.alloc(), &program, asked, bytes).expect(rt, "memory");
+    same_at(rt, place, outcome.fault, stop);
+    are_told(rt, place, &outcome.harts, &outcome.closed, counts);
 }
 
 /// The name of a row, the mode that a header tells, messages, how many of both events each hart has then, and why decoding
@@ -229,25 +239,17 @@ const ROWS: [Row; 11] = [
     ),
 ];
 
-/// Whether a row is so without a header, and behind one, where the header's count of harts holds and not the one that is
-/// asked for.
-fn is_so(alloc: Global, row: Row) -> Result<bool, Fail> {
-    let (_, mode, messages, counts, stop) = row;
-    let harts = counts.len().min(3) as u16;
-    let bare = capture_of(alloc, None, messages)?;
-    let headed = capture_of(alloc, Some((mode, harts)), messages)?;
-    Ok(
-        decodes(alloc, harts, &bare, counts, stop)?
-            && decodes(alloc, harts + 1, &headed, counts, stop)?,
-    )
-}
-
+/// Each row is so without a header, and behind one, where the header's count of harts holds and not the one that is asked
+/// for.
 #[test]
-fn messages_by_table(rt: HostRuntime) -> Result<(), Fail> {
-    for row in ROWS {
-        hold_at(row.0, is_so(rt.alloc(), row)?)?;
+fn messages_by_table(rt: HostRuntime) {
+    for (name, mode, messages, counts, stop) in &ROWS {
+        let harts = counts.len().min(3) as u16;
+        let bare = capture_of(&rt, None, messages);
+        decodes(&rt, (*name, "bare"), harts, &bare, counts, *stop);
+        let headed = capture_of(&rt, Some((*mode, harts)), messages);
+        decodes(&rt, (*name, "headed"), harts + 1, &headed, counts, *stop);
     }
-    Ok(())
 }
 
 /// How many of the messages of the worked capture end at this length or before, and whether one ends there or none has
@@ -265,13 +267,11 @@ pub(crate) fn whole_messages(length: usize) -> (u64, bool) {
 /// The worked capture behind a header that counts one hart.
 const HEADED: Start = Some((Mode::Differential, 1));
 
-/// Whether the worked capture, cut to this length behind this start, has the events of its whole messages.
-fn decodes_cut(alloc: Global, start: Start, length: usize) -> Result<bool, Fail> {
-    let mut bytes = start_of(alloc, start)?;
-    match WORKED.get(..length) {
-        Some(first) => bytes.extend_from_slice(first)?,
-        None => return Ok(false),
-    }
+/// The worked capture, cut to this length behind this start, has the events of its whole messages.
+fn decodes_cut<R: Abort + AllocGlobal>(rt: &R, start: Start, length: usize) {
+    let first = WORKED.get(..length).expect(rt, "so many bytes");
+    let mut bytes = start_of(rt, start);
+    add(rt, &mut bytes, first);
     let (number, ends) = whole_messages(length);
     let events = match number {
         0 | 1 => 0,
@@ -280,63 +280,63 @@ fn decodes_cut(alloc: Global, start: Start, length: usize) -> Result<bool, Fail>
     };
     let short = Some((number, CaptureFault::Message(MessageFault::Short)));
     let stop = if ends { None } else { short };
-    decodes(alloc, 1, &bytes, &[events], stop)
+    decodes(rt, (start, length), 1, &bytes, &[events], stop);
 }
 
 /// The worked capture cut to each length.
 #[test]
-fn cut_captures(rt: HostRuntime) -> Result<(), Fail> {
+fn cut_captures(rt: HostRuntime) {
     for length in 0..53 {
-        let holds = decodes_cut(rt.alloc(), None, length)?
-            && decodes_cut(rt.alloc(), HEADED, length)?;
-        hold_at(length, holds)?;
+        decodes_cut(&rt, None, length);
+        decodes_cut(&rt, HEADED, length);
     }
-    Ok(())
 }
 
 /// The worked capture behind a header, whole for each count of harts that is asked for.
 #[test]
-fn any_count_is_asked_for(rt: HostRuntime) -> Result<(), Fail> {
-    let mut whole = start_of(rt.alloc(), HEADED)?;
-    whole.extend_from_slice(&WORKED)?;
-    hold_at("length", whole.len() == 68)?;
+fn any_count_is_asked_for(rt: HostRuntime) {
+    let mut whole = start_of(&rt, HEADED);
+    add(&rt, &mut whole, &WORKED);
+    same_at(&rt, "length", whole.len(), 68);
     for asked in [0, 1, 1024, 65_535] {
-        hold_at(asked, decodes(rt.alloc(), asked, &whole, &[2], None)?)?;
+        decodes(&rt, asked, asked, &whole, &[2], None);
     }
-    Ok(())
 }
 
 /// The worked capture with bad lengths.
 #[test]
-fn bad_lengths(rt: HostRuntime) -> Result<(), Fail> {
+fn bad_lengths(rt: HostRuntime) {
     let bad = Some((2, CaptureFault::Message(MessageFault::BadLength)));
     for length in [0, 19, 255] {
         let mut bytes = WORKED;
         bytes[38] = length;
-        hold_at(length, decodes(rt.alloc(), 1, &bytes, &[1], bad)?)?;
+        decodes(&rt, length, 1, &bytes, &[1], bad);
     }
-    Ok(())
 }
 
-/// Whether of so many harts none has events where nobody sends anything, or one behind the last one does, and the last
-/// one has its own.
-fn are_many(alloc: Global, start: Start, asked: u16, harts: u16) -> Result<bool, Fail> {
-    let mut counts = vec![in alloc; 0; usize::from(harts)]?;
+/// Of so many harts none has events where nobody sends anything, or one behind the last one does, and the last one has its
+/// own.
+fn are_many<R: Abort + AllocGlobal>(rt: &R, start: Start, asked: u16, harts: u16) {
+    let mut counts = vec![in rt.alloc(); 0; usize::from(harts)].expect(rt, "memory");
     let stranger = Some((0, CaptureFault::Demux(DemuxFault::Stranger)));
-    let empty = capture_of(alloc, start, &[])?;
-    let behind = capture_of(alloc, start, &[(harts, 0, OPEN)])?;
-    if !decodes(alloc, asked, &empty, &counts, None)?
-        || !decodes(alloc, asked, &behind, &counts, stranger)?
-    {
-        return Ok(false);
-    }
+    let empty = capture_of(rt, start, &[]);
+    decodes(rt, (start, harts, "empty"), asked, &empty, &counts, None);
+    let behind = capture_of(rt, start, &[(harts, 0, OPEN)]);
+    decodes(
+        rt,
+        (start, harts, "behind"),
+        asked,
+        &behind,
+        &counts,
+        stranger,
+    );
     let Some(count) = counts.last_mut() else {
-        return Ok(true);
+        return;
     };
     *count = 1;
     let last = harts.saturating_sub(1);
-    let one = capture_of(alloc, start, &[(last, 0, OPEN), (last, 1, FIRST)])?;
-    decodes(alloc, asked, &one, &counts, None)
+    let one = capture_of(rt, start, &[(last, 0, OPEN), (last, 1, FIRST)]);
+    decodes(rt, (start, harts, "last"), asked, &one, &counts, None);
 }
 
 const FEW: Start = Some((Mode::Differential, 65));
@@ -345,7 +345,7 @@ const MOST: Start = Some((Mode::Differential, 1024));
 
 /// No harts, and many.
 #[test]
-fn counts_of_harts(rt: HostRuntime) -> Result<(), Fail> {
+fn counts_of_harts(rt: HostRuntime) {
     for (start, asked, harts) in [
         (None, 0, 0),
         (None, 65, 65),
@@ -353,7 +353,6 @@ fn counts_of_harts(rt: HostRuntime) -> Result<(), Fail> {
         (FEW, 7, 65),
         (MOST, 7, 1024),
     ] {
-        hold_at(harts, are_many(rt.alloc(), start, asked, harts)?)?;
+        are_many(&rt, start, asked, harts);
     }
-    Ok(())
 }

@@ -1,15 +1,14 @@
 //! Runs of `dump`.
 
-use super::table::{PAIR, Request, Table, capture_of, ends};
-use std::test::Fail;
+use super::table::{PAIR, Request, add, capture_of, ends};
 
 const DUMP: Request<'static> = Request::Dump("log.capture");
 
 /// An interrupt right after a return, of which the address is reported as a discontinuity's target.
 #[test]
-fn dumps_a_capture(rt: HostRuntime) -> Result<(), Fail> {
+fn dumps_a_capture(rt: HostRuntime) {
     let capture = capture_of(
-        rt.alloc(),
+        &rt,
         &[
             (0, 0, b"\x1f"),
             (0, 1, b"\x73\0\0\0\x20"),
@@ -17,29 +16,27 @@ fn dumps_a_capture(rt: HostRuntime) -> Result<(), Fail> {
             (0, 3, b"\xf7\x23\x02\0\0\x20"),
             (0, 4, b"\xcf\0"),
         ],
-    )?;
-    let mut files = Table::new(rt.alloc());
-    files.add("log.capture", capture.as_slice())?;
+    );
+    let files = [("log.capture", capture.as_slice())];
     let written = "0 0 open\n\
         0 1 sync addr=80000000 priv=3 branch=1\n\
         0 2 address diff=4 map=- updiscon\n\
         0 3 trap interrupt cause=7 epc=80000008 priv=3 branch=1\n\
         0 4 close ended_ntr\n";
-    ends(&rt, &mut files, DUMP, (0, written, ""))?;
-    Ok(())
+    ends(&rt, &files, DUMP, (0, written, ""));
 }
 
 /// The line of the header comes first, and its mode names the address field, whatever the messages tell.
 #[test]
-fn dumps_a_capture_with_a_header(rt: HostRuntime) -> Result<(), Fail> {
+fn dumps_a_capture_with_a_header(rt: HostRuntime) {
     let messages = capture_of(
-        rt.alloc(),
+        &rt,
         &[
             (0, 0, b"\x1f\x01"),
             (0, 1, b"\x0a\0\0\0\0\0\0\0\xfc"),
             (9, 7, b"\x1f"),
         ],
-    )?;
+    );
     for (settings, written) in [
         (
             b"\x00\x00\x04\x01\x00",
@@ -50,21 +47,20 @@ fn dumps_a_capture_with_a_header(rt: HostRuntime) -> Result<(), Fail> {
             "capture 2 mode=full period=65535 harts=1024\n0 0 open full\n0 1 address addr=4 map=- updiscon\n9 7 open\n",
         ),
     ] {
-        let mut capture = Vec::from_slice(rt.alloc(), b"\xff\xffrvtrace2\0")?;
-        capture.extend_from_slice(settings)?;
-        capture.extend_from_slice(messages.as_slice())?;
-        let mut files = Table::new(rt.alloc());
-        files.add("log.capture", capture.as_slice())?;
-        ends(&rt, &mut files, DUMP, (0, written, ""))?;
+        let mut capture = Vec::new(rt.alloc());
+        add(&rt, &mut capture, b"\xff\xffrvtrace2\0");
+        add(&rt, &mut capture, settings);
+        add(&rt, &mut capture, messages.as_slice());
+        let files = [("log.capture", capture.as_slice())];
+        ends(&rt, &files, DUMP, (0, written, ""));
     }
-    Ok(())
 }
 
 /// Messages are dumped as they stand, whatever their harts and numbers.
 #[test]
-fn dumps_each_kind(rt: HostRuntime) -> Result<(), Fail> {
+fn dumps_each_kind(rt: HostRuntime) {
     let capture = capture_of(
-        rt.alloc(),
+        &rt,
         &[
             (65535, 18_446_744_073_709_551_615, b"\x4f"),
             (7, 2, b"\xf7\x45\x40\0\0\x20"),
@@ -73,24 +69,22 @@ fn dumps_each_kind(rt: HostRuntime) -> Result<(), Fail> {
             (0, 0, b"\x01"),
             (0, 0, b"\x63\x03\0\0\x20"),
         ],
-    )?;
-    let mut files = Table::new(rt.alloc());
-    files.add("log.capture", capture.as_slice())?;
+    );
+    let files = [("log.capture", capture.as_slice())];
     let written = "65535 18446744073709551615 close ended_rep\n\
         7 2 trap exception cause=b tval=0 handler=80000100 priv=3 branch=1\n\
         7 2 address diff=8 map=1 plain\n\
         0 0 address diff=0 map=- notify\n\
         0 0 map 0000000000000000000000000000000\n\
         0 0 sync addr=8000000c priv=3 branch=0\n";
-    ends(&rt, &mut files, DUMP, (0, written, ""))?;
-    Ok(())
+    ends(&rt, &files, DUMP, (0, written, ""));
 }
 
 /// A payload that is no packet has its line, and the messages behind it have theirs; no error is told.
 #[test]
-fn dumps_bad_payloads(rt: HostRuntime) -> Result<(), Fail> {
+fn dumps_bad_payloads(rt: HostRuntime) {
     let capture = capture_of(
-        rt.alloc(),
+        &rt,
         &[
             (0, 0, b"\x1f\x80"),
             (0, 1, b"\xcf"),
@@ -98,30 +92,28 @@ fn dumps_bad_payloads(rt: HostRuntime) -> Result<(), Fail> {
             (0, 3, b"\x02\0\0\0\0\0\0\0\x02"),
             (0, 4, b"\x1f\0"),
         ],
-    )?;
-    let mut files = Table::new(rt.alloc());
-    files.add("log.capture", capture.as_slice())?;
+    );
+    let files = [("log.capture", capture.as_slice())];
     let written = "0 0 bad BadPad\n0 1 bad Unsupported\n0 2 bad BadPrivilege\n\
         0 3 bad BadReport\n0 4 open\n";
-    ends(&rt, &mut files, DUMP, (1, written, ""))?;
-    Ok(())
+    ends(&rt, &files, DUMP, (1, written, ""));
 }
 
 /// No bytes are a capture; one that ends inside a message, or has no length, is told after its lines.
 #[test]
-fn stops_where_no_message_stands(rt: HostRuntime) -> Result<(), Fail> {
+fn stops_where_no_message_stands(rt: HostRuntime) {
     let mut long = PAIR;
     long[22] = 19;
-    let mut files = Table::new(rt.alloc());
-    files.add("log.capture", b"")?;
-    files.add("short.capture", &PAIR[..23])?;
-    files.add("long.capture", &long)?;
-    ends(&rt, &mut files, DUMP, (0, "", ""))?;
+    let files: [(&str, &[u8]); 3] = [
+        ("log.capture", b""),
+        ("short.capture", &PAIR[..23]),
+        ("long.capture", &long),
+    ];
+    ends(&rt, &files, DUMP, (0, "", ""));
     let told = "tracebench: message 1: the capture ends inside a message\n";
     let request = Request::Dump("short.capture");
-    ends(&rt, &mut files, request, (1, "0 0 open\n", told))?;
+    ends(&rt, &files, request, (1, "0 0 open\n", told));
     let told = "tracebench: message 1: payload length is not 1 to 18\n";
     let request = Request::Dump("long.capture");
-    ends(&rt, &mut files, request, (1, "0 0 open\n", told))?;
-    Ok(())
+    ends(&rt, &files, request, (1, "0 0 open\n", told));
 }

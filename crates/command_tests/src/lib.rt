@@ -22,4 +22,6 @@ mod same;
 #[cfg(test)]
 mod table;
 #[cfg(test)]
+mod text;
+#[cfg(test)]
 mod whole_captures;

@@ -1,22 +1,12 @@
 //! Logs that are refused.
 
-use super::table::{HEADER, NOP, Request, Table, tells};
-use std::alloc::{AllocError, Global};
-use std::test::Fail;
+use super::table::{HEADER, NOP, Request, tells};
 
-/// The files of one log under a header, beside an image of three words: `nop`, `nop` and a jump to
-/// itself.
-fn files_of(alloc: Global, rows: &str) -> Result<Table, AllocError> {
-    let mut log = HEADER.to_string(alloc)?;
-    log.push_str(rows)?;
-    let mut files = Table::new(alloc);
-    files.add("image.bin", b"\x13\0\0\0\x13\0\0\0\x6f\0\0\0")?;
-    files.add("log.csv", log.as_bytes())?;
-    Ok(files)
-}
+/// The image of three words: `nop`, `nop` and a jump to itself.
+const IMAGE: &[u8] = b"\x13\0\0\0\x13\0\0\0\x6f\0\0\0";
 
 #[test]
-fn names_the_faulty_row(rt: HostRuntime) -> Result<(), Fail> {
+fn names_the_faulty_row(rt: HostRuntime) {
     let cases = [
         ("80000000,0,3,\n", "row 1: wrong number of fields"),
         ("80000000,0,3,,\n80000004g,0,3,,\n", "row 2: not a number"),
@@ -39,19 +29,21 @@ fn names_the_faulty_row(rt: HostRuntime) -> Result<(), Fail> {
         ("8000000c,0,3,,\n", "row 1: OffProgram"),
     ];
     for (rows, fault) in cases {
-        let mut files = files_of(rt.alloc(), rows)?;
-        let text = format!(in rt.alloc(); "tracebench: log.csv: {fault}\n")?;
+        let log = format!(in rt.alloc(); "{HEADER}{rows}").expect(&rt, "memory");
+        let text = format!(in rt.alloc(); "tracebench: log.csv: {fault}\n").expect(&rt, "memory");
+        let files = [("image.bin", IMAGE), ("log.csv", log.as_bytes())];
         let request = Request::Hex("80000000", 1024, "image.bin", "log.csv");
-        tells(&rt, &mut files, &[(request, 2, text.as_str())])?;
+        tells(&rt, &files, &[(request, 2, text.as_str())]);
     }
-    Ok(())
 }
 
 #[test]
-fn names_the_file(rt: HostRuntime) -> Result<(), Fail> {
-    let mut files = Table::new(rt.alloc());
-    files.add("image.bin", &NOP)?;
-    files.add("short.csv", b"addr,itype,priv,cause\n80000000,0,3,\n")?;
+fn names_the_file(rt: HostRuntime) {
+    let short = b"addr,itype,priv,cause\n80000000,0,3,\n";
+    let files = [
+        ("image.bin", NOP.as_slice()),
+        ("short.csv", short.as_slice()),
+    ];
     let cases = [
         (
             Request::Hex("80000000", 1024, "image.bin", "short.csv"),
@@ -69,16 +61,18 @@ fn names_the_file(rt: HostRuntime) -> Result<(), Fail> {
             "tracebench: out of memory\n",
         ),
     ];
-    tells(&rt, &mut files, cases.as_slice())?;
-    Ok(())
+    tells(&rt, &files, cases.as_slice());
 }
 
 /// The second of two logs is refused, and nothing of the first is written.
 #[test]
-fn writes_nothing_of_refused_logs(rt: HostRuntime) -> Result<(), Fail> {
-    let mut files = files_of(rt.alloc(), "80000000,0,3,,\n")?;
-    files.add("odd.csv", b"addr,itype,priv,cause,tval\n80000001,0,3,,\n")?;
-    files.add("off.csv", b"addr,itype,priv,cause,tval\n8000000c,0,3,,\n")?;
+fn writes_nothing_of_refused_logs(rt: HostRuntime) {
+    let files: [(&str, &[u8]); 4] = [
+        ("image.bin", IMAGE),
+        ("log.csv", b"addr,itype,priv,cause,tval\n80000000,0,3,,\n"),
+        ("odd.csv", b"addr,itype,priv,cause,tval\n80000001,0,3,,\n"),
+        ("off.csv", b"addr,itype,priv,cause,tval\n8000000c,0,3,,\n"),
+    ];
     let cases = [
         (
             Request::Hex("80000000", 1024, "image.bin", "log.csv odd.csv"),
@@ -96,6 +90,5 @@ fn writes_nothing_of_refused_logs(rt: HostRuntime) -> Result<(), Fail> {
             "tracebench: no.csv: cannot be read\n",
         ),
     ];
-    tells(&rt, &mut files, cases.as_slice())?;
-    Ok(())
+    tells(&rt, &files, cases.as_slice());
 }

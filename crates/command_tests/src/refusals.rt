@@ -1,10 +1,9 @@
 //! Bases and images that are refused.
 
-use super::table::{NOP, Request, Table, tells};
-use std::test::Fail;
+use super::table::{NOP, Request, tells};
 
 #[test]
-fn bases(rt: HostRuntime) -> Result<(), Fail> {
+fn bases(rt: HostRuntime) {
     let told = "tracebench: base is not a number\n";
     let cases = [
         (Request::Check("", "no.bin", "no.csv"), 2, told),
@@ -14,17 +13,16 @@ fn bases(rt: HostRuntime) -> Result<(), Fail> {
         (Request::Hex("-1", 1024, "no.bin", "no.csv"), 2, told),
         (Request::Bench("zz", 16, "no.bin", "no.csv"), 2, told),
     ];
-    let mut files = Table::new(rt.alloc());
-    tells(&rt, &mut files, cases.as_slice())?;
-    Ok(())
+    tells(&rt, &[], cases.as_slice());
 }
 
 #[test]
-fn images(rt: HostRuntime) -> Result<(), Fail> {
-    let mut files = Table::new(rt.alloc());
-    files.add("image.bin", &NOP)?;
-    let large: Vec<u8> = vec![in rt.alloc(); 0; 16_777_217]?;
-    files.add("large.bin", large.as_slice())?;
+fn images(rt: HostRuntime) {
+    let large: Vec<u8> = vec![in rt.alloc(); 0; 16_777_217].expect(&rt, "memory");
+    let files = [
+        ("image.bin", NOP.as_slice()),
+        ("large.bin", large.as_slice()),
+    ];
     let cases = [
         (
             Request::Hex("80000001", 1024, "no.bin", "no.csv"),
@@ -98,6 +96,5 @@ fn images(rt: HostRuntime) -> Result<(), Fail> {
             "tracebench: out of memory\n",
         ),
     ];
-    tells(&rt, &mut files, cases.as_slice())?;
-    Ok(())
+    tells(&rt, &files, cases.as_slice());
 }

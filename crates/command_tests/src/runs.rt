@@ -1,8 +1,10 @@
 //! Logs with the messages that the E-Trace specification's packets and this project's profile give.
 
-use super::table::{HEADER, NOP, Request, Table, ends, writes};
-use std::alloc::{AllocError, Global};
-use std::test::Fail;
+use super::table::{HEADER, NOP, Request, ends, tells, writes};
+use super::text::{append, for_each_hart};
+use std::process::Abort;
+use std::sync::Wait;
+use std::thread::Threads;
 
 /// An image, as its words from the base on; rows of a log, the first so often; and what is written for it.
 #[derive(Clone, Copy)]
@@ -137,80 +139,89 @@ const RUNS: [Run; 15] = [
 const RETURNS: &[u8] = b"\x13\0\0\0\x13\0\0\0\x67\x80\0\0";
 
 /// The text of a log of these rows, the first so often.
-fn log_of(alloc: Global, first: usize, rows: &[&str]) -> Result<String, AllocError> {
-    let mut text = HEADER.to_string(alloc)?;
+fn log_of<R: Abort + AllocGlobal>(rt: &R, first: usize, rows: &[&str]) -> String {
+    let mut text = String::new(rt.alloc());
+    append(rt, &mut text, HEADER);
     for (i, row) in rows.iter().enumerate() {
         let times = if i == 0 { first } else { 1 };
         for _ in 0..times {
-            text.push_str(row)?;
-            text.push_str("\n")?;
+            append(rt, &mut text, row);
+            append(rt, &mut text, "\n");
         }
     }
-    Ok(text)
+    text
+}
+
+/// The log has these messages. The answer is its capture.
+fn encodes<'x, R: Abort + AllocGlobal + Threads + Wait + Sync>(
+    rt: &R,
+    image: &'x [u8],
+    log: &'x [u8],
+    messages: &str,
+) -> Vec<u8> {
+    let files = [("image.bin", image), ("log.csv", log)];
+    let request = Request::Hex("80000000", 1024, "image.bin", "log.csv");
+    ends(rt, &files, request, (0, messages, ""));
+    let request = Request::Encode("80000000", 1024, "image.bin", "log.csv");
+    writes(rt, &files, request, 0, "")
+}
+
+/// The capture decodes to this text.
+fn decodes<'x, R: Abort + AllocGlobal + Threads + Wait + Sync>(
+    rt: &R,
+    image: &'x [u8],
+    capture: &'x [u8],
+    written: &str,
+) {
+    let files = [("image.bin", image), ("log.capture", capture)];
+    let request = Request::Decode("80000000", 1, "image.bin", "log.capture");
+    ends(rt, &files, request, (0, written, ""));
 }
 
 #[test]
-fn encodes_logs(rt: HostRuntime) -> Result<(), Fail> {
+fn encodes_logs_and_has_them_back(rt: HostRuntime) {
     for run in RUNS {
-        let mut files = Table::new(rt.alloc());
-        files.add("image.bin", run.image)?;
-        files.add(
-            "log.csv",
-            log_of(rt.alloc(), run.first, run.rows)?.as_bytes(),
-        )?;
-        let request = Request::Hex("80000000", 1024, "image.bin", "log.csv");
-        let written = writes(&rt, &mut files, request, 0, "")?;
-        assert!(rt;
-            written.as_slice() == run.written.as_bytes(),
-            "{}",
-            run.name
-        );
+        let log = log_of(&rt, run.first, run.rows);
+        let capture = encodes(&rt, run.image, log.as_bytes(), run.written);
+        let mut decoded = String::new(rt.alloc());
+        append(&rt, &mut decoded, "hart 0\n");
+        append(&rt, &mut decoded, log.as_str());
+        decodes(&rt, run.image, capture.as_slice(), decoded.as_str());
     }
-    Ok(())
-}
-
-/// The capture of each log decodes to it.
-#[test]
-fn has_logs_back(rt: HostRuntime) -> Result<(), Fail> {
-    for run in RUNS {
-        let mut files = Table::new(rt.alloc());
-        let log = log_of(rt.alloc(), run.first, run.rows)?;
-        files.add("image.bin", run.image)?;
-        files.add("log.csv", log.as_bytes())?;
-        let request = Request::Encode("80000000", 1024, "image.bin", "log.csv");
-        let capture = writes(&rt, &mut files, request, 0, "")?;
-        files.add("log.capture", capture.as_slice())?;
-        let request = Request::Decode("80000000", 1, "image.bin", "log.capture");
-        let decoded = writes(&rt, &mut files, request, 0, "")?;
-        let wanted = format!(in rt.alloc(); "hart 0\n{}", log.as_str())?;
-        assert!(rt; decoded.as_slice() == wanted.as_bytes(), "{}", run.name);
-    }
-    Ok(())
 }
 
 /// An exception whose handler is the next event: the handler's address is sent, and no address of the exception.
 #[test]
-fn reports_a_handler(rt: HostRuntime) -> Result<(), Fail> {
-    let mut image = vec![in rt.alloc(); 0u8; 0x104]?;
+fn reports_a_handler(rt: HostRuntime) {
+    let mut image = [0; 0x104];
     image[0] = 0x13;
     image[4] = 0x73;
     image[0x100] = 0x13;
-    let mut files = Table::new(rt.alloc());
-    files.add("image.bin", image.as_slice())?;
-    files.add(
-        "log.csv",
-        b"addr,itype,priv,cause,tval\n80000000,0,3,,\n80000004,1,3,b,0\n80000100,0,3,,\n",
-    )?;
+    let log = b"addr,itype,priv,cause,tval\n80000000,0,3,,\n80000004,1,3,b,0\n80000100,0,3,,\n";
+    let files = [("image.bin", image.as_slice()), ("log.csv", log.as_slice())];
     let request = Request::Hex("80000000", 1024, "image.bin", "log.csv");
     let written = "0 0 1f\n0 1 7300000020\n0 2 f74540000020\n0 3 cf00\n";
-    ends(&rt, &mut files, request, (0, written, ""))?;
-    Ok(())
+    ends(&rt, &files, request, (0, written, ""));
 }
+
+/// Files of three words `nop`, a log of all three, one of the first two and one of none.
+const NOPS: [(&str, &[u8]); 4] = [
+    ("image.bin", b"\x13\0\0\0\x13\0\0\0\x13\0\0\0"),
+    (
+        "three.csv",
+        b"addr,itype,priv,cause,tval\n80000000,0,3,,\n80000004,0,3,,\n80000008,0,3,,\n",
+    ),
+    (
+        "two.csv",
+        b"addr,itype,priv,cause,tval\n80000000,0,3,,\n80000004,0,3,,\n",
+    ),
+    ("none.csv", b"addr,itype,priv,cause,tval\n"),
+];
 
 /// Every second retirement gives a synchronisation packet, and at a period of 1 each does.
 #[test]
-fn keeps_the_period(rt: HostRuntime) -> Result<(), Fail> {
-    let cases = [
+fn keeps_the_period(rt: HostRuntime) {
+    for (period, written) in [
         (
             2,
             "0 0 1f\n0 1 7300000020\n0 2 0a\n0 3 7302000020\n0 4 cf00\n",
@@ -220,128 +231,83 @@ fn keeps_the_period(rt: HostRuntime) -> Result<(), Fail> {
             "0 0 1f\n0 1 7300000020\n0 2 7301000020\n0 3 7302000020\n0 4 cf00\n",
         ),
         (65535, "0 0 1f\n0 1 7300000020\n0 2 12\n0 3 4f\n"),
-    ];
-    let mut files = Table::new(rt.alloc());
-    files.add("image.bin", b"\x13\0\0\0\x13\0\0\0\x13\0\0\0")?;
-    files.add(
-        "log.csv",
-        b"addr,itype,priv,cause,tval\n80000000,0,3,,\n80000004,0,3,,\n80000008,0,3,,\n",
-    )?;
-    for (period, written) in cases {
-        let request = Request::Hex("80000000", period, "image.bin", "log.csv");
-        ends(&rt, &mut files, request, (0, written, ""))?;
+    ] {
+        let request = Request::Hex("80000000", period, "image.bin", "three.csv");
+        ends(&rt, &NOPS, request, (0, written, ""));
     }
-    Ok(())
 }
 
 /// Each log is one hart's, numbered in the order of the words.
 #[test]
-fn encodes_harts(rt: HostRuntime) -> Result<(), Fail> {
-    let mut files = Table::new(rt.alloc());
-    files.add("image.bin", b"\x13\0\0\0\x13\0\0\0")?;
-    files.add("none.csv", HEADER.as_bytes())?;
-    files.add(
-        "two.csv",
-        b"addr,itype,priv,cause,tval\n80000000,0,3,,\n80000004,0,3,,\n",
-    )?;
+fn encodes_harts(rt: HostRuntime) {
     let request = Request::Hex("80000000", 1024, "image.bin", "two.csv none.csv two.csv");
     let written = "0 0 1f\n0 1 7300000020\n0 2 0a\n0 3 4f\n1 0 1f\n1 1 cf00\n\
          2 0 1f\n2 1 7300000020\n2 2 0a\n2 3 4f\n";
-    ends(&rt, &mut files, request, (0, written, ""))?;
-    Ok(())
+    ends(&rt, &NOPS, request, (0, written, ""));
 }
 
-/// So many paths of an empty log.
-fn empty_logs(alloc: Global, count: u16) -> Result<String, AllocError> {
-    let mut logs = String::new(alloc);
-    for _ in 0..count {
-        logs.push_str(" none.csv")?;
-    }
-    Ok(logs)
-}
-
-/// There are up to 1,024 harts, and up to 64 where version 1 is asked for, also of the lines, which have no header.
+/// There are up to 1,024 harts, and up to 64 where version 1 is asked for, also of the lines, which have no header. The
+/// count is told before the image.
 #[test]
-fn encodes_the_most_harts(rt: HostRuntime) -> Result<(), Fail> {
-    let mut files = Table::new(rt.alloc());
-    files.add("image.bin", &NOP)?;
-    files.add("none.csv", HEADER.as_bytes())?;
+fn encodes_the_most_harts(rt: HostRuntime) {
     for (is_one, most, told) in [
         (false, 1024u16, "tracebench: more than 1024 logs\n"),
         (true, 64, "tracebench: more than 64 logs\n"),
     ] {
-        let mut written = String::new(rt.alloc());
-        for hart in 0..most {
-            written.push_str(format!(in rt.alloc(); "{hart} 0 1f\n{hart} 1 cf00\n")?.as_str())?;
-        }
-        for (count, wanted) in [
-            (most, (0, written.as_str(), "")),
-            (most.saturating_add(1), (2, "", told)),
-        ] {
-            let logs = empty_logs(rt.alloc(), count)?;
-            let request = if is_one {
-                Request::HexOne("80000000", 1024, "image.bin", logs.as_str())
-            } else {
-                Request::Hex("80000000", 1024, "image.bin", logs.as_str())
-            };
-            ends(&rt, &mut files, request, wanted)?;
-        }
-        let logs = empty_logs(rt.alloc(), most.saturating_add(1))?;
-        let request = if is_one {
-            Request::EncodeOne("80000000", 1024, "no.bin", logs.as_str())
+        let logs = for_each_hart(&rt, most, " none.csv");
+        let more = for_each_hart(&rt, most.saturating_add(1), " none.csv");
+        let written = for_each_hart(&rt, most, "@ 0 1f\n@ 1 cf00\n");
+        let (hex, hex_more, more) = if is_one {
+            (
+                Request::HexOne("80000000", 1024, "image.bin", logs.as_str()),
+                Request::HexOne("80000000", 1024, "image.bin", more.as_str()),
+                Request::EncodeOne("80000000", 1024, "no.bin", more.as_str()),
+            )
         } else {
-            Request::Encode("80000000", 1024, "no.bin", logs.as_str())
+            (
+                Request::Hex("80000000", 1024, "image.bin", logs.as_str()),
+                Request::Hex("80000000", 1024, "image.bin", more.as_str()),
+                Request::Encode("80000000", 1024, "no.bin", more.as_str()),
+            )
         };
-        ends(&rt, &mut files, request, (2, "", told))?;
+        ends(&rt, &NOPS, hex, (0, written.as_str(), ""));
+        tells(&rt, &NOPS, &[(hex_more, 2, told), (more, 2, told)]);
     }
-    Ok(())
 }
+
+/// What a run of harts that retired nothing tells of each.
+const EMPTY: &str = "hart @: 0 events, 2 packets, 3 payload bytes, decoded 0, whole\n";
 
 /// Each of 1,024 harts sends its two messages, each of which is taken at once.
 #[test]
-fn replays_the_most_harts(rt: HostRuntime) -> Result<(), Fail> {
-    let mut files = Table::new(rt.alloc());
-    files.add("image.bin", &NOP)?;
-    files.add("none.csv", HEADER.as_bytes())?;
-    let mut turns = String::new(rt.alloc());
-    let mut written = String::new(rt.alloc());
-    for hart in 0..1024u16 {
-        turns.push_str(format!(in rt.alloc(); "{hart} c {hart} c\n")?.as_str())?;
-        written.push_str(format!(in rt.alloc();
-            "hart {hart}: 0 events, 2 packets, 3 payload bytes, decoded 0, whole\n"
-        )?.as_str())?;
-    }
-    written.push_str("result: whole\n")?;
-    files.add("turns.txt", turns.as_bytes())?;
-    let logs = empty_logs(rt.alloc(), 1024)?;
+fn replays_the_most_harts(rt: HostRuntime) {
+    let turns = for_each_hart(&rt, 1024, "@ c @ c\n");
+    let mut written = for_each_hart(&rt, 1024, EMPTY);
+    append(&rt, &mut written, "result: whole\n");
+    let files = [
+        ("image.bin", NOP.as_slice()),
+        ("none.csv", HEADER.as_bytes()),
+        ("turns.txt", turns.as_bytes()),
+    ];
+    let logs = for_each_hart(&rt, 1024, " none.csv");
     let request = Request::Replay("80000000", "image.bin", "turns.txt", logs.as_str());
-    ends(&rt, &mut files, request, (0, written.as_str(), ""))?;
-    let logs = empty_logs(rt.alloc(), 1025)?;
+    ends(&rt, &files, request, (0, written.as_str(), ""));
+    let logs = for_each_hart(&rt, 1025, " none.csv");
     let request = Request::Replay("80000000", "image.bin", "turns.txt", logs.as_str());
     let told = "tracebench: more than 1024 logs\n";
-    ends(&rt, &mut files, request, (2, "", told))?;
-    Ok(())
+    ends(&rt, &files, request, (2, "", told));
 }
 
 /// A run over threads has up to 64 harts; the count is told before the image.
 #[test]
-fn benches_64_harts(rt: HostRuntime) -> Result<(), Fail> {
-    let mut files = Table::new(rt.alloc());
-    files.add("image.bin", &NOP)?;
-    files.add("none.csv", HEADER.as_bytes())?;
-    let mut written = String::new(rt.alloc());
-    for hart in 0..64u16 {
-        written.push_str(format!(in rt.alloc();
-            "hart {hart}: 0 events, 2 packets, 3 payload bytes, decoded 0, whole\n"
-        )?.as_str())?;
-    }
-    written.push_str("result: whole\n")?;
-    let logs = empty_logs(rt.alloc(), 64)?;
+fn benches_64_harts(rt: HostRuntime) {
+    let mut written = for_each_hart(&rt, 64, EMPTY);
+    append(&rt, &mut written, "result: whole\n");
+    let logs = for_each_hart(&rt, 64, " none.csv");
     let request = Request::Bench("80000000", 16, "image.bin", logs.as_str());
-    ends(&rt, &mut files, request, (0, written.as_str(), ""))?;
-    let logs = empty_logs(rt.alloc(), 65)?;
+    ends(&rt, &NOPS, request, (0, written.as_str(), ""));
+    let logs = for_each_hart(&rt, 65, " none.csv");
     let request = Request::Bench("80000000", 16, "no.bin", logs.as_str());
     let told = "tracebench: more than 64 logs\n";
-    ends(&rt, &mut files, request, (2, "", told))?;
-    Ok(())
+    ends(&rt, &NOPS, request, (2, "", told));
 }

@@ -1,8 +1,10 @@
 //! Runs of `encode` and `decode` over captures.
 
-use super::table::{HEADER, NOP, PAIR, Request, Table, add_message, capture_of, ends, writes};
-use std::alloc::{AllocError, Global};
-use std::test::Fail;
+use super::table::{NOP, PAIR, Request, add, add_message, capture_of, ends, writes};
+use super::text::for_each_hart;
+use std::process::Abort;
+use std::sync::Wait;
+use std::thread::Threads;
 
 /// The image of two words `nop`.
 const NOPS: &[u8] = b"\x13\0\0\0\x13\0\0\0";
@@ -27,45 +29,67 @@ const NONE: &str = "hart 0\naddr,itype,priv,cause,tval\n";
 
 const DECODE: Request<'static> = Request::Decode("80000000", 1, "image.bin", "log.capture");
 
-/// The files of an image and a capture.
-fn files_of(alloc: Global, image: &[u8], capture: &[u8]) -> Result<Table, AllocError> {
-    let mut files = Table::new(alloc);
-    files.add("image.bin", image)?;
-    files.add("log.capture", capture)?;
-    Ok(files)
-}
-
+/// A capture of version 1, and one of version 2.
 #[test]
-fn writes_a_capture(rt: HostRuntime) -> Result<(), Fail> {
-    let mut files = Table::new(rt.alloc());
-    files.add("image.bin", NOPS)?;
-    files.add(
-        "log.csv",
-        b"addr,itype,priv,cause,tval\n80000000,0,3,,\n80000004,0,3,,\n",
-    )?;
+fn writes_a_capture(rt: HostRuntime) {
+    let log = b"addr,itype,priv,cause,tval\n80000000,0,3,,\n80000004,0,3,,\n";
+    let files = [("image.bin", NOPS), ("log.csv", log.as_slice())];
     let request = Request::EncodeOne("80000000", 1024, "image.bin", "log.csv");
-    let capture = writes(&rt, &mut files, request, 0, "")?;
+    let capture = writes(&rt, &files, request, 0, "");
     assert!(rt; capture.as_slice() == WHOLE.as_slice());
     let request = Request::Encode("80000000", 1024, "image.bin", "log.csv");
-    let capture = writes(&rt, &mut files, request, 0, "")?;
-    assert!(rt; capture.as_slice() == headed(rt.alloc(), &START, &WHOLE)?.as_slice());
-    Ok(())
+    let capture = writes(&rt, &files, request, 0, "");
+    assert!(rt; capture.as_slice() == headed(&rt, &START).as_slice());
 }
 
-/// A header and messages.
-fn headed(alloc: Global, start: &[u8], messages: &[u8]) -> Result<Vec<u8>, AllocError> {
-    let mut capture = Vec::from_slice(alloc, start)?;
-    capture.extend_from_slice(messages)?;
-    Ok(capture)
+/// Decoding the capture in an image of two words `nop` ends with the status, writes the first text and tells the second.
+fn decodes<R: Abort + AllocGlobal + Threads + Wait + Sync>(
+    rt: &R,
+    capture: &[u8],
+    wanted: (u8, &str, &str),
+) {
+    let files = [("image.bin", NOPS), ("log.capture", capture)];
+    ends(rt, &files, DECODE, wanted);
+}
+
+/// What is told of a capture that ends so: after so many whole messages, and there or inside the next.
+fn decodes_cut<R: Abort + AllocGlobal + Threads + Wait + Sync>(
+    rt: &R,
+    capture: &[u8],
+    (whole, clean): (u8, bool),
+) {
+    let written = match whole {
+        0 | 1 => NONE,
+        2 | 3 => FIRST,
+        _ => BOTH,
+    };
+    let told = match (whole, clean) {
+        (4, _) => "",
+        (_, true) => "tracebench: hart 0: no closing packet\n",
+        (0, false) => "tracebench: message 0: the capture ends inside a message\n",
+        (1, false) => "tracebench: message 1: the capture ends inside a message\n",
+        (2, false) => "tracebench: message 2: the capture ends inside a message\n",
+        (_, false) => "tracebench: message 3: the capture ends inside a message\n",
+    };
+    let status = if whole == 4 { 0 } else { 1 };
+    decodes(rt, capture, (status, written, told));
+}
+
+/// The messages of the whole capture after a header.
+fn headed<R: Abort + AllocGlobal>(rt: &R, start: &[u8]) -> Vec<u8> {
+    let mut capture = Vec::new(rt.alloc());
+    add(rt, &mut capture, start);
+    add(rt, &mut capture, &WHOLE);
+    capture
 }
 
 /// The capture of version 2, of 68 bytes, cut to each length: below 11 bytes it is no capture of version 2, and then a
 /// cut header is told, as message 0.
 #[test]
-fn reads_cut_captures_with_a_header(rt: HostRuntime) -> Result<(), Fail> {
-    let capture = headed(rt.alloc(), &START, &WHOLE)?;
-    for length in 0..69usize {
-        let (whole, clean) = match length {
+fn reads_cut_captures_with_a_header(rt: HostRuntime) {
+    let capture = headed(&rt, &START);
+    for length in 0..capture.len().saturating_add(1) {
+        let stop = match length {
             0 | 16 => (0, true),
             1..=15 | 17..=27 => (0, false),
             28 => (1, true),
@@ -76,34 +100,13 @@ fn reads_cut_captures_with_a_header(rt: HostRuntime) -> Result<(), Fail> {
             57..=67 => (3, false),
             _ => (4, true),
         };
-        let written = match whole {
-            0 | 1 => NONE,
-            2 | 3 => FIRST,
-            _ => BOTH,
-        };
-        let told = if whole == 4 {
-            "".to_string(rt.alloc())?
-        } else if clean {
-            "tracebench: hart 0: no closing packet\n".to_string(rt.alloc())?
-        } else {
-            format!(in rt.alloc();
-                "tracebench: message {whole}: the capture ends inside a message\n"
-            )?
-        };
-        let status = if whole == 4 { 0 } else { 1 };
-        let mut files = files_of(
-            rt.alloc(),
-            NOPS,
-            &capture.as_slice()[..length.min(capture.len())],
-        )?;
-        ends(&rt, &mut files, DECODE, (status, written, told.as_str()))?;
+        decodes_cut(&rt, &capture.as_slice()[..length.min(capture.len())], stop);
     }
-    Ok(())
 }
 
 /// A header that is not valid is told, and so is a message that opens a trace in another mode.
 #[test]
-fn names_faults_of_a_header(rt: HostRuntime) -> Result<(), Fail> {
+fn names_faults_of_a_header(rt: HostRuntime) {
     let header = "tracebench: capture header is not valid\n";
     let other = "tracebench: message 0: open of another mode\n";
     let cases: [(usize, u8, &str, &str); 6] = [
@@ -121,26 +124,30 @@ fn names_faults_of_a_header(rt: HostRuntime) -> Result<(), Fail> {
         ),
     ];
     for (place, byte, told, dumped) in cases {
-        let mut capture = headed(rt.alloc(), &START, &WHOLE)?;
-        if place < capture.len() {
-            capture.as_mut_slice()[place] = byte;
+        let mut start = START;
+        if let Some(field) = start.get_mut(place) {
+            *field = byte;
         }
-        let mut files = files_of(rt.alloc(), NOPS, capture.as_slice())?;
-        ends(&rt, &mut files, DECODE, (1, NONE, told))?;
-        let request = Request::Dump("log.capture");
+        let capture = headed(&rt, &start);
+        decodes(&rt, capture.as_slice(), (1, NONE, told));
         let (status, told) = if dumped.is_empty() {
             (1, header)
         } else {
             (0, "")
         };
-        ends(&rt, &mut files, request, (status, dumped, told))?;
+        let files = [("log.capture", capture.as_slice())];
+        ends(
+            &rt,
+            &files,
+            Request::Dump("log.capture"),
+            (status, dumped, told),
+        );
     }
-    Ok(())
 }
 
 /// The header tells how many harts there are, whatever the words say; of a faulty one the words do.
 #[test]
-fn counts_the_harts_of_a_header(rt: HostRuntime) -> Result<(), Fail> {
+fn counts_the_harts_of_a_header(rt: HostRuntime) {
     let mut start = START;
     let lists = "hart 0\naddr,itype,priv,cause,tval\n80000000,0,3,,\n80000004,0,3,,\n\
         hart 1\naddr,itype,priv,cause,tval\n";
@@ -152,19 +159,18 @@ fn counts_the_harts_of_a_header(rt: HostRuntime) -> Result<(), Fail> {
         (0, none, "tracebench: capture header is not valid\n"),
     ] {
         start[14] = harts;
-        let capture = headed(rt.alloc(), &start, &WHOLE)?;
-        let mut files = files_of(rt.alloc(), NOPS, capture.as_slice())?;
-        ends(&rt, &mut files, request, (1, written, told))?;
+        let capture = headed(&rt, &start);
+        let files = [("image.bin", NOPS), ("log.capture", capture.as_slice())];
+        ends(&rt, &files, request, (1, written, told));
     }
-    Ok(())
 }
 
 /// The capture, cut to each length: it is clean at the end of a message, and short elsewhere. The
 /// address packet is not settled before the closing one.
 #[test]
-fn decodes_cut_captures(rt: HostRuntime) -> Result<(), Fail> {
+fn decodes_cut_captures(rt: HostRuntime) {
     for length in 0..53usize {
-        let (whole, clean) = match length {
+        let stop = match length {
             0 => (0, true),
             1..=11 => (0, false),
             12 => (1, true),
@@ -175,80 +181,60 @@ fn decodes_cut_captures(rt: HostRuntime) -> Result<(), Fail> {
             41..=51 => (3, false),
             _ => (4, true),
         };
-        let written = match whole {
-            0 | 1 => NONE,
-            2 | 3 => FIRST,
-            _ => BOTH,
-        };
-        let told = if whole == 4 {
-            "".to_string(rt.alloc())?
-        } else if clean {
-            "tracebench: hart 0: no closing packet\n".to_string(rt.alloc())?
-        } else {
-            format!(in rt.alloc();
-                "tracebench: message {whole}: the capture ends inside a message\n"
-            )?
-        };
-        let status = if whole == 4 { 0 } else { 1 };
-        let mut files = files_of(rt.alloc(), NOPS, &WHOLE[..length])?;
-        ends(&rt, &mut files, DECODE, (status, written, told.as_str()))?;
+        decodes_cut(&rt, &WHOLE[..length], stop);
     }
-    Ok(())
 }
 
 /// Each capture is refused at one message, and what comes before is decoded.
 #[test]
-fn names_the_refused_message(rt: HostRuntime) -> Result<(), Fail> {
+fn names_the_refused_message(rt: HostRuntime) {
     let cases: [(&[(u16, u64, &[u8])], &str, &str); 7] = [
         (
             &[(0, 0, b"\x1f"), (0, 1, b"\x73\0\0\0\x20"), (0, 3, b"\x4f")],
             FIRST,
-            "message 2: gap, expected number 2",
+            "tracebench: message 2: gap, expected number 2\n",
         ),
         (
             &[(0, 0, b"\x1f"), (0, 1, b"\x73\0\0\0\x20"), (0, 1, b"\x4f")],
             FIRST,
-            "message 2: repeat",
+            "tracebench: message 2: repeat\n",
         ),
         (
             &[(0, 0, b"\x1f"), (1, 0, b"\x1f")],
             NONE,
-            "message 1: stranger",
+            "tracebench: message 1: stranger\n",
         ),
         (
             &[(0, 0, b"\x1f"), (0, 1, b"\xcf\0"), (0, 2, b"\x1f")],
             NONE,
-            "message 2: after close",
+            "tracebench: message 2: after close\n",
         ),
         (
             &[(0, 0, b"\x1f"), (0, 1, b"\x1f\x80")],
             NONE,
-            "message 1: bad packet: BadPad",
+            "tracebench: message 1: bad packet: BadPad\n",
         ),
         (
             &[(0, 0, b"\x73\0\0\0\x20")],
             NONE,
-            "message 0: not decoded: NotOpened",
+            "tracebench: message 0: not decoded: NotOpened\n",
         ),
         (
             &[(0, 0, b"\x1f"), (0, 1, b"\x73\0\0\0\x20"), (0, 2, b"\x4f")],
             FIRST,
-            "message 2: not decoded: WrongPlace",
+            "tracebench: message 2: not decoded: WrongPlace\n",
         ),
     ];
     for (messages, written, told) in cases {
-        let capture = capture_of(rt.alloc(), messages)?;
-        let mut files = files_of(rt.alloc(), NOPS, capture.as_slice())?;
-        let told = format!(in rt.alloc(); "tracebench: {told}\n")?;
-        ends(&rt, &mut files, DECODE, (1, written, told.as_str()))?;
+        let capture = capture_of(&rt, messages);
+        decodes(&rt, capture.as_slice(), (1, written, told));
     }
-    Ok(())
 }
 
 /// The closing packet settles the address packet: a jump to itself would have been reported, and a
 /// program of one word ends before.
 #[test]
-fn names_the_packet_of_another_program(rt: HostRuntime) -> Result<(), Fail> {
+fn names_the_packet_of_another_program(rt: HostRuntime) {
     let cases: [(&[u8], &str); 2] = [
         (
             b"\x6f\0\0\0",
@@ -257,27 +243,24 @@ fn names_the_packet_of_another_program(rt: HostRuntime) -> Result<(), Fail> {
         (&NOP, "tracebench: message 3: not decoded: OffProgram\n"),
     ];
     for (image, told) in cases {
-        let mut files = files_of(rt.alloc(), image, &WHOLE)?;
-        ends(&rt, &mut files, DECODE, (1, FIRST, told))?;
+        let files = [("image.bin", image), ("log.capture", WHOLE.as_slice())];
+        ends(&rt, &files, DECODE, (1, FIRST, told));
     }
-    Ok(())
 }
 
 #[test]
-fn names_a_bad_length(rt: HostRuntime) -> Result<(), Fail> {
+fn names_a_bad_length(rt: HostRuntime) {
     for length in [0u8, 19, 255] {
         let mut capture = PAIR;
         capture[22] = length;
-        let mut files = files_of(rt.alloc(), NOPS, &capture)?;
         let told = "tracebench: message 1: payload length is not 1 to 18\n";
-        ends(&rt, &mut files, DECODE, (1, NONE, told))?;
+        decodes(&rt, &capture, (1, NONE, told));
     }
-    Ok(())
 }
 
 /// The messages of two harts come in turns; the second is not closed, and the first fault is a third's.
 #[test]
-fn parts_harts(rt: HostRuntime) -> Result<(), Fail> {
+fn parts_harts(rt: HostRuntime) {
     let open: &[u8] = b"\x1f";
     let sync: &[u8] = b"\x73\0\0\0\x20";
     let close: &[u8] = b"\xcf\0";
@@ -296,30 +279,32 @@ fn parts_harts(rt: HostRuntime) -> Result<(), Fail> {
         (5, "tracebench: hart 1: no closing packet\n"),
         (6, "tracebench: message 5: stranger\n"),
     ] {
-        let capture = capture_of(rt.alloc(), &messages[..count])?;
-        let mut files = files_of(rt.alloc(), &NOP, capture.as_slice())?;
-        ends(&rt, &mut files, request, (1, lists, told))?;
+        let capture = capture_of(&rt, &messages[..count]);
+        let files = [
+            ("image.bin", NOP.as_slice()),
+            ("log.capture", capture.as_slice()),
+        ];
+        ends(&rt, &files, request, (1, lists, told));
     }
-    Ok(())
 }
 
 /// A capture of 1,024 harts with no header, none of which retired anything, and the one of the same harts that ends
 /// before the last closing packet.
 #[test]
-fn decodes_the_most_harts(rt: HostRuntime) -> Result<(), Fail> {
+fn decodes_the_most_harts(rt: HostRuntime) {
     let mut capture = Vec::new(rt.alloc());
-    let mut written = String::new(rt.alloc());
     for hart in 0..1024u16 {
-        add_message(&mut capture, hart, 0, b"\x1f")?;
-        add_message(&mut capture, hart, 1, b"\xcf\0")?;
-        written.push_str(format!(in rt.alloc(); "hart {hart}\n{HEADER}")?.as_str())?;
+        add_message(&rt, &mut capture, hart, 0, b"\x1f");
+        add_message(&rt, &mut capture, hart, 1, b"\xcf\0");
     }
+    let written = for_each_hart(&rt, 1024, "hart @\naddr,itype,priv,cause,tval\n");
     let request = Request::Decode("80000000", 1024, "image.bin", "log.capture");
-    let mut files = files_of(rt.alloc(), &NOP, capture.as_slice())?;
-    ends(&rt, &mut files, request, (0, written.as_str(), ""))?;
-    capture.truncate(capture.len().saturating_sub(13));
-    let mut files = files_of(rt.alloc(), &NOP, capture.as_slice())?;
-    let told = "tracebench: hart 1023: no closing packet\n";
-    ends(&rt, &mut files, request, (1, written.as_str(), told))?;
-    Ok(())
+    for (cut, status, told) in [
+        (0, 0, ""),
+        (13, 1, "tracebench: hart 1023: no closing packet\n"),
+    ] {
+        let kept = &capture.as_slice()[..capture.len().saturating_sub(cut)];
+        let files = [("image.bin", NOP.as_slice()), ("log.capture", kept)];
+        ends(&rt, &files, request, (status, written.as_str(), told));
+    }
 }

@@ -7,7 +7,8 @@ use crate::same::same_at;
 use crate::traces::Sent::{self, Notify, Plain, Sync, Trap, Updiscon, Walk};
 use crate::traces::{
     BACK_JUMP, BACK_JUMP_TWICE, BEQ, BRANCH_LOOP, ECALL, ENDED_NTR, ENDED_REP, FAR, FULL_MAP,
-    JUMP_LOOP, MRET, NOP, OPEN, OPEN_FULL, RET, SRET, START, TRAP, fed, packet_of, program_of,
+    JUMP_LOOP, MRET, NOP, OPEN, OPEN_FULL, Place, RET, SRET, START, TRAP, copy_of, fed, packet_of,
+    program_of,
 };
 use decoder::DecodeFault::{
     self, AfterClose, Branches, MissedNotify, NotOpened, OffProgram, WrongPlace, WrongPrivilege,
@@ -16,9 +17,7 @@ use decoder::Decoder;
 use payload::Report;
 use retire::Event;
 use rvclass::Program;
-use std::alloc::Global;
 use std::process::Abort;
-use std::test::Fail;
 
 /// A program, the packets that are taken, the packet behind them, and the fault that refuses it.
 type Row = (&'static [u32], Before, Sent, DecodeFault);
@@ -59,44 +58,43 @@ fn packets_of(before: Before) -> &'static [Sent] {
     }
 }
 
-/// Whether two decoders with their logs go on alike.
-fn go_on_alike(
+/// Two decoders with their logs go on alike.
+fn go_on_alike<R: Abort>(
+    rt: &R,
+    place: Place,
     program: &Program,
-    decoder: &mut Decoder,
+    (decoder, twin): (&mut Decoder, &mut Decoder),
     log: &mut Vec<Event>,
-    twin: &mut Decoder,
     copy: &mut Vec<Event>,
-) -> bool {
-    let mut alike = true;
+) {
     for sent in [OPEN, START, Plain(4), ENDED_REP] {
         let packet = packet_of(sent);
         let answer = decoder.feed(program, &packet, log);
-        let expected = twin.feed(program, &packet, copy);
-        alike = alike && answer == expected && log.as_slice() == copy.as_slice();
+        same_at(rt, place, answer, twin.feed(program, &packet, copy));
+        same_at(rt, place, log.as_slice(), copy.as_slice());
     }
-    alike
 }
 
-/// What the packet of a row comes to; whether it changes the log or what `is_closed` answers; and whether what the
+/// The packet of a row is refused as it says and changes neither the log nor what `is_closed` answers; and what the
 /// decoder is left with goes on as one does that was never fed the packet.
-fn answer_to(alloc: Global, row: &Row) -> Result<(Result<(), DecodeFault>, bool, bool), Fail> {
-    let (words, before, next, _) = *row;
-    let program = program_of(alloc, words, &[])?;
-    let (mut decoder, mut log) = fed(alloc, &program, packets_of(before))?;
+fn is_refused<R: Abort + AllocGlobal>(rt: &R, place: Place, row: &Row) {
+    let (words, before, next, fault) = *row;
+    let program = program_of(rt, words, &[]);
+    let (mut decoder, mut log) = fed(rt, &program, packets_of(before));
     let mut twin = decoder;
-    let mut copy = log.as_slice().to_vec(alloc)?;
+    let mut copy = copy_of(rt, log.as_slice());
     let answer = decoder.feed(&program, &packet_of(next), &mut log);
-    let changes = log.as_slice() != copy.as_slice() || decoder.is_closed() != twin.is_closed();
-    let alike = go_on_alike(&program, &mut decoder, &mut log, &mut twin, &mut copy);
-    Ok((answer, changes, alike))
-}
-
-/// Each row is as it says.
-fn are_refused(rt: &impl Abort, alloc: Global, rows: &[Row]) -> Result<(), Fail> {
-    for (i, row) in rows.iter().enumerate() {
-        same_at(rt, i, answer_to(alloc, row)?, (Err(row.3), false, true));
-    }
-    Ok(())
+    let closed = (decoder.is_closed(), twin.is_closed());
+    same_at(rt, place, (answer, closed.0), (Err(fault), closed.1));
+    same_at(rt, place, log.as_slice(), copy.as_slice());
+    go_on_alike(
+        rt,
+        place,
+        &program,
+        (&mut decoder, &mut twin),
+        &mut log,
+        &mut copy,
+    );
 }
 
 const BEFORE_OPEN: [Row; 3] = [
@@ -104,11 +102,6 @@ const BEFORE_OPEN: [Row; 3] = [
     (&[NOP], Nothing, ENDED_NTR, NotOpened),
     (&[NOP], Nothing, Plain(0), NotOpened),
 ];
-
-#[test]
-fn not_opened(rt: HostRuntime) -> Result<(), Fail> {
-    are_refused(&rt, rt.alloc(), &BEFORE_OPEN)
-}
 
 const OFF_THE_PROGRAM: [Row; 8] = [
     (&[NOP], Opened, Sync(8, false, 3), OffProgram),
@@ -120,11 +113,6 @@ const OFF_THE_PROGRAM: [Row; 8] = [
     (&[RET], Started, Updiscon(8), OffProgram),
     (&[NOP], Waiting, ENDED_REP, OffProgram),
 ];
-
-#[test]
-fn off_program(rt: HostRuntime) -> Result<(), Fail> {
-    are_refused(&rt, rt.alloc(), &OFF_THE_PROGRAM)
-}
 
 const UNREPORTED_JUMPS: [Row; 5] = [
     (&[JUMP_LOOP], Waiting, ENDED_REP, MissedNotify),
@@ -140,11 +128,6 @@ const UNREPORTED_JUMPS: [Row; 5] = [
     ),
 ];
 
-#[test]
-fn missed_notify(rt: HostRuntime) -> Result<(), Fail> {
-    are_refused(&rt, rt.alloc(), &UNREPORTED_JUMPS)
-}
-
 const OUTCOMES: [Row; 5] = [
     (&[NOP], Opened, Sync(0, true, 3), Branches),
     (&[NOP, BEQ], Started, Notify(4), Branches),
@@ -157,11 +140,6 @@ const OUTCOMES: [Row; 5] = [
     (&[NOP], Started, Trap(4, true, 3, false), Branches),
     (&[NOP, NOP], Started, Trap(4, true, 3, true), Branches),
 ];
-
-#[test]
-fn branches(rt: HostRuntime) -> Result<(), Fail> {
-    are_refused(&rt, rt.alloc(), &OUTCOMES)
-}
 
 const BY_THE_KIND: [Row; 13] = [
     (&[NOP], Opened, OPEN, WrongPlace),
@@ -179,11 +157,6 @@ const BY_THE_KIND: [Row; 13] = [
     (&[NOP], Trapped, Trap(0, false, 3, true), WrongPlace),
 ];
 
-#[test]
-fn wrong_place_by_the_kind(rt: HostRuntime) -> Result<(), Fail> {
-    are_refused(&rt, rt.alloc(), &BY_THE_KIND)
-}
-
 const BY_THE_PROGRAM: [Row; 5] = [
     (&[NOP, NOP, NOP], Started, Sync(8, false, 3), WrongPlace),
     (
@@ -196,11 +169,6 @@ const BY_THE_PROGRAM: [Row; 5] = [
     (&[RET, NOP], Started, FULL_MAP, WrongPlace),
     (&[RET, NOP], Waiting, ENDED_REP, WrongPlace),
 ];
-
-#[test]
-fn wrong_place_by_the_program(rt: HostRuntime) -> Result<(), Fail> {
-    are_refused(&rt, rt.alloc(), &BY_THE_PROGRAM)
-}
 
 const PRIVILEGES: [Row; 7] = [
     (&[MRET], Opened, Sync(0, false, 1), WrongPrivilege),
@@ -217,21 +185,11 @@ const PRIVILEGES: [Row; 7] = [
     (&[NOP, MRET], Lower, Notify(4), WrongPrivilege),
 ];
 
-#[test]
-fn wrong_privilege(rt: HostRuntime) -> Result<(), Fail> {
-    are_refused(&rt, rt.alloc(), &PRIVILEGES)
-}
-
 /// SRET leads to supervisor or user mode, and a target keeps the privilege.
 const SRET_AT_3: [Row; 2] = [
     (&[SRET, NOP], Started, Updiscon(4), WrongPrivilege),
     (&[SRET, NOP], Waiting, ENDED_NTR, WrongPrivilege),
 ];
-
-#[test]
-fn sret_at_3_before_a_target(rt: HostRuntime) -> Result<(), Fail> {
-    are_refused(&rt, rt.alloc(), &SRET_AT_3)
-}
 
 const BEHIND_THE_CLOSE: [Row; 4] = [
     (&[NOP], Ended, OPEN, AfterClose),
@@ -239,11 +197,6 @@ const BEHIND_THE_CLOSE: [Row; 4] = [
     (&[NOP, NOP], Closed, OPEN, AfterClose),
     (&[NOP, NOP], Closed, Sync(4, false, 3), AfterClose),
 ];
-
-#[test]
-fn after_close(rt: HostRuntime) -> Result<(), Fail> {
-    are_refused(&rt, rt.alloc(), &BEHIND_THE_CLOSE)
-}
 
 const OF_ONE_EVENT: [Row; 8] = [
     (&[NOP, NOP, NOP], Started, Sync(16, false, 3), OffProgram),
@@ -276,11 +229,6 @@ const OF_ONE_EVENT: [Row; 8] = [
     ),
 ];
 
-#[test]
-fn first_fault_of_one_event(rt: HostRuntime) -> Result<(), Fail> {
-    are_refused(&rt, rt.alloc(), &OF_ONE_EVENT)
-}
-
 const ON_THE_WAY: [Row; 4] = [
     (&[NOP], Opened, Trap(16, true, 1, true), WrongPlace),
     (&[NOP], Waiting, OPEN, OffProgram),
@@ -288,14 +236,34 @@ const ON_THE_WAY: [Row; 4] = [
     (&[NOP], Waiting, Trap(0, true, 3, false), OffProgram),
 ];
 
-#[test]
-fn first_fault_on_the_way(rt: HostRuntime) -> Result<(), Fail> {
-    are_refused(&rt, rt.alloc(), &ON_THE_WAY)
-}
-
 const UNTESTED: [Row; 1] = [(&[BRANCH_LOOP], Astray, ENDED_REP, Branches)];
 
+/// The tables above, and what their rows are of.
+const TABLES: [(&str, &[Row]); 12] = [
+    ("not opened", &BEFORE_OPEN),
+    ("off program", &OFF_THE_PROGRAM),
+    ("missed notify", &UNREPORTED_JUMPS),
+    ("branches", &OUTCOMES),
+    ("wrong place by the kind", &BY_THE_KIND),
+    ("wrong place by the program", &BY_THE_PROGRAM),
+    ("wrong privilege", &PRIVILEGES),
+    ("sret at 3 before a target", &SRET_AT_3),
+    ("after close", &BEHIND_THE_CLOSE),
+    ("first fault of one event", &OF_ONE_EVENT),
+    ("first fault on the way", &ON_THE_WAY),
+    ("waiting packet is not tested yet", &UNTESTED),
+];
+
+/// Each row is refused as it says.
+fn are_refused<R: Abort + AllocGlobal>(rt: &R, what: &'static str, rows: &[Row]) {
+    for (i, row) in rows.iter().enumerate() {
+        is_refused(rt, (what, i), row);
+    }
+}
+
 #[test]
-fn waiting_packet_is_not_tested_yet(rt: HostRuntime) -> Result<(), Fail> {
-    are_refused(&rt, rt.alloc(), &UNTESTED)
+fn faults_by_table(rt: HostRuntime) {
+    for (what, rows) in TABLES {
+        are_refused(&rt, what, rows);
+    }
 }

@@ -1,16 +1,17 @@
 //! Memory that is refused.
 
+use crate::same::same_at;
 use crate::traces::Sent::{self, Plain, Sync, Trap, Updiscon, Walk};
 use crate::traces::{
-    BRANCH_LOOP, ENDED_NTR, ENDED_REP, FULL_MAP, NOP, OPEN, RET, START, packet_of, program_of,
+    BRANCH_LOOP, ENDED_NTR, ENDED_REP, FULL_MAP, NOP, OPEN, RET, START, copy_of, packet_of,
+    program_of,
 };
 use decoder::{DecodeFault, Decoder};
 use linked_list_allocator::LocalHeap;
 use payload::{Packet, Report};
 use retire::Event;
 use rvclass::Program;
-use std::alloc::Global;
-use std::test::Fail;
+use std::process::Abort;
 
 /// A decoder and its list, which has ample memory.
 #[derive(Drop)]
@@ -21,65 +22,82 @@ struct Twin {
 
 /// Feeds a packet to both. It is taken, and adds what it adds where memory is ample; or it is refused for want of
 /// memory and adds nothing, and the decoder then takes it with a list in ample memory. Answers whether it was refused.
-fn is_refused(
-    alloc: Global,
+fn is_refused<R: Abort + AllocGlobal>(
+    rt: &R,
+    bytes: usize,
     program: &Program,
     packet: &Packet,
     decoder: &mut Decoder,
     log: &mut Vec<Event, &LocalHeap>,
     twin: &mut Twin,
-) -> Result<bool, Fail> {
-    let mut before = twin.log.as_slice().to_vec(alloc)?;
-    twin.decoder.feed(program, packet, &mut twin.log)?;
+) -> bool {
+    let mut before = copy_of(rt, twin.log.as_slice());
+    same_at(
+        rt,
+        bytes,
+        twin.decoder.feed(program, packet, &mut twin.log),
+        Ok(()),
+    );
     let answer = decoder.feed(program, packet, log);
-    if answer.is_ok() && log.as_slice() == twin.log.as_slice() {
-        return Ok(false);
+    if answer.is_ok() {
+        same_at(rt, bytes, log.as_slice(), twin.log.as_slice());
+        return false;
     }
-    let changed = log.as_slice() != before.as_slice();
-    let again = decoder.feed(program, packet, &mut before);
-    let alike = again.is_ok() && before.as_slice() == twin.log.as_slice();
-    if answer == Err(DecodeFault::Memory) && !changed && alike {
-        return Ok(true);
-    }
-    Err(Fail::from("neither taken nor refused for want of memory"))
+    same_at(rt, bytes, answer, Err(DecodeFault::Memory));
+    same_at(rt, bytes, log.as_slice(), before.as_slice());
+    same_at(
+        rt,
+        bytes,
+        decoder.feed(program, packet, &mut before),
+        Ok(()),
+    );
+    same_at(rt, bytes, before.as_slice(), twin.log.as_slice());
+    true
 }
 
 /// Feeds packets to a list with so many bytes of memory. Answers whether one was refused.
-fn one_is_refused(
-    alloc: Global,
+fn one_is_refused<R: Abort + AllocGlobal>(
+    rt: &R,
     program: &Program,
     packets: &[Sent],
     bytes: usize,
-) -> Result<bool, Fail> {
-    let heap = LocalHeap::new(alloc, bytes)?;
+) -> bool {
+    let heap = LocalHeap::new(rt.alloc(), bytes).expect(rt, "memory");
     let mut decoder = Decoder::new();
     let mut log = Vec::new(&heap);
     let mut twin = Twin {
         decoder,
-        log: Vec::new(alloc),
+        log: Vec::new(rt.alloc()),
     };
     for sent in packets {
         let packet = packet_of(*sent);
-        if is_refused(alloc, program, &packet, &mut decoder, &mut log, &mut twin)? {
-            return Ok(true);
+        if is_refused(
+            rt,
+            bytes,
+            program,
+            &packet,
+            &mut decoder,
+            &mut log,
+            &mut twin,
+        ) {
+            return true;
         }
     }
-    Ok(false)
+    false
 }
 
-/// How many of the heaps, each larger than the one before, are too small.
-fn refusals(alloc: Global, words: &[u32], packets: &[Sent]) -> Result<usize, Fail> {
-    let program = program_of(alloc, words, &[])?;
+/// Of the heaps, each larger than the one before, the first few are too small.
+fn are_refused<R: Abort + AllocGlobal>(rt: &R, words: &[u32], packets: &[Sent]) {
+    let program = program_of(rt, words, &[]);
     let mut refused = 0;
     for step in 0..64usize {
-        if one_is_refused(alloc, &program, packets, step * 64)? {
-            if refused != step {
-                return Err(Fail::from("refused with more room"));
-            }
-            refused += 1;
+        if one_is_refused(rt, &program, packets, step * 64) {
+            // Not with more room.
+            same_at(rt, step, refused, step);
+            refused = step + 1;
         }
     }
-    Ok(refused)
+    assert!(rt; 0 < refused && refused < 64, "{refused} are too small");
 }
 
 const ONE_WALK: &[Sent] = &[
@@ -100,9 +118,7 @@ const TWO_WALKS: &[Sent] = &[
 ];
 
 #[test]
-fn walks_are_refused(rt: HostRuntime) -> Result<(), Fail> {
-    let one = refusals(rt.alloc(), &[BRANCH_LOOP], ONE_WALK)?;
-    let two = refusals(rt.alloc(), &[NOP, NOP, RET], TWO_WALKS)?;
-    assert!(rt; 0 < one && one < 64 && 0 < two && two < 64);
-    Ok(())
+fn walks_are_refused(rt: HostRuntime) {
+    are_refused(&rt, &[BRANCH_LOOP], ONE_WALK);
+    are_refused(&rt, &[NOP, NOP, RET], TWO_WALKS);
 }

@@ -1,10 +1,10 @@
 //! Decoders that go on after packets that were lost.
 
-use crate::same::{same, same_at};
+use crate::same::same_at;
 use crate::traces::Sent::{self, Notify, Plain, Sync, Trap, Updiscon};
 use crate::traces::Step::{self, Retires};
 use crate::traces::{
-    BASE, ENDED_NTR, ENDED_REP, FULL_MAP, NOP, OPEN, OPEN_FULL, START, Turn, fed, otherwise,
+    BASE, ENDED_NTR, ENDED_REP, FULL_MAP, NOP, OPEN, OPEN_FULL, Place, START, Turn, fed, go,
     packet_of, program_of,
 };
 use decoder::DecodeFault::{self, AfterClose, OffProgram, WrongPlace};
@@ -12,19 +12,28 @@ use decoder::Decoder;
 use linked_list_allocator::LocalHeap;
 use payload::Mode::{self, Differential, Full};
 use rvclass::Program;
-use std::alloc::Global;
-use std::test::Fail;
+use std::process::Abort;
 
 const PLAIN_WORDS: &[Step] = &[Retires(0, 0, 3), Retires(4, 0, 3)];
 
-/// The first of these turns that comes to something else, where the stretch is of the first words.
-fn goes_otherwise(
-    alloc: Global,
+/// Each of these turns comes to what is told of it, where the stretch is of the first words.
+fn go_on<R: Abort + AllocGlobal>(
+    rt: &R,
+    place: Place,
     program: &Program,
     decoder: &mut Decoder,
     turns: &[Turn],
-) -> Option<usize> {
-    otherwise(program, decoder, &mut Vec::new(alloc), turns, PLAIN_WORDS)
+) {
+    let mut stretch = Vec::new(rt.alloc());
+    go(
+        rt,
+        place,
+        program,
+        decoder,
+        &mut stretch,
+        turns,
+        PLAIN_WORDS,
+    );
 }
 
 /// Packets of each kind but a synchronisation and those that close a trace, which are passed over.
@@ -39,11 +48,6 @@ const PASSED_OVER: [Turn; 8] = [
     (Trap(0, true, 1, true), Ok(()), 0),
 ];
 
-/// The first of these packets that is not passed over.
-fn passed_over_otherwise(alloc: Global, program: &Program, decoder: &mut Decoder) -> Option<usize> {
-    goes_otherwise(alloc, program, decoder, &PASSED_OVER)
-}
-
 /// Four words, and a loss behind the packet that tells of the second: it waited, so it adds nothing, and the stretch
 /// begins with the synchronisation on the third.
 const LOST: [Turn; 3] = [(OPEN, Ok(()), 0), (START, Ok(()), 1), (Plain(4), Ok(()), 1)];
@@ -55,22 +59,23 @@ const STRETCH: [Turn; 3] = [
 ];
 
 #[test]
-fn waiting_packet_is_dropped(rt: HostRuntime) -> Result<(), Fail> {
-    let alloc = rt.alloc();
-    let program = program_of(alloc, &[NOP, NOP, NOP, NOP], &[])?;
+fn waiting_packet_is_dropped(rt: HostRuntime) {
+    let program = program_of(&rt, &[NOP, NOP, NOP, NOP], &[]);
     let mut decoder = Decoder::new();
-    let before = goes_otherwise(alloc, &program, &mut decoder, &LOST);
+    go_on(&rt, ("before the loss", 0), &program, &mut decoder, &LOST);
     decoder.resume(Differential);
     let third = [Retires(8, 0, 3), Retires(12, 0, 3)];
-    let after = otherwise(
+    let place = ("behind the loss", 0);
+    let mut stretch = Vec::new(rt.alloc());
+    go(
+        &rt,
+        place,
         &program,
         &mut decoder,
-        &mut Vec::new(alloc),
+        &mut stretch,
         &STRETCH,
         &third,
     );
-    same(&rt, (before, after), (None, None));
-    Ok(())
 }
 
 /// Nothing, and the packets of a trace up to each.
@@ -89,17 +94,26 @@ const BEGINS_ANEW: [Turn; 3] = [
 ];
 
 #[test]
-fn packets_are_passed_over_until_a_synchronisation(rt: HostRuntime) -> Result<(), Fail> {
-    let alloc = rt.alloc();
-    let program = program_of(alloc, &[NOP, NOP, NOP], &[])?;
+fn packets_are_passed_over_until_a_synchronisation(rt: HostRuntime) {
+    let program = program_of(&rt, &[NOP, NOP, NOP], &[]);
     for (i, packets) in BEGINNINGS.iter().enumerate() {
-        let (mut decoder, _) = fed(alloc, &program, packets)?;
+        let (mut decoder, _) = fed(&rt, &program, packets);
         decoder.resume(Differential);
-        let passed = passed_over_otherwise(alloc, &program, &mut decoder);
-        let anew = goes_otherwise(alloc, &program, &mut decoder, &BEGINS_ANEW);
-        same_at(&rt, i, (passed, anew), (None, None));
+        go_on(
+            &rt,
+            ("passed over", i),
+            &program,
+            &mut decoder,
+            &PASSED_OVER,
+        );
+        go_on(
+            &rt,
+            ("begins anew", i),
+            &program,
+            &mut decoder,
+            &BEGINS_ANEW,
+        );
     }
-    Ok(())
 }
 
 /// A packet that closes the trace, and what comes behind it.
@@ -121,17 +135,15 @@ const CLOSED: [[Turn; 5]; 2] = [
 ];
 
 #[test]
-fn packets_that_close_a_trace_close_it(rt: HostRuntime) -> Result<(), Fail> {
-    let program = program_of(rt.alloc(), &[NOP], &[])?;
+fn packets_that_close_a_trace_close_it(rt: HostRuntime) {
+    let program = program_of(&rt, &[NOP], &[]);
     for (i, turns) in CLOSED.iter().enumerate() {
         let mut decoder = Decoder::new();
         decoder.resume(Differential);
-        let closing = goes_otherwise(rt.alloc(), &program, &mut decoder, &turns[..1]);
+        go_on(&rt, ("closing", i), &program, &mut decoder, &turns[..1]);
         decoder.resume(Full);
-        let closed = goes_otherwise(rt.alloc(), &program, &mut decoder, &turns[1..]);
-        same_at(&rt, i, (closing, closed), (None, None));
+        go_on(&rt, ("closed", i), &program, &mut decoder, &turns[1..]);
     }
-    Ok(())
 }
 
 /// The packets of a decoder, the modes that it is resumed with, a synchronisation behind each, and what a field then
@@ -147,47 +159,73 @@ const MODES: [(&[Sent], &[Mode], u64); 7] = [
     (&[], &[Full, Differential], 4),
 ];
 
-/// Whether after these packets, resumed in these modes, a field that holds this names the second word.
-fn is_read(alloc: Global, packets: &[Sent], modes: &[Mode], held: u64) -> Result<bool, Fail> {
-    let program = program_of(alloc, &[NOP, NOP], &[])?;
-    let (mut decoder, _) = fed(alloc, &program, packets)?;
-    let mut stretch = Vec::new(alloc);
-    let mut told = true;
+/// After the packets of a row, resumed in its modes, a field that holds what it tells names the second word.
+fn is_read<R: Abort + AllocGlobal>(
+    rt: &R,
+    row: usize,
+    (packets, modes, held): (&[Sent], &[Mode], u64),
+) {
+    let program = program_of(rt, &[NOP, NOP], &[]);
+    let (mut decoder, _) = fed(rt, &program, packets);
+    let mut stretch = Vec::new(rt.alloc());
     for mode in modes {
         decoder.resume(*mode);
-        told = told && passed_over_otherwise(alloc, &program, &mut decoder).is_none();
+        go_on(
+            rt,
+            ("passed over", row),
+            &program,
+            &mut decoder,
+            &PASSED_OVER,
+        );
         stretch.clear();
-        decoder.feed(&program, &packet_of(START), &mut stretch)?;
+        let answer = decoder.feed(&program, &packet_of(START), &mut stretch);
+        same_at(rt, ("synchronisation", row), answer, Ok(()));
     }
     let names = [(Notify(held), Ok(()), 2)];
-    Ok(told && otherwise(&program, &mut decoder, &mut stretch, &names, PLAIN_WORDS).is_none())
+    go(
+        rt,
+        ("second word", row),
+        &program,
+        &mut decoder,
+        &mut stretch,
+        &names,
+        PLAIN_WORDS,
+    );
 }
 
 #[test]
-fn modes_by_table(rt: HostRuntime) -> Result<(), Fail> {
-    for (i, (packets, modes, held)) in MODES.iter().enumerate() {
-        assert!(rt; is_read(rt.alloc(), packets, modes, *held)?, "row {i}");
+fn modes_by_table(rt: HostRuntime) {
+    for (i, row) in MODES.iter().enumerate() {
+        is_read(&rt, i, *row);
     }
-    Ok(())
 }
 
 /// A synchronisation off the program is refused, and one for which memory is, and the decoder goes on to pass over
 /// packets.
 #[test]
-fn synchronisation_that_is_refused(rt: HostRuntime) -> Result<(), Fail> {
-    let alloc = rt.alloc();
-    let program = program_of(alloc, &[NOP], &[])?;
+fn synchronisation_that_is_refused(rt: HostRuntime) {
+    let program = program_of(&rt, &[NOP], &[]);
     let mut decoder = Decoder::new();
     decoder.resume(Differential);
     let off = [(Sync(4, false, 3), Err(OffProgram), 0)];
-    let refused = goes_otherwise(alloc, &program, &mut decoder, &off);
-    let passed = passed_over_otherwise(alloc, &program, &mut decoder);
-    same(&rt, (refused, passed), (None, None));
-    let heap = LocalHeap::new(alloc, 0)?;
+    go_on(&rt, ("off the program", 0), &program, &mut decoder, &off);
+    go_on(
+        &rt,
+        ("passed over", 0),
+        &program,
+        &mut decoder,
+        &PASSED_OVER,
+    );
+    let heap = LocalHeap::new(rt.alloc(), 0).expect(&rt, "memory");
     let answer = decoder.feed(&program, &packet_of(START), &mut Vec::new(&heap));
-    same(&rt, answer, Err(DecodeFault::Memory));
-    let again = passed_over_otherwise(alloc, &program, &mut decoder);
-    let begun = goes_otherwise(alloc, &program, &mut decoder, &[(START, Ok(()), 1)]);
-    same(&rt, (again, begun), (None, None));
-    Ok(())
+    same_at(&rt, "no memory", answer, Err(DecodeFault::Memory));
+    go_on(
+        &rt,
+        ("passed over", 1),
+        &program,
+        &mut decoder,
+        &PASSED_OVER,
+    );
+    let begun = [(START, Ok(()), 1)];
+    go_on(&rt, ("begins", 1), &program, &mut decoder, &begun);
 }

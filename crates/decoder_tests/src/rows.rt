@@ -1,17 +1,16 @@
 //! Worked traces: an image, the payloads of a log, and the log.
 
-use crate::same::{same, same_at};
+use crate::same::same_at;
 use crate::traces::Step::{self, Retires, Traps};
 use crate::traces::{
     BASE, BEQ, BRANCH_LOOP, ENDED_REP, FAR, JUMP_LOOP, MRET, NOP, OPEN, RET, START, Sent, begins,
-    is_log, packet_of, program_of,
+    fed, is_log, program_of,
 };
 use decoder::Decoder;
 use payload::unpack;
 use retire::Event;
 use rvclass::Program;
-use std::alloc::Global;
-use std::test::Fail;
+use std::process::Abort;
 
 /// A synchronisation at the base, at machine level; the branch there was taken, or there is none.
 const AT_BASE: &[u8] = &[0x73, 0, 0, 0, 0x20];
@@ -203,39 +202,38 @@ const ROWS: [Row; 20] = [
     ),
 ];
 
-/// What the payloads of a row come to: whether each list on the way was a beginning of the log, whether the decoder was
-/// closed before the end, and whether it is at the end with the log.
-fn given(alloc: Global, row: &Row) -> Result<(bool, bool, bool), Fail> {
+/// Each list on the way of the payloads of a row is a beginning of its log; the decoder is not closed before the end,
+/// and there it is, with the log.
+fn is_log_of<R: Abort + AllocGlobal>(rt: &R, i: usize, row: &Row) {
     let (words, bytes, payloads, steps) = *row;
-    let program = program_of(alloc, words, bytes)?;
+    let program = program_of(rt, words, bytes);
     let mut decoder = Decoder::new();
-    let mut log = Vec::new(alloc);
-    let mut beginning = true;
-    let mut early = false;
+    let mut log = Vec::new(rt.alloc());
     for payload in payloads {
-        early = early || decoder.is_closed();
-        decoder.feed(&program, &unpack(payload)?, &mut log)?;
-        beginning = beginning && begins(log.as_slice(), steps);
+        let closed = decoder.is_closed();
+        let packet = unpack(payload).expect(rt, "a payload");
+        let answer = decoder.feed(&program, &packet, &mut log);
+        let told = (closed, answer, begins(log.as_slice(), steps));
+        same_at(rt, i, told, (false, Ok(()), true));
     }
-    let closed = decoder.is_closed() && is_log(log.as_slice(), steps);
-    Ok((beginning, early, closed))
+    let told = (decoder.is_closed(), is_log(log.as_slice(), steps));
+    same_at(rt, i, told, (true, true));
 }
 
 #[test]
-fn worked_traces(rt: HostRuntime) -> Result<(), Fail> {
+fn worked_traces(rt: HostRuntime) {
     for (i, row) in ROWS.iter().enumerate() {
-        same_at(&rt, i, given(rt.alloc(), row)?, (true, false, true));
+        is_log_of(&rt, i, row);
     }
-    Ok(())
 }
 
 /// A program of so many words C.NOP.
-fn short_words(alloc: Global, count: u32) -> Result<Program, Fail> {
-    let mut image = Vec::new(alloc);
+fn short_words<R: Abort + AllocGlobal>(rt: &R, count: u32) -> Program {
+    let mut image = Vec::new(rt.alloc());
     for _ in 0..count {
-        image.extend_from_slice(&[1, 0])?;
+        image.extend_from_slice(&[1, 0]).expect(rt, "memory");
     }
-    Ok(Program::new(BASE, image)?)
+    Program::new(BASE, image).expect(rt, "a program")
 }
 
 /// Whether a log has retirements alone, at machine level, of words of 2 bytes from the base on.
@@ -256,14 +254,14 @@ fn are_short_words(log: &[Event]) -> bool {
 
 /// An address packet at the last of 524,288 words C.NOP, before which no other is reported.
 #[test]
-fn longest_walk(rt: HostRuntime) -> Result<(), Fail> {
-    let program = short_words(rt.alloc(), 524_288)?;
-    let mut decoder = Decoder::new();
-    let mut log = Vec::new(rt.alloc());
-    for sent in [OPEN, START, Sent::Plain(0xf_fffe), ENDED_REP] {
-        decoder.feed(&program, &packet_of(sent), &mut log)?;
-    }
-    same(&rt, log.len(), 524_288);
-    assert!(rt; decoder.is_closed() && are_short_words(log.as_slice()));
-    Ok(())
+fn longest_walk(rt: HostRuntime) {
+    let program = short_words(&rt, 524_288);
+    let (decoder, log) = fed(
+        &rt,
+        &program,
+        &[OPEN, START, Sent::Plain(0xf_fffe), ENDED_REP],
+    );
+    same_at(&rt, "log", log.len(), 524_288);
+    assert!(rt; decoder.is_closed());
+    assert!(rt; are_short_words(log.as_slice()));
 }

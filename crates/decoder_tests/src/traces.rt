@@ -1,11 +1,11 @@
 //! Small programs, and the packets and the events of their traces.
 
+use crate::same::same_at;
 use decoder::{DecodeFault, Decoder};
 use payload::{Mode, Outcomes, Packet, Report, Support};
 use retire::Event;
 use rvclass::Program;
-use std::alloc::Global;
-use std::test::Fail;
+use std::process::Abort;
 
 pub(crate) const BASE: u64 = 0x8000_0000;
 
@@ -164,64 +164,67 @@ pub(crate) fn is_log(log: &[Event], steps: &[Step]) -> bool {
 }
 
 /// The program of these words and bytes, from the base on.
-pub(crate) fn program_of(alloc: Global, words: &[u32], bytes: &[u8]) -> Result<Program, Fail> {
-    let mut image = Vec::new(alloc);
+pub(crate) fn program_of<R: Abort + AllocGlobal>(rt: &R, words: &[u32], bytes: &[u8]) -> Program {
+    let mut image = Vec::new(rt.alloc());
     for word in words {
-        image.extend_from_slice(&word.to_le_bytes())?;
+        image
+            .extend_from_slice(&word.to_le_bytes())
+            .expect(rt, "memory");
     }
-    image.extend_from_slice(bytes)?;
-    Ok(Program::new(BASE, image)?)
+    image.extend_from_slice(bytes).expect(rt, "memory");
+    Program::new(BASE, image).expect(rt, "a program")
 }
 
 /// Feeds these packets to a new decoder.
-pub(crate) fn fed(
-    alloc: Global,
+pub(crate) fn fed<R: Abort + AllocGlobal>(
+    rt: &R,
     program: &Program,
     packets: &[Sent],
-) -> Result<(Decoder, Vec<Event>), Fail> {
+) -> (Decoder, Vec<Event>) {
     let mut decoder = Decoder::new();
-    let mut log = Vec::new(alloc);
+    let mut log = Vec::new(rt.alloc());
     for sent in packets {
-        decoder.feed(program, &packet_of(*sent), &mut log)?;
+        decoder
+            .feed(program, &packet_of(*sent), &mut log)
+            .expect(rt, "a packet that is taken");
     }
-    Ok((decoder, log))
+    (decoder, log)
+}
+
+/// A list of these events.
+pub(crate) fn copy_of<R: Abort + AllocGlobal>(rt: &R, log: &[Event]) -> Vec<Event> {
+    log.to_vec(rt.alloc()).expect(rt, "memory")
 }
 
 /// A packet, what it comes to, and how many events the list then has.
 pub(crate) type Turn = (Sent, Result<(), DecodeFault>, usize);
 
-/// Whether a packet comes to what is told of it: the answer, the events of the list, of which there are so many, and
-/// whether the decoder is closed before it and behind it.
-fn is_as_told(
-    program: &Program,
-    decoder: &mut Decoder,
-    log: &mut Vec<Event>,
-    turn: Turn,
-    steps: &[Step],
-) -> bool {
-    let (sent, answer, count) = turn;
-    let packet = packet_of(sent);
-    let late = answer == Err(DecodeFault::AfterClose);
-    let closes = late || packet.is_closing() && answer.is_ok();
-    decoder.is_closed() == late
-        && decoder.feed(program, &packet, log) == answer
-        && decoder.is_closed() == closes
-        && log.len() == count
-        && begins(log.as_slice(), steps)
-}
+/// What is looked at, and the row of its table.
+pub(crate) type Place = (&'static str, usize);
 
-/// The first of these turns that comes to something else than is told of it, if one does.
-pub(crate) fn otherwise(
+/// Each of these turns comes to what is told of it: the answer, the events of the list, of which there are so many, and
+/// whether the decoder is closed before it and behind it.
+pub(crate) fn go<R: Abort>(
+    rt: &R,
+    (what, row): Place,
     program: &Program,
     decoder: &mut Decoder,
     log: &mut Vec<Event>,
     turns: &[Turn],
     steps: &[Step],
-) -> Option<usize> {
-    for (i, turn) in turns.iter().enumerate() {
-        if !is_as_told(program, decoder, log, *turn, steps) {
-            return Some(i);
-        }
+) {
+    for (i, (sent, answer, count)) in turns.iter().enumerate() {
+        let packet = packet_of(*sent);
+        let late = *answer == Err(DecodeFault::AfterClose);
+        let closes = late || packet.is_closing() && answer.is_ok();
+        let before = decoder.is_closed();
+        let found = decoder.feed(program, &packet, log);
+        let behind = (
+            decoder.is_closed(),
+            log.len(),
+            begins(log.as_slice(), steps),
+        );
+        let told = (*answer, late, (closes, *count, true));
+        same_at(rt, (what, row, i), (found, before, behind), told);
     }
-    None
 }

@@ -4,17 +4,15 @@ use crate::same::same_at;
 use crate::traces::Sent::{self, Map, Notify, Sync, Updiscon, Walk};
 use crate::traces::Step::Retires;
 use crate::traces::{
-    BEQ, BRANCH_LOOP, ECALL, JUMP_LOOP, MRET, NOP, OPEN, RET, SRET, fed, is_log, packet_of,
-    program_of,
+    BEQ, BRANCH_LOOP, ECALL, JUMP_LOOP, MRET, NOP, OPEN, Place, RET, SRET, copy_of, fed, is_log,
+    packet_of, program_of,
 };
 use decoder::DecodeFault::{self, Branches, MissedNotify, OffProgram, WrongPlace, WrongPrivilege};
 use decoder::Decoder;
 use payload::Report;
 use retire::Event;
 use rvclass::Program;
-use std::alloc::{AllocError, Global};
 use std::process::Abort;
-use std::test::Fail;
 
 /// The first word's retirement: its type and its privilege.
 type From = (u8, u8);
@@ -150,66 +148,48 @@ fn count_behind(
     }
 }
 
-/// A list of these events with room for 64.
-fn with_room(alloc: Global, events: &[Event]) -> Result<Vec<Event>, AllocError> {
-    let mut log = Vec::with_capacity(alloc, 64)?;
-    log.extend_from_slice(events)?;
-    Ok(log)
-}
-
 /// What the packet of a row comes to, behind the one event of the first word, in a list without room: the walk is
-/// measured. And whether it comes to the same with room, where the walk is written as it is found, and a fault leaves
-/// the one event.
-fn told(alloc: Global, row: &Row) -> Result<(Result<usize, DecodeFault>, bool), Fail> {
-    let (words, (itype, privilege), sent, _) = *row;
-    let program = program_of(alloc, words, &[])?;
-    let first = [OPEN, Sync(0, itype == 5, privilege)];
-    let (mut decoder, log) = fed(alloc, &program, &first)?;
+/// measured. It comes to the same with room, where the walk is written as it is found, and a fault leaves the one
+/// event.
+fn is_told<R: Abort + AllocGlobal>(rt: &R, place: Place, row: &Row) {
+    let (words, (itype, privilege), sent, wanted) = *row;
+    let program = program_of(rt, words, &[]);
+    let (mut decoder, log) = fed(rt, &program, &[OPEN, Sync(0, itype == 5, privilege)]);
+    let first = is_log(log.as_slice(), &[Retires(0, itype, privilege)]);
     let mut twin = decoder;
-    let mut ample = with_room(alloc, log.as_slice())?;
-    let mut small = log.as_slice().to_vec(alloc)?;
-    let full = small.capacity() == 1 && is_log(log.as_slice(), &[Retires(0, itype, privilege)]);
+    let mut small = copy_of(rt, log.as_slice());
+    same_at(rt, place, (small.capacity(), first), (1, true));
+    let mut ample = Vec::with_capacity(rt.alloc(), 64).expect(rt, "memory");
+    ample.extend_from_slice(log.as_slice()).expect(rt, "memory");
     let measured = count_behind(&program, &mut decoder, sent, &mut small);
     let found = count_behind(&program, &mut twin, sent, &mut ample);
-    let alike = measured == found && small.as_slice() == ample.as_slice();
-    let kept = measured.is_ok() || small.as_slice() == log.as_slice();
-    Ok((measured, full && alike && kept))
+    same_at(rt, place, (measured, found), (wanted, wanted));
+    same_at(rt, place, small.as_slice(), ample.as_slice());
+    if wanted.is_err() {
+        same_at(rt, place, small.as_slice(), log.as_slice());
+    }
 }
+
+/// The tables above, and what their rows are of.
+const TABLES: [(&str, &[Row]); 6] = [
+    ("walks that are found", &FOUND),
+    ("words that do not retire", &OFF_THE_PROGRAM),
+    ("backward jumps on the way", &BACKWARD_JUMPS),
+    ("outcomes too few or too many", &OUTCOMES),
+    ("discontinuities on the way", &DISCONTINUITIES),
+    ("privileges that words forbid", &PRIVILEGES),
+];
 
 /// Each row is as it says.
-fn are_told(rt: &impl Abort, alloc: Global, rows: &[Row]) -> Result<(), Fail> {
+fn are_told<R: Abort + AllocGlobal>(rt: &R, what: &'static str, rows: &[Row]) {
     for (i, row) in rows.iter().enumerate() {
-        same_at(rt, i, told(alloc, row)?, (row.3, true));
+        is_told(rt, (what, i), row);
     }
-    Ok(())
 }
 
 #[test]
-fn walks_are_found(rt: HostRuntime) -> Result<(), Fail> {
-    are_told(&rt, rt.alloc(), &FOUND)
-}
-
-#[test]
-fn words_that_do_not_retire(rt: HostRuntime) -> Result<(), Fail> {
-    are_told(&rt, rt.alloc(), &OFF_THE_PROGRAM)
-}
-
-#[test]
-fn backward_jumps_on_the_way(rt: HostRuntime) -> Result<(), Fail> {
-    are_told(&rt, rt.alloc(), &BACKWARD_JUMPS)
-}
-
-#[test]
-fn outcomes_too_few_or_too_many(rt: HostRuntime) -> Result<(), Fail> {
-    are_told(&rt, rt.alloc(), &OUTCOMES)
-}
-
-#[test]
-fn discontinuities_on_the_way(rt: HostRuntime) -> Result<(), Fail> {
-    are_told(&rt, rt.alloc(), &DISCONTINUITIES)
-}
-
-#[test]
-fn privileges_that_words_forbid(rt: HostRuntime) -> Result<(), Fail> {
-    are_told(&rt, rt.alloc(), &PRIVILEGES)
+fn walks_by_table(rt: HostRuntime) {
+    for (what, rows) in TABLES {
+        are_told(&rt, what, rows);
+    }
 }

@@ -21,6 +21,8 @@ mod port_memory;
 #[cfg(test)]
 mod room;
 #[cfg(test)]
+mod same;
+#[cfg(test)]
 mod waking;
 #[cfg(test)]
 mod workers;

@@ -1,8 +1,8 @@
 //! Numbers of harts and of messages within the limits and beyond them.
 
+use super::same::same_at;
 use funnel::{Core, OpenFault, open};
 use std::alloc::Global;
-use std::test::Fail;
 
 /// Why no queue of these numbers is made, and why no channel of these numbers is opened.
 fn faults(alloc: Global, harts: u16, capacity: u32) -> (Option<OpenFault>, Option<OpenFault>) {
@@ -20,7 +20,7 @@ const CAPACITY: Option<OpenFault> = Some(OpenFault::Capacity);
 
 // The queue serves 1 to 1,024 harts, the channel 1 to 64.
 #[test]
-fn lowest_fault_is_told(rt: HostRuntime) -> Result<(), Fail> {
+fn lowest_fault_is_told(rt: HostRuntime) {
     let table = [
         (0, 0, NO_HARTS, NO_HARTS),
         (0, 16, NO_HARTS, NO_HARTS),
@@ -43,16 +43,12 @@ fn lowest_fault_is_told(rt: HostRuntime) -> Result<(), Fail> {
     ];
     for (harts, capacity, of_queue, of_channel) in table {
         let told = faults(rt.alloc(), harts, capacity);
-        assert!(rt;
-            told == (of_queue, of_channel),
-            "{harts} harts, capacity {capacity}"
-        );
+        same_at(&rt, (harts, capacity), told, (of_queue, of_channel));
     }
-    Ok(())
 }
 
 #[test]
-fn texts(rt: HostRuntime) -> Result<(), Fail> {
+fn texts(rt: HostRuntime) {
     let table = [
         (OpenFault::NoHarts, "no harts"),
         (OpenFault::TooManyHarts, "too many harts"),
@@ -60,8 +56,7 @@ fn texts(rt: HostRuntime) -> Result<(), Fail> {
         (OpenFault::Memory, "out of memory"),
     ];
     for (fault, text) in table {
-        let told = format!(in rt.alloc(); "{fault}")?;
-        assert!(rt; told.as_str() == text);
+        let told = format!(in rt.alloc(); "{fault}").expect(&rt, "memory");
+        assert!(rt; told.as_str() == text, "{told} at {text}");
     }
-    Ok(())
 }

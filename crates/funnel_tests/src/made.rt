@@ -1,12 +1,13 @@
-//! The ends of a funnel of two harts, payloads of one byte, and what becomes of them: a comparison that is called is
-//! proved once, and not at each place.
+//! The ends of a funnel of two harts, payloads of one byte, and what becomes of them.
 
-ghost use Rattle.std.specs.Prelude.{◌≡◌, IfOk, IfSome};
+ghost use Rattle.std.specs.Prelude.{◌≡◌, IfSome};
 
+use super::same::same_at;
 use funnel::{Ended, Outlet, Port, SendFault, Settled, open};
 use message::Message;
-use payload::{PackFault, Payload};
+use payload::Payload;
 use std::alloc::Allocator;
+use std::process::Abort;
 use std::sync::Wait;
 
 /// The packet Open.
@@ -16,18 +17,17 @@ pub(crate) const OPEN: u8 = 0x1f;
 pub(crate) const ENDED: u8 = 0x4f;
 
 /// A message with a payload of one byte.
-pub(crate) fn message(hart: u16, number: u64, byte: u8) -> Result<Message, PackFault>
-    ensures { IfOk result (λ message. message.hart ≡ hart) }
+pub(crate) fn message<R: Abort>(rt: &R, hart: u16, number: u64, byte: u8) -> Message
+    ensures { result.hart ≡ hart }
 {
-    let payload = Payload::new(&[byte])?;
-    Ok(Message {
+    Message {
         hart,
         number,
-        payload,
-    })
+        payload: Payload::new(&[byte]).expect(rt, "a payload"),
+    }
 }
 
-/// What becomes of a payload of one byte.
+/// What becomes of a payload.
 #[derive(Clone, Copy, Debug, PartialEq, Eq)]
 pub(crate) enum Fate {
     /// It is sent.
@@ -36,59 +36,51 @@ pub(crate) enum Fate {
     Closed,
     /// It comes back, since the channel handed it back.
     HandedBack,
-    /// There is no such payload, or another one comes back.
-    Lost,
 }
 
-/// What becomes of a payload of this byte at a port.
-pub(crate) fn fate_of<A: Allocator, R: Wait>(rt: &R, port: &mut Port<A>, byte: u8) -> Fate
+/// What becomes of a payload of this byte at a port. Where one comes back, it is that one.
+pub(crate) fn fate_of<A: Allocator, R: Abort + Wait>(rt: &R, port: &mut Port<A>, byte: u8) -> Fate
     ensures { port.new.funnel ≡ port.old.funnel }
 {
-    let Ok(payload) = Payload::new(&[byte]) else {
-        return Fate::Lost;
-    };
+    let payload = Payload::new(&[byte]).expect(rt, "a payload");
     let (back, fate) = match port.send(rt, payload) {
         Ok(()) => return Fate::Sent,
         Err(SendFault::Closed(back)) => (back, Fate::Closed),
         Err(SendFault::HandedBack(back)) => (back, Fate::HandedBack),
     };
-    if back.bytes() == [byte].as_slice() {
-        fate
-    } else {
-        Fate::Lost
-    }
+    assert!(rt; back.bytes() == [byte].as_slice(), "{byte}: {back:?}");
+    fate
 }
 
-/// Whether a payload of one byte is sent.
-pub(crate) fn sends<A: Allocator, R: Wait>(rt: &R, port: &mut Port<A>, byte: u8) -> bool
+/// A payload of one byte is sent.
+pub(crate) fn sends<A: Allocator, R: Abort + Wait>(rt: &R, port: &mut Port<A>, byte: u8)
     ensures { port.new.funnel ≡ port.old.funnel }
 {
-    fate_of(rt, port, byte) == Fate::Sent
+    same_at(rt, byte, fate_of(rt, port, byte), Fate::Sent);
 }
 
-/// Whether the next message that is taken is this one.
-pub(crate) fn comes<A: Allocator, R: Wait>(
+/// The next message that is taken is this one.
+pub(crate) fn comes<A: Allocator, R: Abort + Wait>(
     rt: &R,
     outlet: &mut Outlet<A>,
     hart: u16,
     number: u64,
     byte: u8,
-) -> bool
+)
     ensures { outlet.new.funnel ≡ outlet.old.funnel }
 {
-    match message(hart, number, byte) {
-        Ok(wanted) => outlet.take(rt) == Ok(wanted),
-        Err(_) => false,
-    }
+    let wanted = message(rt, hart, number, byte);
+    same_at(rt, (hart, number), outlet.take(rt), Ok(wanted));
 }
 
-/// Whether the channel has ended.
-pub(crate) fn has_ended<A: Allocator, R: Wait>(rt: &R, outlet: &mut Outlet<A>) -> bool {
-    outlet.take(rt) == Err(Ended)
+/// The channel has ended.
+pub(crate) fn has_ended<A: Allocator, R: Abort + Wait>(rt: &R, outlet: &mut Outlet<A>) {
+    same_at(rt, "the end", outlet.take(rt), Err(Ended));
 }
 
-/// The two ports of a funnel of two harts, and its outlet.
-pub(crate) fn two<A: Allocator + Clone>(
+/// The two ports of a funnel of two harts, and its outlet; nothing where it is not opened.
+pub(crate) fn two<A: Allocator + Clone, R: Abort>(
+    rt: &R,
     alloc: A,
     capacity: u32,
 ) -> Option<(Port<A>, Port<A>, Outlet<A>)>
@@ -98,21 +90,23 @@ pub(crate) fn two<A: Allocator + Clone>(
     let Ok((mut ports, outlet)) = open(alloc, 2, capacity) else {
         return None;
     };
-    let second = ports.pop()?;
-    let first = ports.pop()?;
+    let second = ports.pop().expect(rt, "a port");
+    let first = ports.pop().expect(rt, "a port");
     Some((first, second, outlet))
 }
 
-/// Whether a port that finishes leaves a receipt by which it sent so many messages, of which so many were taken.
-pub(crate) fn settles<A: Allocator>(
+/// A port that finishes leaves a receipt by which it sent so many messages, of which so many were taken.
+pub(crate) fn settles<A: Allocator, R: Abort>(
+    rt: &R,
     outlet: &mut Outlet<A>,
     port: Port<A>,
     hart: u16,
     sent: u64,
     taken: u64,
-) -> bool
+)
     requires { port.funnel ≡ outlet.old.funnel }
     ensures { outlet.new ≡ outlet.old }
 {
-    outlet.settle(port.finish()) == Settled { hart, sent, taken }
+    let settled = outlet.settle(port.finish());
+    same_at(rt, hart, settled, Settled { hart, sent, taken });
 }

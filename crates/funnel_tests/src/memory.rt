@@ -3,47 +3,49 @@
 ghost use Rattle.std.specs.Prelude.{◌≡◌};
 
 use super::made::{OPEN, message};
+use super::same::same_at;
 use funnel::{Core, OpenFault};
 use linked_list_allocator::LocalHeap;
 use std::alloc::Allocator;
-use std::test::Fail;
+use std::process::Abort;
 
 /// How many messages the funnel has room for.
 const CAPACITY: u32 = 100;
 
-/// Whether a new queue of 64 harts takes so many messages, gives one more back, gives them in turn, and then none.
-fn fills_and_empties<A: Allocator>(core: &mut Core<A>) -> Result<bool, Fail>
+/// A new queue of 64 harts takes so many messages, gives one more back, gives them in turn, and then none.
+fn fills_and_empties<A: Allocator, R: Abort>(rt: &R, core: &mut Core<A>)
     requires { core.old.harts ≡ 64 }
 {
-    let mut right = true;
     for number in 0..u64::from(CAPACITY) {
-        right &= core.offer(message(63, number, OPEN)?).is_ok();
+        let answer = core.offer(message(rt, 63, number, OPEN));
+        same_at(rt, number, answer, Ok(()));
     }
-    right &= core.offer(message(0, 0, OPEN)?).is_err();
+    let back = message(rt, 0, 0, OPEN);
+    same_at(rt, "full", core.offer(message(rt, 0, 0, OPEN)), Err(back));
     for number in 0..u64::from(CAPACITY) {
-        right &= core.take() == Some(message(63, number, OPEN)?);
+        let wanted = message(rt, 63, number, OPEN);
+        same_at(rt, number, core.take(), Some(wanted));
     }
-    Ok(right & core.take().is_none())
+    same_at(rt, "empty", core.take(), None);
 }
 
 #[test]
-fn room_is_refused_at_making_alone(rt: HostRuntime) -> Result<(), Fail> {
+fn room_is_refused_at_making_alone(rt: HostRuntime) {
     let mut refused = 0usize;
     for step in 0..128usize {
-        let heap = LocalHeap::new(rt.alloc(), step * 64)?;
+        let heap = LocalHeap::new(rt.alloc(), step * 64).expect(&rt, "memory");
         match Core::new(&heap, 64, CAPACITY) {
             Ok(mut core) => {
                 let made = heap.used();
-                let right = fills_and_empties(&mut core)?;
-                assert!(rt; right && heap.used() == made);
+                fills_and_empties(&rt, &mut core);
+                same_at(&rt, step, heap.used(), made);
             }
             Err(fault) => {
-                assert!(rt; fault == OpenFault::Memory && refused == step);
+                same_at(&rt, step, (fault, refused), (OpenFault::Memory, step));
                 refused = refused.saturating_add(1);
             }
         }
-        assert!(rt; heap.used() == 0);
+        same_at(&rt, step, heap.used(), 0);
     }
-    assert!(rt; 32 <= refused && refused < 128);
-    Ok(())
+    assert!(rt; 32 <= refused && refused < 128, "refused {refused}");
 }

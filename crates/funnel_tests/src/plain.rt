@@ -3,8 +3,9 @@
 ghost use Rattle.std.specs.Prelude.{◌<◌, ◌≡◌};
 
 use super::made::message;
+use super::same::same_at;
 use funnel::Core;
-use std::test::Fail;
+use std::process::Abort;
 
 /// How many harts there are.
 const HARTS: u16 = 3;
@@ -25,80 +26,82 @@ fn below(state: &mut u64, bound: u16) -> u16
     (*state >> 48) as u16 % bound
 }
 
-/// Whether a queue takes this message.
-fn takes_in(core: &mut Core, offered: Waiting) -> Result<bool, Fail>
+/// A queue of this capacity, in which so many messages wait, takes this message where it has room, and gives it back
+/// where it has none.
+fn answers<R: Abort>(rt: &R, core: &mut Core, capacity: u32, waiting: usize, offered: Waiting)
     requires { offered.0 < core.old.harts }
     ensures { core.new.harts ≡ core.old.harts }
 {
     let (hart, number, byte) = offered;
-    Ok(core.offer(message(hart, number, byte)?).is_ok())
+    let wanted = if waiting < capacity as usize {
+        Ok(())
+    } else {
+        Err(message(rt, hart, number, byte))
+    };
+    let answer = core.offer(message(rt, hart, number, byte));
+    same_at(rt, (capacity, number), answer, wanted);
 }
 
-/// Whether a queue gives this message back.
-fn gives_back(core: &mut Core, offered: Waiting) -> Result<bool, Fail>
-    requires { offered.0 < core.old.harts }
+/// The front message of a queue is this one, which is taken, or there is none. The place is told of another.
+fn gives<R: Abort>(rt: &R, core: &mut Core, place: (u32, u64), front: Option<Waiting>)
     ensures { core.new.harts ≡ core.old.harts }
 {
-    let (hart, number, byte) = offered;
-    let answer = core.offer(message(hart, number, byte)?);
-    Ok(answer == Err(message(hart, number, byte)?))
+    let wanted = match front {
+        Some((hart, number, byte)) => Some(message(rt, hart, number, byte)),
+        None => None,
+    };
+    same_at(rt, place, core.take(), wanted);
 }
 
-/// Whether the front message of a queue is this one, which is taken.
-fn gives(core: &mut Core, front: Waiting) -> Result<bool, Fail>
-    ensures { core.new.harts ≡ core.old.harts }
-{
-    let (hart, number, byte) = front;
-    Ok(core.take() == Some(message(hart, number, byte)?))
-}
-
-#[test]
-fn is_a_list_of_bounded_length(rt: HostRuntime) -> Result<(), Fail> {
-    for capacity in [1, 2, 9, 64] {
-        let mut core = Core::new(rt.alloc(), HARTS, capacity)?;
-        let mut waiting: Vec<Waiting> = Vec::new(rt.alloc());
-        let mut state = u64::from(capacity);
-        let mut full = 0u32;
-        let mut empty = 0u32;
-        for number in 0..1000 {
-            // Mostly offers for a while, and then mostly takes.
-            let offers = if number / 250 % 2 == 0 { 3 } else { 1 };
-            let alike = if below(&mut state, 4) < offers {
-                let hart = below(&mut state, HARTS);
-                let offered = (hart, number, below(&mut state, 256) as u8);
-                if waiting.len() < capacity as usize {
-                    waiting.push(offered)?;
-                    takes_in(&mut core, offered)?
-                } else {
-                    full = full.saturating_add(1);
-                    gives_back(&mut core, offered)?
-                }
-            } else if waiting.is_empty() {
-                empty = empty.saturating_add(1);
-                core.take().is_none()
+/// A queue of this capacity does as a plain list does: it is offered messages mostly for a while, and then mostly gives
+/// them.
+fn is_a_list<R: Abort + AllocGlobal>(rt: &R, capacity: u32) {
+    let mut core = Core::new(rt.alloc(), HARTS, capacity).expect(rt, "a queue");
+    let mut waiting: Vec<Waiting> = Vec::new(rt.alloc());
+    let mut state = u64::from(capacity);
+    let mut full = 0u32;
+    let mut empty = 0u32;
+    for number in 0..1000 {
+        let offers = if number / 250 % 2 == 0 { 3 } else { 1 };
+        if below(&mut state, 4) < offers {
+            let hart = below(&mut state, HARTS);
+            let offered = (hart, number, below(&mut state, 256) as u8);
+            answers(rt, &mut core, capacity, waiting.len(), offered);
+            if waiting.len() < capacity as usize {
+                waiting.push(offered).expect(rt, "memory");
             } else {
-                gives(&mut core, waiting.remove(0))?
-            };
-            assert!(rt; alike, "capacity {capacity}, number {number}");
+                full = full.saturating_add(1);
+            }
+        } else if waiting.is_empty() {
+            empty = empty.saturating_add(1);
+            gives(rt, &mut core, (capacity, number), None);
+        } else {
+            let front = waiting.remove(0);
+            gives(rt, &mut core, (capacity, number), Some(front));
         }
-        assert!(rt;
-            10 < full && 10 < empty,
-            "capacity {capacity}: full {full}, empty {empty}"
-        );
     }
-    Ok(())
+    assert!(rt;
+        10 < full && 10 < empty,
+        "capacity {capacity}: full {full}, empty {empty}"
+    );
 }
 
 #[test]
-fn one_place(rt: HostRuntime) -> Result<(), Fail> {
-    let mut core = Core::new(rt.alloc(), 2, 1)?;
-    assert!(rt; core.take().is_none());
-    for number in 0..3 {
-        let taken_in = takes_in(&mut core, (0, number, 0x1f))?;
-        let one_back = gives_back(&mut core, (0, 7, 0x4f))?;
-        let other_back = gives_back(&mut core, (1, number, 0x1f))?;
-        let front = gives(&mut core, (0, number, 0x1f))?;
-        assert!(rt; taken_in & one_back & other_back & front & core.take().is_none());
+fn is_a_list_of_bounded_length(rt: HostRuntime) {
+    for capacity in [1, 2, 9, 64] {
+        is_a_list(&rt, capacity);
     }
-    Ok(())
+}
+
+#[test]
+fn one_place(rt: HostRuntime) {
+    let mut core = Core::new(rt.alloc(), 2, 1).expect(&rt, "a queue");
+    gives(&rt, &mut core, (1, 0), None);
+    for number in 0..3 {
+        answers(&rt, &mut core, 1, 0, (0, number, 0x1f));
+        answers(&rt, &mut core, 1, 1, (0, 7, 0x4f));
+        answers(&rt, &mut core, 1, 1, (1, number, 0x1f));
+        gives(&rt, &mut core, (1, number), Some((0, number, 0x1f)));
+        gives(&rt, &mut core, (1, number), None);
+    }
 }

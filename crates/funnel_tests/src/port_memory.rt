@@ -1,52 +1,68 @@
 //! Memory that is refused to a channel.
 
+ghost use Rattle.std.specs.Prelude.{◌≡◌};
+
 use super::made::{ENDED, Fate, OPEN, comes, fate_of, has_ended, sends, settles, two};
+use super::same::same_at;
+use funnel::{Outlet, Port};
 use linked_list_allocator::LocalHeap;
-use std::alloc::{AllocError, Global};
-use std::test::Fail;
+use std::alloc::Allocator;
+use std::process::Abort;
+use std::sync::Wait;
 
 // All that is left of a heap, in the least pieces that it gives.
-fn rest_of(alloc: Global, heap: &LocalHeap) -> Result<Vec<Vec<u8, &LocalHeap>>, AllocError> {
-    let mut pieces = Vec::new(alloc);
+fn rest_of<'h, R: Abort + AllocGlobal>(rt: &R, heap: &'h LocalHeap) -> Vec<Vec<u8, &'h LocalHeap>> {
+    let mut pieces = Vec::new(rt.alloc());
     for _ in 0..heap.free() / 16 {
-        let piece = Vec::with_capacity(heap, 16)?;
-        pieces.push(piece)?;
+        let piece = Vec::with_capacity(heap, 16).expect(rt, "a piece");
+        pieces.push(piece).ok().expect(rt, "memory");
     }
-    Ok(pieces)
+    pieces
+}
+
+// These ends work while all memory of the heap is taken, take no more and give none back.
+fn take_nothing<A: Allocator, R: Abort + Wait>(
+    rt: &R,
+    heap: &LocalHeap,
+    mut first: Port<A>,
+    second: Port<A>,
+    mut outlet: Outlet<A>,
+)
+    requires { first.funnel ≡ outlet.funnel }
+{
+    let made = heap.size();
+    same_at(rt, "open", heap.used(), made);
+    sends(rt, &mut first, OPEN);
+    sends(rt, &mut first, ENDED);
+    let refused = fate_of(rt, &mut first, OPEN);
+    same_at(rt, "a closed port", refused, Fate::Closed);
+    drop(second);
+    same_at(rt, "sent", heap.used(), made);
+    comes(rt, &mut outlet, 0, 0, OPEN);
+    same_at(rt, "taken", heap.used(), made);
+    settles(rt, &mut outlet, first, 0, 2, 1);
+    same_at(rt, "settled", heap.used(), made);
+    comes(rt, &mut outlet, 0, 1, ENDED);
+    has_ended(rt, &mut outlet);
+    same_at(rt, "ended", heap.used(), made);
 }
 
 #[test]
-fn memory_is_taken_at_opening_alone(rt: HostRuntime) -> Result<(), Fail> {
+fn memory_is_taken_at_opening_alone(rt: HostRuntime) {
     let mut opened = false;
     for step in 0..256usize {
-        let heap = LocalHeap::new(rt.alloc(), step * 16)?;
-        let Some((mut first, second, mut outlet)) = two(&heap, 4) else {
-            assert!(rt; heap.used() == 0);
-            continue;
-        };
-        opened = true;
-        // Nothing of the heap is left for the calls.
-        let rest = rest_of(rt.alloc(), &heap)?;
-        let made = heap.size();
-        let all = heap.used() == made;
-        let one = sends(&rt, &mut first, OPEN);
-        let two = sends(&rt, &mut first, ENDED);
-        let refused = fate_of(&rt, &mut first, OPEN) == Fate::Closed;
-        drop(second);
-        let sent = heap.used() == made;
-        assert!(rt; all & one & two & refused & sent);
-        let front = comes(&rt, &mut outlet, 0, 0, OPEN);
-        let taken = heap.used() == made;
-        let told = settles(&mut outlet, first, 0, 2, 1);
-        let settled = heap.used() == made;
-        let last = comes(&rt, &mut outlet, 0, 1, ENDED);
-        let ended = has_ended(&rt, &mut outlet);
-        let ends = heap.used() == made;
-        assert!(rt; front & taken & told & settled & last & ended & ends);
-        drop((rest, outlet));
-        assert!(rt; heap.used() == 0);
-        break;
+        let heap = LocalHeap::new(rt.alloc(), step * 16).expect(&rt, "memory");
+        if let Some((first, second, outlet)) = two(&rt, &heap, 4) {
+            opened = true;
+            // Nothing of the heap is left for the calls.
+            let rest = rest_of(&rt, &heap);
+            take_nothing(&rt, &heap, first, second, outlet);
+            drop(rest);
+        }
+        same_at(&rt, step, heap.used(), 0);
+        if opened {
+            break;
+        }
     }
     assert!(rt; opened);
-    Ok(())
 }

@@ -1,40 +1,34 @@
 //! What is wanted of what is left of harts' logs, and messages.
 
+use crate::same::same_at;
 use losses::{HartPieces, Part};
 use message::Message;
-use payload::{PackFault, Payload};
+use payload::Payload;
 use retire::Event;
-use std::alloc::Allocator;
-use std::fmt::Display;
-use std::test::Fail;
+use std::fmt::Debug;
+use std::process::Abort;
 
 /// Where programs begin.
 pub(crate) const BASE: u64 = 0x8000_0000;
 
-/// Ends the test with this place, a row of a table or a round of a loop, unless it holds there: what is called is
-/// proved once, and not at each place.
-pub(crate) fn hold_at<P: Display + Drop>(place: P, holds: bool) -> Result<(), Fail> {
-    if holds { Ok(()) } else { Err(Fail::new(place)) }
-}
-
 /// A message of this hart with this payload.
-pub(crate) fn message_of(hart: u16, number: u64, payload: &[u8]) -> Result<Message, PackFault> {
-    Ok(Message {
+pub(crate) fn message_of<R: Abort>(rt: &R, hart: u16, number: u64, payload: &[u8]) -> Message {
+    Message {
         hart,
         number,
-        payload: Payload::new(payload)?,
-    })
+        payload: Payload::new(payload).expect(rt, "a payload"),
+    }
 }
 
 /// A part that is wanted: a gap, or the events of a log from a position on up to another.
-#[derive(Clone, Copy)]
+#[derive(Clone, Copy, Debug)]
 pub(crate) enum Wanted {
     Gap(u64),
     Events(usize, usize),
 }
 
 /// Whether a part is the one that is wanted of a log.
-fn is_wanted<A: Allocator>(log: &[Event], part: &Part<A>, wanted: Wanted) -> bool {
+fn is_wanted(log: &[Event], part: &Part, wanted: Wanted) -> bool {
     match (part, wanted) {
         (Part::Gap(missing), Wanted::Gap(count)) => *missing == count,
         (Part::Stretch(events), Wanted::Events(from, to)) => match log.get(from..to) {
@@ -45,20 +39,22 @@ fn is_wanted<A: Allocator>(log: &[Event], part: &Part<A>, wanted: Wanted) -> boo
     }
 }
 
-/// Whether these are the parts that are wanted of a log, and its hart is closed where that is wanted.
-pub(crate) fn are_wanted<A: Allocator>(
+/// These are the parts that are wanted of a log, and its hart is closed where that is wanted. The place is told of
+/// others.
+pub(crate) fn are_wanted<P: Copy + Debug + Drop, R: Abort>(
+    rt: &R,
+    place: P,
     log: &[Event],
-    pieces: &HartPieces<A>,
+    pieces: &HartPieces,
     wanted: &[Wanted],
     closed: bool,
-) -> bool {
-    if pieces.parts.len() != wanted.len() || pieces.closed != closed {
-        return false;
-    }
+) {
+    let found = (pieces.parts.len(), pieces.closed);
+    same_at(rt, place, found, (wanted.len(), closed));
     for (part, one) in pieces.parts.iter().zip(wanted.iter()) {
-        if !is_wanted(log, part, *one) {
-            return false;
-        }
+        assert!(rt;
+            is_wanted(log, part, *one),
+            "at {place:?}: {part:?} for {one:?}"
+        );
     }
-    true
 }

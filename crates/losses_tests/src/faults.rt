@@ -1,15 +1,16 @@
 //! Messages of which nothing is collected.
 
-use crate::collected::{hold_at, message_of};
-use crate::small_logs::{payload_of, program_of};
+use crate::collected::message_of;
+use crate::made::program_of;
+use crate::same::same_at;
+use crate::small_logs::{NOPS, payload_of};
 use decoder::DecodeFault;
 use linked_list_allocator::LocalHeap;
 use losses::{LossyFault, collect_lossy};
 use message::DemuxFault;
 use payload::Mode;
 use rvclass::Program;
-use std::alloc::Global;
-use std::test::Fail;
+use std::process::Abort;
 
 const OPEN: &[u8] = &[0x1f];
 
@@ -81,29 +82,27 @@ const ROWS: [Row; 10] = [
     ),
 ];
 
-/// Whether the messages of a row are not collected for its reason.
-fn is_told(alloc: Global, program: &Program, row: Row) -> Result<bool, Fail> {
+/// The messages of a row are not collected for its reason.
+fn is_told<R: Abort + AllocGlobal>(rt: &R, program: &Program, place: usize, row: Row) {
     let (count, sent, fault) = row;
-    let mut messages = Vec::new(alloc);
+    let mut messages = Vec::new(rt.alloc());
     for (hart, number, payload) in sent {
-        messages.push(message_of(hart, number, payload)?)?;
+        let message = message_of(rt, hart, number, payload);
+        messages.push(message).ok().expect(rt, "memory");
     }
-    match collect_lossy(alloc, program, count, Mode::Differential, &messages) {
-        Ok(_) => Ok(false),
-        Err(why) => Ok(why == fault),
-    }
+    let told = collect_lossy(rt.alloc(), program, count, Mode::Differential, &messages).err();
+    same_at(rt, place, told, Some(fault));
 }
 
 /// A message that is refused and a packet that is not decoded are told with their places, behind those of other harts
 /// too: a number that comes twice or is lower is a repeat; one of 2^63 is a gap, and one that would follow 2^63 - 1
 /// comes after the end; and a hart may not be known, as none is where there are no harts.
 #[test]
-fn faults_have_places(rt: HostRuntime) -> Result<(), Fail> {
-    let program = program_of(rt.alloc())?;
+fn faults_have_places(rt: HostRuntime) {
+    let program = program_of(&rt, &NOPS);
     for (place, row) in ROWS.into_iter().enumerate() {
-        hold_at(place, is_told(rt.alloc(), &program, row)?)?;
+        is_told(&rt, &program, place, row);
     }
-    Ok(())
 }
 
 /// Faults and their texts, in which no place stands.
@@ -118,45 +117,48 @@ const TEXTS: [(LossyFault, &str); 4] = [
 ];
 
 #[test]
-fn faults_as_text(rt: HostRuntime) -> Result<(), Fail> {
+fn faults_as_text(rt: HostRuntime) {
     for (fault, text) in TEXTS {
-        let told = format!(in rt.alloc(); "{fault}")?;
-        hold_at(text, told.as_str() == text)?;
+        let told = format!(in rt.alloc(); "{fault}").expect(&rt, "memory");
+        assert!(rt; told.as_str() == text, "{told} at {text}");
     }
-    Ok(())
 }
 
 /// Where there are no harts and no messages, nothing is left of nobody's log.
 #[test]
-fn no_harts(rt: HostRuntime) -> Result<(), Fail> {
-    let program = program_of(rt.alloc())?;
-    let harts = collect_lossy(rt.alloc(), &program, 0, Mode::Full, &[])?;
-    hold_at("no harts", harts.is_empty())
+fn no_harts(rt: HostRuntime) {
+    let program = program_of(&rt, &NOPS);
+    let harts = collect_lossy(rt.alloc(), &program, 0, Mode::Full, &[]).expect(&rt, "parts");
+    assert!(rt; harts.is_empty());
 }
 
 /// With too little memory Memory is answered, and everything taken is given back.
 #[test]
-fn memory_is_refused(rt: HostRuntime) -> Result<(), Fail> {
-    let program = program_of(rt.alloc())?;
+fn memory_is_refused(rt: HostRuntime) {
+    let program = program_of(&rt, &NOPS);
     let mut messages = Vec::new(rt.alloc());
     for number in [0, 1, 3, 4] {
-        messages.push(message_of(0, number, payload_of(number))?)?;
+        let message = message_of(&rt, 0, number, payload_of(number));
+        messages.push(message).ok().expect(&rt, "memory");
     }
     let mut refused = 0usize;
     let mut collected = 0usize;
     for step in 0..128usize {
-        let heap = LocalHeap::new(rt.alloc(), step * 16)?;
-        let is_told = match collect_lossy(&heap, &program, 1, Mode::Differential, &messages) {
+        let heap = LocalHeap::new(rt.alloc(), step * 16).expect(&rt, "memory");
+        match collect_lossy(&heap, &program, 1, Mode::Differential, &messages) {
             Ok(harts) => {
                 collected = collected.saturating_add(1);
-                harts.len() == 1
+                same_at(&rt, step, harts.len(), 1);
             }
             Err(fault) => {
                 refused = refused.saturating_add(1);
-                fault == LossyFault::Memory
+                same_at(&rt, step, fault, LossyFault::Memory);
             }
-        };
-        hold_at(step, is_told && heap.used() == 0)?;
+        }
+        same_at(&rt, step, heap.used(), 0);
     }
-    hold_at("both ends", 0 < refused && 0 < collected)
+    assert!(rt;
+        0 < refused && 0 < collected,
+        "refused {refused}, collected {collected}"
+    );
 }

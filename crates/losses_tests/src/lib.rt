@@ -14,4 +14,6 @@ mod made_logs;
 #[cfg(test)]
 mod reading;
 #[cfg(test)]
+mod same;
+#[cfg(test)]
 mod small_logs;

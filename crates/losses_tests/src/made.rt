@@ -7,8 +7,7 @@ use message::Message;
 use payload::{Mode, Payload};
 use retire::Event;
 use rvclass::Program;
-use std::alloc::Global;
-use std::test::Fail;
+use std::process::Abort;
 
 /// The words of the program.
 pub(crate) const WORDS: [u32; 6] = [
@@ -21,12 +20,14 @@ pub(crate) const WORDS: [u32; 6] = [
 ];
 
 /// The program of these words.
-pub(crate) fn program_of(alloc: Global, words: &[u32]) -> Result<Program, Fail> {
-    let mut image = Vec::new(alloc);
+pub(crate) fn program_of<R: Abort + AllocGlobal>(rt: &R, words: &[u32]) -> Program {
+    let mut image = Vec::new(rt.alloc());
     for word in words {
-        image.extend_from_slice(&word.to_le_bytes())?;
+        image
+            .extend_from_slice(&word.to_le_bytes())
+            .expect(rt, "memory");
     }
-    Ok(Program::new(BASE, image)?)
+    Program::new(BASE, image).expect(rt, "a program")
 }
 
 /// A retirement so far from the base.
@@ -66,8 +67,8 @@ impl Draws {
     }
 
     /// The first events of a hart that begins at the first word, at machine level.
-    pub(crate) fn events(&mut self, alloc: Global, count: usize) -> Result<Vec<Event>, Fail> {
-        let mut events = Vec::new(alloc);
+    pub(crate) fn events<R: Abort + AllocGlobal>(&mut self, rt: &R, count: usize) -> Vec<Event> {
+        let mut events = Vec::new(rt.alloc());
         let mut at = 0u64;
         let mut resume = 0u64;
         for _ in 0..count {
@@ -84,16 +85,16 @@ impl Draws {
             if traps {
                 resume = at;
             }
-            events.push(event)?;
+            events.push(event).expect(rt, "memory");
             at = next;
         }
-        Ok(events)
+        events
     }
 
     /// Which of so many messages come: all, all but one or some in a row, one, all but the first or the last, or about
     /// three of four.
-    pub(crate) fn came(&mut self, alloc: Global, count: usize) -> Result<Vec<bool>, Fail> {
-        let mut came = Vec::new(alloc);
+    pub(crate) fn came<R: Abort + AllocGlobal>(&mut self, rt: &R, count: usize) -> Vec<bool> {
+        let mut came = Vec::new(rt.alloc());
         let kind = self.below(8);
         let one = self.below(count);
         let row = self.below(6);
@@ -108,9 +109,9 @@ impl Draws {
                 6 => number.saturating_add(1) == count,
                 _ => self.below(4) == 0,
             };
-            came.push(!lost)?;
+            came.push(!lost).expect(rt, "memory");
         }
-        Ok(came)
+        came
     }
 }
 
@@ -124,8 +125,8 @@ pub(crate) struct Sent {
 }
 
 /// The messages of up to eight harts, mixed.
-pub(crate) fn mixed(alloc: Global, harts: &[Sent]) -> Result<Vec<Message>, Fail> {
-    let mut messages = Vec::new(alloc);
+pub(crate) fn mixed<R: Abort + AllocGlobal>(rt: &R, harts: &[Sent]) -> Vec<Message> {
+    let mut messages = Vec::new(rt.alloc());
     for time in 0..100usize {
         for (hart, sent) in harts.iter().enumerate() {
             let number = time.wrapping_sub(sent.delay);
@@ -133,33 +134,31 @@ pub(crate) fn mixed(alloc: Global, harts: &[Sent]) -> Result<Vec<Message>, Fail>
                 && sent.came.get(number) == Some(&true)
             {
                 let hart = hart.min(8) as u16;
-                messages.push(message_of(hart, number as u64, payload.bytes())?)?;
+                let message = message_of(rt, hart, number as u64, payload.bytes());
+                messages.push(message).ok().expect(rt, "memory");
             }
         }
     }
-    Ok(messages)
+    messages
 }
 
 /// The payloads of the log of these events.
-pub(crate) fn payloads_of(
-    alloc: Global,
+pub(crate) fn payloads_of<R: Abort + AllocGlobal>(
+    rt: &R,
     program: &Program,
     events: &[Event],
     period: u16,
     mode: Mode,
-) -> Result<Vec<Payload>, Fail> {
-    if events.len() > 1 << 24 {
-        return Err(Fail::from("a log is too long"));
-    }
-    let Ok(log) = LegalLog::new(program, events.to_vec(alloc)?) else {
-        return Err(Fail::from("a log is not legal"));
-    };
-    let mut payloads = Vec::new(alloc);
+) -> Vec<Payload> {
+    assert!(rt; events.len() <= 1 << 24, "a log is too long");
+    let log = events.to_vec(rt.alloc()).expect(rt, "memory");
+    let log = LegalLog::new(program, log).ok().expect(rt, "a legal log");
+    let mut payloads = Vec::new(rt.alloc());
     let mut source = Source::new(&log, period.max(1), mode);
     for _ in 0..100 {
         if let Some(payload) = source.next() {
-            payloads.push(payload)?;
+            payloads.push(payload).ok().expect(rt, "memory");
         }
     }
-    Ok(payloads)
+    payloads
 }

@@ -1,15 +1,15 @@
 //! Losses of logs which branch, jump back, return and take traps. The parts are compared with positions in the log:
 //! such as were worked by hand, and those of a plain reading of the rules of docs/FORMATS.md.
 
-use crate::collected::{Wanted, are_wanted, hold_at};
+use crate::collected::{Wanted, are_wanted, message_of};
 use crate::made::{Draws, Sent, WORDS, interrupted, mixed, payloads_of, program_of, retired};
 use crate::reading::{Reading, left};
+use crate::same::same_at;
 use losses::{HartPieces, collect_lossy};
 use payload::Mode;
 use retire::Event;
 use rvclass::Program;
-use std::alloc::Global;
-use std::test::Fail;
+use std::process::Abort;
 
 /// The modes in which addresses are told.
 const MODES: [Mode; 2] = [Mode::Differential, Mode::Full];
@@ -17,33 +17,30 @@ const MODES: [Mode; 2] = [Mode::Differential, Mode::Full];
 /// The numbers of the messages that are lost, the parts that are wanted, and whether the hart is closed.
 type Row = (&'static [usize], &'static [Wanted], bool);
 
-/// Whether of the log of these events, with synchronisations of this period, the parts of a row are left in this mode,
-/// and its hart sends so many messages.
-fn is_left(
-    alloc: Global,
+/// Of the log of these events, with synchronisations of this period, a hart sends so many messages in this mode, and
+/// the parts of a row are left.
+fn is_left<R: Abort + AllocGlobal>(
+    rt: &R,
     program: &Program,
     events: &[Event],
     (period, count): (u16, usize),
     mode: Mode,
-    row: Row,
-) -> Result<bool, Fail> {
+    (place, row): (usize, Row),
+) {
     let (lost, wanted, closed) = row;
-    let mut came = Vec::new(alloc);
-    for number in 0..count {
-        came.push(!lost.contains(&number))?;
+    let payloads = payloads_of(rt, program, events, period, mode);
+    same_at(rt, (mode, place), payloads.len(), count);
+    let mut messages = Vec::new(rt.alloc());
+    for (number, payload) in payloads.iter().enumerate() {
+        if !lost.contains(&number) {
+            let message = message_of(rt, 0, number as u64, payload.bytes());
+            messages.push(message).ok().expect(rt, "memory");
+        }
     }
-    let sent = Sent {
-        events: events.to_vec(alloc)?,
-        payloads: payloads_of(alloc, program, events, period, mode)?,
-        came,
-        delay: 0,
-    };
-    let has_sent = sent.payloads.len() == count;
-    let messages = mixed(alloc, &[sent])?;
-    let harts = collect_lossy(alloc, program, 1, mode, &messages)?;
+    let harts = collect_lossy(rt.alloc(), program, 1, mode, &messages).expect(rt, "parts");
     match harts.as_slice() {
-        [pieces] => Ok(has_sent && are_wanted(events, pieces, wanted, closed)),
-        _ => Ok(false),
+        [pieces] => are_wanted(rt, (mode, place), events, pieces, wanted, closed),
+        _ => panic!(rt; "at {mode:?}, {place}: other than one hart"),
     }
 }
 
@@ -71,7 +68,7 @@ const OF_A_TRAP: [Row; 13] = [
 /// where mret led, event 7; 6 is a synchronisation at event 8; 7 waits, of where the jump to ra led, event 9; 8 waits,
 /// of the last event; 9 closes the trace.
 #[test]
-fn a_trap_and_a_jump_back(rt: HostRuntime) -> Result<(), Fail> {
+fn a_trap_and_a_jump_back(rt: HostRuntime) {
     let events = [
         retired(0, 0),
         retired(4, 5),
@@ -85,14 +82,12 @@ fn a_trap_and_a_jump_back(rt: HostRuntime) -> Result<(), Fail> {
         retired(0, 0),
         retired(4, 5),
     ];
-    let program = program_of(rt.alloc(), &WORDS)?;
+    let program = program_of(&rt, &WORDS);
     for mode in MODES {
-        for (place, row) in OF_A_TRAP.into_iter().enumerate() {
-            let is_wanted = is_left(rt.alloc(), &program, &events, (7, 10), mode, row)?;
-            hold_at(place, is_wanted)?;
+        for row in OF_A_TRAP.into_iter().enumerate() {
+            is_left(&rt, &program, &events, (7, 10), mode, row);
         }
     }
-    Ok(())
 }
 
 const OF_A_FULL_MAP: [Row; 7] = [
@@ -109,92 +104,87 @@ const OF_A_FULL_MAP: [Row; 7] = [
     (&[4], &[Wanted::Events(0, 32)], false),
 ];
 
-/// The log of a branch to itself that is taken 32 times and then not, of five packets: 0 opens the trace; 1 is a synchronisation at
-/// event 0; 2 is a full branch map, of events 1 to 31, which waits for nothing; 3 waits, of the last event; 4 closes
-/// the trace.
+/// The log of a branch to itself that is taken 32 times and then not, of five packets: 0 opens the trace; 1 is a
+/// synchronisation at event 0; 2 is a full branch map, of events 1 to 31, which waits for nothing; 3 waits, of the last
+/// event; 4 closes the trace.
 #[test]
-fn a_full_branch_map(rt: HostRuntime) -> Result<(), Fail> {
-    let program = program_of(rt.alloc(), &[0x0000_0063])?;
-    let mut events = vec![in rt.alloc(); retired(0, 5); 32]?;
-    events.push(retired(0, 4))?;
+fn a_full_branch_map(rt: HostRuntime) {
+    let program = program_of(&rt, &[0x0000_0063]);
+    let mut events = [retired(0, 5); 33];
+    events[32] = retired(0, 4);
     for mode in MODES {
-        for (place, row) in OF_A_FULL_MAP.into_iter().enumerate() {
-            let is_wanted = is_left(rt.alloc(), &program, &events, (1024, 5), mode, row)?;
-            hold_at(place, is_wanted)?;
+        for row in OF_A_FULL_MAP.into_iter().enumerate() {
+            is_left(&rt, &program, &events, (1024, 5), mode, row);
         }
     }
-    Ok(())
 }
 
 /// One to eight harts with made logs, of whose messages random ones are lost.
-fn drawn(
-    alloc: Global,
+fn drawn<R: Abort + AllocGlobal>(
+    rt: &R,
     program: &Program,
     draws: &mut Draws,
     period: u16,
     mode: Mode,
-) -> Result<Vec<Sent>, Fail> {
-    let mut harts = Vec::new(alloc);
+) -> Vec<Sent> {
+    let mut harts = Vec::new(rt.alloc());
     for _ in 0..draws.below(8).saturating_add(1) {
         let count = draws.below(40);
-        let events = draws.events(alloc, count)?;
-        let payloads = payloads_of(alloc, program, &events, period, mode)?;
-        let came = draws.came(alloc, payloads.len())?;
-        harts.push(Sent {
+        let events = draws.events(rt, count);
+        let payloads = payloads_of(rt, program, &events, period, mode);
+        let came = draws.came(rt, payloads.len());
+        let sent = Sent {
             events,
             payloads,
             came,
             delay: draws.below(20),
-        })?;
+        };
+        harts.push(sent).ok().expect(rt, "memory");
     }
-    Ok(harts)
+    harts
 }
 
-/// Whether what is left of a hart's log is what a reading finds.
-fn is_as_read(alloc: Global, pieces: &HartPieces, sent: &Sent, period: u16) -> Result<bool, Fail> {
+/// What is left of a hart's log is what a reading finds. Of another the round of the loop and the hart are told.
+fn is_as_read<R: Abort + AllocGlobal>(
+    rt: &R,
+    place: (usize, usize),
+    pieces: &HartPieces,
+    sent: &Sent,
+    period: u16,
+) {
     let reading = Reading {
         log: sent.events.as_slice(),
         period: u64::from(period),
     };
-    let packets = reading.packets(alloc)?;
-    let wanted = left(alloc, &packets, &sent.came)?;
-    match sent.came.last() {
-        Some(closed) => {
-            Ok(
-                packets.len() == sent.payloads.len()
-                    && are_wanted(&sent.events, pieces, &wanted, *closed),
-            )
-        }
-        None => Ok(false),
-    }
+    let packets = reading.packets(rt);
+    same_at(rt, place, sent.payloads.len(), packets.len());
+    let wanted = left(rt, &packets, &sent.came);
+    let closed = sent.came.last().copied().expect(rt, "a message");
+    are_wanted(rt, place, &sent.events, pieces, &wanted, closed);
 }
 
-/// Whether that is so of all of these harts.
-fn are_as_read(
-    alloc: Global,
+/// That is so of all of these harts.
+fn are_as_read<R: Abort + AllocGlobal>(
+    rt: &R,
     program: &Program,
+    round: usize,
     harts: &[Sent],
     period: u16,
     mode: Mode,
-) -> Result<bool, Fail> {
-    let messages = mixed(alloc, harts)?;
+) {
+    let messages = mixed(rt, harts);
     let count = harts.len().min(8) as u16;
-    let collected = collect_lossy(alloc, program, count, mode, &messages)?;
-    if collected.len() != harts.len() {
-        return Ok(false);
+    let collected = collect_lossy(rt.alloc(), program, count, mode, &messages).expect(rt, "parts");
+    same_at(rt, round, collected.len(), harts.len());
+    for (hart, (pieces, sent)) in collected.iter().zip(harts.iter()).enumerate() {
+        is_as_read(rt, (round, hart), pieces, sent, period);
     }
-    for (pieces, sent) in collected.iter().zip(harts.iter()) {
-        if !is_as_read(alloc, pieces, sent, period)? {
-            return Ok(false);
-        }
-    }
-    Ok(true)
 }
 
 /// The parts of one to eight harts, of whose messages random ones are lost, are those that a reading finds.
 #[test]
-fn random_losses(rt: HostRuntime) -> Result<(), Fail> {
-    let program = program_of(rt.alloc(), &WORDS)?;
+fn random_losses(rt: HostRuntime) {
+    let program = program_of(&rt, &WORDS);
     let mut draws = Draws { state: 1 };
     for round in 0..200usize {
         let mode = if round.is_multiple_of(2) {
@@ -203,9 +193,7 @@ fn random_losses(rt: HostRuntime) -> Result<(), Fail> {
             Mode::Full
         };
         let period: u16 = if draws.below(2) == 0 { 4 } else { 11 };
-        let harts = drawn(rt.alloc(), &program, &mut draws, period, mode)?;
-        let are_read = are_as_read(rt.alloc(), &program, &harts, period, mode)?;
-        hold_at(round, are_read)?;
+        let harts = drawn(&rt, &program, &mut draws, period, mode);
+        are_as_read(&rt, &program, round, &harts, period, mode);
     }
-    Ok(())
 }

@@ -2,8 +2,7 @@
 
 use crate::collected::{BASE, Wanted};
 use retire::Event;
-use std::alloc::Global;
-use std::test::Fail;
+use std::process::Abort;
 
 /// What a packet is to a stretch: it begins one, or it is not settled before another comes.
 #[derive(Clone, Copy, PartialEq, Eq)]
@@ -95,15 +94,20 @@ impl Reading<'_> {
     }
 
     /// The packets, with the position behind the events of each. Those that open and close the trace have none.
-    pub(crate) fn packets(&self, alloc: Global) -> Result<Vec<(Kind, usize)>, Fail> {
-        let mut packets = vec![in alloc; (Kind::Begins, 0)]?;
+    pub(crate) fn packets<R: Abort + AllocGlobal>(&self, rt: &R) -> Vec<(Kind, usize)> {
+        let mut packets = Vec::new(rt.alloc());
+        packets.push((Kind::Begins, 0)).expect(rt, "memory");
         for i in 0..self.log.len() {
             if let Some(kind) = self.kind(i) {
-                packets.push((kind, i.saturating_add(1)))?;
+                packets
+                    .push((kind, i.saturating_add(1)))
+                    .expect(rt, "memory");
             }
         }
-        packets.push((Kind::Other, self.log.len()))?;
-        Ok(packets)
+        packets
+            .push((Kind::Other, self.log.len()))
+            .expect(rt, "memory");
+        packets
     }
 }
 
@@ -139,12 +143,12 @@ fn stretch(packets: &[(Kind, usize)], came: &[bool], first: usize) -> Option<Wan
 }
 
 /// What is left of a log of these packets.
-pub(crate) fn left(
-    alloc: Global,
+pub(crate) fn left<R: Abort + AllocGlobal>(
+    rt: &R,
     packets: &[(Kind, usize)],
     came: &[bool],
-) -> Result<Vec<Wanted>, Fail> {
-    let mut left = Vec::new(alloc);
+) -> Vec<Wanted> {
+    let mut left = Vec::new(rt.alloc());
     let mut missing: u64 = 0;
     for (number, is_there) in came.iter().enumerate() {
         if !*is_there {
@@ -152,14 +156,14 @@ pub(crate) fn left(
             continue;
         }
         if missing != 0 {
-            left.push(Wanted::Gap(missing))?;
+            left.push(Wanted::Gap(missing)).expect(rt, "memory");
         }
         if (missing != 0 || number == 0)
             && let Some(events) = stretch(packets, came, number)
         {
-            left.push(events)?;
+            left.push(events).expect(rt, "memory");
         }
         missing = 0;
     }
-    Ok(left)
+    left
 }

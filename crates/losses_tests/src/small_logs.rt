@@ -1,21 +1,16 @@
 //! Losses of a log of three words, worked by hand.
 
-use crate::collected::{BASE, Wanted, are_wanted, hold_at, message_of};
-use losses::{HartPieces, collect_lossy};
+use crate::collected::{BASE, Wanted, are_wanted, message_of};
+use crate::made::program_of;
+use losses::collect_lossy;
 use message::Message;
 use payload::Mode;
 use retire::Event;
 use rvclass::Program;
-use std::alloc::Global;
-use std::test::Fail;
+use std::process::Abort;
 
 /// Three words `nop`.
-const NOPS: [u8; 12] = [0x13, 0, 0, 0, 0x13, 0, 0, 0, 0x13, 0, 0, 0];
-
-/// The program of these words.
-pub(crate) fn program_of(alloc: Global) -> Result<Program, Fail> {
-    Ok(Program::new(BASE, Vec::from_slice(alloc, &NOPS)?)?)
-}
+pub(crate) const NOPS: [u32; 3] = [0x0000_0013; 3];
 
 /// The retirement of the word so far from the base.
 const fn retired(offset: u64) -> Event {
@@ -48,15 +43,18 @@ fn payload_in(mode: Mode, number: u64) -> &'static [u8] {
 }
 
 /// The messages of hart 0 with these numbers, and all five of hart 1, mixed, with addresses told in this mode.
-fn messages_of(alloc: Global, told: Mode, numbers: &[u64]) -> Result<Vec<Message>, Fail> {
-    let mut messages = Vec::new(alloc);
+fn messages_of<R: Abort + AllocGlobal>(rt: &R, told: Mode, numbers: &[u64]) -> Vec<Message> {
+    let mut messages = Vec::new(rt.alloc());
     for number in 0..5 {
+        let payload = payload_in(told, number);
         if numbers.contains(&number) {
-            messages.push(message_of(0, number, payload_in(told, number))?)?;
+            let message = message_of(rt, 0, number, payload);
+            messages.push(message).ok().expect(rt, "memory");
         }
-        messages.push(message_of(1, number, payload_in(told, number))?)?;
+        let message = message_of(rt, 1, number, payload);
+        messages.push(message).ok().expect(rt, "memory");
     }
-    Ok(messages)
+    messages
 }
 
 /// All three events.
@@ -116,27 +114,26 @@ const D: Mode = Mode::Differential;
 
 const F: Mode = Mode::Full;
 
-/// Whether the parts of hart 0 are those of a row, and hart 1 has all.
-fn are_those_of(row: Row, harts: &[HartPieces]) -> bool {
-    let (_, _, _, wanted, closed) = row;
+/// The parts of hart 0 are those of a row, and hart 1 has all.
+fn are_those_of<R: Abort + AllocGlobal>(rt: &R, program: &Program, place: usize, row: Row) {
+    let (handed, told, numbers, wanted, closed) = row;
     let log = [retired(0), retired(4), retired(8)];
-    match harts {
+    let messages = messages_of(rt, told, numbers);
+    let harts = collect_lossy(rt.alloc(), program, 2, handed, &messages).expect(rt, "parts");
+    match harts.as_slice() {
         [first, second] => {
-            are_wanted(&log, first, wanted, closed) && are_wanted(&log, second, ALL, true)
+            are_wanted(rt, (place, 0), &log, first, wanted, closed);
+            are_wanted(rt, (place, 1), &log, second, ALL, true);
         }
-        _ => false,
+        _ => panic!(rt; "at {place}: other than two harts"),
     }
 }
 
 /// What is left where some of the five messages of hart 0 are lost, and none of hart 1, with which they are mixed.
 #[test]
-fn losses_by_table(rt: HostRuntime) -> Result<(), Fail> {
-    let program = program_of(rt.alloc())?;
+fn losses_by_table(rt: HostRuntime) {
+    let program = program_of(&rt, &NOPS);
     for (place, row) in ROWS.into_iter().enumerate() {
-        let (handed, told, numbers, _, _) = row;
-        let messages = messages_of(rt.alloc(), told, numbers)?;
-        let harts = collect_lossy(rt.alloc(), &program, 2, handed, &messages)?;
-        hold_at(place, are_those_of(row, &harts))?;
+        are_those_of(&rt, &program, place, row);
     }
-    Ok(())
 }

@@ -2,12 +2,11 @@
 
 use self::Call::{Accept, AcceptLossy};
 use super::messages::message;
-use super::same::{is_same, same};
+use super::same::same_at;
 use message::DemuxFault::{AfterClose, Gap, Repeat, Stranger};
 use message::{Demux, DemuxFault, Message};
 use payload::{Mode, PackFault, Packet, Support};
-use std::alloc::Global;
-use std::test::Fail;
+use std::process::Abort;
 
 const OPEN: &[u8] = &[0x1f];
 
@@ -126,15 +125,15 @@ fn answer(demux: &mut Demux, call: Call, message: &Message) -> Result<(Packet, u
     }
 }
 
-/// Whether a message is accepted, or refused, as its row says.
-fn is_told(demux: &mut Demux, row: Row) -> Result<bool, Fail> {
+/// Ends the test unless a message is accepted, or refused, as its row says.
+fn is_told(rt: &impl Abort, place: (&str, usize), demux: &mut Demux, row: Row) {
     let (call, hart, number, bytes, told) = row;
     let want = match told {
-        Ok(missed) => Ok((payload::unpack(bytes)?, missed)),
+        Ok(missed) => Ok((payload::unpack(bytes).expect(rt, "a packet"), missed)),
         Err(fault) => Err(fault),
     };
-    let message = message(hart, number, bytes)?;
-    Ok(is_same(answer(demux, call, &message), want))
+    let message = message(rt, hart, number, bytes);
+    same_at(rt, place, answer(demux, call, &message), want);
 }
 
 /// Whether harts 0 and 1 are closed, and others.
@@ -147,25 +146,21 @@ fn closed(demux: &Demux) -> [bool; 4] {
     ]
 }
 
-/// The first row that is answered otherwise than it says, or behind which other harts are closed.
-fn first_wrong(alloc: Global, run: Run) -> Result<Option<(&'static str, usize)>, Fail> {
-    let (name, harts, rows, [first, second]) = run;
-    let mut demux = Demux::new(alloc, harts)?;
+/// Ends the test unless each row is answered as it says, and those harts are closed behind it that have to be.
+fn are_told<R: Abort + AllocGlobal>(rt: &R, (name, harts, rows, [first, second]): Run) {
+    let mut demux = Demux::new(rt.alloc(), harts).expect(rt, "memory");
     for (place, row) in rows.iter().enumerate() {
-        let told = is_told(&mut demux, *row)?;
-        if !told || closed(&demux) != [place >= first, place >= second, false, false] {
-            return Ok(Some((name, place)));
-        }
+        is_told(rt, (name, place), &mut demux, *row);
+        let want = [place >= first, place >= second, false, false];
+        same_at(rt, (name, place), closed(&demux), want);
     }
-    Ok(None)
 }
 
 #[test]
-fn messages_by_table(rt: HostRuntime) -> Result<(), Fail> {
+fn messages_by_table(rt: HostRuntime) {
     let open = Packet::Support(Support::Open(Mode::Differential));
-    same(&rt, payload::unpack(OPEN), Ok(open));
-    for run in &RUNS {
-        same(&rt, first_wrong(rt.alloc(), *run)?, None);
+    same_at(&rt, "open", payload::unpack(OPEN), Ok(open));
+    for run in RUNS {
+        are_told(&rt, run);
     }
-    Ok(())
 }

@@ -1,15 +1,14 @@
 //! Readers and writers that fail, or move one byte a call.
 
 use super::messages::message;
-use super::same::is_same;
+use super::same::same_at;
 use message::{
     Header, Message, MessageFault, Start, read_message, read_start, write_header, write_message,
 };
 use payload::Mode;
-use std::alloc::Global;
 use std::io;
 use std::io::{ErrorKind, Read, Write};
-use std::test::Fail;
+use std::process::Abort;
 
 /// The bytes of a message.
 const WHOLE: [u8; 16] = [7, 0, 9, 0, 0, 0, 0, 0, 0, 0, 5, 0x73, 0, 0, 0, 0x20];
@@ -45,72 +44,66 @@ impl Read for FailingReader<'_> {
     }
 }
 
-/// What is read of bytes, one a call, as a message.
-fn message_of(rest: &[u8], calls: usize, kind: ErrorKind) -> Result<Option<Message>, MessageFault> {
-    read_message(&mut FailingReader { rest, calls, kind })
-}
-
 /// What is read of bytes, one a call, as the start of a capture.
 fn start_of(rest: &[u8], calls: usize, kind: ErrorKind) -> Result<Start, MessageFault> {
     read_start(&mut FailingReader { rest, calls, kind })
 }
 
-/// Whether so many bytes of the message, and of the header, are read with this fault.
-fn are_refused(length: usize, calls: usize, kind: ErrorKind, fault: MessageFault) -> bool {
+/// Ends the test unless so many bytes of the message, and of the header, are read with this fault.
+fn are_refused(rt: &impl Abort, length: usize, calls: usize, kind: ErrorKind, fault: MessageFault) {
     let length = length.min(16);
-    is_same(message_of(&WHOLE[..length], calls, kind), Err(fault))
-        && is_same(start_of(&HEADER[..length], calls, kind), Err(fault))
+    let mut reader = FailingReader {
+        rest: &WHOLE[..length],
+        calls,
+        kind,
+    };
+    let place = (kind, length, calls);
+    same_at(rt, place, read_message(&mut reader), Err(fault));
+    let start = start_of(&HEADER[..length], calls, kind);
+    same_at(rt, place, start, Err(fault));
 }
 
-/// Whether the message, and the header, are read by readers that fail at one call; and what is read behind the message.
+/// Ends the test unless the message, and the header, are read by readers that fail at one call; and this behind the
+/// message.
 fn are_read(
+    rt: &impl Abort,
     calls: usize,
     kind: ErrorKind,
     behind: Result<Option<Message>, MessageFault>,
-) -> Result<bool, Fail> {
+) {
     let mut reader = FailingReader {
         rest: WHOLE.as_slice(),
         calls,
         kind,
     };
-    let sent = message(7, 9, &[0x73, 0, 0, 0, 0x20])?;
-    Ok(
-        is_same(read_message(&mut reader), Ok(Some(sent)))
-            && is_same(read_message(&mut reader), behind)
-            && is_same(start_of(&HEADER, calls, kind), Ok(Start::Version2(TOLD))),
-    )
+    let sent = message(rt, 7, 9, &[0x73, 0, 0, 0, 0x20]);
+    same_at(rt, (kind, calls), read_message(&mut reader), Ok(Some(sent)));
+    same_at(rt, (kind, calls), read_message(&mut reader), behind);
+    let start = start_of(&HEADER, calls, kind);
+    same_at(rt, (kind, calls), start, Ok(Start::Version2(TOLD)));
 }
 
 #[test]
-fn reader_fails_at_each_call(rt: HostRuntime) -> Result<(), Fail> {
+fn reader_fails_at_each_call(rt: HostRuntime) {
     for kind in [ErrorKind::UnexpectedEof, ErrorKind::TimedOut] {
         for calls in 0..16usize {
-            assert!(rt;
-                are_refused(16, calls, kind, MessageFault::Read),
-                "call {calls}"
-            );
+            are_refused(&rt, 16, calls, kind, MessageFault::Read);
         }
-        assert!(rt; are_read(16, kind, Err(MessageFault::Read))?);
+        are_read(&rt, 16, kind, Err(MessageFault::Read));
     }
-    Ok(())
 }
 
 #[test]
-fn interrupted_reader_is_asked_again(rt: HostRuntime) -> Result<(), Fail> {
+fn interrupted_reader_is_asked_again(rt: HostRuntime) {
     for calls in 0..20usize {
-        assert!(rt;
-            are_read(calls, ErrorKind::Interrupted, Ok(None))?,
-            "call {calls}"
-        );
+        are_read(&rt, calls, ErrorKind::Interrupted, Ok(None));
     }
-    Ok(())
 }
 
 #[test]
 fn cut_is_short_one_byte_a_call(rt: HostRuntime) {
     for length in 1..16usize {
-        let short = are_refused(length, 100, ErrorKind::TimedOut, MessageFault::Short);
-        assert!(rt; short, "{length} bytes");
+        are_refused(&rt, length, 100, ErrorKind::TimedOut, MessageFault::Short);
     }
 }
 
@@ -137,32 +130,29 @@ impl Write for FailingWriter {
     }
 }
 
-/// Whether a message, and a header, are written so by writers that fail after so many calls, of which each then holds
-/// that many bytes of it.
-fn are_written(alloc: Global, calls: usize, end: Result<(), MessageFault>) -> Result<bool, Fail> {
+/// Ends the test unless a message, and a header, are written so by writers that fail after so many calls, of which each
+/// then holds that many bytes of it.
+fn are_written<R: Abort + AllocGlobal>(rt: &R, calls: usize, end: Result<(), MessageFault>) {
     let length = calls.min(16);
-    let mut of_message = FailingWriter {
-        held: Vec::new(alloc),
+    let sent = message(rt, 7, 9, &[0x73, 0, 0, 0, 0x20]);
+    let mut writer = FailingWriter {
+        held: Vec::new(rt.alloc()),
         calls,
     };
-    let sent = message(7, 9, &[0x73, 0, 0, 0, 0x20])?;
-    let message = is_same(write_message(&mut of_message, &sent), end)
-        && is_same(of_message.held.as_slice(), &WHOLE[..length]);
-    let mut of_header = FailingWriter {
-        held: Vec::new(alloc),
+    same_at(rt, calls, write_message(&mut writer, &sent), end);
+    same_at(rt, calls, writer.held.as_slice(), &WHOLE[..length]);
+    let mut writer = FailingWriter {
+        held: Vec::new(rt.alloc()),
         calls,
     };
-    let header = is_same(write_header(&mut of_header, &TOLD), end)
-        && is_same(of_header.held.as_slice(), &HEADER[..length]);
-    Ok(message && header)
+    same_at(rt, calls, write_header(&mut writer, &TOLD), end);
+    same_at(rt, calls, writer.held.as_slice(), &HEADER[..length]);
 }
 
 #[test]
-fn writer_fails_at_each_call(rt: HostRuntime) -> Result<(), Fail> {
+fn writer_fails_at_each_call(rt: HostRuntime) {
     for calls in 0..16usize {
-        let failed = are_written(rt.alloc(), calls, Err(MessageFault::Write))?;
-        assert!(rt; failed, "call {calls}");
+        are_written(&rt, calls, Err(MessageFault::Write));
     }
-    assert!(rt; are_written(rt.alloc(), 16, Ok(()))?);
-    Ok(())
+    are_written(&rt, 16, Ok(()));
 }

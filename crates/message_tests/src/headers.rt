@@ -1,11 +1,11 @@
 //! Worked headers, whole, cut and changed, through both ways of reading.
 
 use super::messages::message;
-use super::same::{is_same, same};
+use super::same::same_at;
 use message::{Header, MOST_HARTS, MessageFault, Messages, Start, read_start, write_header};
 use payload::Mode;
-use std::alloc::Global;
-use std::test::Fail;
+use std::fmt::Debug;
+use std::process::Abort;
 
 /// A header of differences, a period of 1,024 and one hart, and the first message behind it.
 const WHOLE: [u8; 28] = [
@@ -38,21 +38,6 @@ const HEADERS: [(Mode, u16, u16, [u8; 5]); 5] = [
     ),
 ];
 
-/// Whether a header is written as the mark and these settings.
-fn is_written(alloc: Global, header: &Header, settings: [u8; 5]) -> Result<bool, Fail> {
-    let mut bytes = Vec::new(alloc);
-    write_header(&mut bytes, header)?;
-    let (mark, rest) = bytes.as_slice().split_at(bytes.len().min(11));
-    Ok(mark == &WHOLE[..11] && rest == settings.as_slice())
-}
-
-/// Whether the mark and these settings are read as a header, both ways.
-fn is_read(header: Header, settings: [u8; 5]) -> bool {
-    let bytes = with_settings(settings);
-    is_same(read_start(&mut &bytes[..16]), Ok(Start::Version2(header)))
-        && is_same(Messages::new(&bytes[..16]).header(), Ok(Some(header)))
-}
-
 /// The header with other settings, and the first message behind it.
 fn with_settings(settings: [u8; 5]) -> [u8; 28] {
     let mut bytes = WHOLE;
@@ -60,119 +45,123 @@ fn with_settings(settings: [u8; 5]) -> [u8; 28] {
     bytes
 }
 
+/// Ends the test unless bytes that begin with the mark and these settings are read so as a header, both ways.
+fn is_read(rt: &impl Abort, bytes: &[u8], settings: [u8; 5], header: Result<Header, MessageFault>) {
+    let (told, start) = match header {
+        Ok(header) => (Ok(Some(header)), Ok(Start::Version2(header))),
+        Err(fault) => (Err(fault), Err(fault)),
+    };
+    same_at(rt, settings, Messages::new(bytes).header(), told);
+    same_at(rt, settings, read_start(&mut &bytes[..]), start);
+}
+
+/// Ends the test unless a header is written as the mark and these settings, and read from them.
+fn is_written<R: Abort + AllocGlobal>(rt: &R, header: Header, settings: [u8; 5]) {
+    let want = with_settings(settings);
+    let mut bytes = Vec::new(rt.alloc());
+    write_header(&mut bytes, &header).expect(rt, "memory");
+    same_at(rt, header, bytes.as_slice(), &want[..16]);
+    is_read(rt, &want[..16], settings, Ok(header));
+}
+
 #[test]
-fn headers_are_written_and_read(rt: HostRuntime) -> Result<(), Fail> {
+fn headers_are_written_and_read(rt: HostRuntime) {
     for (mode, period, harts, settings) in HEADERS {
         let header = Header {
             mode,
             period,
             harts,
         };
-        let written = is_written(rt.alloc(), &header, settings)?;
-        assert!(rt; written && is_read(header, settings), "{header:?}");
+        is_written(&rt, header, settings);
     }
-    Ok(())
 }
 
 #[test]
-fn messages_follow_a_header(rt: HostRuntime) -> Result<(), Fail> {
-    let first = message(0, 0, &[0x1f])?;
+fn messages_follow_a_header(rt: HostRuntime) {
+    let first = message(&rt, 0, 0, &[0x1f]);
     let mut messages = Messages::new(&WHOLE);
-    same(&rt, messages.header(), Ok(Some(HEADER)));
-    same(&rt, messages.header(), Ok(None));
-    same(&rt, messages.next(), Ok(Some(first)));
-    same(&rt, messages.next(), Ok(None));
-    Ok(())
+    same_at(&rt, "header", messages.header(), Ok(Some(HEADER)));
+    same_at(&rt, "no other header", messages.header(), Ok(None));
+    same_at(&rt, "message", messages.next(), Ok(Some(first)));
+    same_at(&rt, "no other message", messages.next(), Ok(None));
 }
 
-/// Whether bytes are no header, and what is read of them is so.
-fn bear_no_mark(bytes: &[u8], start: Result<Start, MessageFault>) -> bool {
-    is_same(Messages::new(bytes).header(), Ok(None)) && is_same(read_start(&mut &bytes[..]), start)
+/// Ends the test unless bytes are no header, and what is read of them is so.
+fn bear_no_mark<P: Copy + Debug + Drop>(
+    rt: &impl Abort,
+    place: P,
+    bytes: &[u8],
+    start: Result<Start, MessageFault>,
+) {
+    same_at(rt, place, Messages::new(bytes).header(), Ok(None));
+    same_at(rt, place, read_start(&mut &bytes[..]), start);
 }
 
 #[test]
-fn what_bears_no_mark_is_version_1(rt: HostRuntime) -> Result<(), Fail> {
-    assert!(rt; bear_no_mark(&[], Ok(Start::Version1(None))));
-    let first = Start::Version1(Some(message(0, 0, &[0x1f])?));
-    assert!(rt; bear_no_mark(&WHOLE[16..], Ok(first)));
+fn what_bears_no_mark_is_version_1(rt: HostRuntime) {
+    bear_no_mark(&rt, "no byte", &[], Ok(Start::Version1(None)));
+    let first = Start::Version1(Some(message(&rt, 0, 0, &[0x1f])));
+    bear_no_mark(&rt, "a message", &WHOLE[16..], Ok(first));
     for place in 0..10usize {
         let mut bytes = WHOLE;
         bytes[place] = !bytes[place];
-        assert!(rt;
-            bear_no_mark(&bytes, Err(MessageFault::BadLength)),
-            "at {place}"
-        );
+        bear_no_mark(&rt, place, &bytes, Err(MessageFault::BadLength));
     }
-    Ok(())
 }
 
-/// Whether bytes that begin as a header does are short: as messages where the mark is cut, and as a header behind it.
-fn are_short(bytes: &[u8]) -> bool {
+/// Ends the test unless bytes that begin as a header does are short: as messages where the mark is cut, and as a header
+/// behind it.
+fn are_short(rt: &impl Abort, bytes: &[u8]) {
+    let length = bytes.len();
     let mut messages = Messages::new(bytes);
-    let told = if bytes.len() < 11 {
-        is_same(messages.header(), Ok(None)) && is_same(messages.next(), Err(MessageFault::Short))
+    if length < 11 {
+        same_at(rt, length, messages.header(), Ok(None));
+        same_at(rt, length, messages.next(), Err(MessageFault::Short));
     } else {
-        is_same(messages.header(), Err(MessageFault::Short))
-    };
-    told && is_same(read_start(&mut &bytes[..]), Err(MessageFault::Short))
+        same_at(rt, length, messages.header(), Err(MessageFault::Short));
+    }
+    let start = read_start(&mut &bytes[..]);
+    same_at(rt, length, start, Err(MessageFault::Short));
 }
 
 #[test]
 fn cut_headers_are_short(rt: HostRuntime) {
     for length in 1..16usize {
-        assert!(rt; are_short(&WHOLE[..length]), "{length} bytes");
+        are_short(&rt, &WHOLE[..length]);
     }
     // A bad mode that stands there already changes nothing.
     let bytes = with_settings([2, 0, 0, 0, 0]);
-    assert!(rt; are_short(&bytes[..12]));
+    are_short(&rt, &bytes[..12]);
 }
 
-/// What the settings of a header are by their bytes.
-fn by_bytes(settings: [u8; 5]) -> Option<(bool, usize, usize)> {
+/// The header that settings tell by their bytes, and the fault where they tell none.
+fn by_bytes(settings: [u8; 5]) -> Result<Header, MessageFault> {
     let period = usize::from(settings[1]) + 256 * usize::from(settings[2]);
     let harts = usize::from(settings[3]) + 256 * usize::from(settings[4]);
     if settings[0] > 1 || period == 0 || harts == 0 || harts > 1024 {
-        return None;
+        return Err(MessageFault::BadHeader);
     }
-    Some((settings[0] == 1, period, harts))
-}
-
-/// What a header tells, as `by_bytes` answers it.
-fn told_by(header: &Header) -> Option<(bool, usize, usize)> {
-    Some((
-        header.mode == Mode::Full,
-        usize::from(header.period),
-        usize::from(header.harts),
-    ))
-}
-
-/// Whether the settings of a header are read as their bytes tell, both ways.
-fn are_read(settings: [u8; 5]) -> bool {
-    let bytes = with_settings(settings);
-    let start = read_start(&mut bytes.as_slice());
-    match Messages::new(&bytes).header() {
-        Ok(Some(header)) => {
-            is_same(told_by(&header), by_bytes(settings))
-                && is_same(start, Ok(Start::Version2(header)))
-        }
-        Ok(None) => false,
-        Err(fault) => {
-            by_bytes(settings).is_none()
-                && is_same(fault, MessageFault::BadHeader)
-                && is_same(start, Err(MessageFault::BadHeader))
-        }
-    }
+    Ok(Header {
+        mode: if settings[0] == 1 {
+            Mode::Full
+        } else {
+            Mode::Differential
+        },
+        period: period as u16,
+        harts: harts as u16,
+    })
 }
 
 #[test]
 fn each_setting_takes_each_value(rt: HostRuntime) {
-    same(&rt, MOST_HARTS, 1024);
+    same_at(&rt, "the most harts", MOST_HARTS, 1024);
     for place in 0..5usize {
         for other in [0u8, 4] {
             for value in 0..=255u8 {
                 let mut settings = [0, 0, other, 1, 0];
                 settings[place] = value;
-                assert!(rt; are_read(settings), "{settings:?}");
+                let bytes = with_settings(settings);
+                is_read(&rt, &bytes, settings, by_bytes(settings));
             }
         }
     }

@@ -1,66 +1,66 @@
 //! Memory that is refused.
 
 use super::messages::message;
-use super::same::is_same;
+use super::same::same_at;
 use linked_list_allocator::LocalHeap;
-use message::Demux;
-use payload::{Packet, Support};
-use std::alloc::{Allocator, Global};
-use std::test::Fail;
+use message::{Demux, DemuxFault};
+use payload::{Mode, Packet, Support};
+use std::alloc::Allocator;
+use std::process::Abort;
 
-/// Whether the last of 64 harts is closed by a message that closes it, and no hart beside it.
-fn closes_the_last<A: Allocator>(demux: &mut Demux<A>) -> Result<bool, Fail> {
-    let answer = demux.accept(&message(63, 0, &[0x4f])?);
+/// Ends the test unless the last of 64 harts is closed by a message that closes it, and no hart beside it.
+fn closes_the_last<A: Allocator>(rt: &impl Abort, size: usize, demux: &mut Demux<A>) {
+    let answer = demux.accept(&message(rt, 63, 0, &[0x4f]));
+    same_at(rt, size, answer, Ok(Packet::Support(Support::EndedRep)));
     let closed = [
         demux.is_closed(62),
         demux.is_closed(63),
         demux.is_closed(64),
     ];
-    Ok(
-        is_same(answer, Ok(Packet::Support(Support::EndedRep)))
-            && is_same(closed, [false, true, false]),
-    )
+    same_at(rt, size, closed, [false, true, false]);
 }
 
-/// Whether so much memory is enough for 64 harts, of which the last is then closed rightly; and how much is held behind
-/// that.
-fn closes_within(alloc: Global, size: usize) -> Result<(Option<bool>, usize), Fail> {
-    let heap = LocalHeap::new(alloc, size)?;
-    let end = match Demux::new(&heap, 64) {
-        Ok(mut demux) => Some(closes_the_last(&mut demux)?),
-        Err(_) => None,
+/// Whether so much memory is enough for 64 harts, of which the last is then closed rightly; behind that none is held.
+fn closes_within<R: Abort + AllocGlobal>(rt: &R, size: usize) -> bool {
+    let heap = LocalHeap::new(rt.alloc(), size).expect(rt, "memory");
+    let enough = match Demux::new(&heap, 64) {
+        Ok(mut demux) => {
+            closes_the_last(rt, size, &mut demux);
+            true
+        }
+        Err(_) => false,
     };
-    Ok((end, heap.used()))
+    same_at(rt, size, heap.used(), 0);
+    enough
 }
 
 #[test]
-fn room_is_refused(rt: HostRuntime) -> Result<(), Fail> {
+fn room_is_refused(rt: HostRuntime) {
     let mut refused = 0;
     for step in 0..128usize {
-        let (end, used) = closes_within(rt.alloc(), step * 16)?;
-        assert!(rt; used == 0 && end.unwrap_or(true));
-        if end.is_none() {
-            assert!(rt; refused == step);
+        if !closes_within(&rt, step * 16) {
+            assert!(rt; refused == step, "{refused} were refused before {step}");
             refused += 1;
         }
     }
-    assert!(rt; 32 <= refused && refused < 128);
-    Ok(())
+    assert!(rt; 32 <= refused && refused < 128, "{refused}");
 }
 
-/// Whether a message is accepted from the last of so many harts, and none from the one behind it.
-fn takes_the_last(alloc: Global, harts: u16) -> Result<bool, Fail> {
-    let mut demux = Demux::new(alloc, harts)?;
-    if demux.accept(&message(harts, 0, &[0x1f])?).is_ok() {
-        return Ok(false);
+/// Ends the test unless a message is accepted from the last of so many harts, and none from the one behind it.
+fn takes_the_last<R: Abort + AllocGlobal>(rt: &R, harts: u16) {
+    let open = Packet::Support(Support::Open(Mode::Differential));
+    let mut demux = Demux::new(rt.alloc(), harts).expect(rt, "memory");
+    let answer = demux.accept(&message(rt, harts, 0, &[0x1f]));
+    same_at(rt, harts, answer, Err(DemuxFault::Stranger));
+    if harts > 0 {
+        let answer = demux.accept(&message(rt, harts - 1, 0, &[0x1f]));
+        same_at(rt, harts, answer, Ok(open));
     }
-    Ok(harts == 0 || demux.accept(&message(harts - 1, 0, &[0x1f])?).is_ok())
 }
 
 #[test]
-fn ample_memory_is_enough(rt: HostRuntime) -> Result<(), Fail> {
+fn ample_memory_is_enough(rt: HostRuntime) {
     for harts in [0, 1, 64, 65535] {
-        assert!(rt; takes_the_last(rt.alloc(), harts)?, "{harts} harts");
+        takes_the_last(&rt, harts);
     }
-    Ok(())
 }

@@ -1,11 +1,10 @@
 //! What the faults are told as.
 
-use super::same::same;
+use super::same::same_at;
 use message::{DemuxFault, MessageFault};
 use payload::PackFault;
-use std::alloc::{AllocError, Global};
 use std::fmt::Display;
-use std::test::Fail;
+use std::process::Abort;
 
 const MESSAGE_FAULTS: [(MessageFault, &'static str); 5] = [
     (MessageFault::Short, "the capture ends inside a message"),
@@ -23,22 +22,16 @@ const DEMUX_FAULTS: [(DemuxFault, &'static str); 5] = [
     (DemuxFault::Packet(PackFault::BadPad), "bad packet: BadPad"),
 ];
 
-/// The first text that its fault does not have.
-fn first_wrong<F: Display>(
-    alloc: Global,
-    table: &[(F, &'static str)],
-) -> Result<Option<&'static str>, AllocError> {
-    for (fault, want) in table {
-        if format!(in alloc; "{fault}")?.as_str() != *want {
-            return Ok(Some(*want));
-        }
+/// Ends the test unless each fault has its text.
+fn are_told<F: Display, R: Abort + AllocGlobal>(rt: &R, table: &[(F, &'static str)]) {
+    for (place, (fault, want)) in table.iter().enumerate() {
+        let text = format!(in rt.alloc(); "{fault}").expect(rt, "memory");
+        same_at(rt, place, text.as_str(), *want);
     }
-    Ok(None)
 }
 
 #[test]
-fn texts_of_faults(rt: HostRuntime) -> Result<(), Fail> {
-    same(&rt, first_wrong(rt.alloc(), &MESSAGE_FAULTS)?, None);
-    same(&rt, first_wrong(rt.alloc(), &DEMUX_FAULTS)?, None);
-    Ok(())
+fn texts_of_faults(rt: HostRuntime) {
+    are_told(&rt, &MESSAGE_FAULTS);
+    are_told(&rt, &DEMUX_FAULTS);
 }

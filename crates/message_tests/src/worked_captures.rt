@@ -1,9 +1,9 @@
 //! Worked captures, whole and cut.
 
 use super::messages::message;
-use super::same::{is_same, same};
+use super::same::same_at;
 use message::{Message, MessageFault, Messages, read_message, write_message};
-use std::test::Fail;
+use std::process::Abort;
 
 /// A capture with a gap: messages 0, 1 and 3 of hart 0, of 12, 16 and 12 bytes.
 const GAP: [u8; 40] = [
@@ -16,48 +16,58 @@ const GAP: [u8; 40] = [
 const MESSAGES: [(u64, &[u8]); 3] = [(0, &[0x1f]), (1, &[0x73, 0, 0, 0, 0x20]), (3, &[0x4f])];
 
 #[test]
-fn capture_is_written(rt: HostRuntime) -> Result<(), Fail> {
+fn capture_is_written(rt: HostRuntime) {
     let mut bytes = Vec::new(rt.alloc());
     for (number, payload) in MESSAGES {
-        write_message(&mut bytes, &message(0, number, payload)?)?;
+        let sent = message(&rt, 0, number, payload);
+        write_message(&mut bytes, &sent).expect(&rt, "memory");
     }
-    same(&rt, bytes.as_slice(), GAP.as_slice());
-    Ok(())
+    same_at(&rt, "the capture", bytes.as_slice(), GAP.as_slice());
 }
 
-/// Whether so many messages of the capture are read of its beginning, both ways, and this behind them.
-fn are_read(bytes: &[u8], count: usize, end: Result<(), MessageFault>) -> Result<bool, Fail> {
+/// Ends the test unless so many messages of the capture are read of its beginning, both ways, and this behind them.
+fn are_read(rt: &impl Abort, bytes: &[u8], count: usize, end: Result<(), MessageFault>) {
+    let length = bytes.len();
     let mut rest = bytes;
     let mut messages = Messages::new(bytes);
     for (number, payload) in MESSAGES.iter().take(count) {
-        let read = is_same(
-            read_message(&mut rest)?,
-            Some(message(0, *number, payload)?),
-        );
-        let in_memory = is_same(messages.next()?, Some(message(0, *number, payload)?));
-        if !read || !in_memory {
-            return Ok(false);
-        }
+        is_message(rt, length, read_message(&mut rest), (0, *number, payload));
+        is_message(rt, length, messages.next(), (0, *number, payload));
     }
-    Ok(
-        is_end(read_message(&mut rest), end)
-            && is_end(messages.next(), end)
-            && is_end(messages.next(), end)
-            && (end.is_err() || is_end(read_message(&mut rest), end)),
-    )
+    is_end(rt, length, read_message(&mut rest), end);
+    is_end(rt, length, messages.next(), end);
+    is_end(rt, length, messages.next(), end);
+    if end.is_ok() {
+        is_end(rt, length, read_message(&mut rest), end);
+    }
 }
 
-/// Whether no message is read, at the end of a capture or by a fault.
-fn is_end(read: Result<Option<Message>, MessageFault>, end: Result<(), MessageFault>) -> bool {
-    match end {
-        Ok(()) => is_same(read, Ok(None)),
-        Err(fault) => is_same(read, Err(fault)),
-    }
+/// What reading answers.
+type Read = Result<Option<Message>, MessageFault>;
+
+/// Ends the test unless this message is read: its hart, its number and its payload.
+fn is_message(
+    rt: &impl Abort,
+    length: usize,
+    read: Read,
+    (hart, number, payload): (u16, u64, &[u8]),
+) {
+    let sent = message(rt, hart, number, payload);
+    same_at(rt, length, read, Ok(Some(sent)));
+}
+
+/// Ends the test unless no message is read, at the end of a capture or by a fault.
+fn is_end(rt: &impl Abort, length: usize, read: Read, end: Result<(), MessageFault>) {
+    let want = match end {
+        Ok(()) => Ok(None),
+        Err(fault) => Err(fault),
+    };
+    same_at(rt, length, read, want);
 }
 
 /// It goes on to answer so.
 #[test]
-fn capture_is_read_and_cut_it_is_short(rt: HostRuntime) -> Result<(), Fail> {
+fn capture_is_read_and_cut_it_is_short(rt: HostRuntime) {
     for length in 0..=40usize {
         let (count, end) = match length {
             0 => (0, Ok(())),
@@ -68,57 +78,51 @@ fn capture_is_read_and_cut_it_is_short(rt: HostRuntime) -> Result<(), Fail> {
             29..40 => (2, Err(MessageFault::Short)),
             _ => (3, Ok(())),
         };
-        assert!(rt; are_read(&GAP[..length], count, end)?, "{length} bytes");
+        are_read(&rt, &GAP[..length], count, end);
     }
-    Ok(())
 }
 
 #[test]
-fn bytes_stand_in_their_order(rt: HostRuntime) -> Result<(), Fail> {
+fn bytes_stand_in_their_order(rt: HostRuntime) {
     let whole = [
         0x34, 0x12, 0xef, 0xcd, 0xab, 0x89, 0x67, 0x45, 0x23, 0x01, 18, 1, 2, 3, 4, 5, 6, 7, 8, 9,
         10, 11, 12, 13, 14, 15, 16, 17, 18,
     ];
-    let sent = message(0x1234, 0x0123_4567_89ab_cdef, &whole[11..])?;
+    let sent = message(&rt, 0x1234, 0x0123_4567_89ab_cdef, &whole[11..]);
     let mut bytes = Vec::new(rt.alloc());
-    write_message(&mut bytes, &sent)?;
-    same(&rt, bytes.as_slice(), whole.as_slice());
-    same(&rt, read_message(&mut whole.as_slice())?, Some(sent));
-    Ok(())
+    write_message(&mut bytes, &sent).expect(&rt, "memory");
+    same_at(&rt, "written", bytes.as_slice(), whole.as_slice());
+    let read = read_message(&mut whole.as_slice());
+    same_at(&rt, "read", read, Ok(Some(sent)));
 }
 
-/// Whether bytes are refused for the length that they tell, both ways.
-fn are_bad(mut bytes: &[u8]) -> bool {
-    is_same(Messages::new(bytes).next(), Err(MessageFault::BadLength))
-        && is_same(read_message(&mut bytes), Err(MessageFault::BadLength))
+/// Ends the test unless bytes are refused for the length that they tell, both ways.
+fn are_bad(rt: &impl Abort, length: u8, mut bytes: &[u8]) {
+    let place = usize::from(length);
+    let bad = Err(MessageFault::BadLength);
+    is_end(rt, place, Messages::new(bytes).next(), bad);
+    is_end(rt, place, read_message(&mut bytes), bad);
 }
 
-/// Whether a message of these bytes is read, both ways.
-fn are_payload(mut bytes: &[u8], payload: &[u8]) -> Result<bool, Fail> {
-    let sent = message(0x0707, 0x0707_0707_0707_0707, payload)?;
-    let in_memory = message(0x0707, 0x0707_0707_0707_0707, payload)?;
-    Ok(
-        is_same(Messages::new(bytes).next(), Ok(Some(in_memory)))
-            && is_same(read_message(&mut bytes), Ok(Some(sent))),
-    )
-}
-
-/// Whether a length of a payload is taken where it is 1 to 18, and else is refused, also where no byte of the payload
-/// stands.
-fn is_taken(length: u8) -> Result<bool, Fail> {
+/// Ends the test unless a length of a payload is taken where it is 1 to 18, and else is refused, also where no byte of
+/// the payload stands.
+fn is_taken(rt: &impl Abort, length: u8) {
     let mut bytes = [7; 29];
     bytes[10] = length;
     if (1..=18).contains(&length) {
-        are_payload(&bytes, &bytes[11..11 + usize::from(length)])
+        let place = usize::from(length);
+        let sent = (0x0707, 0x0707_0707_0707_0707, &bytes[11..11 + place]);
+        is_message(rt, place, Messages::new(&bytes).next(), sent);
+        is_message(rt, place, read_message(&mut bytes.as_slice()), sent);
     } else {
-        Ok(are_bad(&bytes) && are_bad(&bytes[..11]))
+        are_bad(rt, length, &bytes);
+        are_bad(rt, length, &bytes[..11]);
     }
 }
 
 #[test]
-fn length_is_1_to_18(rt: HostRuntime) -> Result<(), Fail> {
+fn length_is_1_to_18(rt: HostRuntime) {
     for length in 0..=255u8 {
-        assert!(rt; is_taken(length)?, "{length} bytes");
+        is_taken(&rt, length);
     }
-    Ok(())
 }

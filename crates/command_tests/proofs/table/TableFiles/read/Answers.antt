@@ -1,5 +1,5 @@
 -- The prover does not cut the rows at the loop's place: the lemmas on one row are handed to it.
-use Rattle.std.proofs.Common.{◌≡◌, ◌∙◌, sym, ℕ, IfOk, refl, subst, inr, arith, Vec, Global}
+use Rattle.std.proofs.Common.{◌≡◌, ◌∙◌, sym, refl}
 use Rattle.std.proofs.lemmas.Grind.{common_steps}
 use Rattle.commands.specs.Faults.{Path}
 use Rattle.commands.specs.Known.{MayHold, MayLack}
@@ -11,6 +11,5 @@ loop-name-init c = refl
 
 pub loop-name-preserved : goal.loop-name-preserved
 loop-name-preserved c =
-    c.loop-name.invariant ∙ row_passed (λ (row : Path × Vec ℕ Global). (row.0.now, row.1.items)) c.deref-name-items.result.now
-    c.args.self.now.rows.items c.loop-name.name-index c.loop-name-item.result c.args.path.now
-    c.deref-name-items.ensures.value c.loop-name-test.true c.loop-name-item.is (sym c.eq-in-loop-name.ensures ∙ c.if-eq-2.false)
+    c.loop-name.invariant ∙ row_passed _ (λ (row : Path × Path). (row.0.now, row.1.now)) c.args.self.now.rows.now
+    c.loop-name.name-index c.args.path.now c.loop-name-test.true (sym c.eq-in-loop-name.ensures ∙ c.if-eq-2.false)
