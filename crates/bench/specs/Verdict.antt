@@ -15,7 +15,7 @@ is_same_flag false false = true
 abbrev pub is_alike : Event → Event → Bool
 is_alike (Retire addr itype privilege) (Retire addr' itype' privilege') =
     addr == addr' && (itype == itype' && privilege == privilege')
-is_alike (Trap epc privilege interrupt cause tval) (Trap epc' privilege' interrupt' cause' tval') =
+is_alike (Trap privilege interrupt cause epc tval) (Trap privilege' interrupt' cause' epc' tval') =
     epc == epc' && (privilege == privilege'
     && (is_same_flag interrupt interrupt' && (cause == cause' && tval == tval')))
 is_alike event other = false

@@ -27,7 +27,7 @@ open_agrees Full = refl
 trap_agrees : (mode : Mode) (event : Event) (taken : Bool) (level : ℕ) (handler : Bool) (address : ℕ)
     → AgreesWith mode (trap_packet event taken level handler address)
 trap_agrees mode (Retire addr itype priv) taken level handler address = refl
-trap_agrees mode (Trap epc priv interrupt cause tval) taken level handler address = refl
+trap_agrees mode (Trap priv interrupt cause epc tval) taken level handler address = refl
 
 report_agrees : (told mode : Mode) (reported : ℕ) (front : List Event) (last : Event) (rule : Rule)
     → AgreesWith told (packet_by mode reported front last rule)

@@ -15,12 +15,12 @@ use Rattle.decoder.specs.declared.reporting.Told.{Told}
 -- Traps with one cause after one retirement that leads to one address are the same.
 same_trap : (words : Words) (before : Option Event) (cause : Cause) (trap : Event) (epc from : ℕ) →
     IsHandled words before cause (trap ∷ []) → FollowOn words before (trap ∷ []) →
-    FollowOn words before (Trap epc from cause.interrupt cause.cause cause.tval ∷ []) →
-    Trap epc from cause.interrupt cause.cause cause.tval ≡ trap
+    FollowOn words before (Trap from cause.interrupt cause.cause epc cause.tval ∷ []) →
+    Trap from cause.interrupt cause.cause epc cause.tval ≡ trap
 same_trap words None cause trap epc from is follows other = absurd is.0
 same_trap words (Some before) cause trap epc from (after, epc', from', is) follows other =
-    let here = Trap epc from cause.interrupt cause.cause cause.tval in
-    let there = Trap epc' from' cause.interrupt cause.cause cause.tval in
+    let here = Trap from cause.interrupt cause.cause epc cause.tval in
+    let there = Trap from' cause.interrupt cause.cause epc' cause.tval in
     let same : trap ≡ there = cc in
     let ran : FollowOn words (Some before) (there ∷ []) =
     subst (λ e. FollowOn words (Some before) (e ∷ [])) same follows in
@@ -36,9 +36,9 @@ module _ (words : Words) (before : Option Event) (told : Told) (cause : Cause) w
     named = none.named;
     none = λ right events fits follows.
         let (after, epc, from, event, is, reported) = fits in
-        let ran : FollowOn words before (Trap epc from cause.interrupt cause.cause cause.tval ∷ event ∷ []) =
+        let ran : FollowOn words before (Trap from cause.interrupt cause.cause epc cause.tval ∷ event ∷ []) =
         subst (FollowOn words before) is follows in
-        none.none right (Trap epc from cause.interrupt cause.cause cause.tval ∷ []) (after, epc, from, refl)
+        none.none right (Trap from cause.interrupt cause.cause epc cause.tval ∷ []) (after, epc, from, refl)
         (ran.0, ran.1, tt);
   }
 
@@ -50,7 +50,7 @@ module _ (words : Words) (before : Option Event) (told : Told) (cause : Cause) w
     none = λ right events fits follows.
         let (after, epc, from, event, is, reported) = fits in
         let found = one right in
-        let ran : FollowOn words before (Trap epc from cause.interrupt cause.cause cause.tval ∷ event ∷ []) =
+        let ran : FollowOn words before (Trap from cause.interrupt cause.cause epc cause.tval ∷ event ∷ []) =
         subst (FollowOn words before) is follows in
         let same = same_trap words before cause trap epc from found.0 found.1 (ran.0, ran.1, tt) in
         none.none found.1.0 (event ∷ []) (event, refl, reported)

@@ -59,8 +59,8 @@ module _ (words : Words) (good : IsProgram words) where
   -- Two retirements at one place, of one privilege, with the same outcomes from them on are one.
   pub next_same : (priv : ℕ) (e f : Event) (w v : List Event) → RetiresAt priv e → RetiresAt priv f → Right words e →
       Right words f → place e ≡ place f → outcomes (e ∷ w) ≡ outcomes (f ∷ v) → (e ≡ f) × (outcomes w ≡ outcomes v)
-  next_same priv (Trap x q i c t) f w v he hf re rf at o = let no : false ≡ true = he.0 in cc
-  next_same priv (Retire a t p) (Trap x q i c u) w v he hf re rf at o = let no : false ≡ true = hf.0 in cc
+  next_same priv (Trap q i c x t) f w v he hf re rf at o = let no : false ≡ true = he.0 in cc
+  next_same priv (Retire a t p) (Trap q i c x u) w v he hf re rf at o = let no : false ≡ true = hf.0 in cc
   next_same priv (Retire a t p) (Retire b u q) w v he hf re rf at o =
       let there : RetiresOn (words a) u q = rw at rf.0 in
       by_branch (is_branch (Retire a t p)) refl (branch_type (words a) t u p q re.0 there) there
@@ -108,8 +108,8 @@ module _ (words : Words) (good : IsProgram words) where
   -- Two retirements at one place are both branches or neither is.
   pub same_branch : (priv : ℕ) (e f : Event) → RetiresAt priv e → RetiresAt priv f → Right words e → Right words f →
       place e ≡ place f → is_branch e ≡ is_branch f
-  same_branch priv (Trap x q i c t) f he hf re rf at = let no : false ≡ true = he.0 in cc
-  same_branch priv (Retire a t p) (Trap x q i c u) he hf re rf at = let no : false ≡ true = hf.0 in cc
+  same_branch priv (Trap q i c x t) f he hf re rf at = let no : false ≡ true = he.0 in cc
+  same_branch priv (Retire a t p) (Trap q i c x u) he hf re rf at = let no : false ≡ true = hf.0 in cc
   same_branch priv (Retire a t p) (Retire b u q) he hf re rf at = branch_type (words a) t u p q re.0 (rw at rf.0)
 
   -- After a retirement with one successor the first event of a walk is known.

@@ -53,8 +53,8 @@ module _ (words : Words) (program : IsProgram words) where
   trap_same None taken priv cause interrupt true address tval piece other fits fits' follows follows' = absurd fits.0
   trap_same (Some before) taken priv cause interrupt true address tval piece other
       (after, epc, from, event, is, reported) (after', epc', from', event', is', reported') follows follows' =
-      let trap = Trap epc from interrupt cause tval in
-      let trap' = Trap epc' from' interrupt cause tval in
+      let trap = Trap from interrupt cause epc tval in
+      let trap' = Trap from' interrupt cause epc' tval in
       let one : FollowOn words (Some before) (trap ∷ event ∷ []) = subst (FollowOn words (Some before)) is follows in
       let two : FollowOn words (Some before) (trap' ∷ event' ∷ []) =
       subst (FollowOn words (Some before)) is' follows' in

@@ -47,7 +47,7 @@ module _ (words : Words) (good : IsProgram words) (start half : ℕ) (lies : Pla
       go : (word : Option Word) → words a ≡ word → RetiresOn word t p → (i : ℕ) × ((a ≡ start + (i + i)) × (i < half))
       go None e k = absurd k
       go (Some w) e k = let z = lies.at a w e in (z.0, (z.1, z.2))
-  stands (Trap x p i c v) r h = cc
+  stands (Trap p i c x v) r h = cc
 
   pay : (L B H i j : ℕ) → L + 1 + j ≤ B * H + H → i < H → suc L + 1 + i ≤ suc B * H + H
   pay L B H i j h k = omega arith
@@ -137,8 +137,8 @@ module _ (words : Words) (good : IsProgram words) (start half : ℕ) (lies : Pla
 
   -- A branch and a discontinuity do not stand at one place.
   apart : (e l : Event) → is_branch e ≡ true → is_discontinuity words l ≡ true → Right words e → place e ≢ place l
-  apart (Trap x p i c v) l br d r same = cc
-  apart (Retire a t p) (Trap y q i c v) br d r same = cc
+  apart (Trap p i c x v) l br d r same = cc
+  apart (Retire a t p) (Trap q i c y v) br d r same = cc
   apart (Retire a t p) (Retire y u q) br d r same = go (words a) (rw same d) r.0 br
     where
       go : (word : Option Word) → hides_its_target word ≡ true → RetiresOn word t p → ((t == 4) || (t == 5)) ≡ true → ⊥

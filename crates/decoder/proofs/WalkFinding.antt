@@ -41,17 +41,17 @@ module _ (words : Words) (good : IsProgram words) where
   one_step : (e f : Event) → is_retirement e ≡ true → is_discontinuity words e ≡ false → Step words e f →
       successor words e ≡ One (place f)
   one_step (Retire a t p) f r d s = leads_one (words a) a t (place f) d s.0
-  one_step (Trap x p i c v) f r d s = cc
+  one_step (Trap p i c x v) f r d s = cc
 
   any_step : (e : Event) → is_retirement e ≡ true → is_discontinuity words e ≡ true → successor words e ≡ Any
   any_step (Retire a t p) r d = leads_any (words a) a t d
-  any_step (Trap x p i c v) r d = cc
+  any_step (Trap p i c x v) r d = cc
 
   -- The first retirement of a walk is found.
   next_finds : (p : ℕ) (e f : Event) (w : List Event) (end : End) → RetiresAt p e → RetiresAt p f →
       is_discontinuity words e ≡ false → Right words f → Step words e f →
       advance words e (outcomes (f ∷ w)) end ≡ next_move words end (Some (f, outcomes w))
-  next_finds p e (Trap x q i c v) w end h k d r s = let z : false ≡ true = k.0 in cc
+  next_finds p e (Trap q i c x v) w end h k d r s = let z : false ≡ true = k.0 in cc
   next_finds p e (Retire x t q) w end h k d r s =
       let level : privilege e ≡ q = h.1 ∙ sym k.1 in
       advance_one e (outcomes (Retire x t q ∷ w)) end x (one_step e (Retire x t q) h.0 d s)
@@ -60,8 +60,8 @@ module _ (words : Words) (good : IsProgram words) where
 
   target_finds : (p a : ℕ) (e l : Event) → RetiresAt p e → RetiresAt p l → is_discontinuity words e ≡ true →
       Right words l → Step words e l → place l ≡ a → advance words e (outcomes (l ∷ [])) (AtTarget a) ≡ Last l
-  target_finds p a (Trap x q i c v) l h k d r s at = let z : false ≡ true = h.0 in cc
-  target_finds p a (Retire y u z) (Trap x q i c v) h k d r s at = let z : false ≡ true = k.0 in cc
+  target_finds p a (Trap q i c x v) l h k d r s at = let z : false ≡ true = h.0 in cc
+  target_finds p a (Retire y u z) (Trap q i c x v) h k d r s at = let z : false ≡ true = k.0 in cc
   target_finds p a (Retire y u z) (Retire x t q) h k d r s at =
       let level : q ≡ z = k.1 ∙ sym h.1 in
       let stay = stays (words y) z q (subst IsPrivilege level r.1) s.1 level in
@@ -240,7 +240,7 @@ module _ (words : Words) (good : IsProgram words) where
       level : (e : Event) → is_retirement e ≡ true → is_discontinuity words e ≡ false →
           MayHavePrivilegeBehind words e (privilege e)
       level (Retire a t q) r d = kept (words a) q d
-      level (Trap y q i c v) r d = cc
+      level (Trap q i c y v) r d = cc
 
       on_tests : (f : Event) (left : List Bool) → Stepped e taken f left → (stop back : Bool) →
           stops end f left ≡ stop → is_backward words f ≡ back → Tells e taken end
@@ -261,7 +261,7 @@ module _ (words : Words) (good : IsProgram words) where
       is_discontinuity words e ≡ true → Tells e taken end (target_move words (word_of words e) (privilege e) taken end)
   target_sound e taken AtBranch r p d = tt
   target_sound e taken (AtAddress a) r p d = tt
-  target_sound (Trap y q i c v) taken (AtTarget a) r p d = cc
+  target_sound (Trap q i c y v) taken (AtTarget a) r p d = cc
   target_sound (Retire y t q) taken (AtTarget a) r p d = go (may_stay_on (words y) q) refl
     where
       e : Event
@@ -287,7 +287,7 @@ module _ (words : Words) (good : IsProgram words) where
   advance_sound : (e : Event) (taken : List Bool) (end : End) → is_retirement e ≡ true → IsPrivilege (privilege e) →
       Tells e taken end (advance words e taken end)
   unfolding advance
-  advance_sound (Trap y q i c v) taken end r p = cc
+  advance_sound (Trap q i c y v) taken end r p = cc
   advance_sound (Retire a t q) taken end r p = go (leads_from a t (words a)) refl
     where
       go : (n : Next) → leads_from a t (words a) ≡ n → Tells (Retire a t q) taken end

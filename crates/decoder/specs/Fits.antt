@@ -39,10 +39,10 @@ FitsSync taken priv address piece =
 -- are the trap alone, and the branch bit is 1, as where no branch is taken.
 abbrev pub FitsTrap : Words → Option Event → Bool → ℕ → ℕ → Bool → Bool → ℕ → ℕ → List Event → Type 0
 FitsTrap words before taken priv cause interrupt false epc tval piece =
-    (piece ≡ Trap epc priv interrupt cause tval ∷ []) × (taken ≡ false)
+    (piece ≡ Trap priv interrupt cause epc tval ∷ []) × (taken ≡ false)
 FitsTrap words before taken priv cause interrupt true address tval piece =
     AfterInferable words before × (epc : ℕ) × (from : ℕ) × (event : Event) ×
-    (piece ≡ Trap epc from interrupt cause tval ∷ event ∷ []) × IsReported taken priv address event
+    (piece ≡ Trap from interrupt cause epc tval ∷ event ∷ []) × IsReported taken priv address event
 
 -- The events of an address packet with these outcomes and this address: a walk, or none as long as it
 -- is not settled how the walk ends.

@@ -131,7 +131,7 @@ impl Cause {
 
     /// The trap that was taken for this cause at an exception program counter, from a privilege.
     fn trap(self, epc: u64, privilege: u8) -> Event
-        ensures { result ≡ Trap epc privilege self.interrupt self.cause self.tval }
+        ensures { result ≡ Trap privilege self.interrupt self.cause epc self.tval }
     {
         Event::Trap {
             epc,

@@ -46,7 +46,7 @@ IsTrapRule e by.Unreported = Unit {0}
 
 by_event : (e : Event) (x : Rule) (y : Bool) → IsTrapRule e x → IsTrapRule e (cond (is_retirement e) x (by.Trap y))
 by_event (Retire a t q) x y k = k
-by_event (Trap a q i c v) x y k = refl
+by_event (Trap q i c a v) x y k = refl
 
 no_trap : (e : Event) (h y d x c b : Bool) → IsTrapRule e
     (cond h by.Handler (cond y by.Sync (cond d (by.Target x) (cond c by.Explicit (cond b by.Notify by.Unreported)))))
@@ -137,7 +137,7 @@ left-divides period number left h = go (left == 0) refl
 
 pub left-next : (period between number left : ℕ) (event : Event) → between + 1 ≡ period → AreLeft period number left
     → AreLeft period (count_with number event) (left_after between left event)
-left-next period between number left (Trap epc priv interrupt cause tval) b h = h
+left-next period between number left (Trap priv interrupt cause epc tval) b h = h
 left-next period between number left (Retire addr itype priv) b h = go (left == 0) refl
   where
     go : (z : Bool) → (left == 0) ≡ z → AreLeft period (number + 1) (cond z between (left - 1))

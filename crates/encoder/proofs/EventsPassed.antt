@@ -53,9 +53,9 @@ facts words (Retire at type level) left pending (Retire addr itype priv) h =
           ap (λ b. is_unreported (rule_of_quiet false b)) (not-true
           (jumps_back_to words (Retire at type level) (Retire addr itype priv)) back.1);
     }
-facts words (Retire at type level) left pending (Trap epc priv interrupt cause tval) h = cc
-facts words (Trap at level irq code value) left pending (Retire addr itype priv) h = cc
-facts words (Trap at level irq code value) left pending (Trap epc priv interrupt cause tval) h = cc
+facts words (Retire at type level) left pending (Trap priv interrupt cause epc tval) h = cc
+facts words (Trap level irq code at value) left pending (Retire addr itype priv) h = cc
+facts words (Trap level irq code at value) left pending (Trap priv interrupt cause epc tval) h = cc
 
 pub passes-some_left : (words : Words) (held : Event) (left : ℕ) (pending : List Bool) (next : Event)
     → passes words held left pending next ≡ true → (left == 0) ≡ false
@@ -74,8 +74,8 @@ left_is : (words : Words) (held : Event) (between left : ℕ) (pending : List Bo
     → passes words held left pending next ≡ true → left_after between left next ≡ left - 1
 left_is words held between left pending (Retire addr itype priv) h =
     ap (λ b. cond b between (left - 1)) (passes-some_left words held left pending (Retire addr itype priv) h)
-left_is words (Retire at type level) between left pending (Trap epc priv interrupt cause tval) h = cc
-left_is words (Trap at level irq code value) between left pending (Trap epc priv interrupt cause tval) h = cc
+left_is words (Retire at type level) between left pending (Trap priv interrupt cause epc tval) h = cc
+left_is words (Trap level irq code at value) between left pending (Trap priv interrupt cause epc tval) h = cc
 
 module _ (words : Words) (e : Encoder) (held next : Event) (is : e.held ≡ Some held) (asked : e.due ≡ due.Nothing)
     (h : passes words held e.left e.pending next ≡ true) where

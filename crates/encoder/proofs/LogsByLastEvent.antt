@@ -82,13 +82,13 @@ module _ (words : Words) (period : ℕ) where
       by_event : (e : Event) → is_retirement e ≡ true → (is_retirement next && is_handler words s.before (Some e) next)
           ≡ false
       by_event (Retire addr itype priv) r = and-false (is_retirement next)
-      by_event (Trap epc priv interrupt cause tval) r = cc
+      by_event (Trap priv interrupt cause epc tval) r = cc
 
   -- Before a trap every event is a cut.
   pub cut_before_trap : (log : List Event) (held trap : Event) (front : List Event) → is_retirement trap ≡ false
       → is_cut front held (rule words period (spot_after log held (Some trap))) ≡ true
   cut_before_trap log held (Retire addr itype priv) front t = cc
-  cut_before_trap log (Retire at type level) (Trap epc priv interrupt cause tval) front t =
+  cut_before_trap log (Retire at type level) (Trap priv interrupt cause epc tval) front t =
       by_tests (is_handler words (before_last None None log) (last_or None log) (Retire at type level))
       (is_start period (count_all 0 log) (last_or None log) level)
       (holds (is_discontinuity words) (last_or None log)) (is_backward words (Retire at type level))
@@ -100,7 +100,7 @@ module _ (words : Words) (period : ℕ) where
       by_tests false true z b = refl
       by_tests false false true b = refl
       by_tests false false false b = refl
-  cut_before_trap log (Trap at level irq code value) (Trap epc priv interrupt cause tval) front t =
+  cut_before_trap log (Trap level irq code at value) (Trap priv interrupt cause epc tval) front t =
       by_before (holds is_retirement (last_or None log) && not (holds (is_discontinuity words) (last_or None log)))
     where
       by_before : (x : Bool) → not (x && false) ≡ true

@@ -84,17 +84,17 @@ module _ (words : Words) (period : ℕ) (mode : Mode) where
       None) ≡ true → is_retirement held ≡ false → rule words period
       (record { number = n; before_that = b2; before = b; event = held; after = Some next }) ≡ by.Trap true
   trap_rule n b2 b (Retire at type level) next k t = cc
-  trap_rule n b2 b (Trap epc level irq code value) next k t =
+  trap_rule n b2 b (Trap level irq code epc value) next k t =
       ap by.Trap ((and_parts (is_retirement next) (with_handler words b (Some next)) k).1)
 
   trap_unreported : (n : ℕ) (b2 b : Option Event) (held next : Event) (d' : Due) → is_retirement held ≡ false
       → is_unreported (rule_before words held (due_at words period
       (record { number = n; before_that = b2; before = b; event = held; after = None })) next d') ≡ false
   trap_unreported n b2 b (Retire at type level) next d' t = cc
-  trap_unreported n b2 b (Trap epc level irq code value) next d' t =
+  trap_unreported n b2 b (Trap level irq code epc value) next d' t =
       by_before (holds is_retirement b && not (holds (is_discontinuity words) b))
     where
-      by_before : (x : Bool) → is_unreported (rule_before words (Trap epc level irq code value)
+      by_before : (x : Bool) → is_unreported (rule_before words (Trap level irq code epc value)
           (cond x due.TrapOrHandler due.Trap) next d') ≡ false
       by_before true = refl
       by_before false = refl

@@ -50,7 +50,7 @@ rule-at_end words period n b2 b (Retire addr itype priv) =
     by_tests false true z = refl
     by_tests false false true = refl
     by_tests false false false = refl
-rule-at_end words period n b2 b (Trap epc priv interrupt cause tval) =
+rule-at_end words period n b2 b (Trap priv interrupt cause epc tval) =
     by_before (holds is_retirement b && not (holds (is_discontinuity words) b))
   where
     by_before : (x : Bool) → by.Trap (x && false) ≡ rule_at_end (cond x due.TrapOrHandler due.Trap)

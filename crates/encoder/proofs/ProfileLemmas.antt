@@ -50,11 +50,11 @@ module _ (words : Words) (even : IsEven words) where
   place-IsAddress : (event : Event) → IsGood event → IsAddress (place event)
   place-IsAddress (Retire addr itype priv) good = let w = retires_on (words addr) itype priv good.0.0 in
       (good.1, even addr w.0 w.1)
-  place-IsAddress (Trap epc priv interrupt cause tval) good = (good.1.0, good.0.0)
+  place-IsAddress (Trap priv interrupt cause epc tval) good = (good.1.0, good.0.0)
 
   privilege-IsPrivilege : (event : Event) → IsGood event → IsPrivilege (privilege event)
   privilege-IsPrivilege (Retire addr itype priv) good = let p = good.0.1 in (omega (arith, p.0), p.1)
-  privilege-IsPrivilege (Trap epc priv interrupt cause tval) good = let p = good.0.1 in (omega (arith, p.0), p.1)
+  privilege-IsPrivilege (Trap priv interrupt cause epc tval) good = let p = good.0.1 in (omega (arith, p.0), p.1)
 
   value_of_trap : (interrupt : Bool) (tval : ℕ) → (interrupt ≡ true → tval ≡ 0) → tval < 2 ^ 64
       → IsTrapValue interrupt tval
@@ -63,7 +63,7 @@ module _ (words : Words) (even : IsEven words) where
 
   trap_in_profile : (trap : Event) (taken handler : Bool) (level address : ℕ) → IsGood trap → IsPrivilege level
       → IsAddress address → InProfile (trap_packet trap taken level handler address)
-  trap_in_profile (Trap epc priv interrupt cause tval) taken handler level address good p a =
+  trap_in_profile (Trap priv interrupt cause epc tval) taken handler level address good p a =
       (p, good.0.2, a, value_of_trap interrupt tval good.0.3 good.1.1)
   trap_in_profile (Retire addr itype priv) taken handler level address good p a = (p, omega arith, a, omega arith)
 

@@ -53,7 +53,7 @@ pub jumps_back_to-is_backward : (words : Words) (event next : Event) → Right w
     → jumps_back_to words event next ≡ is_backward words event
 jumps_back_to-is_backward words (Retire addr itype priv) next r s =
     word_back (words addr) addr itype priv (place next) r.0 s.0
-jumps_back_to-is_backward words (Trap epc priv interrupt cause tval) next r s = refl
+jumps_back_to-is_backward words (Trap priv interrupt cause epc tval) next r s = refl
 
 -- The event at a spot is a handler exactly where a handler is due.
 pub is_known-due : (words : Words) (period : ℕ) (s : Spot) → is_known words s ≡ is_handler_due (due_at words period s)
@@ -113,12 +113,12 @@ module _ (words : Words) (period : ℕ) where
           (cond (is_discontinuity_by_type type) due.Target due.Nothing)) (sym l)
           ∙ ap (λ x. cond (not (priv == level) || ((n + 1) % period == 0)) due.Sync (cond x due.Target due.Nothing))
           (sym (word_type (words at) type level r.0))
-      by_events n b2 b (Trap epc level irq code value) a (Retire addr itype priv) r l =
+      by_events n b2 b (Trap level irq code epc value) a (Retire addr itype priv) r l =
           by_trap (holds is_retirement b && not (holds (is_discontinuity words) b))
-      by_events n b2 b (Retire at type level) a (Trap epc priv interrupt cause tval) r l =
+      by_events n b2 b (Retire at type level) a (Trap priv interrupt cause epc tval) r l =
           ap (λ x. cond x due.Trap due.TrapOrHandler) (sym (word_type (words at) type level r.0))
           ∙ turned (hides_its_target (words at))
-      by_events n b2 b (Trap at level irq code value) a (Trap epc priv interrupt cause tval) r l = refl
+      by_events n b2 b (Trap level irq code at value) a (Trap priv interrupt cause epc tval) r l = refl
 
   -- A trap or a new start follows a retirement exactly where its due says so.
   cut_off-due : (n : ℕ) (b : Option Event) (at type level : ℕ) (next : Event) (after : Option Event)
@@ -138,7 +138,7 @@ module _ (words : Words) (period : ℕ) where
       by_start true z = refl
       by_start false true = refl
       by_start false false = refl
-  cut_off-due n b at type level (Trap epc priv interrupt cause tval) after = by_before _
+  cut_off-due n b at type level (Trap priv interrupt cause epc tval) after = by_before _
     where
       by_before : (x : Bool) → true ≡ cuts_off (cond x due.TrapOrHandler due.Trap)
       by_before true = refl
@@ -180,18 +180,18 @@ module _ (words : Words) (period : ℕ) where
       by_due false false true c d e x f = ap by.Target e
       by_due false false false c d e x f =
           end c x ∙ ap (λ k. rule_of_quiet k x) e ∙ ap (λ k. rule_of_quiet (cuts_off d) k) f
-  rule-before n b2 b (Trap epc level irq code value) (Retire addr itype priv) after r s free =
+  rule-before n b2 b (Trap level irq code epc value) (Retire addr itype priv) after r s free =
       by_before (holds is_retirement b && not (holds (is_discontinuity words) b)) free
     where
       by_before : (x : Bool) → is_handler_due (cond (x && true) due.Handler due.Sync) ≡ false
-          → by.Trap (x && true) ≡ rule_before words (Trap epc level irq code value) (cond x due.TrapOrHandler due.Trap)
+          → by.Trap (x && true) ≡ rule_before words (Trap level irq code epc value) (cond x due.TrapOrHandler due.Trap)
           (Retire addr itype priv) (cond (x && true) due.Handler due.Sync)
       by_before true free = cc
       by_before false free = refl
-  rule-before n b2 b (Trap at level irq code value) (Trap epc priv interrupt cause tval) after r s free =
+  rule-before n b2 b (Trap level irq code at value) (Trap priv interrupt cause epc tval) after r s free =
       by_before (holds is_retirement b && not (holds (is_discontinuity words) b))
     where
-      by_before : (x : Bool) → by.Trap (x && false) ≡ rule_before words (Trap at level irq code value)
-          (cond x due.TrapOrHandler due.Trap) (Trap epc priv interrupt cause tval) due.Trap
+      by_before : (x : Bool) → by.Trap (x && false) ≡ rule_before words (Trap level irq code at value)
+          (cond x due.TrapOrHandler due.Trap) (Trap priv interrupt cause epc tval) due.Trap
       by_before true = refl
       by_before false = refl

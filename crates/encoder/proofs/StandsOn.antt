@@ -42,11 +42,11 @@ does_first words e next d' h n = record {
 first_due : (words : Words) (period : ℕ) (was : Due) (left : ℕ) (event : Event)
     → next_due None was left event ≡ due_at words period (spot_after [] event None)
 first_due words period was left (Retire addr itype priv) = refl
-first_due words period was left (Trap epc priv interrupt cause tval) = refl
+first_due words period was left (Trap priv interrupt cause epc tval) = refl
 
 first_unknown : (words : Words) (event : Event) → is_known words (spot_after [] event None) ≡ false
 first_unknown words (Retire addr itype priv) = refl
-first_unknown words (Trap epc priv interrupt cause tval) = refl
+first_unknown words (Trap priv interrupt cause epc tval) = refl
 
 module _ (words : Words) (period : ℕ) (mode : Mode) where
   first_pushes : (e : Encoder) (event : Event) → Stands words period mode [] e → Pushes words period mode [] e event

@@ -69,7 +69,7 @@ after_the_return : packets with_return 1024 Differential returned
     ≡ Support (Open Differential) ∷ Sync false 3 base ∷ Address [] 4 Plain ∷ Support EndedNtr ∷ []
 after_the_return = refl
 
-interrupt_last : packets with_return 1024 Differential (returned ++ Trap (base + 8) 3 true 7 0 ∷ [])
+interrupt_last : packets with_return 1024 Differential (returned ++ Trap 3 true 7 (base + 8) 0 ∷ [])
     ≡ Support (Open Differential) ∷ Sync false 3 base ∷ Address [] 4 Updiscon
     ∷ TrapPacket false 3 7 true false (base + 8) 0 ∷ Support EndedNtr ∷ []
 interrupt_last = refl
@@ -78,7 +78,7 @@ abbrev far : Words
 far addr = cond (addr == base) (Some (PlainWord, 4)) (cond (addr == base + 0x100) (Some (PlainWord, 4)) None)
 
 abbrev handled : List Event
-handled = at 0 0 ∷ Trap (base + 4) 3 false 0xb 0 ∷ at 0x100 0 ∷ []
+handled = at 0 0 ∷ Trap 3 false 0xb (base + 4) 0 ∷ at 0x100 0 ∷ []
 
 exception_with_handler : packets far 1024 Differential handled
     ≡ Support (Open Differential) ∷ Sync false 3 base ∷ TrapPacket false 3 0xb false true (base + 0x100) 0
@@ -86,7 +86,7 @@ exception_with_handler : packets far 1024 Differential handled
 exception_with_handler = refl
 
 -- The packet of the trap is there once its handler is, and not before.
-so_far_without_handler : packets_so_far far 1024 Differential (at 0 0 ∷ Trap (base + 4) 3 false 0xb 0 ∷ [])
+so_far_without_handler : packets_so_far far 1024 Differential (at 0 0 ∷ Trap 3 false 0xb (base + 4) 0 ∷ [])
     ≡ Support (Open Differential) ∷ Sync false 3 base ∷ []
 so_far_without_handler = refl
 
@@ -95,7 +95,7 @@ so_far_with_handler : packets_so_far far 1024 Differential handled
 so_far_with_handler = refl
 
 exception_behind_return : packets (program (Uninferable ∷ [])) 1024 Differential
-    (at 0 6 ∷ Trap 0x4000 3 false 1 0x8000_0000_0000_4000 ∷ [])
+    (at 0 6 ∷ Trap 3 false 1 0x4000 0x8000_0000_0000_4000 ∷ [])
     ≡ Support (Open Differential) ∷ Sync false 3 base ∷ TrapPacket false 3 1 false false 0x4000 0x8000_0000_0000_4000
     ∷ Support EndedNtr ∷ []
 exception_behind_return = refl
@@ -129,7 +129,7 @@ jump_to_itself_in_full : packets (program (Jump base ∷ [])) 1024 Full (replica
     ≡ Support (Open Full) ∷ Sync false 3 base ∷ Address [] base Notify ∷ Address [] base Plain ∷ Support EndedRep ∷ []
 jump_to_itself_in_full = refl
 
-interrupt_last_in_full : packets with_return 1024 Full (returned ++ Trap (base + 8) 3 true 7 0 ∷ [])
+interrupt_last_in_full : packets with_return 1024 Full (returned ++ Trap 3 true 7 (base + 8) 0 ∷ [])
     ≡ Support (Open Full) ∷ Sync false 3 base ∷ Address [] (base + 4) Updiscon
     ∷ TrapPacket false 3 7 true false (base + 8) 0 ∷ Support EndedNtr ∷ []
 interrupt_last_in_full = refl

@@ -18,7 +18,7 @@ use Rattle.encoder.specs.declared.rule.Rule.TheVariants as by
 -- The packet of a trap, with the address, privilege and branch of this retirement or of the trap
 -- itself.
 abbrev pub trap_packet : Event → Bool → ℕ → Bool → ℕ → Packet
-trap_packet (Trap epc priv interrupt cause tval) taken level handler address =
+trap_packet (Trap priv interrupt cause epc tval) taken level handler address =
     packet.Trap taken level cause interrupt handler address tval
 trap_packet (Retire addr itype priv) taken level handler address =
     packet.Trap taken level 0 false handler address 0

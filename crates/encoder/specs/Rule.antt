@@ -24,7 +24,7 @@ with_handler words before after =
 
 -- The event is a handler: the one before it is a trap that is reported with it.
 abbrev pub is_handler : Words → Option Event → Option Event → Event → Bool
-is_handler words before_that (Some (Trap epc priv interrupt cause tval)) event =
+is_handler words before_that (Some (Trap priv interrupt cause epc tval)) event =
     with_handler words before_that (Some event)
 is_handler words before_that before event = false
 
@@ -33,13 +33,13 @@ is_handler words before_that before event = false
 -- project's profile of periodic synchronisation.
 abbrev pub is_start : ℕ → ℕ → Option Event → ℕ → Bool
 is_start period number None priv = true
-is_start period number (Some (Trap epc level interrupt cause tval)) priv = true
+is_start period number (Some (Trap level interrupt cause epc tval)) priv = true
 is_start period number (Some (Retire addr itype level)) priv = not (priv == level) || (number % period == 0)
 
 -- After a retirement of this number comes a trap, or a new start.
 abbrev pub is_cut_off : ℕ → ℕ → Event → Option Event → Bool
 is_cut_off period number event None = false
-is_cut_off period number event (Some (Trap epc priv interrupt cause tval)) = true
+is_cut_off period number event (Some (Trap priv interrupt cause epc tval)) = true
 is_cut_off period number event (Some (Retire addr itype priv)) = is_start period (number + 1) (Some event) priv
 
 -- The rule of a retirement: the first that applies. That a backward jump is notified is this

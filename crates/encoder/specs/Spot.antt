@@ -20,7 +20,7 @@ first_event (event ∷ events) next = Some event
 -- How many retirements there are with this event, after so many; a trap is none.
 abbrev pub count_with : ℕ → Event → ℕ
 count_with number (Retire addr itype priv) = number + 1
-count_with number (Trap epc priv interrupt cause tval) = number
+count_with number (Trap priv interrupt cause epc tval) = number
 
 -- The spot of each of these events, which come after so many retirements and these two events, and
 -- before this one.

@@ -35,7 +35,7 @@ left_on addr itype priv (Some word) = left_by_retirement addr itype priv word
 abbrev pub left_after : Words → Option Event → Left
 left_after words None = left_at_start
 left_after words (Some (Retire addr itype priv)) = left_on addr itype priv (words addr)
-left_after words (Some (Trap epc priv interrupt cause tval)) = left_by_trap priv
+left_after words (Some (Trap priv interrupt cause epc tval)) = left_by_trap priv
 
 -- The tests of judging tell the facts of the definitions.
 pub privilege_tells : (priv : ℕ) → Tells (is_privilege priv) (IsPrivilege priv)
@@ -90,7 +90,7 @@ stand_after_tells words (Some (Retire addr itype priv)) at = on (words addr)
         (MayStandAt (leads_from addr itype word) at)
     on None = tells_false (λ h. h)
     on (Some word) = stand_tells (leads addr itype word.0 word.1) at
-stand_after_tells words (Some (Trap epc priv interrupt cause tval)) at = tells_true tt
+stand_after_tells words (Some (Trap priv interrupt cause epc tval)) at = tells_true tt
 
 abbrev is_between : Left → ℕ → Bool
 is_between left priv = nat_le left.least priv && nat_le priv left.greatest
@@ -126,7 +126,7 @@ between_tells : (words : Words) (before : Option Event) (after : ℕ) → IsPriv
     → Tells (is_between (left_after words before) after) (MayHavePrivilegeAfter words before after)
 between_tells words None after is = tells-same (λ h. tt) (λ u. (omega arith, is.0)) (between left_at_start after)
 between_tells words (Some (Retire addr itype priv)) after is = left_on_tells addr itype priv after (words addr) is
-between_tells words (Some (Trap epc priv interrupt cause tval)) after is =
+between_tells words (Some (Trap priv interrupt cause epc tval)) after is =
     tells-same (λ h. let a = h.0 in (omega arith, omega arith)) (λ h. let a = h.0 in let b = h.1 in let d = is.0 in
     (omega arith, d)) (between (left_by_trap priv) after)
 
@@ -263,10 +263,10 @@ judged words before (Retire addr itype priv) = go _ (retirement_judged words bef
         → Outcome words before (Retire addr itype priv) result
     go (Ok left) h = ((h.0, h.1), step_from words before (Retire addr itype priv) h.2 h.3, h.4)
     go (Err why) h = record { applies = h.0; first = h.1 }
-judged words before (Trap epc priv interrupt cause tval) = go _ (trap_judged words before epc priv interrupt cause tval)
+judged words before (Trap priv interrupt cause epc tval) = go _ (trap_judged words before epc priv interrupt cause tval)
   where
     go : (result : Result Left Why) → TrapOutcome words before epc priv interrupt cause tval result
-        → Outcome words before (Trap epc priv interrupt cause tval) result
+        → Outcome words before (Trap priv interrupt cause epc tval) result
     go (Ok left) h =
-        ((h.0, h.1, h.2.0, h.2.1), step_from words before (Trap epc priv interrupt cause tval) h.3 h.4, h.5)
+        ((h.0, h.1, h.2.0, h.2.1), step_from words before (Trap priv interrupt cause epc tval) h.3 h.4, h.5)
     go (Err why) h = record { applies = h.0; first = h.1 }

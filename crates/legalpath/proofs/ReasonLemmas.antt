@@ -45,14 +45,14 @@ pub none_applies : (words : Words) (before : Option Event) (event : Event) (why 
 none_applies words before (Retire addr itype priv) why right step a =
     let parts = step_parts words before (Retire addr itype priv) step in
     retirement_refused words before (words addr) addr itype priv why right.0 right.1 parts.0 parts.1 a
-none_applies words before (Trap epc priv interrupt cause tval) OffProgram right step a = a
-none_applies words before (Trap epc priv interrupt cause tval) NotRetirable right step a = a
-none_applies words before (Trap epc priv interrupt cause tval) WrongType right step a = a (right.2, right.3)
-none_applies words before (Trap epc priv interrupt cause tval) WrongNext right step a = a
-none_applies words before (Trap epc priv interrupt cause tval) WrongPrivilege right step a =
-    a (right.1, (step_parts words before (Trap epc priv interrupt cause tval) step).1)
-none_applies words before (Trap epc priv interrupt cause tval) WrongEpc right step a =
-    a (right.0, (step_parts words before (Trap epc priv interrupt cause tval) step).0)
+none_applies words before (Trap priv interrupt cause epc tval) OffProgram right step a = a
+none_applies words before (Trap priv interrupt cause epc tval) NotRetirable right step a = a
+none_applies words before (Trap priv interrupt cause epc tval) WrongType right step a = a (right.2, right.3)
+none_applies words before (Trap priv interrupt cause epc tval) WrongNext right step a = a
+none_applies words before (Trap priv interrupt cause epc tval) WrongPrivilege right step a =
+    a (right.1, (step_parts words before (Trap priv interrupt cause epc tval) step).1)
+none_applies words before (Trap priv interrupt cause epc tval) WrongEpc right step a =
+    a (right.0, (step_parts words before (Trap priv interrupt cause epc tval) step).0)
 
 -- An event to which no reason applies is right by itself and may follow the one before.
 pub none_applies-right : (words : Words) (before : Option Event) (event : Event)

@@ -55,7 +55,7 @@ AppliesToTrap words before epc priv interrupt cause tval WrongEpc =
 abbrev pub Applies : Words → Option Event → Event → Why → Type 0
 Applies words before (Retire addr itype priv) why =
     AppliesToRetirement words before (words addr) addr itype priv why
-Applies words before (Trap epc priv interrupt cause tval) why =
+Applies words before (Trap priv interrupt cause epc tval) why =
     AppliesToTrap words before epc priv interrupt cause tval why
 
 -- The reasons that are told before this one, where they apply.

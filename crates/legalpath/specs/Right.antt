@@ -34,5 +34,5 @@ RetiresOn (Some word) itype priv = IsTypeOf word.0 itype × MayRetireAt word.0 p
 -- An event is right by itself.
 abbrev pub Right : Words → Event → Type 0
 Right words (Retire addr itype priv) = RetiresOn (words addr) itype priv × IsPrivilege priv
-Right words (Trap epc priv interrupt cause tval) =
+Right words (Trap priv interrupt cause epc tval) =
     (epc % 2 ≡ 0) × IsPrivilege priv × (cause < 64) × (interrupt ≡ true → tval ≡ 0)

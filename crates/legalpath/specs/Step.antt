@@ -30,7 +30,7 @@ LeadsToPrivilege _ priv after = after ≡ priv
 -- S-mode or M-mode, and in no mode below the one that it was taken from.
 abbrev pub MayHavePrivilegeBehind : Words → Event → ℕ → Type 0
 MayHavePrivilegeBehind words (Retire addr itype priv) after = LeadsToPrivilege (words addr) priv after
-MayHavePrivilegeBehind words (Trap epc priv interrupt cause tval) after = (1 ≤ after) × (priv ≤ after)
+MayHavePrivilegeBehind words (Trap priv interrupt cause epc tval) after = (1 ≤ after) × (priv ≤ after)
 
 -- One event may follow another.
 abbrev pub Step : Words → Event → Event → Type 0

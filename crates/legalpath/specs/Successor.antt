@@ -27,4 +27,4 @@ leads_from addr itype (Some word) = leads addr itype word.0 word.1
 -- Where an event leads; the handler of a trap may stand anywhere.
 abbrev pub successor : Words → Event → Next
 successor words (Retire addr itype priv) = leads_from addr itype (words addr)
-successor words (Trap epc priv interrupt cause tval) = Any
+successor words (Trap priv interrupt cause epc tval) = Any

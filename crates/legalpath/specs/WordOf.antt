@@ -8,4 +8,4 @@ use Rattle.rvclass.specs.Words.{Word, Words}
 -- none.
 abbrev pub word_of : Words → Event → Option Word
 word_of words (Retire addr itype priv) = words addr
-word_of words (Trap epc priv interrupt cause tval) = None
+word_of words (Trap priv interrupt cause epc tval) = None

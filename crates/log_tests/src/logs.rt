@@ -8,8 +8,8 @@ mod reading;
 mod texts;
 mod writing;
 
-use retire::{Event, LogFault, read_log, read_log_from_slice};
-use std::alloc::{AllocError, Global};
+use retire::Event;
+use std::process::Abort;
 
 const HEADER: &str = "addr,itype,priv,cause,tval\n";
 
@@ -23,20 +23,13 @@ const RETIRED: Event = Event::Retire {
 };
 
 /// The text of a log of a row so many times.
-fn text_of_rows(alloc: Global, row: &str, count: usize) -> Result<Vec<u8>, AllocError> {
-    let mut text = Vec::new(alloc);
-    text.extend_from_slice(HEADER.as_bytes())?;
+fn text_of_rows<R: Abort + AllocGlobal>(rt: &R, row: &str, count: usize) -> Vec<u8> {
+    let mut text = Vec::new(rt.alloc());
+    text.extend_from_slice(HEADER.as_bytes())
+        .expect(rt, "memory");
     for _row in 0..count {
-        text.extend_from_slice(row.as_bytes())?;
-        text.push(b'\n')?;
+        text.extend_from_slice(row.as_bytes()).expect(rt, "memory");
+        text.push(b'\n').expect(rt, "memory");
     }
-    Ok(text)
-}
-
-/// What is read of a text, from a reader and from memory.
-fn read_both_ways(alloc: Global, text: &[u8]) -> [Result<Vec<Event>, LogFault>; 2] {
-    [
-        read_log(alloc, alloc, text),
-        read_log_from_slice(alloc, alloc, text),
-    ]
+    text
 }

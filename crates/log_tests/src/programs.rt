@@ -4,18 +4,20 @@ mod edges;
 mod faults;
 mod words;
 
-use crate::fixtures::program_at;
-use rvclass::Class;
-use std::test::Fail;
+use crate::fixtures::same_at;
+use rvclass::{Class, Program};
+use std::process::Abort;
 
-/// Whether a word, or none, stands at an address of an image, which has as many bytes as are given.
-fn stands_there(
-    base: u64,
-    bytes: Vec<u8>,
+/// A word, or none, stands at an address of an image, which has as many bytes as are given.
+fn stands<R: Abort + AllocGlobal>(
+    rt: &R,
+    name: &str,
+    (base, bytes): (u64, &[u8]),
     addr: u64,
     word: Option<(Class, u8)>,
-) -> Result<bool, Fail> {
-    let count = bytes.len();
-    let program = program_at(base, bytes)?;
-    Ok(program.byte_count() == count && program.at(addr) == word)
+) {
+    let image = bytes.to_vec(rt.alloc()).expect(rt, "memory");
+    let program = Program::new(base, image).expect(rt, "a program");
+    let found = (program.byte_count(), program.at(addr));
+    same_at(rt, name, found, (bytes.len(), word));
 }

@@ -1,12 +1,11 @@
 //! What texts tell.
 
-use crate::fixtures::same;
+use crate::fixtures::same_at;
 use funnel::Turn;
 use funnel::Turn::{Collect, Hart};
 use linked_list_allocator::LocalHeap;
 use schedule::{ScheduleFault, read_schedule};
-use std::alloc::Global;
-use std::test::Fail;
+use std::process::Abort;
 
 /// A count of harts, a text, and what it tells.
 type Case = (u16, &'static str, Result<&'static [Turn], ScheduleFault>);
@@ -57,62 +56,64 @@ const CASES: [Case; 30] = [
     (2, "0 \u{661}", Err(ScheduleFault::Word(2))),
 ];
 
-/// The first text that tells something else than its row says.
-fn first_wrong(alloc: Global) -> Option<(u16, &'static str)> {
-    for (harts, text, told) in CASES {
-        let as_told = match read_schedule(alloc, harts, text.as_bytes()) {
-            Ok(turns) => told == Ok(turns.as_slice()),
-            Err(why) => told == Err(why),
-        };
-        if !as_told {
-            return Some((harts, text));
-        }
+/// A text tells this to so many harts.
+fn tells<R: Abort + AllocGlobal>(
+    rt: &R,
+    harts: u16,
+    text: &str,
+    told: Result<&[Turn], ScheduleFault>,
+) {
+    match read_schedule(rt.alloc(), harts, text.as_bytes()) {
+        Ok(turns) => same_at(rt, (harts, text), Ok(turns.as_slice()), told),
+        Err(why) => same_at(rt, (harts, text), Err(why), told),
     }
-    None
 }
 
 #[test]
 fn tells_turns(rt: HostRuntime) {
-    same(&rt, first_wrong(rt.alloc()), None);
+    for (harts, text, told) in &CASES {
+        tells(&rt, *harts, text, *told);
+    }
 }
 
 #[test]
-fn tells_of_a_turn_too_many(rt: HostRuntime) -> Result<(), Fail> {
+fn tells_of_a_turn_too_many(rt: HostRuntime) {
     let mut text = Vec::new(rt.alloc());
     for _ in 0..16_777_216u32 {
-        text.extend_from_slice(b"c ")?;
+        text.extend_from_slice(b"c ").expect(&rt, "memory");
     }
-    let turns = read_schedule(rt.alloc(), 1, text.as_slice())?;
-    same(&rt, turns.len(), 16_777_216);
-    text.push(b'x')?;
+    let turns = read_schedule(rt.alloc(), 1, text.as_slice()).expect(&rt, "turns");
+    same_at(&rt, "the most", turns.len(), 16_777_216);
+    text.push(b'x').expect(&rt, "memory");
     let whole = read_schedule(rt.alloc(), 1, text.as_slice());
-    same(&rt, whole.err(), Some(ScheduleFault::TooLong));
-    Ok(())
+    same_at(&rt, "one more", whole.err(), Some(ScheduleFault::TooLong));
 }
 
-/// How many turns are told where so much memory is given, or none where it is refused; and how much of it is held behind
-/// that.
-fn read_within(alloc: Global, size: usize) -> Result<(Option<usize>, usize), Fail> {
-    let heap = LocalHeap::new(alloc, size)?;
+/// How many turns are told where so much memory is given, or none where it is refused; none of it is held behind that.
+fn read_within<R: Abort + AllocGlobal>(rt: &R, size: usize) -> Option<usize> {
+    let heap = LocalHeap::new(rt.alloc(), size).expect(rt, "memory");
     let end = match read_schedule(&heap, 1, b"0 c 0 c 0 c 0 c 0 c 0 c 0 c 0 c") {
         Ok(turns) => Some(turns.len()),
-        Err(ScheduleFault::Memory) => None,
-        Err(_) => return Err(Fail::from("another fault")),
+        Err(fault) => {
+            same_at(rt, size, fault, ScheduleFault::Memory);
+            None
+        }
     };
-    Ok((end, heap.used()))
+    same_at(rt, size, heap.used(), 0);
+    end
 }
 
 #[test]
-fn tells_that_memory_is_refused(rt: HostRuntime) -> Result<(), Fail> {
+fn tells_that_memory_is_refused(rt: HostRuntime) {
     let mut refused = 0;
     for step in 0..64usize {
-        let (end, used) = read_within(rt.alloc(), step * 16)?;
-        assert!(rt; used == 0 && end.unwrap_or(16) == 16);
-        if end.is_none() {
-            assert!(rt; refused == step);
-            refused += 1;
+        match read_within(&rt, step * 16) {
+            Some(count) => same_at(&rt, step, count, 16),
+            None => {
+                assert!(rt; refused == step, "{refused} before {step}");
+                refused += 1;
+            }
         }
     }
-    assert!(rt; 1 <= refused && refused < 64);
-    Ok(())
+    assert!(rt; 1 <= refused && refused < 64, "{refused}");
 }

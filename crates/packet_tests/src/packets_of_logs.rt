@@ -9,8 +9,7 @@ use legalpath::LegalLog;
 use payload::{Mode, Packet, Payload, pack};
 use retire::Event;
 use rvclass::Program;
-use std::alloc::{AllocError, Global};
-use std::test::Fail;
+use std::process::Abort;
 
 const BASE: u64 = 0x8000_0000;
 
@@ -33,12 +32,14 @@ const BEQ: u32 = 0x0000_0063;
 const BEQ_8: u32 = 0x0000_0463;
 
 /// The program of these words, from the base on.
-fn program_of(alloc: Global, words: &[u32]) -> Result<Program, Fail> {
-    let mut bytes = Vec::new(alloc);
+fn program_of<R: Abort + AllocGlobal>(rt: &R, words: &[u32]) -> Program {
+    let mut bytes = Vec::new(rt.alloc());
     for word in words {
-        bytes.extend_from_slice(&word.to_le_bytes())?;
+        bytes
+            .extend_from_slice(&word.to_le_bytes())
+            .expect(rt, "memory");
     }
-    Ok(Program::new(BASE, bytes)?)
+    Program::new(BASE, bytes).expect(rt, "a program")
 }
 
 /// A retirement so far from the base, at this privilege.
@@ -62,86 +63,74 @@ fn trap(epc: u64, interrupt: bool, cause: u8, tval: u64) -> Event {
 }
 
 /// The packets of a log.
-fn packets_of(
-    alloc: Global,
+fn packets_of<R: Abort + AllocGlobal>(
+    rt: &R,
     program: &Program,
     period: u16,
     mode: Mode,
     log: &[Event],
-) -> Result<Vec<Packet>, Fail> {
-    if period == 0 {
-        return Err(Fail::from("a period is 0"));
-    }
+) -> Vec<Packet> {
+    assert!(rt; period != 0, "a period is 0");
     let mut encoder = Encoder::new(period, mode);
-    let mut packets = Vec::new(alloc);
-    packets.push(encoder.open())?;
+    let mut packets = Vec::new(rt.alloc());
+    packets.push(encoder.open()).expect(rt, "memory");
     for event in log {
-        packets.extend_from_slice(encoder.push(program, *event).as_slice())?;
+        let pushed = encoder.push(program, *event);
+        packets
+            .extend_from_slice(pushed.as_slice())
+            .expect(rt, "memory");
     }
-    packets.extend_from_slice(encoder.finish(program).as_slice())?;
-    Ok(packets)
+    let last = encoder.finish(program);
+    packets
+        .extend_from_slice(last.as_slice())
+        .expect(rt, "memory");
+    packets
 }
 
 /// The payloads of packets, all of which are of the profile.
-fn payloads_of(alloc: Global, packets: &[Packet]) -> Result<Vec<Payload>, Fail> {
-    let mut payloads = Vec::new(alloc);
+fn payloads_of<R: Abort + AllocGlobal>(rt: &R, packets: &[Packet]) -> Vec<Payload> {
+    let mut payloads = Vec::new(rt.alloc());
     for packet in packets {
-        if !packet.in_profile() {
-            return Err(Fail::from("a packet is not of the profile"));
-        }
-        payloads.push(pack(packet))?;
+        assert!(rt; packet.in_profile(), "{packet:?} is not of the profile");
+        payloads.push(pack(packet)).expect(rt, "memory");
     }
-    Ok(payloads)
+    payloads
 }
 
 /// The legal log of these events.
-fn legal_log<'p>(
-    alloc: Global,
+fn legal_log<'p, R: Abort + AllocGlobal>(
+    rt: &R,
     program: &'p Program,
     events: &[Event],
-) -> Result<LegalLog<'p>, Fail> {
-    if events.len() > 1 << 24 {
-        return Err(Fail::from("a log is too long"));
-    }
-    match LegalLog::new(program, events.to_vec(alloc)?) {
-        Ok(log) => Ok(log),
-        Err(_) => Err(Fail::from("a log is not legal")),
-    }
+) -> LegalLog<'p> {
+    assert!(rt; events.len() <= 1 << 24, "a log is too long");
+    let events = events.to_vec(rt.alloc()).expect(rt, "memory");
+    LegalLog::new(program, events)
+        .ok()
+        .expect(rt, "a legal log")
 }
 
 /// The payloads that a source gives, which gives none behind them.
-fn sourced(
-    alloc: Global,
+fn sourced<R: Abort + AllocGlobal>(
+    rt: &R,
     log: &LegalLog<'_>,
     period: u16,
     mode: Mode,
-) -> Result<Vec<Payload>, Fail> {
-    if period == 0 {
-        return Err(Fail::from("a period is 0"));
-    }
+) -> Vec<Payload> {
+    assert!(rt; period != 0, "a period is 0");
     let mut source = Source::new(log, period, mode);
-    let mut payloads = Vec::new(alloc);
+    let mut payloads = Vec::new(rt.alloc());
     for _ in 0..log.events().len() + 2 {
-        take_next(&mut source, &mut payloads)?;
+        if let Some(payload) = next_of(&mut source) {
+            payloads.push(payload).expect(rt, "memory");
+        }
     }
-    let given = payloads.len();
-    take_next(&mut source, &mut payloads)?;
-    take_next(&mut source, &mut payloads)?;
-    if payloads.len() != given {
-        return Err(Fail::from("a source goes on"));
-    }
-    Ok(payloads)
+    assert!(rt; next_of(&mut source).is_none(), "a source goes on");
+    assert!(rt; next_of(&mut source).is_none(), "a source goes on");
+    payloads
 }
 
 /// The payload that a source gives next.
 fn next_of(source: &mut Source<'_, '_>) -> Option<Payload> {
     source.next()
-}
-
-/// Adds the payload that a source gives next, if it gives one.
-fn take_next(source: &mut Source<'_, '_>, payloads: &mut Vec<Payload>) -> Result<(), AllocError> {
-    if let Some(payload) = next_of(source) {
-        payloads.push(payload)?;
-    }
-    Ok(())
 }

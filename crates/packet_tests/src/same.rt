@@ -3,7 +3,12 @@
 use std::fmt::Debug;
 use std::process::Abort;
 
-/// Ends the test unless both are the same.
-pub(crate) fn same<T: PartialEq + Debug + Drop>(rt: &impl Abort, found: T, wanted: T) {
-    assert_eq!(rt; found, wanted);
+/// Ends the test unless both are the same, and then tells the row of a table or the round of a loop.
+pub(crate) fn same_at<P: Debug + Drop, T: PartialEq + Debug + Drop>(
+    rt: &impl Abort,
+    place: P,
+    found: T,
+    wanted: T,
+) {
+    assert_eq!(rt; found, wanted, "at {place:?}");
 }

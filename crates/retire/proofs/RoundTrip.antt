@@ -68,12 +68,12 @@ records_left-event (Retire addr itype priv) rest (address, type, privilege) =
     plain-cons _ _ (list_any-hex addr address.0) (plain-cons _ _ (list_any-hex itype (small_type itype type)) (
     plain-cons _ _ (list_any-hex priv (small_privilege priv privilege))
     (plain-cons _ _ refl (plain-cons _ _ refl plain-nil)))))
-records_left-event (Trap epc priv true cause tval) rest (address, privilege, below, value, none) =
+records_left-event (Trap priv true cause epc tval) rest (address, privilege, below, value, none) =
     records_left-line (hex epc) (hex 2) _ rest (
     plain-cons _ _ (list_any-hex epc address.0) (plain-cons _ _ (list_any-hex 2 (lit< tt)) (
     plain-cons _ _ (list_any-hex priv (small_privilege priv privilege))
     (plain-cons _ _ (list_any-hex cause (small_cause cause below)) (plain-cons _ _ refl plain-nil)))))
-records_left-event (Trap epc priv false cause tval) rest (address, privilege, below, value, none) =
+records_left-event (Trap priv false cause epc tval) rest (address, privilege, below, value, none) =
     records_left-line (hex epc) (hex 1) _ rest (
     plain-cons _ _ (list_any-hex epc address.0) (plain-cons _ _ (list_any-hex 1 (lit< tt)) (
     plain-cons _ _ (list_any-hex priv (small_privilege priv privilege))
@@ -124,7 +124,7 @@ row_event-fields row (Retire addr itype priv) h =
       number_of-hex priv (small_privilege priv h.2),
     )
     (numbers_event-Retire row addr itype priv h)
-row_event-fields row (Trap epc priv true cause tval) (address, privilege, below, value, none) =
+row_event-fields row (Trap priv true cause epc tval) (address, privilege, below, value, none) =
     rw (
       is_garbled-hex cause (small_cause cause below),
       number_of-hex epc address.0,
@@ -136,7 +136,7 @@ row_event-fields row (Trap epc priv true cause tval) (address, privilege, below,
       is_low_cause cause below,
       none refl,
     ) refl
-row_event-fields row (Trap epc priv false cause tval) (address, privilege, below, value, none) =
+row_event-fields row (Trap priv false cause epc tval) (address, privilege, below, value, none) =
     rw (
       is_garbled-hex cause (small_cause cause below),
       is_garbled-hex tval value,

@@ -47,13 +47,13 @@ inferable words (Some event) addr itype priv is =
 handles : (words : Words) (before : Option Event) (events : List Event)
     → with_handler words before (first_event events None) ≡ true → Handles words before events
 handles words before [] is = (and_parts _ _ is).1
-handles words before (Trap epc priv interrupt cause tval ∷ events) is = (and_parts _ _ is).1
+handles words before (Trap priv interrupt cause epc tval ∷ events) is = (and_parts _ _ is).1
 handles words before (Retire addr itype priv ∷ events) is = is
 
 -- What follows another trap is no handler.
 unhandled : (words : Words) (before : Option Event) (epc priv : ℕ) (interrupt : Bool) (cause tval : ℕ)
     (events : List Event) → with_handler words before (first_event events None) ≡ false
-    → NotHandled words before (Some (Trap epc priv interrupt cause tval)) events
+    → NotHandled words before (Some (Trap priv interrupt cause epc tval)) events
 unhandled words before epc priv interrupt cause tval [] is = tt
 unhandled words before epc priv interrupt cause tval (event ∷ events) is = is
 
@@ -62,15 +62,15 @@ module _ (words : Words) (period : ℕ) (mode : Mode) where
   pub trap_told : (epc priv : ℕ) (interrupt : Bool) (cause tval number : ℕ) (before : Option Event) (reported : ℕ)
       (by_last : Rule) (events : List Event) (rest : List Event → List Piece) (handler : Bool) →
       with_handler words before (first_event events None) ≡ handler →
-      TellsOn words period mode before (Trap epc priv interrupt cause tval) number events rest →
-      Told words mode before reported by_last [] (Trap epc priv interrupt cause tval ∷ events) true
-      (next_piece [] (Trap epc priv interrupt cause tval) (by.Trap handler) rest)
+      TellsOn words period mode before (Trap priv interrupt cause epc tval) number events rest →
+      Told words mode before reported by_last [] (Trap priv interrupt cause epc tval ∷ events) true
+      (next_piece [] (Trap priv interrupt cause epc tval) (by.Trap handler) rest)
   trap_told epc priv interrupt cause tval number before reported by_last events rest true is on =
-      let told = on before (Trap epc priv interrupt cause tval ∷ []) reported by_last
+      let told = on before (Trap priv interrupt cause epc tval ∷ []) reported by_last
       (AfterTrap (handles words before events is)) in
       record { fit = told.fit; whole = told.whole; head = told.head }
   trap_told epc priv interrupt cause tval number before reported by_last events rest false is on =
-      let trap = Trap epc priv interrupt cause tval in
+      let trap = Trap priv interrupt cause epc tval in
       let told = on (Some trap) [] epc (by.Trap false)
       (AtCut (unhandled words before epc priv interrupt cause tval events is) tt) in
       cut words mode before reported by_last [] trap (by.Trap false) events _ (rest []) (refl, refl) told
@@ -85,7 +85,7 @@ module _ (words : Words) (period : ℕ) (mode : Mode) where
         TellsOn words period mode (Some before) (Retire addr itype priv) (number + 1) events rest →
         Told words mode (Some since) reported by_last front (Retire addr itype priv ∷ events) false
         (next_piece front (Retire addr itype priv) rule rest)
-    in_stretch_told since front (Trap epc level interrupt cause tval) rule quiet known start tells on =
+    in_stretch_told since front (Trap level interrupt cause epc tval) rule quiet known start tells on =
         let retires : false ≡ true = quiet.now.0 in cc
     in_stretch_told since front (Retire at type level) rule quiet known start tells on =
         let same : priv ≡ level = same_privilege priv level _ start in
@@ -101,7 +101,7 @@ module _ (words : Words) (period : ℕ) (mode : Mode) where
         Told words mode before reported by_last [] (Retire addr itype priv ∷ events)
         (is_start period number before priv) (next_piece [] (Retire addr itype priv) rule rest)
     behind_cut_told None rule handler known tells start on = cc
-    behind_cut_told (Some (Trap epc level interrupt cause tval)) rule handler known tells start on = cc
+    behind_cut_told (Some (Trap level interrupt cause epc tval)) rule handler known tells start on = cc
     behind_cut_told (Some (Retire at type level)) rule handler known tells start on =
         let before = Retire at type level in
         let quiet : Quiet words before [] before = record
@@ -136,17 +136,17 @@ module _ (words : Words) (period : ℕ) (mode : Mode) where
     -- The handler of a trap is reported with it.
     pub handler_told : (epc level : ℕ) (interrupt : Bool) (cause tval : ℕ) (rule : Rule)
         → with_handler words before_that (Some (Retire addr itype priv)) ≡ true →
-        TellsOf words period number before_that (Some (Trap epc level interrupt cause tval)) (Retire addr itype priv)
+        TellsOf words period number before_that (Some (Trap level interrupt cause epc tval)) (Retire addr itype priv)
         (first_event events None) rule →
-        TellsOn words period mode (Some (Trap epc level interrupt cause tval)) (Retire addr itype priv) (number + 1)
+        TellsOn words period mode (Some (Trap level interrupt cause epc tval)) (Retire addr itype priv) (number + 1)
         events rest →
-        Told words mode before_that reported by_last (Trap epc level interrupt cause tval ∷ [])
-        (Retire addr itype priv ∷ events) true (next_piece (Trap epc level interrupt cause tval ∷ [])
+        Told words mode before_that reported by_last (Trap level interrupt cause epc tval ∷ [])
+        (Retire addr itype priv ∷ events) true (next_piece (Trap level interrupt cause epc tval ∷ [])
         (Retire addr itype priv) rule rest)
     handler_told epc level interrupt cause tval (by.Trap with) is tells on = absurd tells
     handler_told epc level interrupt cause tval by.Handler is tells on =
         let last = Retire addr itype priv in
-        let trap = Trap epc level interrupt cause tval in
+        let trap = Trap level interrupt cause epc tval in
         let told = on (Some last) [] addr by.Handler (AtCut (not_handled words (Some trap) addr itype priv events)
         fits) in
         cut words mode before_that reported by_last (trap ∷ []) last by.Handler events _ (rest [])

@@ -39,16 +39,16 @@ module _ (words : Words) (program : IsProgram words) (period : ℕ) (mode : Mode
       record { fit = (tt, refl, tt); whole = refl; head = refl }
   events_told [] number since front before_that before reported by_last follows (InStretch quiet known on) = absurd on
   events_told [] number since front before_that before reported by_last follows (AfterTrap handles) = cc
-  events_told (Trap epc priv interrupt cause tval ∷ events) number since front before_that before reported by_last
+  events_told (Trap priv interrupt cause epc tval ∷ events) number since front before_that before reported by_last
       follows (AtCut handled known) =
-      let trap = Trap epc priv interrupt cause tval in
+      let trap = Trap priv interrupt cause epc tval in
       trap_told words period mode epc priv interrupt cause tval number before reported by_last events _
       (with_handler words before (first_event events None)) refl
       (λ since front reported by_last state. events_told events number since front before (Some trap) reported by_last
       follows.2 state)
-  events_told (Trap epc priv interrupt cause tval ∷ events) number since front before_that before reported by_last
+  events_told (Trap priv interrupt cause epc tval ∷ events) number since front before_that before reported by_last
       follows (InStretch quiet known on) = absurd on
-  events_told (Trap epc priv interrupt cause tval ∷ events) number since front before_that before reported by_last
+  events_told (Trap priv interrupt cause epc tval ∷ events) number since front before_that before reported by_last
       follows (AfterTrap handles) = cc
   events_told (Retire addr itype priv ∷ events) number since front before_that before reported by_last follows
       (AtCut handled known) =
@@ -69,7 +69,7 @@ module _ (words : Words) (program : IsProgram words) (period : ℕ) (mode : Mode
   events_told (Retire addr itype priv ∷ events) number since front before_that before reported by_last follows
       (AfterTrap {epc = epc} {priv = level} {interrupt = interrupt} {cause = cause} {tval = tval} handles) =
       let last = Retire addr itype priv in
-      let trap = Trap epc level interrupt cause tval in
+      let trap = Trap level interrupt cause epc tval in
       handler_told words period mode addr itype priv number before_that reported by_last events _
       (address_in_range words program addr itype priv follows.0) epc level interrupt cause tval _ handles
       (rule_tells_of words period number before_that (Some trap) last (first_event events None))

@@ -36,7 +36,7 @@ first_is_head mode reported by_last (piece ∷ pieces) = refl
 trap_not_closing : (event : Event) (taken : Bool) (level : ℕ) (handler : Bool) (address : ℕ)
     → is_closing_packet (trap_packet event taken level handler address) ≡ false
 trap_not_closing (Retire addr itype priv) taken level handler address = refl
-trap_not_closing (Trap epc priv interrupt cause tval) taken level handler address = refl
+trap_not_closing (Trap priv interrupt cause epc tval) taken level handler address = refl
 
 pub not_closing : (mode : Mode) (reported : ℕ) (front : List Event) (last : Event) (rule : Rule)
     → is_closing_packet (packet_by mode reported front last rule) ≡ false
@@ -52,7 +52,7 @@ not_closing mode reported front last by.Unreported = refl
 trap_follows : (before : Packet) (event : Event) (taken : Bool) (level : ℕ) (handler : Bool) (address : ℕ)
     → MayFollow before (trap_packet event taken level handler address)
 trap_follows before (Retire addr itype priv) taken level handler address = tt
-trap_follows before (Trap epc priv interrupt cause tval) taken level handler address = tt
+trap_follows before (Trap priv interrupt cause epc tval) taken level handler address = tt
 
 pub follows : (before : Packet) (mode : Mode) (reported : ℕ) (front : List Event) (last : Event) (rule : Rule)
     → MayFollow before (packet_by mode reported front last rule)
@@ -96,7 +96,7 @@ reported_after-trap_packet : (event : Event) (taken : Bool) (level : ℕ) (handl
     (piece : List Event) → reported_after (trap_packet event taken level handler address) reported piece ≡ last_place
     reported piece
 reported_after-trap_packet (Retire addr itype priv) taken level handler address reported piece = refl
-reported_after-trap_packet (Trap epc priv interrupt cause tval) taken level handler address reported piece = refl
+reported_after-trap_packet (Trap priv interrupt cause epc tval) taken level handler address reported piece = refl
 
 pub reported_after-packet_by : (mode : Mode) (reported : ℕ) (front : List Event) (last : Event) (rule : Rule)
     → reported_after (packet_by mode reported front last rule) reported (front ++ last ∷ []) ≡ reported_by rule reported

@@ -50,7 +50,7 @@ module _ (words : Words) (period : ℕ) (mode : Mode) where
       → (is_cut_off period number event (first_event events None) || is_none (first_event events None)) ≡ false
       → GoesOn period (number + 1) event events
   goes_on number event [] is = cc
-  goes_on number event (Trap epc priv interrupt cause tval ∷ events) is = cc
+  goes_on number event (Trap priv interrupt cause epc tval ∷ events) is = cc
   goes_on number event (Retire addr itype priv ∷ events) is = sym (or-false _) ∙ is
 
   -- After a target that is not cut off the next packet does not make it explicit.
@@ -59,7 +59,7 @@ module _ (words : Words) (period : ℕ) (mode : Mode) where
       → is_cut_off period number event (first_event events None) ≡ false
       → explicit_before period (number + 1) (Some event) rule events ≡ false
   target_before number event rule [] closes is = closes
-  target_before number event rule (Trap epc priv interrupt cause tval ∷ events) closes is = is
+  target_before number event rule (Trap priv interrupt cause epc tval ∷ events) closes is = is
   target_before number event rule (Retire addr itype priv ∷ events) closes is = is
 
   -- After a retirement that is cut off or the last it does.
@@ -68,7 +68,7 @@ module _ (words : Words) (period : ℕ) (mode : Mode) where
       → (is_cut_off period number event (first_event events None) || is_none (first_event events None)) ≡ true
       → explicit_before period (number + 1) (Some event) rule events ≡ true
   explicit_after number event rule [] closes is = closes
-  explicit_after number event rule (Trap epc priv interrupt cause tval ∷ events) closes is = refl
+  explicit_after number event rule (Trap priv interrupt cause epc tval ∷ events) closes is = refl
   explicit_after number event rule (Retire addr itype priv ∷ events) closes is = sym (or-false _) ∙ is
 
   module _ (since : Event) (front : List Event) (before : Event) (number : ℕ) (before_that : Option Event)

@@ -52,19 +52,19 @@ NotHandled words before_that before (event ∷ events) = is_handler words before
 -- After a retirement the last reported address is in range.
 abbrev pub InRangeAfter : Option Event → ℕ → Type 0
 InRangeAfter None reported = Unit {0}
-InRangeAfter (Some (Trap epc priv interrupt cause tval)) reported = Unit {0}
+InRangeAfter (Some (Trap priv interrupt cause epc tval)) reported = Unit {0}
 InRangeAfter (Some (Retire addr itype priv)) reported = reported < 2 ^ 64
 
 -- The first of these events is a retirement that is no new start.
 abbrev pub GoesOn : ℕ → ℕ → Event → List Event → Type 0
 GoesOn period number before [] = ⊥
-GoesOn period number before (Trap epc priv interrupt cause tval ∷ events) = ⊥
+GoesOn period number before (Trap priv interrupt cause epc tval ∷ events) = ⊥
 GoesOn period number before (Retire addr itype priv ∷ events) = is_start period number (Some before) priv ≡ false
 
 -- The first of these events is the handler of a trap after this event.
 abbrev pub Handles : Words → Option Event → List Event → Type 0
 Handles words before [] = false ≡ true
-Handles words before (Trap epc priv interrupt cause tval ∷ events) = false ≡ true
+Handles words before (Trap priv interrupt cause epc tval ∷ events) = false ≡ true
 Handles words before (Retire addr itype priv ∷ events) =
     with_handler words before (Some (Retire addr itype priv)) ≡ true
 
@@ -82,13 +82,13 @@ pub data State (words : Words) (period : ℕ) : Option Event → List Event → 
   AfterTrap : {before_that : Option Event} {epc priv : ℕ} {interrupt : Bool} {cause tval number : ℕ}
       {events : List Event} {reported : ℕ} →
       Handles words before_that events →
-      State words period before_that (Trap epc priv interrupt cause tval ∷ []) before_that
-      (Some (Trap epc priv interrupt cause tval)) number events reported
+      State words period before_that (Trap priv interrupt cause epc tval ∷ []) before_that
+      (Some (Trap priv interrupt cause epc tval)) number events reported
 
 -- Whether the next packet makes a plain address packet explicit, by the events that follow it.
 abbrev pub explicit_before : ℕ → ℕ → Option Event → Rule → List Event → Bool
 explicit_before period number before by_last [] = makes_explicit (packet.Support (closing by_last))
-explicit_before period number before by_last (Trap epc priv interrupt cause tval ∷ events) = true
+explicit_before period number before by_last (Trap priv interrupt cause epc tval ∷ events) = true
 explicit_before period number before by_last (Retire addr itype priv ∷ events) = is_start period number before priv
 
 -- The same in a state: an open stretch goes on with a packet that does not, and a trap with its handler is a packet

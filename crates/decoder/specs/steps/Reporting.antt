@@ -49,4 +49,4 @@ FitsTold words before told cause handler events =
 abbrev pub IsHandled : Words → Option Event → Cause → List Event → Type 0
 IsHandled words before cause events =
     AfterInferable words before × (epc : ℕ) × (from : ℕ) ×
-    (events ≡ Trap epc from cause.interrupt cause.cause cause.tval ∷ [])
+    (events ≡ Trap from cause.interrupt cause.cause epc cause.tval ∷ [])

@@ -34,15 +34,15 @@ due_behind_trap other = due_of.Sync
 -- What is due of an event behind the held one, of which this is due, with so many retirements left.
 abbrev pub next_due : Option Event → Due → ℕ → Event → Due
 next_due None due left (Retire addr itype priv) = due_of.Sync
-next_due None due left (Trap epc priv interrupt cause tval) = due_of.Trap
+next_due None due left (Trap priv interrupt cause epc tval) = due_of.Trap
 next_due (Some (Retire at type level)) due left (Retire addr itype priv) =
     if not (priv == level) || (left == 0) then due_of.Sync else
     if is_discontinuity_by_type type then due_of.Target else
     due_of.Nothing
-next_due (Some (Trap epc level interrupt cause tval)) due left (Retire addr itype priv) = due_behind_trap due
-next_due (Some (Retire at type level)) due left (Trap epc priv interrupt cause tval) =
+next_due (Some (Trap level interrupt cause epc tval)) due left (Retire addr itype priv) = due_behind_trap due
+next_due (Some (Retire at type level)) due left (Trap priv interrupt cause epc tval) =
     if is_discontinuity_by_type type then due_of.Trap else due_of.TrapOrHandler
-next_due (Some (Trap at level irq code value)) due left (Trap epc priv interrupt cause tval) = due_of.Trap
+next_due (Some (Trap level irq code at value)) due left (Trap priv interrupt cause epc tval) = due_of.Trap
 
 -- A trap or a new start, by what is due of it.
 abbrev pub cuts_off : Due → Bool
@@ -55,7 +55,7 @@ cuts_off other = false
 abbrev pub jumps_back_to : Words → Event → Event → Bool
 jumps_back_to words (Retire addr itype priv) next =
     (itype == types.other) && nat_le (place next) addr && jumps_back addr (words addr)
-jumps_back_to words (Trap epc priv interrupt cause tval) next = false
+jumps_back_to words (Trap priv interrupt cause epc tval) next = false
 
 -- The rule of an event of which nothing is due, before one of which this is due.
 abbrev pub rule_of_quiet : Bool → Bool → Rule
@@ -135,7 +135,7 @@ reported_before words e (Some held) next after =
 -- How many retirements are left with this event.
 abbrev pub left_after : ℕ → ℕ → Event → ℕ
 left_after between left (Retire addr itype priv) = if left == 0 then between else left - 1
-left_after between left (Trap epc priv interrupt cause tval) = left
+left_after between left (Trap priv interrupt cause epc tval) = left
 
 -- The outcomes with that of an event of which this is due; that of a handler is told already.
 abbrev pub pending_with : Due → Event → List Bool → List Bool

@@ -80,7 +80,7 @@ judge_trap left epc priv interrupt cause tval =
 -- What an event leaves after what was left to it, or why it is refused.
 abbrev pub judge : Words → Left → Event → Result Left Why
 judge words left (Retire addr itype priv) = judge_retirement left addr itype priv (words addr)
-judge words left (Trap epc priv interrupt cause tval) =
+judge words left (Trap priv interrupt cause epc tval) =
     judge_trap left epc priv interrupt cause tval
 
 -- What a log is answered.

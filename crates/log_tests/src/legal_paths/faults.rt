@@ -1,15 +1,12 @@
 //! What `check` tells of logs.
 
-ghost use Rattle.std.specs.Prelude.{◌≤◌, length};
-
 use self::Step::{Retires, Traps};
 use super::{BEQ, ECALL, JAL, MRET, NOP, RET, SRET, retired, trap};
-use crate::fixtures::{BASE, program_of, same};
+use crate::fixtures::{BASE, program_of, same_at};
 use legalpath::check;
 use retire::Event;
 use rvclass::Program;
-use std::alloc::Global;
-use std::test::Fail;
+use std::process::Abort;
 
 /// An event: a retirement so far from the base, with its type and privilege; or a trap at an address, with its
 /// privilege, whether it is an interrupt, its cause and its value.
@@ -28,22 +25,14 @@ fn event_of(step: Step) -> Event {
     }
 }
 
-/// What `check` tells of a log, as the program prints it.
-fn told(alloc: Global, program: &Program, log: &[Event]) -> Result<String, Fail>
-    requires { length log.now ≤ 100 }
-{
-    match check(program, log) {
-        Ok(()) => Ok(format!(in alloc; "legal, {} events", log.len())?),
-        Err(fault) => Ok(format!(in alloc; "{fault}")?),
-    }
-}
-
-/// Whether that is so.
-fn is_told(alloc: Global, program: &Program, log: &[Event], want: &str) -> Result<bool, Fail> {
-    if 100 < log.len() {
-        return Err(Fail::from("a log is too long"));
-    }
-    Ok(told(alloc, program, log)?.as_str() == want)
+/// `check` tells this of a log, as the program prints it.
+fn tells<R: Abort + AllocGlobal>(rt: &R, program: &Program, log: &[Event], want: &str) {
+    assert!(rt; log.len() <= 100, "a log is too long");
+    let told = match check(program, log) {
+        Ok(()) => format!(in rt.alloc(); "legal, {} events", log.len()),
+        Err(fault) => format!(in rt.alloc(); "{fault}"),
+    };
+    same_at(rt, log, told.expect(rt, "memory").as_str(), want);
 }
 
 /// The words of a program, a log, and what is told of it.
@@ -84,25 +73,21 @@ const LOGS: [(&[u32], &[Step], &str); 10] = [
     ),
 ];
 
-/// The first log of which something else is told than its row says.
-fn first_wrong_log(alloc: Global) -> Result<Option<(&'static str, Vec<Event>)>, Fail> {
-    for (words, steps, want) in LOGS {
-        let program = program_of(alloc, words)?;
-        let mut log = Vec::new(alloc);
-        for step in steps {
-            log.push(event_of(*step))?;
-        }
-        if !is_told(alloc, &program, log.as_slice(), want)? {
-            return Ok(Some((want, log)));
-        }
+/// `check` tells this of a log of the program of these words.
+fn tells_of_steps<R: Abort + AllocGlobal>(rt: &R, words: &[u32], steps: &[Step], want: &str) {
+    let program = program_of(rt, words);
+    let mut log = Vec::new(rt.alloc());
+    for step in steps {
+        log.push(event_of(*step)).expect(rt, "memory");
     }
-    Ok(None)
+    tells(rt, &program, log.as_slice(), want);
 }
 
 #[test]
-fn first_fault_of_each_log(rt: HostRuntime) -> Result<(), Fail> {
-    same(&rt, first_wrong_log(rt.alloc())?, None);
-    Ok(())
+fn first_fault_of_each_log(rt: HostRuntime) {
+    for (words, steps, want) in &LOGS {
+        tells_of_steps(&rt, words, steps, want);
+    }
 }
 
 /// The second of three events, and what is told of them.
@@ -124,21 +109,11 @@ const ROWS: [(Step, &str); 15] = [
     (Traps(BASE + 8, 3, true, 63, 0), "row 3: OffProgram"),
 ];
 
-/// The first row of which something else is told than it says.
-fn first_wrong_row(alloc: Global) -> Result<Option<(&'static str, Event)>, Fail> {
-    let program = program_of(alloc, &[JAL, NOP, NOP, ECALL])?;
-    for (step, want) in ROWS {
-        let event = event_of(step);
-        let log = [retired(0, 0, 3), event, retired(0x200, 0, 3)];
-        if !is_told(alloc, &program, &log, want)? {
-            return Ok(Some((want, event)));
-        }
-    }
-    Ok(None)
-}
-
 #[test]
-fn lowest_reason_of_a_row(rt: HostRuntime) -> Result<(), Fail> {
-    same(&rt, first_wrong_row(rt.alloc())?, None);
-    Ok(())
+fn lowest_reason_of_a_row(rt: HostRuntime) {
+    let program = program_of(&rt, &[JAL, NOP, NOP, ECALL]);
+    for (step, want) in &ROWS {
+        let log = [retired(0, 0, 3), event_of(*step), retired(0x200, 0, 3)];
+        tells(&rt, &program, &log, want);
+    }
 }

@@ -1,12 +1,10 @@
 //! Every pair of kinds of events at every pair of privileges, by the table of what may follow what.
 
 use super::{BEQ, JAL, MRET, NOP, RET, SRET, retired, trap};
-use crate::fixtures::{BASE, program_of, same};
+use crate::fixtures::{BASE, program_of, same_at};
 use legalpath::{PathFault, Why, check};
 use retire::Event;
-use rvclass::Program;
-use std::alloc::Global;
-use std::test::Fail;
+use std::process::Abort;
 
 /// What an event does: it retires a word, with a type, or takes a trap, an interrupt if told so.
 #[derive(Clone, Copy)]
@@ -98,13 +96,12 @@ fn expected(
     Err(PathFault { row: 2, why })
 }
 
-/// A pair of kinds, their privileges, and how far on the second event stands.
-type Place = (&'static str, u8, &'static str, u8, u64);
-
-/// The first pair of privileges and place of a pair of kinds at which `check` tells something else.
-fn first_wrong(program: &Program, first: &Kind, second: &Kind) -> Option<Place> {
+/// `check` tells what the table says of a pair of kinds, at each pair of privileges and each place.
+fn tells_of_pair<R: Abort + AllocGlobal>(rt: &R, first: &Kind, second: &Kind) {
     let Kind(name, act, ..) = first;
     let Kind(next_name, next_act, ..) = second;
+    let word = word_of(*next_act);
+    let program = program_of(rt, &[word_of(*act), word, word]);
     for privilege in [0, 1, 3] {
         for after in [0, 1, 3] {
             for offset in [4, 8] {
@@ -112,28 +109,19 @@ fn first_wrong(program: &Program, first: &Kind, second: &Kind) -> Option<Place> 
                     event_of(*act, 0, privilege),
                     event_of(*next_act, offset, after),
                 ];
-                if check(program, &log) != expected(first, privilege, second, offset, after) {
-                    return Some((*name, privilege, *next_name, after, offset));
-                }
+                let place = (*name, privilege, *next_name, after, offset);
+                let want = expected(first, privilege, second, offset, after);
+                same_at(rt, place, check(&program, &log), want);
             }
         }
     }
-    None
-}
-
-/// The program that a pair stands on.
-fn program_under(alloc: Global, first: &Kind, second: &Kind) -> Result<Program, Fail> {
-    let word = word_of(second.1);
-    program_of(alloc, &[word_of(first.1), word, word])
 }
 
 #[test]
-fn every_pair_of_kinds(rt: HostRuntime) -> Result<(), Fail> {
+fn every_pair_of_kinds(rt: HostRuntime) {
     for first in &KINDS {
         for second in &KINDS {
-            let program = program_under(rt.alloc(), first, second)?;
-            same(&rt, first_wrong(&program, first, second), None);
+            tells_of_pair(&rt, first, second);
         }
     }
-    Ok(())
 }

@@ -1,22 +1,22 @@
 //! Where events lead.
 
 use super::{BEQ, ECALL, JAL, MRET, NOP, RET, SRET, retired, trap};
-use crate::fixtures::{BASE, program_of, same};
+use crate::fixtures::{BASE, program_of, same_at};
 use legalpath::{Next, successor};
 use retire::Event;
-use std::alloc::Global;
-use std::test::Fail;
+use std::process::Abort;
 
 /// C.NOP, in both halves.
 const SHORT_NOPS: u32 = 0x0001_0001;
 
-/// Where an event of the program of a word leads.
-fn leads(alloc: Global, word: u32, event: Event) -> Result<Next, Fail> {
-    Ok(successor(&program_of(alloc, &[word])?, &event))
+/// An event of the program of a word leads there.
+fn leads<R: Abort + AllocGlobal>(rt: &R, word: u32, event: Event, want: Next) {
+    let program = program_of(rt, &[word]);
+    same_at(rt, (word, event), successor(&program, &event), want);
 }
 
 #[test]
-fn successor_of_each_kind(rt: HostRuntime) -> Result<(), Fail> {
+fn successor_of_each_kind(rt: HostRuntime) {
     for (word, event, want) in [
         (NOP, retired(0, 0, 3), Next::One(BASE + 4)),
         (SHORT_NOPS, retired(0, 0, 3), Next::One(BASE + 2)),
@@ -31,8 +31,6 @@ fn successor_of_each_kind(rt: HostRuntime) -> Result<(), Fail> {
         (NOP, trap(BASE, 3, false, 2, 0), Next::Any),
         (NOP, trap(0x4000, 0, true, 7, 0), Next::Any),
     ] {
-        let led = leads(rt.alloc(), word, event)?;
-        same(&rt, (word, event, led), (word, event, want));
+        leads(&rt, word, event, want);
     }
-    Ok(())
 }

@@ -1,11 +1,11 @@
 //! Readers and writers that fail.
 
 use super::{RETIRED, ROW, text_of_rows};
+use crate::fixtures::same_at;
 use retire::{Event, LogFault, WriteFault, read_log, write_log};
 use std::alloc::Global;
 use std::io;
 use std::io::{ErrorKind, Read, Write};
-use std::test::Fail;
 
 /// A reader of a text, so many bytes a call, that fails once its calls are used up.
 #[derive(Drop)]
@@ -36,23 +36,25 @@ fn read_failing(alloc: Global, rest: &[u8], most: usize, calls: usize) -> Result
 }
 
 #[test]
-fn reader_fails_at_each_call(rt: HostRuntime) -> Result<(), Fail> {
-    let text = text_of_rows(rt.alloc(), "80000000,0,3,,\n80000004,2,3,7,0", 1)?;
+fn reader_fails_at_each_call(rt: HostRuntime) {
+    let text = text_of_rows(&rt, "80000000,0,3,,\n80000004,2,3,7,0", 1);
     for most in [1, 7, 1000] {
         let mut failed = 0;
         for calls in 0..200 {
             match read_failing(rt.alloc(), text.as_slice(), most, calls) {
-                Ok(count) => assert!(rt; count == 2),
+                Ok(count) => same_at(&rt, (most, calls), count, 2),
                 Err(fault) => {
-                    let read = fault == LogFault::Read;
-                    assert!(rt; read && failed == calls, "call {calls} of {most} bytes");
+                    same_at(&rt, (most, calls), fault, LogFault::Read);
+                    assert!(rt; failed == calls, "call {calls} of {most} bytes");
                     failed += 1;
                 }
             }
         }
-        assert!(rt; text.len() / most < failed && failed < 200);
+        assert!(rt;
+            text.len() / most < failed && failed < 200,
+            "{failed} of {most} bytes"
+        );
     }
-    Ok(())
 }
 
 /// A writer that keeps what it takes, so many bytes a call, and fails once its calls are used up.
@@ -96,25 +98,27 @@ fn write_failing(
 }
 
 #[test]
-fn writer_fails_at_each_call(rt: HostRuntime) -> Result<(), Fail> {
+fn writer_fails_at_each_call(rt: HostRuntime) {
     // More text than is held at a time.
-    let events = vec![in rt.alloc(); RETIRED; 10_000]?;
-    let want = text_of_rows(rt.alloc(), ROW, 10_000)?;
+    let events = vec![in rt.alloc(); RETIRED; 10_000].expect(&rt, "memory");
+    let want = text_of_rows(&rt, ROW, 10_000);
     for most in [10_007, 1_000_000] {
         let mut failed = 0;
         for calls in 0..20 {
             let (end, held) = write_failing(rt.alloc(), events.as_slice(), most, calls);
-            let begun = want.as_slice().starts_with(held.as_slice());
+            assert!(rt;
+                want.as_slice().starts_with(held.as_slice()),
+                "call {calls} of {most} bytes"
+            );
             match end {
-                Ok(()) => assert!(rt; begun && held.len() == want.len()),
+                Ok(()) => same_at(&rt, (most, calls), held.len(), want.len()),
                 Err(fault) => {
-                    let write = begun && fault == WriteFault::Write;
-                    assert!(rt; write && failed == calls, "call {calls} of {most} bytes");
+                    same_at(&rt, (most, calls), fault, WriteFault::Write);
+                    assert!(rt; failed == calls, "call {calls} of {most} bytes");
                     failed += 1;
                 }
             }
         }
-        assert!(rt; 1 < failed && failed < 20);
+        assert!(rt; 1 < failed && failed < 20, "{failed} of {most} bytes");
     }
-    Ok(())
 }

@@ -1,10 +1,9 @@
 //! What the faults are told as.
 
-use crate::fixtures::same;
+use crate::fixtures::same_at;
 use retire::{LogFault, WriteFault};
-use std::alloc::{AllocError, Global};
 use std::fmt::Display;
-use std::test::Fail;
+use std::process::Abort;
 
 const LOG_FAULTS: [(LogFault, &'static str); 12] = [
     (LogFault::Header, "wrong header"),
@@ -32,22 +31,16 @@ const WRITE_FAULTS: [(WriteFault, &'static str); 2] = [
     (WriteFault::Memory, "out of memory"),
 ];
 
-/// The first text that its fault does not have.
-fn first_wrong<F: Display>(
-    alloc: Global,
-    table: &[(F, &'static str)],
-) -> Result<Option<&'static str>, AllocError> {
+/// Each fault is told as its row says.
+fn are_told<R: Abort + AllocGlobal, F: Display>(rt: &R, table: &[(F, &'static str)]) {
     for (fault, want) in table {
-        if format!(in alloc; "{fault}")?.as_str() != *want {
-            return Ok(Some(*want));
-        }
+        let told = format!(in rt.alloc(); "{fault}").expect(rt, "memory");
+        same_at(rt, "a fault's text", told.as_str(), *want);
     }
-    Ok(None)
 }
 
 #[test]
-fn texts_of_faults(rt: HostRuntime) -> Result<(), Fail> {
-    same(&rt, first_wrong(rt.alloc(), &LOG_FAULTS)?, None);
-    same(&rt, first_wrong(rt.alloc(), &WRITE_FAULTS)?, None);
-    Ok(())
+fn texts_of_faults(rt: HostRuntime) {
+    are_told(&rt, &LOG_FAULTS);
+    are_told(&rt, &WRITE_FAULTS);
 }

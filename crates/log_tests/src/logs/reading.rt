@@ -1,10 +1,9 @@
 //! What texts hold.
 
-use super::{RETIRED, ROW, read_both_ways, text_of_rows};
-use crate::fixtures::same;
-use retire::{Event, LogFault};
-use std::alloc::Global;
-use std::test::Fail;
+use super::{RETIRED, ROW, text_of_rows};
+use crate::fixtures::same_at;
+use retire::{Event, LogFault, read_log, read_log_from_slice};
+use std::process::Abort;
 
 const RETIRED_AT_0: Event = Event::Retire {
     addr: 0,
@@ -34,20 +33,27 @@ const EXCEPTION: Event = Event::Trap {
     tval: 0xff,
 };
 
-/// Whether a log of one row was read so.
-fn is_row(read: Result<Vec<Event>, LogFault>, want: Result<Event, LogFault>) -> bool {
+/// How many events are read of a text, and the first of them.
+type Told = Result<(usize, Option<Event>), LogFault>;
+
+/// What is told of what was read.
+fn told(read: Result<Vec<Event>, LogFault>) -> Told {
     match read {
-        Ok(events) => events.len() == 1 && events.first().copied() == want.ok(),
-        Err(fault) => want == Err(fault),
+        Ok(events) => Ok((events.len(), events.first().copied())),
+        Err(fault) => Err(fault),
     }
 }
 
-/// How many events were read.
-fn count_of(read: Result<Vec<Event>, LogFault>) -> Result<usize, LogFault> {
-    match read {
-        Ok(events) => Ok(events.len()),
-        Err(fault) => Err(fault),
-    }
+/// This is read of a text, from a reader and from memory.
+fn is_read<R: Abort + AllocGlobal>(rt: &R, place: &str, text: &[u8], want: Told) {
+    let alloc = rt.alloc();
+    same_at(rt, place, told(read_log(alloc, alloc, text)), want);
+    same_at(
+        rt,
+        (place, "in memory"),
+        told(read_log_from_slice(alloc, alloc, text)),
+        want,
+    );
 }
 
 /// A row behind the header, and how it is read.
@@ -96,27 +102,37 @@ const ROWS: [(&str, Result<Event, LogFault>); 42] = [
     ("80000000,2,3,7,1", Err(LogFault::InterruptValue(1))),
 ];
 
-/// The first row that is read otherwise than it says, and whether it is so from a reader and from memory.
-fn first_wrong_row(alloc: Global) -> Result<Option<(&'static str, [bool; 2])>, Fail> {
-    for (row, want) in ROWS {
-        let text = text_of_rows(alloc, row, 1)?;
-        let [read, in_memory] = read_both_ways(alloc, text.as_slice());
-        let told = [is_row(read, want), is_row(in_memory, want)];
-        if told != [true, true] {
-            return Ok(Some((row, told)));
-        }
-    }
-    Ok(None)
+/// A row behind the header is read so.
+fn is_row<R: Abort + AllocGlobal>(rt: &R, row: &str, want: Result<Event, LogFault>) {
+    let text = text_of_rows(rt, row, 1);
+    let want = match want {
+        Ok(event) => Ok((1, Some(event))),
+        Err(fault) => Err(fault),
+    };
+    is_read(rt, row, text.as_slice(), want);
 }
 
 #[test]
-fn one_row(rt: HostRuntime) -> Result<(), Fail> {
-    same(&rt, first_wrong_row(rt.alloc())?, None);
-    Ok(())
+fn one_row(rt: HostRuntime) {
+    for (row, want) in &ROWS {
+        is_row(&rt, row, *want);
+    }
 }
 
-/// A text, and how many events are read of it.
-const TEXTS: [(&str, Result<usize, LogFault>); 20] = [
+/// No event is read, or two of which this is the first.
+const NONE: Told = Ok((0, None));
+
+const TWO: Told = Ok((
+    2,
+    Some(Event::Retire {
+        addr: 0,
+        itype: 0,
+        privilege: 0,
+    }),
+));
+
+/// A text, and what is read of it.
+const TEXTS: [(&str, Told); 20] = [
     ("", Err(LogFault::Header)),
     ("\n\n", Err(LogFault::Header)),
     ("80000000,0,3,,\n", Err(LogFault::Header)),
@@ -124,20 +140,17 @@ const TEXTS: [(&str, Result<usize, LogFault>); 20] = [
     ("addr,itype,priv,cause,tval,\n", Err(LogFault::Header)),
     ("addr,itype,priv,cause,Tval\n", Err(LogFault::Header)),
     ("addr, itype,priv,cause,tval\n", Err(LogFault::Header)),
-    ("addr,itype,priv,cause,tval\n", Ok(0)),
-    ("addr,itype,priv,cause,tval", Ok(0)),
-    ("\n\"addr\",itype,priv,cause,\"tval\"\r\n", Ok(0)),
-    ("\u{feff}addr,itype,priv,cause,tval\n", Ok(0)),
-    ("addr,itype,priv,cause,tval\n0,0,0,,\n2,0,0,,\n", Ok(2)),
-    ("addr,itype,priv,cause,tval\n0,0,0,,\n2,0,0,,", Ok(2)),
-    (
-        "addr,itype,priv,cause,tval\r\n0,0,0,,\r\n2,0,0,,\r\n",
-        Ok(2),
-    ),
-    ("addr,itype,priv,cause,tval\r0,0,0,,\r2,0,0,,\r", Ok(2)),
+    ("addr,itype,priv,cause,tval\n", NONE),
+    ("addr,itype,priv,cause,tval", NONE),
+    ("\n\"addr\",itype,priv,cause,\"tval\"\r\n", NONE),
+    ("\u{feff}addr,itype,priv,cause,tval\n", NONE),
+    ("addr,itype,priv,cause,tval\n0,0,0,,\n2,0,0,,\n", TWO),
+    ("addr,itype,priv,cause,tval\n0,0,0,,\n2,0,0,,", TWO),
+    ("addr,itype,priv,cause,tval\r\n0,0,0,,\r\n2,0,0,,\r\n", TWO),
+    ("addr,itype,priv,cause,tval\r0,0,0,,\r2,0,0,,\r", TWO),
     (
         "addr,itype,priv,cause,tval\n\n0,0,0,,\n\r\n2,0,0,,\n\n",
-        Ok(2),
+        TWO,
     ),
     (
         "addr,itype,priv,cause,tval\n\n\n1,0,0,,\n",
@@ -157,19 +170,9 @@ const TEXTS: [(&str, Result<usize, LogFault>); 20] = [
     ),
 ];
 
-/// What is read of a text, from a reader and from memory.
-fn counts_of(alloc: Global, text: &str) -> [Result<usize, LogFault>; 2] {
-    let [read, in_memory] = read_both_ways(alloc, text.as_bytes());
-    [count_of(read), count_of(in_memory)]
-}
-
 #[test]
 fn whole_texts(rt: HostRuntime) {
-    for (text, want) in TEXTS {
-        same(
-            &rt,
-            (text, counts_of(rt.alloc(), text)),
-            (text, [want, want]),
-        );
+    for (text, want) in &TEXTS {
+        is_read(&rt, text, text.as_bytes(), *want);
     }
 }

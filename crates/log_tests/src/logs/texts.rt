@@ -1,8 +1,8 @@
 //! Random texts, read from a reader and from memory.
 
 use retire::{LogFault, read_log, read_log_from_slice};
-use std::alloc::{AllocError, Global};
-use std::test::Fail;
+use std::alloc::Global;
+use std::process::Abort;
 
 /// How many texts are read.
 const TEXTS: u32 = 100_000;
@@ -98,9 +98,9 @@ impl Draws {
     }
 
     /// A text of a header and some rows, of which a byte may be another.
-    fn text(&mut self, text: &mut Vec<u8>) -> Result<(), AllocError> {
+    fn text<R: Abort>(&mut self, rt: &R, text: &mut Vec<u8>) {
         text.clear();
-        text.extend_from_slice(self.one(&HEADERS))?;
+        add(rt, text, self.one(&HEADERS));
         let plain = self.below(2) == 0;
         for _row in 0..self.below(6) {
             let rows: &[&[u8]] = if plain || self.below(4) > 0 {
@@ -108,8 +108,8 @@ impl Draws {
             } else {
                 &OTHERS
             };
-            text.extend_from_slice(self.one(rows))?;
-            text.extend_from_slice(self.one(&ENDS))?;
+            add(rt, text, self.one(rows));
+            add(rt, text, self.one(&ENDS));
         }
         if self.below(3) == 0 {
             let byte = BYTES.get(self.below(BYTES.len())).copied();
@@ -118,8 +118,12 @@ impl Draws {
                 *old = byte;
             }
         }
-        Ok(())
     }
+}
+
+/// Appends the bytes.
+fn add<R: Abort>(rt: &R, text: &mut Vec<u8>, bytes: &[u8]) {
+    text.extend_from_slice(bytes).expect(rt, "memory");
 }
 
 /// Whether a text is read alike from a reader and from memory, and whether it is a log.
@@ -135,17 +139,16 @@ fn is_alike(alloc: Global, text: &[u8]) -> (bool, bool) {
 }
 
 #[test]
-fn random_texts(rt: HostRuntime) -> Result<(), Fail> {
+fn random_texts(rt: HostRuntime) {
     let mut draws = Draws { state: 7 };
     let mut text = Vec::new(rt.alloc());
     let mut logs = 0u32;
     for _text in 0..TEXTS {
-        draws.text(&mut text)?;
+        draws.text(&rt, &mut text);
         let (alike, log) = is_alike(rt.alloc(), text.as_slice());
         assert!(rt; alike, "{text:?}");
         logs = logs.saturating_add(u32::from(log));
     }
     // Some are logs, and some are not.
-    assert!(rt; TEXTS / 10 < logs && logs < TEXTS - TEXTS / 10);
-    Ok(())
+    assert!(rt; TEXTS / 10 < logs && logs < TEXTS - TEXTS / 10, "{logs}");
 }

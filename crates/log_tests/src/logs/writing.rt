@@ -1,11 +1,22 @@
 //! What events are written as.
 
 use super::text_of_rows;
+use crate::fixtures::same_at;
 use retire::{Event, read_log, write_log};
-use std::test::Fail;
+use std::process::Abort;
+
+/// Events are written as a row so many times, and read of that.
+fn is_written<R: Abort + AllocGlobal>(rt: &R, events: &[Event], row: &str, count: usize) {
+    let want = text_of_rows(rt, row, count);
+    let mut written = Vec::new(rt.alloc());
+    write_log(rt.alloc(), &mut written, events).expect(rt, "memory");
+    same_at(rt, events, written.as_slice(), want.as_slice());
+    let back = read_log(rt.alloc(), rt.alloc(), written.as_slice()).expect(rt, "a log");
+    same_at(rt, "read", back.as_slice(), events);
+}
 
 #[test]
-fn no_event_and_one_of_each(rt: HostRuntime) -> Result<(), Fail> {
+fn no_event_and_one_of_each(rt: HostRuntime) {
     let events = [
         Event::Retire {
             addr: 0x8000_0000,
@@ -33,13 +44,6 @@ fn no_event_and_one_of_each(rt: HostRuntime) -> Result<(), Fail> {
         },
     ];
     let rows = "80000000,5,3,,\nfffffffffffffffe,1,1,3f,abcd\n80000004,2,3,7,\n0,0,0,,";
-    let table: [(&[Event], usize); 2] = [(&[], 0), (&events, 1)];
-    for (events, count) in table {
-        let want = text_of_rows(rt.alloc(), rows, count)?;
-        let mut written = Vec::new(rt.alloc());
-        write_log(rt.alloc(), &mut written, events)?;
-        let back = read_log(rt.alloc(), rt.alloc(), written.as_slice())?;
-        assert!(rt; written.as_slice() == want.as_slice() && back.as_slice() == events);
-    }
-    Ok(())
+    is_written(&rt, &[], rows, 0);
+    is_written(&rt, &events, rows, 1);
 }

@@ -1,9 +1,8 @@
 //! Images that are no program.
 
-use crate::fixtures::same;
+use crate::fixtures::same_at;
 use rvclass::Program;
-use std::alloc::Global;
-use std::test::Fail;
+use std::process::Abort;
 
 const ODD: &str = "base is odd";
 
@@ -22,24 +21,20 @@ const IMAGES: [(u64, usize, &'static str); 7] = [
     (u64::MAX - 1, 2, PAST),
 ];
 
-/// Whether that is told of an image.
-fn is_told(alloc: Global, base: u64, count: usize, told: &str) -> Result<bool, Fail> {
-    match Program::new(base, vec![in alloc; 0; count]?) {
-        Ok(_) => Ok(false),
-        Err(fault) => Ok(format!(in alloc; "{fault}")?.as_str() == told),
-    }
+/// That is told of an image.
+fn is_told<R: Abort + AllocGlobal>(rt: &R, base: u64, count: usize, want: &str) {
+    let bytes = vec![in rt.alloc(); 0; count].expect(rt, "memory");
+    let fault = Program::new(base, bytes).err().expect(rt, "a fault");
+    let told = format!(in rt.alloc(); "{fault}").expect(rt, "memory");
+    same_at(rt, (base, count), told.as_str(), want);
 }
 
 #[test]
-fn the_first_fault_is_told(rt: HostRuntime) -> Result<(), Fail> {
-    for (base, count, told) in IMAGES {
-        assert!(rt;
-            is_told(rt.alloc(), base, count, told)?,
-            "base {base:x}, {count} bytes"
-        );
+fn the_first_fault_is_told(rt: HostRuntime) {
+    for (base, count, told) in &IMAGES {
+        is_told(&rt, *base, *count, told);
     }
-    let bytes = vec![in rt.alloc(); 0; 16_777_216]?;
-    let largest = Program::new(u64::MAX - 0x100_0001, bytes)?;
-    same(&rt, largest.byte_count(), 16_777_216);
-    Ok(())
+    let bytes = vec![in rt.alloc(); 0; 16_777_216].expect(&rt, "memory");
+    let largest = Program::new(u64::MAX - 0x100_0001, bytes).expect(&rt, "a program");
+    same_at(&rt, "the largest", largest.byte_count(), 16_777_216);
 }

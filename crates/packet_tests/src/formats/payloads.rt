@@ -1,15 +1,14 @@
 //! Payloads by hand.
 
-use crate::same::same;
+use crate::same::same_at;
 use payload::{PackFault, Payload};
-use std::test::Fail;
 
 #[test]
-fn holds_1_to_18_bytes(rt: HostRuntime) -> Result<(), Fail> {
-    same(&rt, Payload::new(&[]), Err(PackFault::Empty));
-    same(&rt, Payload::new(&[0; 19]), Err(PackFault::TooLong));
-    assert!(rt; Payload::new(&[7; 18])?.bytes() == [7; 18].as_slice());
-    Ok(())
+fn holds_1_to_18_bytes(rt: HostRuntime) {
+    same_at(&rt, 0, Payload::new(&[]), Err(PackFault::Empty));
+    same_at(&rt, 19, Payload::new(&[0; 19]), Err(PackFault::TooLong));
+    let longest = Payload::new(&[7; 18]).expect(&rt, "a payload");
+    same_at(&rt, 18, longest.bytes(), [7; 18].as_slice());
 }
 
 /// Payloads, and whether they close a trace.
@@ -25,10 +24,9 @@ const CLOSING: [(&[u8], bool); 8] = [
 ];
 
 #[test]
-fn closes(rt: HostRuntime) -> Result<(), Fail> {
+fn closes(rt: HostRuntime) {
     for (bytes, closing) in CLOSING {
-        let found = Payload::new(bytes)?.is_closing();
-        same(&rt, (bytes, found), (bytes, closing));
+        let payload = Payload::new(bytes).expect(&rt, "a payload");
+        same_at(&rt, bytes, payload.is_closing(), closing);
     }
-    Ok(())
 }

@@ -2,9 +2,8 @@
 
 use super::packets::Form::{Addresses, Excepts, Maps, Syncs};
 use super::packets::{Form, packet_of};
-use crate::same::same;
+use crate::same::same_at;
 use payload::{PackFault, Packet, Report, unpack};
-use std::test::Fail;
 
 /// Bytes, and why they are no payload of a packet.
 const REFUSED: [(&[u8], PackFault); 19] = [
@@ -35,7 +34,7 @@ const REFUSED: [(&[u8], PackFault); 19] = [
 #[test]
 fn refuses(rt: HostRuntime) {
     for (bytes, fault) in REFUSED {
-        same(&rt, (bytes, unpack(bytes)), (bytes, Err(fault)));
+        same_at(&rt, bytes, unpack(bytes), Err(fault));
     }
 }
 
@@ -63,14 +62,10 @@ const WITH_VALUE: Packet = Packet::Trap {
 
 #[test]
 fn knows_the_profile(rt: HostRuntime) {
-    same(
-        &rt,
-        (WITH_VALUE, WITH_VALUE.in_profile()),
-        (WITH_VALUE, false),
-    );
+    same_at(&rt, WITH_VALUE, WITH_VALUE.in_profile(), false);
     for form in OUTSIDE {
         let packet = packet_of(form);
-        same(&rt, (packet, packet.in_profile()), (packet, false));
+        same_at(&rt, packet, packet.in_profile(), false);
     }
 }
 
@@ -84,9 +79,9 @@ const NAMES: [(PackFault, &'static str); 6] = [
 ];
 
 #[test]
-fn names_faults(rt: HostRuntime) -> Result<(), Fail> {
+fn names_faults(rt: HostRuntime) {
     for (fault, name) in NAMES {
-        same(&rt, format!(in rt.alloc(); "{fault}")?.as_str(), name);
+        let told = format!(in rt.alloc(); "{fault}").expect(&rt, "memory");
+        same_at(&rt, fault, told.as_str(), name);
     }
-    Ok(())
 }

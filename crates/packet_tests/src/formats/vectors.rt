@@ -2,9 +2,10 @@
 
 use super::packets::Form::{Addresses, Excepts, Interrupts, Maps, Syncs};
 use super::packets::{ENDED_NTR, ENDED_REP, Form, OPEN, OPEN_FULL, packet_of};
-use crate::same::same;
+use crate::same::same_at;
 use payload::Report::{Notify, Plain, Updiscon};
-use payload::{Packet, pack, unpack};
+use payload::{pack, unpack};
+use std::process::Abort;
 
 /// Packets, and their payloads.
 const PACKED: [(Form, &[u8]); 40] = [
@@ -108,33 +109,14 @@ const PACKED: [(Form, &[u8]); 40] = [
     ),
 ];
 
-/// Whether a packet is of the profile, and its payload has these bytes.
-fn is_packed(packet: &Packet, bytes: &[u8]) -> bool {
-    packet.in_profile() && pack(packet).bytes() == bytes
-}
-
-/// Whether bytes unpack to a packet.
-fn is_unpacked(packet: &Packet, bytes: &[u8]) -> bool {
-    unpack(bytes) == Ok(*packet)
-}
-
-/// The first bytes of the table that a packet is not packed to, or that are not unpacked to it.
-fn first_wrong() -> Option<(&'static str, &'static [u8])> {
-    for (form, bytes) in PACKED {
-        let packet = packet_of(form);
-        if !is_packed(&packet, bytes) {
-            return Some(("not packed", bytes));
-        }
-        if !is_unpacked(&packet, bytes) {
-            return Some(("not unpacked", bytes));
-        }
-    }
-    None
-}
-
 #[test]
 fn packs_and_unpacks(rt: HostRuntime) {
-    same(&rt, first_wrong(), None);
+    for (form, bytes) in PACKED {
+        let packet = packet_of(form);
+        assert!(rt; packet.in_profile(), "{bytes:?}");
+        same_at(&rt, packet, pack(&packet).bytes(), bytes);
+        same_at(&rt, bytes, unpack(bytes), Ok(packet));
+    }
 }
 
 /// Packets, and the byte by which their payloads may be longer.
@@ -149,30 +131,24 @@ const LONGER: [(Form, u8); 8] = [
     (Maps(&[false; 31]), 0xff),
 ];
 
-/// Whether a packet of the profile is read of its payload with any number of further bytes, up to 18.
-fn is_read_longer(packet: &Packet, fill: u8) -> bool {
-    if !packet.in_profile() {
-        return false;
-    }
-    let shortest = pack(packet);
+/// A packet of the profile is read of its payload with any number of further bytes, up to 18.
+fn is_read_longer<R: Abort>(rt: &R, form: Form, fill: u8) {
+    let packet = packet_of(form);
+    assert!(rt; packet.in_profile(), "{packet:?}");
+    let shortest = pack(&packet);
     let shortest = shortest.bytes();
     let mut longer = [fill; 18];
     longer[..shortest.len()].copy_from_slice(shortest);
     for count in shortest.len()..=18 {
-        if !is_unpacked(packet, &longer[..count]) {
-            return false;
-        }
+        let bytes = &longer[..count];
+        same_at(rt, bytes, unpack(bytes), Ok(packet));
     }
-    true
 }
 
 #[test]
 fn takes_longer_spellings(rt: HostRuntime) {
-    let mut read = 0u32;
     for (form, fill) in LONGER {
-        let packet = packet_of(form);
-        assert!(rt; is_read_longer(&packet, fill), "behind {read} packets");
-        read = read.saturating_add(1);
+        is_read_longer(&rt, form, fill);
     }
 }
 
@@ -193,6 +169,6 @@ const UNUSED: [(Form, &[u8]); 4] = [
 #[test]
 fn ignores_unused_map_bits(rt: HostRuntime) {
     for (form, bytes) in UNUSED {
-        same(&rt, unpack(bytes), Ok(packet_of(form)));
+        same_at(&rt, bytes, unpack(bytes), Ok(packet_of(form)));
     }
 }

@@ -6,8 +6,7 @@ use super::{BASE, program_of};
 use legalpath::check;
 use retire::Event;
 use rvclass::Program;
-use std::alloc::Global;
-use std::test::Fail;
+use std::process::Abort;
 
 /// The words of the program.
 const WORDS: [u32; 15] = [
@@ -58,14 +57,13 @@ const PLACES: [(u64, u8); 22] = [
 const LOOP: [(u64, u8); 3] = [(4, 4), (4, 5), (8, 5)];
 
 /// The program that the logs are of.
-pub(super) fn drawn_program(alloc: Global) -> Result<Program, Fail> {
-    program_of(alloc, &WORDS)
+pub(super) fn drawn_program<R: Abort + AllocGlobal>(rt: &R) -> Program {
+    program_of(rt, &WORDS)
 }
 
 /// Draws logs of a program by pseudo-random numbers, those of a linear congruential generator.
 #[derive(Drop)]
 pub(super) struct Draws<'p> {
-    pub(super) alloc: Global,
     pub(super) program: &'p Program,
     pub(super) state: u64,
 }
@@ -83,50 +81,51 @@ impl Draws<'_> {
     }
 
     /// A log of up to 12 events.
-    pub(super) fn short_log(&mut self) -> Result<Vec<Event>, Fail> {
-        let mut log = Vec::new(self.alloc);
+    pub(super) fn short_log<R: Abort + AllocGlobal>(&mut self, rt: &R) -> Vec<Event> {
+        let mut log = Vec::new(rt.alloc());
         let count = self.below(13);
-        self.extend(&mut log, &PLACES, count, 4)?;
-        Ok(log)
+        self.extend(rt, &mut log, &PLACES, count, 4);
+        log
     }
 
     /// A log with about 31 or 62 branches in a row.
-    pub(super) fn long_log(&mut self) -> Result<Vec<Event>, Fail> {
-        let mut log = Vec::new(self.alloc);
+    pub(super) fn long_log<R: Abort + AllocGlobal>(&mut self, rt: &R) -> Vec<Event> {
+        let mut log = Vec::new(rt.alloc());
         let before = self.below(5);
-        self.extend(&mut log, &PLACES, before, 4)?;
+        self.extend(rt, &mut log, &PLACES, before, 4);
         let branches = 29 + 31 * self.below(2) + self.below(5);
-        self.extend(&mut log, &LOOP, branches, usize::MAX)?;
+        self.extend(rt, &mut log, &LOOP, branches, usize::MAX);
         let behind = self.below(8);
-        self.extend(&mut log, &PLACES, behind, 4)?;
-        Ok(log)
+        self.extend(rt, &mut log, &PLACES, behind, 4);
+        log
     }
 
     /// Adds up to so many events at these places to a log, one in so many of them a trap.
-    fn extend(
+    fn extend<R: Abort + AllocGlobal>(
         &mut self,
+        rt: &R,
         log: &mut Vec<Event>,
         places: &[(u64, u8)],
         count: usize,
         traps: usize,
-    ) -> Result<(), Fail> {
+    ) {
         for _ in 0..count {
             let is_trap = self.below(traps) == 0;
-            if let Some(event) = self.event(log.as_slice(), places, is_trap)? {
-                log.push(event)?;
+            if let Some(event) = self.event(rt, log.as_slice(), places, is_trap) {
+                log.push(event).expect(rt, "memory");
             }
         }
-        Ok(())
     }
 
     /// A trap, or else a retirement, at one of these places, with which the log is legal.
-    fn event(
+    fn event<R: Abort + AllocGlobal>(
         &mut self,
+        rt: &R,
         log: &[Event],
         places: &[(u64, u8)],
         is_trap: bool,
-    ) -> Result<Option<Event>, Fail> {
-        let mut legal = Vec::new(self.alloc);
+    ) -> Option<Event> {
+        let mut legal = Vec::new(rt.alloc());
         for (offset, itype) in places {
             let addr = BASE.wrapping_add(*offset);
             for privilege in [0, 1, 3] {
@@ -140,12 +139,12 @@ impl Draws<'_> {
                     }
                 };
                 if may_follow(self.program, log, event) {
-                    legal.push(event)?;
+                    legal.push(event).expect(rt, "memory");
                 }
             }
         }
         let drawn = self.below(legal.len());
-        Ok(legal.get(drawn).copied())
+        legal.get(drawn).copied()
     }
 
     /// An exception or an interrupt.

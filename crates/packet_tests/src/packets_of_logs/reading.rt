@@ -4,12 +4,12 @@
 use super::drawn::{Draws, drawn_program};
 use super::{legal_log, packets_of, payloads_of, sourced};
 use crate::formats::packets::outcomes;
+use crate::same::same_at;
 use legalpath::check;
 use payload::{Mode, Outcomes, Packet, Report, Support};
 use retire::Event;
 use rvclass::{Class, Program};
-use std::alloc::Global;
-use std::test::Fail;
+use std::process::Abort;
 
 /// The periods of which one is drawn for a short log, and for one with many branches in a row.
 const SHORT_PERIODS: [u16; 4] = [1, 2, 3, 1024];
@@ -145,12 +145,12 @@ impl Reading<'_> {
     }
 
     /// The rules of all positions.
-    fn rules(&self, alloc: Global) -> Result<Vec<Option<Rule>>, Fail> {
-        let mut rules = Vec::new(alloc);
+    fn rules<R: Abort + AllocGlobal>(&self, rt: &R) -> Vec<Option<Rule>> {
+        let mut rules = Vec::new(rt.alloc());
         for i in 0..self.log.len() {
-            rules.push(self.rule(i))?;
+            rules.push(self.rule(i)).expect(rt, "memory");
         }
-        Ok(rules)
+        rules
     }
 
     /// The address that the packets before a position reported last.
@@ -169,16 +169,21 @@ impl Reading<'_> {
     }
 
     /// The outcomes of the branches after the last event that a rule reports before a position, up to there.
-    fn outcomes(&self, alloc: Global, rules: &[Option<Rule>], i: usize) -> Result<Vec<bool>, Fail> {
-        let mut outcomes = Vec::new(alloc);
+    fn outcomes<R: Abort + AllocGlobal>(
+        &self,
+        rt: &R,
+        rules: &[Option<Rule>],
+        i: usize,
+    ) -> Vec<bool> {
+        let mut outcomes = Vec::new(rt.alloc());
         for (event, rule) in self.log.iter().zip(rules.iter()).take(i) {
             if rule.is_some() {
                 outcomes.clear();
             } else if let Some(taken) = outcome_of(*event) {
-                outcomes.push(taken)?;
+                outcomes.push(taken).expect(rt, "memory");
             }
         }
-        Ok(outcomes)
+        outcomes
     }
 
     /// The packet of the trap at a position.
@@ -249,19 +254,20 @@ impl Reading<'_> {
 
     /// Adds the packets up to the event at a position, by its rule: a map for each 31 branches since the last event
     /// that a rule reports, and its own.
-    fn add_packets(
+    fn add_packets<R: Abort + AllocGlobal>(
         &self,
-        alloc: Global,
+        rt: &R,
         rules: &[Option<Rule>],
         i: usize,
         rule: Rule,
         packets: &mut Vec<Packet>,
-    ) -> Result<(), Fail> {
+    ) {
         let mut rest = Outcomes::new();
-        for branches in self.outcomes(alloc, rules, i)?.as_slice().chunks(31) {
+        let before = self.outcomes(rt, rules, i);
+        for branches in before.as_slice().chunks(31) {
             rest = outcomes(branches);
             if branches.len() == 31 {
-                packets.push(Packet::Map(rest))?;
+                packets.push(Packet::Map(rest)).expect(rt, "memory");
                 rest = Outcomes::new();
             }
         }
@@ -272,26 +278,27 @@ impl Reading<'_> {
             rest.push(event.is_taken());
         }
         if let Some(packet) = self.packet(rules, i, rule, rest) {
-            packets.push(packet)?;
+            packets.push(packet).expect(rt, "memory");
         }
-        Ok(())
     }
 
     /// The packets of the log.
-    fn packets(&self, alloc: Global) -> Result<Vec<Packet>, Fail> {
-        let rules = self.rules(alloc)?;
-        let mut packets = vec![in alloc; Packet::Support(Support::Open(self.mode))]?;
+    fn packets<R: Abort + AllocGlobal>(&self, rt: &R) -> Vec<Packet> {
+        let rules = self.rules(rt);
+        let mut packets = Vec::new(rt.alloc());
+        let opening = Support::Open(self.mode);
+        packets.push(Packet::Support(opening)).expect(rt, "memory");
         for (i, rule) in rules.iter().enumerate() {
             if let Some(rule) = *rule {
-                self.add_packets(alloc, rules.as_slice(), i, rule, &mut packets)?;
+                self.add_packets(rt, rules.as_slice(), i, rule, &mut packets);
             }
         }
         let closing = match rules.last() {
             Some(Some(Rule::Explicit)) => Support::EndedRep,
             _ => Support::EndedNtr,
         };
-        packets.push(Packet::Support(closing))?;
-        Ok(packets)
+        packets.push(Packet::Support(closing)).expect(rt, "memory");
+        packets
     }
 }
 
@@ -301,38 +308,38 @@ fn outcome_of(event: Event) -> Option<bool> {
     event.is_branch().then_some(taken)
 }
 
-/// Whether an encoder gives the packets of a reading, and a source their payloads.
-fn is_given(alloc: Global, reading: &Reading<'_>) -> Result<bool, Fail> {
+/// An encoder gives the packets of a reading, and a source their payloads.
+fn is_given<R: Abort + AllocGlobal>(rt: &R, n: u32, reading: &Reading<'_>) {
     let Reading {
         program,
         period,
         mode,
         log,
     } = *reading;
-    let want = reading.packets(alloc)?;
-    let got = packets_of(alloc, program, period, mode, log)?;
-    let packed = payloads_of(alloc, want.as_slice())?;
-    let legal = legal_log(alloc, program, log)?;
-    let given = sourced(alloc, &legal, period, mode)?;
-    Ok(got.as_slice() == want.as_slice() && given.as_slice() == packed.as_slice())
+    let want = reading.packets(rt);
+    let got = packets_of(rt, program, period, mode, log);
+    same_at(rt, (n, "packets"), got.as_slice(), want.as_slice());
+    let packed = payloads_of(rt, want.as_slice());
+    let legal = legal_log(rt, program, log);
+    let given = sourced(rt, &legal, period, mode);
+    same_at(rt, (n, "payloads"), given.as_slice(), packed.as_slice());
 }
 
 #[test]
-fn packets_of_random_logs(rt: HostRuntime) -> Result<(), Fail> {
-    let alloc = rt.alloc();
-    let program = drawn_program(alloc)?;
+fn packets_of_random_logs(rt: HostRuntime) {
+    let program = drawn_program(&rt);
     let mut draws = Draws {
-        alloc,
         program: &program,
         state: 1,
     };
-    for n in 0..2000 {
+    for n in 0..2000u32 {
         let (log, periods) = if n % 5 == 0 {
-            (draws.long_log()?, LONG_PERIODS)
+            (draws.long_log(&rt), LONG_PERIODS)
         } else {
-            (draws.short_log()?, SHORT_PERIODS)
+            (draws.short_log(&rt), SHORT_PERIODS)
         };
-        assert!(rt; log.len() < 100 && check(&program, log.as_slice()).is_ok());
+        assert!(rt; log.len() < 100, "log {n}");
+        same_at(&rt, n, check(&program, log.as_slice()), Ok(()));
         let drawn = draws.below(4);
         for mode in [Mode::Differential, Mode::Full] {
             let reading = Reading {
@@ -341,8 +348,7 @@ fn packets_of_random_logs(rt: HostRuntime) -> Result<(), Fail> {
                 mode,
                 log: log.as_slice(),
             };
-            assert!(rt; is_given(alloc, &reading)?, "log {n}");
+            is_given(&rt, n, &reading);
         }
     }
-    Ok(())
 }
