@@ -27,7 +27,7 @@ const FIRST_REFUSED: &str = "hart 0: 33 events, 1 packets, 1 payload bytes, deco
 
 /// How a replay over a small heap ends.
 #[derive(Clone, Copy, PartialEq, Eq)]
-enum End {
+enum Ended {
     /// Nothing is sent.
     Setup,
     /// Memory is refused for the first hart and not for the second.
@@ -38,17 +38,17 @@ enum End {
     Whole,
 }
 
-/// How this came of a replay, whose stop is a stop of it.
-fn end_of<A: Allocator>(rt: &impl Abort, step: usize, outcome: &Outcome<A>) -> End {
+/// How a replay ended. Ends the test where the stop does not fit what came of the harts.
+fn ended_of<A: Allocator>(rt: &impl Abort, step: usize, outcome: &Outcome<A>) -> Ended {
     let stop = outcome.stop;
     let (Some(zero), Some(one)) = (outcome.harts.get(0), outcome.harts.get(1)) else {
         panic!(rt; "{step}: another number of harts");
     };
     match stop {
-        None if zero.closed && one.closed && !zero.refused && !one.refused => End::Whole,
-        Some(Stop::Memory(0)) if zero.refused && !zero.closed && !one.refused => End::First,
-        Some(Stop::Memory(0)) if zero.refused && !zero.closed => End::Second,
-        Some(Stop::Memory(1)) if one.refused && !one.closed => End::Second,
+        None if zero.closed && one.closed && !zero.refused && !one.refused => Ended::Whole,
+        Some(Stop::Memory(0)) if zero.refused && !zero.closed && !one.refused => Ended::First,
+        Some(Stop::Memory(0)) if zero.refused && !zero.closed => Ended::Second,
+        Some(Stop::Memory(1)) if one.refused && !one.closed => Ended::Second,
         _ => panic!(rt; "{step}: another stop, {stop:?}"),
     }
 }
@@ -59,18 +59,18 @@ fn replayed<R: Abort + AllocGlobal>(
     step: usize,
     heap: &LocalHeap,
     logs: &[LegalLog<'_>; 2],
-) -> End {
+) -> Ended {
     match replay(heap, logs, CONFIG, &TURNS) {
         Ok(outcome) => {
-            let end = end_of(rt, step, &outcome);
-            if end == End::First {
+            let end = ended_of(rt, step, &outcome);
+            if end == Ended::First {
                 reports_at(rt, step, &outcome, logs, FIRST_REFUSED);
             }
             end
         }
         Err(fault) => {
             same_at(rt, step, fault, Setup::Memory);
-            End::Setup
+            Ended::Setup
         }
     }
 }
@@ -85,10 +85,10 @@ fn replay_is_refused(rt: HostRuntime) {
     for step in 0..400usize {
         let heap = LocalHeap::new(rt.alloc(), step * 16).expect(&rt, "memory");
         match replayed(&rt, step, &heap, &logs) {
-            End::Setup => setups = setups.saturating_add(1),
-            End::First => first = first.saturating_add(1),
-            End::Second => {}
-            End::Whole => whole = whole.saturating_add(1),
+            Ended::Setup => setups = setups.saturating_add(1),
+            Ended::First => first = first.saturating_add(1),
+            Ended::Second => {}
+            Ended::Whole => whole = whole.saturating_add(1),
         }
         same_at(&rt, step, heap.used(), 0);
     }

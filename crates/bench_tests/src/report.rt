@@ -41,13 +41,13 @@ fn outcome_of<R: Abort + AllocGlobal>(
 }
 
 /// What came of both harts where all of their events came back, and their run ended so.
-fn all_of<R: Abort + AllocGlobal>(rt: &R, stop: Stop) -> Outcome {
+fn whole_with<R: Abort + AllocGlobal>(rt: &R, stop: Stop) -> Outcome {
     let first = hart(rt, branches(rt), 5, 9, true);
     let second = hart(rt, returns(rt), 4, 9, true);
     outcome_of(rt, first, second, Some(stop))
 }
 
-/// Ends the test unless this is the report of these two harts, and so every log came back whole.
+/// Ends the test unless this is the report of these two harts, and every log came back whole just where `whole` is set.
 fn reports<R: Abort + AllocGlobal>(
     rt: &R,
     first: HartOutcome,
@@ -129,7 +129,7 @@ const STOPS: [(Stop, &str); 3] = [
 
 /// Ends the test unless the report of this stop ends so, and not every log came back whole.
 fn ends<R: Abort + AllocGlobal>(rt: &R, logs: &[LegalLog<'_>], stop: Stop, end: &str) {
-    let outcome = all_of(rt, stop);
+    let outcome = whole_with(rt, stop);
     let text = text_of(rt, &outcome, logs);
     let found = text.as_slice();
     let begins = found.len().saturating_sub(end.len());
@@ -205,7 +205,7 @@ fn cut_at<R: Abort + AllocGlobal>(
 fn writer_fails_at_each_call(rt: HostRuntime) {
     let program = program(&rt);
     let logs = logs(&rt, &program);
-    let outcome = all_of(&rt, Stop::Memory(1));
+    let outcome = whole_with(&rt, Stop::Memory(1));
     let want = text_of(&rt, &outcome, &logs);
     for calls in 0..want.len() + 1 {
         cut_at(&rt, calls, &outcome, &logs, want.as_slice());

@@ -60,7 +60,7 @@ fn comes_back<R: Abort + AllocGlobal>(
     );
 }
 
-/// Logs of fifty thousand events, one of each period, encoded in each mode.
+/// Logs of fifty thousand events, one for each period, encoded in each mode.
 #[test]
 fn has_logs_back(rt: HostRuntime) {
     let program = program_of(&rt, &WORDS);

@@ -1,6 +1,6 @@
 //! Captures as text: worked lines, bad payloads, captures that end inside a message or a header.
 
-use crate::encoding::FailingWriter;
+use crate::encoding::{FailingWriter, holds};
 use crate::headers::{Beginning, HEADER, beginning_of};
 use crate::same::same_at;
 use crate::small_captures::{Start, add, capture_of};
@@ -307,7 +307,7 @@ fn is_told<R: Abort + AllocGlobal>(rt: &R, place: (usize, Option<u8>), header: &
 }
 
 /// A header with the byte at a place set to each value is told as what it is.
-fn are_told<R: Abort + AllocGlobal>(rt: &R, place: usize) {
+fn each_value_at<R: Abort + AllocGlobal>(rt: &R, place: usize) {
     let mut header = HEADER;
     for value in 0..=u8::MAX {
         let byte = header.get_mut(place).expect(rt, "such a byte");
@@ -324,12 +324,12 @@ fn headers_cut_and_changed(rt: HostRuntime) {
         is_told(&rt, (length, None), &HEADER[..length]);
     }
     for place in [0usize, 1, 2, 3, 4, 5, 6, 7, 8, 9, 11, 12, 13, 14, 15] {
-        are_told(&rt, place);
+        each_value_at(&rt, place);
     }
 }
 
-/// So much of this text of a capture is written by a writer of so many calls, which is told to fail just where that is
-/// not all.
+/// A writer of so many calls holds as many bytes of this text of a capture, or all of it; a failed write is answered
+/// just where that is not all.
 fn dump_is_cut<R: Abort + AllocGlobal>(rt: &R, capture: &[u8], calls: usize, text: &[u8]) {
     let mut sink = FailingWriter {
         held: Vec::new(rt.alloc()),
@@ -342,12 +342,7 @@ fn dump_is_cut<R: Abort + AllocGlobal>(rt: &R, capture: &[u8], calls: usize, tex
         Ok(ALL_GOOD)
     };
     same_at(rt, calls, told, wanted);
-    same_at(
-        rt,
-        calls,
-        sink.held.as_slice(),
-        &text[..calls.min(text.len())],
-    );
+    holds(rt, calls, &sink, calls, text);
 }
 
 #[test]

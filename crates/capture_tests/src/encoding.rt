@@ -11,6 +11,7 @@ use message::{MessageFault, Version};
 use payload::{Mode, Packet};
 use retire::Event;
 use rvclass::{Class, Program};
+use std::fmt::Debug;
 use std::io;
 use std::io::{ErrorKind, Write};
 use std::process::Abort;
@@ -36,6 +37,18 @@ impl Write for FailingWriter {
     fn flush(&mut self) -> io::Result<()> {
         Ok(())
     }
+}
+
+/// The writer holds as many bytes of the whole as it had calls, or all of it.
+pub(crate) fn holds<P: Debug + Drop>(
+    rt: &impl Abort,
+    place: P,
+    sink: &FailingWriter,
+    calls: usize,
+    whole: &[u8],
+) {
+    let begun = &whole[..calls.min(whole.len())];
+    same_at(rt, place, sink.held.as_slice(), begun);
 }
 
 /// The logs of a hart that retires both words and of one that retires the first.
@@ -118,7 +131,7 @@ fn is_headed<R: Abort + AllocGlobal>(
     same_at(rt, (mode, period, count), beginning_of(&bytes), wanted);
 }
 
-/// The header tells what was asked for.
+/// One log and two, in each mode and at each period.
 #[test]
 fn headers_tell_what_was_asked_for(rt: HostRuntime) {
     let program = program_of(&rt, &NOPS);
@@ -132,7 +145,7 @@ fn headers_tell_what_was_asked_for(rt: HostRuntime) {
 }
 
 /// A writer of so many calls holds as many bytes of the capture of two logs in this version, or of their lines where no
-/// version is named, or all of it; and it was told to fail just where that is not all.
+/// version is named, or all of it; a failed write is answered just where that is not all.
 fn is_cut<R: Abort + AllocGlobal>(
     rt: &R,
     logs: &[LegalLog<'_>; 2],
@@ -156,8 +169,7 @@ fn is_cut<R: Abort + AllocGlobal>(
         Ok(())
     };
     same_at(rt, (version, calls), told, expected);
-    let begun = &whole[..calls.min(whole.len())];
-    same_at(rt, (version, calls), sink.held.as_slice(), begun);
+    holds(rt, (version, calls), &sink, calls, whole);
 }
 
 /// The captures and the lines of two harts.

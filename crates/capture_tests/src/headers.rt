@@ -83,7 +83,7 @@ fn refused_message(bytes: &[u8]) -> Option<CaptureFault> {
 
 /// This is what a capture of two words decodes to where two harts are asked for and only bytes of the header are changed
 /// or wanting. A failure tells the place and the value of the byte, or the length and the byte for the mode.
-fn is_answer<R: Abort>(rt: &R, place: (usize, u8), bytes: &[u8], outcome: &CaptureOutcome) {
+fn answers_at<R: Abort>(rt: &R, place: (usize, u8), bytes: &[u8], outcome: &CaptureOutcome) {
     let (harts, events, fault) = match beginning_of(bytes) {
         Beginning::Unmarked => (2, 0, refused_message(bytes)),
         Beginning::Cut => (2, 0, Some(CaptureFault::Message(MessageFault::Short))),
@@ -94,8 +94,9 @@ fn is_answer<R: Abort>(rt: &R, place: (usize, u8), bytes: &[u8], outcome: &Captu
     same_at(rt, place, outcome.fault, fault.map(|why| (0, why)));
     same_at(rt, place, outcome.harts.len(), harts);
     same_at(rt, place, outcome.closed.len(), harts);
-    let closed = outcome.closed.iter().filter(|closed| **closed).count();
-    same_at(rt, place, closed, events / 2);
+    for (hart, closed) in outcome.closed.iter().enumerate() {
+        same_at(rt, place, *closed, hart == 0 && events == 2);
+    }
     let mut wanted = &BOTH[..events.min(2)];
     for list in &outcome.harts {
         same_at(rt, place, list.as_slice(), wanted);
@@ -104,12 +105,12 @@ fn is_answer<R: Abort>(rt: &R, place: (usize, u8), bytes: &[u8], outcome: &Captu
 }
 
 /// A header that is cut to this length, where its byte for the mode is this one, is told as what it is.
-fn is_told_cut<R: Abort + AllocGlobal>(rt: &R, program: &Program, mode: u8, length: usize) {
+fn cut_header_at<R: Abort + AllocGlobal>(rt: &R, program: &Program, mode: u8, length: usize) {
     let mut bytes = HEADER;
     bytes[11] = mode;
     let cut = bytes.get(..length).expect(rt, "so many bytes");
     let outcome = decode_capture(rt.alloc(), program, 2, cut).expect(rt, "memory");
-    is_answer(rt, (length, mode), cut, &outcome);
+    answers_at(rt, (length, mode), cut, &outcome);
     same_at(rt, (length, mode), outcome.harts.len(), 2);
     same_at(rt, (length, mode), outcome.fault.is_some(), length > 0);
 }
@@ -125,7 +126,7 @@ fn good_at<R: Abort + AllocGlobal>(rt: &R, program: &Program, place: usize) -> u
             *byte = value;
         }
         let outcome = decode_capture(rt.alloc(), program, 2, &bytes).expect(rt, "memory");
-        is_answer(rt, (place, value), &bytes, &outcome);
+        answers_at(rt, (place, value), &bytes, &outcome);
         if outcome.fault.is_none() {
             good = good.saturating_add(1);
         }
@@ -140,8 +141,8 @@ fn headers_cut_and_changed(rt: HostRuntime) {
     let program = program_of(&rt, &NOPS);
     let mut good = 0usize;
     for place in 0..16usize {
-        is_told_cut(&rt, &program, 0, place);
-        is_told_cut(&rt, &program, 2, place);
+        cut_header_at(&rt, &program, 0, place);
+        cut_header_at(&rt, &program, 2, place);
         good = good.saturating_add(good_at(&rt, &program, place));
     }
     // The bytes of the mark and the mode as they are, the period but for 0, 1 to 255 harts, and 1, 257, 513 and 769.

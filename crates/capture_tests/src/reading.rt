@@ -50,7 +50,7 @@ fn reads_any_messages(rt: HostRuntime) {
 }
 
 /// The worked capture, cut to this length, is read just where a message ends there.
-fn is_told_cut<R: Abort + AllocGlobal>(rt: &R, length: usize) {
+fn cut_capture_at<R: Abort + AllocGlobal>(rt: &R, length: usize) {
     let (number, ends) = whole_messages(length);
     let bytes = WORKED.get(..length).expect(rt, "so many bytes");
     let told = match read_messages(rt.alloc(), bytes) {
@@ -69,7 +69,7 @@ fn is_told_cut<R: Abort + AllocGlobal>(rt: &R, length: usize) {
 #[test]
 fn reads_no_cut_capture(rt: HostRuntime) {
     for length in 0..53 {
-        is_told_cut(&rt, length);
+        cut_capture_at(&rt, length);
     }
 }
 

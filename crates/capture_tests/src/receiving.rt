@@ -88,7 +88,7 @@ fn messages_by_table(rt: HostRuntime) {
     are_told(&rt, "all", &lists, &closed, &[2, 1]);
 }
 
-/// What was told before, the payload of the first message, and why it is not received.
+/// What was told before, the payload of the first message, and why it is not received, if it is not.
 const TOLD: [(Option<Mode>, &[u8], Option<ReceiveFault>); 6] = [
     (None, OPEN, None),
     (None, OPEN_FULL, None),
@@ -124,7 +124,7 @@ fn count_of<A: Allocator + Copy>(receiver: &Receiver<A>) -> usize {
     count
 }
 
-/// Between the two calls the list waits, and a packet that was refused is decoded no more.
+/// Between the two calls the list waits.
 #[test]
 fn accepts_and_then_decodes(rt: HostRuntime) {
     let program = program_of(&rt, &NOPS);

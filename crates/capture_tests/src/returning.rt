@@ -82,7 +82,7 @@ fn came_whole<R: Abort, A: Allocator>(
     }
 }
 
-/// From no memory on: at first nothing comes, then beginnings, and with enough of it all.
+/// From no memory on: at first nothing comes; with more of it beginnings come, or all.
 #[test]
 fn memory_is_refused(rt: HostRuntime) {
     let program = program_of(&rt, &WORDS);

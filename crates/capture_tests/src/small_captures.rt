@@ -58,7 +58,7 @@ pub(crate) type Sent = (u16, u64, &'static [u8]);
 pub(crate) type Start = Option<(Mode, u16)>;
 
 /// What stands before the messages of a capture.
-pub(crate) fn start_of<R: Abort + AllocGlobal>(rt: &R, start: Start) -> Vec<u8> {
+fn start_of<R: Abort + AllocGlobal>(rt: &R, start: Start) -> Vec<u8> {
     let mut bytes = Vec::new(rt.alloc());
     if let Some((mode, harts)) = start {
         add(rt, &mut bytes, &header_of(mode, harts));

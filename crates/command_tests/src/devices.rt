@@ -54,8 +54,8 @@ impl Write for FailsAt {
     }
 }
 
-/// An image of two words `nop`, logs, a file of no turns, and captures: of the message that opens a trace, of one whose
-/// third message is lost, and of one whose first is.
+/// An image of two words `nop`, logs, a file of no turns, and captures: one of only the message that opens a trace, one
+/// whose third message is lost, and one whose first is.
 const FILES: [(&str, &[u8]); 7] = [
     ("image.bin", b"\x13\0\0\0\x13\0\0\0"),
     (
@@ -77,7 +77,7 @@ const FILES: [(&str, &[u8]); 7] = [
 /// What is asked for, the status, what is written and what is told.
 type Run<'a> = (Request<'a>, u8, &'a [u8], &'a str);
 
-/// Each subcommand.
+/// Runs of each subcommand, with and without a fault.
 const RUNS: [Run<'static>; 11] = [
     (
         Request::Check("80000000", "image.bin", "log.csv"),
@@ -151,35 +151,40 @@ const RUNS: [Run<'static>; 11] = [
     ),
 ];
 
-/// Where the output fails at this of its calls, this is what was written, and no fault is told but this one.
-fn writes<R: Abort + AllocGlobal + Threads + Wait + Sync>(
+/// What is told where the output fails.
+const FAILED: &str = "tracebench: output cannot be written\n";
+
+/// Where the output fails at this of its calls, the run ends with the status, and this is written and told.
+fn ends_at<R: Abort + AllocGlobal + Threads + Wait + Sync>(
     rt: &R,
-    request: Request<'_>,
     call: usize,
-    written: &[u8],
+    (request, status, written, told): Run<'_>,
 ) {
     let mut out = FailsAt::new(rt.alloc(), ErrorKind::TimedOut, call);
     let mut err = Vec::new(rt.alloc());
     let ended = run(rt, &FILES, request, &mut out, &mut err);
-    let told = b"tracebench: output cannot be written\n";
-    same_at(rt, (request, call), ended, 3);
-    same_at(rt, (request, call), err.as_slice(), told.as_slice());
+    same_at(rt, (request, call), ended, status);
+    same_at(rt, (request, call), err.as_slice(), told.as_bytes());
     same_at(rt, (request, call), out.bytes.as_slice(), written);
 }
 
 /// The output fails at each of its calls in turn: at each byte's, and at that of the flush, which comes behind them and
-/// nowhere else. What was written is the beginning of the text.
+/// is the last call. What was written is the beginning of the text.
 #[test]
 fn writes_a_beginning(rt: HostRuntime) {
-    for (request, _, written, _) in &RUNS {
+    for run in &RUNS {
+        let (request, _, written, _) = *run;
         for call in 1..written.len() + 2 {
-            writes(&rt, *request, call, &written[..call - 1]);
+            let wanted = (request, 3, &written[..call - 1], FAILED);
+            ends_at(&rt, call, wanted);
         }
+        ends_at(&rt, written.len() + 2, *run);
     }
 }
 
-/// Where the line of a fault fails at this of its calls, in this way, this is what is told, and the text is written whole.
-fn tells<R: Abort + AllocGlobal + Threads + Wait + Sync>(
+/// Where the line of a fault fails at this of its calls and in this way, so much of it is told, and the text is written
+/// whole.
+fn line_at<R: Abort + AllocGlobal + Threads + Wait + Sync>(
     rt: &R,
     (request, status, written, _): Run<'_>,
     (kind, call): (ErrorKind, usize),
@@ -188,9 +193,9 @@ fn tells<R: Abort + AllocGlobal + Threads + Wait + Sync>(
     let mut out = Vec::new(rt.alloc());
     let mut err = FailsAt::new(rt.alloc(), kind, call);
     let ended = run(rt, &FILES, request, &mut out, &mut err);
-    same_at(rt, (request, call), ended, status);
-    same_at(rt, (request, call), out.as_slice(), written);
-    same_at(rt, (request, call), err.bytes.as_slice(), told);
+    same_at(rt, (request, kind, call), ended, status);
+    same_at(rt, (request, kind, call), out.as_slice(), written);
+    same_at(rt, (request, kind, call), err.bytes.as_slice(), told);
 }
 
 /// Where the line of a fault is cut short, no status changes; an interrupted write is made again.
@@ -198,10 +203,10 @@ fn tells<R: Abort + AllocGlobal + Threads + Wait + Sync>(
 fn keeps_the_status_where_a_line_is_cut(rt: HostRuntime) {
     for run in &RUNS {
         let line = run.3.as_bytes();
-        tells(&rt, *run, (ErrorKind::TimedOut, 0), line);
+        line_at(&rt, *run, (ErrorKind::TimedOut, 0), line);
         for call in 1..line.len() + 1 {
-            tells(&rt, *run, (ErrorKind::TimedOut, call), &line[..call - 1]);
-            tells(&rt, *run, (ErrorKind::Interrupted, call), line);
+            line_at(&rt, *run, (ErrorKind::TimedOut, call), &line[..call - 1]);
+            line_at(&rt, *run, (ErrorKind::Interrupted, call), line);
         }
     }
 }

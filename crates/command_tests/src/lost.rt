@@ -1,6 +1,6 @@
 //! Runs of `decode` over captures of which messages may be missing.
 
-use super::table::{Request, add, add_message, capture_of, ends, tells, writes};
+use super::table::{Request, add, add_message, capture_of, decodes, ends, tells, writes};
 use std::process::Abort;
 use std::sync::Wait;
 use std::thread::Threads;
@@ -24,16 +24,6 @@ const START: &[u8] = b"\xff\xffrvtrace2\0\0\x02\0\x02\0";
 const LOSSY: Request<'static> = Request::Lossy("80000000", 1, "image.bin", "log.capture");
 
 const UNCLOSED: &str = "tracebench: hart 0: no closing packet\n";
-
-/// Decoding the capture ends with the status, writes the first text and tells the second.
-fn decodes<R: Abort + AllocGlobal + Threads + Wait + Sync>(
-    rt: &R,
-    capture: &[u8],
-    wanted: (u8, &str, &str),
-) {
-    let files = [("image.bin", NOPS), ("log.capture", capture)];
-    ends(rt, &files, LOSSY, wanted);
-}
 
 /// The messages of the hart but for those whose numbers are lost, after these bytes.
 fn left_of<R: Abort + AllocGlobal>(rt: &R, start: &[u8], lost: &[u64]) -> Vec<u8> {
@@ -59,12 +49,12 @@ fn has_five_messages(rt: HostRuntime) {
     ends(&rt, &files, request, (0, written, ""));
 }
 
-/// Of five messages each is lost in turn, and three of them at once.
+/// Of five messages none is lost, each in turn, three at once, and all.
 #[test]
 fn tells_what_is_left(rt: HostRuntime) {
     let all = "hart 0\nstretch: 3 events\naddr,itype,priv,cause,tval\n\
         80000000,0,3,,\n80000004,0,3,,\n80000008,0,3,,\n";
-    let cases: [(&[u64], &str, &str); 7] = [
+    let cases: [(&[u64], &str, &str); 8] = [
         (&[], all, ""),
         (
             &[0],
@@ -90,11 +80,18 @@ fn tells_what_is_left(rt: HostRuntime) {
         ),
         (&[4], all, UNCLOSED),
         (&[1, 2, 3], "hart 0\ngap: 3 messages\n", ""),
+        (&[0, 1, 2, 3, 4], "hart 0\n", UNCLOSED),
     ];
     for (lost, written, told) in cases {
         let capture = left_of(&rt, &[], lost);
         let status = if lost.is_empty() { 0 } else { 1 };
-        decodes(&rt, capture.as_slice(), (status, written, told));
+        decodes(
+            &rt,
+            LOSSY,
+            NOPS,
+            capture.as_slice(),
+            (status, written, told),
+        );
     }
 }
 
@@ -105,12 +102,12 @@ fn tells_the_lowest_open_hart(rt: HostRuntime) {
     add_message(&rt, &mut capture, 1, 4, PAYLOADS[0]);
     let written = "hart 0\nstretch: 3 events\naddr,itype,priv,cause,tval\n\
         80000000,0,3,,\n80000004,0,3,,\n80000008,0,3,,\nhart 1\ngap: 4 messages\n";
-    decodes(&rt, capture.as_slice(), (1, written, UNCLOSED));
+    decodes(&rt, LOSSY, NOPS, capture.as_slice(), (1, written, UNCLOSED));
     let capture = left_of(&rt, START, &[]);
     let written = "hart 0\nstretch: 3 events\naddr,itype,priv,cause,tval\n\
         80000000,0,3,,\n80000004,0,3,,\n80000008,0,3,,\nhart 1\n";
     let told = "tracebench: hart 1: no closing packet\n";
-    decodes(&rt, capture.as_slice(), (1, written, told));
+    decodes(&rt, LOSSY, NOPS, capture.as_slice(), (1, written, told));
 }
 
 /// Where the message that opens the trace is lost, the header tells what the address fields hold.
@@ -126,14 +123,14 @@ fn takes_the_mode_of_the_header(rt: HostRuntime) {
     add(&rt, &mut cut, &messages[messages.len().min(13)..]);
     let written = "hart 0\ngap: 1 messages\nstretch: 3 events\naddr,itype,priv,cause,tval\n\
         80000000,0,3,,\n80000004,0,3,,\n80000008,0,3,,\n";
-    decodes(&rt, cut.as_slice(), (1, written, ""));
+    decodes(&rt, LOSSY, NOPS, cut.as_slice(), (1, written, ""));
     // Where it came, it tells so itself, whatever the header tells.
     if let Some(mode) = whole.as_mut_slice().get_mut(11) {
         *mode = 0;
     }
     let written = "hart 0\nstretch: 3 events\naddr,itype,priv,cause,tval\n\
         80000000,0,3,,\n80000004,0,3,,\n80000008,0,3,,\n";
-    decodes(&rt, whole.as_slice(), (0, written, ""));
+    decodes(&rt, LOSSY, NOPS, whole.as_slice(), (0, written, ""));
 }
 
 /// At a fault nothing is written, whatever could be decoded before it.
@@ -142,13 +139,15 @@ fn writes_nothing_at_a_fault(rt: HostRuntime) {
     let bad = b"\xff\xffrvtrace2\0\x02\x02\0\x02\0";
     decodes(
         &rt,
+        LOSSY,
+        NOPS,
         bad,
         (1, "", "tracebench: capture header is not valid\n"),
     );
     let whole = left_of(&rt, &[], &[]);
     let cut = &whole.as_slice()[..whole.len().saturating_sub(1)];
     let told = "tracebench: message 4: the capture ends inside a message\n";
-    decodes(&rt, cut, (1, "", told));
+    decodes(&rt, LOSSY, NOPS, cut, (1, "", told));
     let cases: [(&[(u16, u64, &[u8])], &str); 4] = [
         (
             &[(0, 0, b"\x1f"), (0, 2, b"\x73\0\0\0\x20"), (0, 2, b"\x0a")],
@@ -169,12 +168,11 @@ fn writes_nothing_at_a_fault(rt: HostRuntime) {
     ];
     for (messages, told) in cases {
         let capture = capture_of(&rt, messages);
-        decodes(&rt, capture.as_slice(), (1, "", told));
+        decodes(&rt, LOSSY, NOPS, capture.as_slice(), (1, "", told));
     }
-    decodes(&rt, &[], (1, "hart 0\n", UNCLOSED));
 }
 
-/// A base, an image or a capture that is refused is told as where nothing may be missing.
+/// A base, an image or a capture that is refused is told as it is where no message may be missing.
 #[test]
 fn tells_what_is_refused(rt: HostRuntime) {
     let cases = [
@@ -190,6 +188,11 @@ fn tells_what_is_refused(rt: HostRuntime) {
         ),
         (
             Request::Lossy("80000000", 1, "image.bin", "none"),
+            3,
+            "tracebench: none: cannot be read\n",
+        ),
+        (
+            Request::Lossy("80000000", 1, "none", "log.capture"),
             3,
             "tracebench: none: cannot be read\n",
         ),

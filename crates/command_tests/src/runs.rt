@@ -1,6 +1,6 @@
 //! Logs with the messages that the E-Trace specification's packets and this project's profile give.
 
-use super::table::{HEADER, NOP, Request, ends, tells, writes};
+use super::table::{HEADER, NOP, Request, decodes, ends, tells, writes};
 use super::text::{append, for_each_hart};
 use std::process::Abort;
 use std::sync::Wait;
@@ -9,7 +9,6 @@ use std::thread::Threads;
 /// An image, as its words from the base on; rows of a log, the first so often; and what is written for it.
 #[derive(Clone, Copy)]
 struct Run {
-    name: &'static str,
     image: &'static [u8],
     first: usize,
     rows: &'static [&'static str],
@@ -17,64 +16,64 @@ struct Run {
 }
 
 const RUNS: [Run; 15] = [
+    // No event.
     Run {
-        name: "no event",
         image: &NOP,
         first: 0,
         rows: &[""],
         written: "0 0 1f\n0 1 cf00\n",
     },
+    // One event.
     Run {
-        name: "one event",
         image: &NOP,
         first: 1,
         rows: &["80000000,0,3,,"],
         written: "0 0 1f\n0 1 7300000020\n0 2 cf00\n",
     },
+    // Two events.
     Run {
-        name: "two events",
         image: b"\x13\0\0\0\x13\0\0\0",
         first: 1,
         rows: &["80000000,0,3,,", "80000004,0,3,,"],
         written: "0 0 1f\n0 1 7300000020\n0 2 0a\n0 3 4f\n",
     },
+    // Two events and a byte after the image's last word.
     Run {
-        name: "two events and a byte after the image's last word",
         image: b"\x13\0\0\0\x13\0\0\0\0",
         first: 1,
         rows: &["80000000,0,3,,", "80000004,0,3,,"],
         written: "0 0 1f\n0 1 7300000020\n0 2 0a\n0 3 4f\n",
     },
+    // A branch taken 33 times.
     Run {
-        name: "a branch taken 33 times",
         image: b"\x63\0\0\0",
         first: 33,
         rows: &["80000000,5,3,,"],
         written: "0 0 1f\n0 1 6300000020\n0 2 01\n0 3 05\n0 4 4f\n",
     },
+    // A branch taken 32 times.
     Run {
-        name: "a branch taken 32 times",
         image: b"\x63\0\0\0",
         first: 32,
         rows: &["80000000,5,3,,"],
         written: "0 0 1f\n0 1 6300000020\n0 2 7d\n0 3 4f\n",
     },
+    // A jump to itself.
     Run {
-        name: "a jump to itself",
         image: b"\x6f\0\0\0",
         first: 3,
         rows: &["80000000,0,3,,"],
         written: "0 0 1f\n0 1 7300000020\n0 2 0200000000000000fe\n0 3 02\n0 4 4f\n",
     },
+    // No return yet.
     Run {
-        name: "no return yet",
         image: RETURNS,
         first: 1,
         rows: &["80000000,0,3,,", "80000004,0,3,,"],
         written: "0 0 1f\n0 1 7300000020\n0 2 0a\n0 3 4f\n",
     },
+    // A return to an address passed before.
     Run {
-        name: "a return to an address passed before",
         image: RETURNS,
         first: 1,
         rows: &[
@@ -85,8 +84,8 @@ const RUNS: [Run; 15] = [
         ],
         written: "0 0 1f\n0 1 7300000020\n0 2 0a\n0 3 cf00\n",
     },
+    // An interrupt right after a return.
     Run {
-        name: "an interrupt right after a return",
         image: RETURNS,
         first: 1,
         rows: &[
@@ -98,36 +97,36 @@ const RUNS: [Run; 15] = [
         ],
         written: "0 0 1f\n0 1 7300000020\n0 2 0a00000000000000fc\n0 3 f72302000020\n0 4 cf00\n",
     },
+    // An exception past the first address of a program, with its value.
     Run {
-        name: "an exception past the first address of a program, with its value",
         image: b"\x67\x80\0\0",
         first: 1,
         rows: &["80000000,6,3,,", "4000,1,3,1,8000000000004000"],
         written: "0 0 1f\n0 1 7300000020\n0 2 f700001000000000000000100000000000e0\n0 3 cf00\n",
     },
+    // A return to user level.
     Run {
-        name: "a return to user level",
         image: b"\x73\x00\x20\x30\x13\0\0\0\x13\0\0\0",
         first: 1,
         rows: &["80000000,3,3,,", "80000008,0,0,,"],
         written: "0 0 1f\n0 1 7300000020\n0 2 1302000020\n0 3 cf00\n",
     },
+    // A branch not taken.
     Run {
-        name: "a branch not taken",
         image: b"\x13\0\0\0\x63\x04\0\0\x13\0\0\0",
         first: 1,
         rows: &["80000000,0,3,,", "80000004,4,3,,", "80000008,0,3,,"],
         written: "0 0 1f\n0 1 7300000020\n0 2 8504\n0 3 4f\n",
     },
+    // A taken branch first.
     Run {
-        name: "a taken branch first",
         image: b"\x63\x04\0\0\x13\0\0\0\x13\0\0\0",
         first: 1,
         rows: &["80000000,5,3,,", "80000008,0,3,,"],
         written: "0 0 1f\n0 1 6300000020\n0 2 12\n0 3 4f\n",
     },
+    // Three events.
     Run {
-        name: "three events",
         image: b"\x13\0\0\0\x13\0\0\0\x13\0\0\0",
         first: 1,
         rows: &["80000000,0,3,,", "80000004,0,3,,", "80000008,0,3,,"],
@@ -166,18 +165,7 @@ fn encodes<'x, R: Abort + AllocGlobal + Threads + Wait + Sync>(
     writes(rt, &files, request, 0, "")
 }
 
-/// The capture decodes to this text.
-fn decodes<'x, R: Abort + AllocGlobal + Threads + Wait + Sync>(
-    rt: &R,
-    image: &'x [u8],
-    capture: &'x [u8],
-    written: &str,
-) {
-    let files = [("image.bin", image), ("log.capture", capture)];
-    let request = Request::Decode("80000000", 1, "image.bin", "log.capture");
-    ends(rt, &files, request, (0, written, ""));
-}
-
+/// Each log has its messages, and its capture decodes to it.
 #[test]
 fn encodes_logs_and_has_them_back(rt: HostRuntime) {
     for run in RUNS {
@@ -186,7 +174,9 @@ fn encodes_logs_and_has_them_back(rt: HostRuntime) {
         let mut decoded = String::new(rt.alloc());
         append(&rt, &mut decoded, "hart 0\n");
         append(&rt, &mut decoded, log.as_str());
-        decodes(&rt, run.image, capture.as_slice(), decoded.as_str());
+        let request = Request::Decode("80000000", 1, "image.bin", "log.capture");
+        let wanted = (0, decoded.as_str(), "");
+        decodes(&rt, request, run.image, capture.as_slice(), wanted);
     }
 }
 
@@ -205,7 +195,7 @@ fn reports_a_handler(rt: HostRuntime) {
 }
 
 /// Files of three words `nop`, a log of all three, one of the first two and one of none.
-const NOPS: [(&str, &[u8]); 4] = [
+const FILES: [(&str, &[u8]); 4] = [
     ("image.bin", b"\x13\0\0\0\x13\0\0\0\x13\0\0\0"),
     (
         "three.csv",
@@ -233,7 +223,7 @@ fn keeps_the_period(rt: HostRuntime) {
         (65535, "0 0 1f\n0 1 7300000020\n0 2 12\n0 3 4f\n"),
     ] {
         let request = Request::Hex("80000000", period, "image.bin", "three.csv");
-        ends(&rt, &NOPS, request, (0, written, ""));
+        ends(&rt, &FILES, request, (0, written, ""));
     }
 }
 
@@ -243,7 +233,7 @@ fn encodes_harts(rt: HostRuntime) {
     let request = Request::Hex("80000000", 1024, "image.bin", "two.csv none.csv two.csv");
     let written = "0 0 1f\n0 1 7300000020\n0 2 0a\n0 3 4f\n1 0 1f\n1 1 cf00\n\
          2 0 1f\n2 1 7300000020\n2 2 0a\n2 3 4f\n";
-    ends(&rt, &NOPS, request, (0, written, ""));
+    ends(&rt, &FILES, request, (0, written, ""));
 }
 
 /// There are up to 1,024 harts, and up to 64 where version 1 is asked for, also of the lines, which have no header. The
@@ -270,8 +260,8 @@ fn encodes_the_most_harts(rt: HostRuntime) {
                 Request::Encode("80000000", 1024, "no.bin", more.as_str()),
             )
         };
-        ends(&rt, &NOPS, hex, (0, written.as_str(), ""));
-        tells(&rt, &NOPS, &[(hex_more, 2, told), (more, 2, told)]);
+        ends(&rt, &FILES, hex, (0, written.as_str(), ""));
+        tells(&rt, &FILES, &[(hex_more, 2, told), (more, 2, told)]);
     }
 }
 
@@ -305,9 +295,9 @@ fn benches_64_harts(rt: HostRuntime) {
     append(&rt, &mut written, "result: whole\n");
     let logs = for_each_hart(&rt, 64, " none.csv");
     let request = Request::Bench("80000000", 16, "image.bin", logs.as_str());
-    ends(&rt, &NOPS, request, (0, written.as_str(), ""));
+    ends(&rt, &FILES, request, (0, written.as_str(), ""));
     let logs = for_each_hart(&rt, 65, " none.csv");
     let request = Request::Bench("80000000", 16, "no.bin", logs.as_str());
     let told = "tracebench: more than 64 logs\n";
-    ends(&rt, &NOPS, request, (2, "", told));
+    ends(&rt, &FILES, request, (2, "", told));
 }

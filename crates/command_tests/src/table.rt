@@ -190,7 +190,8 @@ pub(crate) fn ends<R: Abort + AllocGlobal + Threads + Wait + Sync>(
     (status, written, told): (u8, &str, &str),
 ) {
     let out = writes(rt, files, request, status, told);
-    assert!(rt; out.as_slice() == written.as_bytes(), "{request:?}");
+    let found = str::from_utf8(out.as_slice()).expect(rt, "a text");
+    same_at(rt, request, found, written);
 }
 
 /// What is asked for ends with the status and tells the text. The answer is what it writes.
@@ -204,9 +205,22 @@ pub(crate) fn writes<R: Abort + AllocGlobal + Threads + Wait + Sync>(
     let mut out = Vec::new(rt.alloc());
     let mut err = Vec::new(rt.alloc());
     let ended = run(rt, files, request, &mut out, &mut err);
-    assert!(rt; err.as_slice() == told.as_bytes(), "{request:?}");
+    let found = str::from_utf8(err.as_slice()).expect(rt, "a text");
+    same_at(rt, request, found, told);
     same_at(rt, request, ended, status);
     out
+}
+
+/// Decoding a capture with an image ends with the status, writes the first text and tells the second.
+pub(crate) fn decodes<'x, R: Abort + AllocGlobal + Threads + Wait + Sync>(
+    rt: &R,
+    request: Request<'_>,
+    image: &'x [u8],
+    capture: &'x [u8],
+    wanted: (u8, &str, &str),
+) {
+    let files = [("image.bin", image), ("log.capture", capture)];
+    ends(rt, &files, request, wanted);
 }
 
 /// Each writes nothing, ends with the status and tells the text.

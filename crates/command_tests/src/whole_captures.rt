@@ -1,6 +1,7 @@
 //! Runs of `encode` and `decode` over captures.
 
-use super::table::{NOP, PAIR, Request, add, add_message, capture_of, ends, writes};
+use super::same::same_at;
+use super::table::{NOP, PAIR, Request, add, add_message, capture_of, decodes, ends, writes};
 use super::text::for_each_hart;
 use std::process::Abort;
 use std::sync::Wait;
@@ -36,23 +37,18 @@ fn writes_a_capture(rt: HostRuntime) {
     let files = [("image.bin", NOPS), ("log.csv", log.as_slice())];
     let request = Request::EncodeOne("80000000", 1024, "image.bin", "log.csv");
     let capture = writes(&rt, &files, request, 0, "");
-    assert!(rt; capture.as_slice() == WHOLE.as_slice());
+    same_at(&rt, "version 1", capture.as_slice(), WHOLE.as_slice());
     let request = Request::Encode("80000000", 1024, "image.bin", "log.csv");
     let capture = writes(&rt, &files, request, 0, "");
-    assert!(rt; capture.as_slice() == headed(&rt, &START).as_slice());
+    same_at(
+        &rt,
+        "version 2",
+        capture.as_slice(),
+        headed(&rt, &START).as_slice(),
+    );
 }
 
-/// Decoding the capture in an image of two words `nop` ends with the status, writes the first text and tells the second.
-fn decodes<R: Abort + AllocGlobal + Threads + Wait + Sync>(
-    rt: &R,
-    capture: &[u8],
-    wanted: (u8, &str, &str),
-) {
-    let files = [("image.bin", NOPS), ("log.capture", capture)];
-    ends(rt, &files, DECODE, wanted);
-}
-
-/// What is told of a capture that ends so: after so many whole messages, and there or inside the next.
+/// Decoding a capture that ends after so many whole messages, there or inside the next, writes and tells what it should.
 fn decodes_cut<R: Abort + AllocGlobal + Threads + Wait + Sync>(
     rt: &R,
     capture: &[u8],
@@ -72,7 +68,7 @@ fn decodes_cut<R: Abort + AllocGlobal + Threads + Wait + Sync>(
         (_, false) => "tracebench: message 3: the capture ends inside a message\n",
     };
     let status = if whole == 4 { 0 } else { 1 };
-    decodes(rt, capture, (status, written, told));
+    decodes(rt, DECODE, NOPS, capture, (status, written, told));
 }
 
 /// The messages of the whole capture after a header.
@@ -129,7 +125,7 @@ fn names_faults_of_a_header(rt: HostRuntime) {
             *field = byte;
         }
         let capture = headed(&rt, &start);
-        decodes(&rt, capture.as_slice(), (1, NONE, told));
+        decodes(&rt, DECODE, NOPS, capture.as_slice(), (1, NONE, told));
         let (status, told) = if dumped.is_empty() {
             (1, header)
         } else {
@@ -160,8 +156,7 @@ fn counts_the_harts_of_a_header(rt: HostRuntime) {
     ] {
         start[14] = harts;
         let capture = headed(&rt, &start);
-        let files = [("image.bin", NOPS), ("log.capture", capture.as_slice())];
-        ends(&rt, &files, request, (1, written, told));
+        decodes(&rt, request, NOPS, capture.as_slice(), (1, written, told));
     }
 }
 
@@ -227,7 +222,7 @@ fn names_the_refused_message(rt: HostRuntime) {
     ];
     for (messages, written, told) in cases {
         let capture = capture_of(&rt, messages);
-        decodes(&rt, capture.as_slice(), (1, written, told));
+        decodes(&rt, DECODE, NOPS, capture.as_slice(), (1, written, told));
     }
 }
 
@@ -243,8 +238,7 @@ fn names_the_packet_of_another_program(rt: HostRuntime) {
         (&NOP, "tracebench: message 3: not decoded: OffProgram\n"),
     ];
     for (image, told) in cases {
-        let files = [("image.bin", image), ("log.capture", WHOLE.as_slice())];
-        ends(&rt, &files, DECODE, (1, FIRST, told));
+        decodes(&rt, DECODE, image, &WHOLE, (1, FIRST, told));
     }
 }
 
@@ -254,7 +248,7 @@ fn names_a_bad_length(rt: HostRuntime) {
         let mut capture = PAIR;
         capture[22] = length;
         let told = "tracebench: message 1: payload length is not 1 to 18\n";
-        decodes(&rt, &capture, (1, NONE, told));
+        decodes(&rt, DECODE, NOPS, &capture, (1, NONE, told));
     }
 }
 
@@ -280,11 +274,7 @@ fn parts_harts(rt: HostRuntime) {
         (6, "tracebench: message 5: stranger\n"),
     ] {
         let capture = capture_of(&rt, &messages[..count]);
-        let files = [
-            ("image.bin", NOP.as_slice()),
-            ("log.capture", capture.as_slice()),
-        ];
-        ends(&rt, &files, request, (1, lists, told));
+        decodes(&rt, request, &NOP, capture.as_slice(), (1, lists, told));
     }
 }
 
@@ -304,7 +294,7 @@ fn decodes_the_most_harts(rt: HostRuntime) {
         (13, 1, "tracebench: hart 1023: no closing packet\n"),
     ] {
         let kept = &capture.as_slice()[..capture.len().saturating_sub(cut)];
-        let files = [("image.bin", NOP.as_slice()), ("log.capture", kept)];
-        ends(&rt, &files, request, (status, written.as_str(), told));
+        let wanted = (status, written.as_str(), told);
+        decodes(&rt, request, &NOP, kept, wanted);
     }
 }

@@ -238,7 +238,7 @@ const ON_THE_WAY: [Row; 4] = [
 
 const UNTESTED: [Row; 1] = [(&[BRANCH_LOOP], Astray, ENDED_REP, Branches)];
 
-/// The tables above, and what their rows are of.
+/// The tables above, each with a name that tells what its rows show.
 const TABLES: [(&str, &[Row]); 12] = [
     ("not opened", &BEFORE_OPEN),
     ("off program", &OFF_THE_PROGRAM),

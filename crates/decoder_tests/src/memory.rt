@@ -22,7 +22,7 @@ struct Twin {
 
 /// Feeds a packet to both. It is taken, and adds what it adds where memory is ample; or it is refused for want of
 /// memory and adds nothing, and the decoder then takes it with a list in ample memory. Answers whether it was refused.
-fn is_refused<R: Abort + AllocGlobal>(
+fn lacks_memory<R: Abort + AllocGlobal>(
     rt: &R,
     bytes: usize,
     program: &Program,
@@ -71,7 +71,7 @@ fn one_is_refused<R: Abort + AllocGlobal>(
     };
     for sent in packets {
         let packet = packet_of(*sent);
-        if is_refused(
+        if lacks_memory(
             rt,
             bytes,
             program,
@@ -87,12 +87,12 @@ fn one_is_refused<R: Abort + AllocGlobal>(
 }
 
 /// Of the heaps, each larger than the one before, the first few are too small.
-fn are_refused<R: Abort + AllocGlobal>(rt: &R, words: &[u32], packets: &[Sent]) {
+fn first_are_too_small<R: Abort + AllocGlobal>(rt: &R, words: &[u32], packets: &[Sent]) {
     let program = program_of(rt, words, &[]);
     let mut refused = 0;
     for step in 0..64usize {
         if one_is_refused(rt, &program, packets, step * 64) {
-            // Not with more room.
+            // No heap is too small behind one that was large enough.
             same_at(rt, step, refused, step);
             refused = step + 1;
         }
@@ -119,6 +119,6 @@ const TWO_WALKS: &[Sent] = &[
 
 #[test]
 fn walks_are_refused(rt: HostRuntime) {
-    are_refused(&rt, &[BRANCH_LOOP], ONE_WALK);
-    are_refused(&rt, &[NOP, NOP, RET], TWO_WALKS);
+    first_are_too_small(&rt, &[BRANCH_LOOP], ONE_WALK);
+    first_are_too_small(&rt, &[NOP, NOP, RET], TWO_WALKS);
 }

@@ -11,12 +11,12 @@ use std::process::Abort;
 
 const PLAIN_WORDS: &[Step] = &[Retires(0, 0, 3), Retires(4, 0, 3), Retires(8, 0, 3)];
 
-/// The words of a program, and the turns of a new decoder.
-type Row = (&'static [u32], &'static [Turn]);
+/// What is shown, the words of a program, and the turns of a new decoder.
+type Row = (&'static str, &'static [u32], &'static [Turn]);
 
 const ROWS: [Row; 8] = [
-    // Events come as soon as they are settled.
     (
+        "events come as soon as they are settled",
         &[NOP, NOP, NOP],
         &[
             (OPEN, Ok(()), 0),
@@ -28,6 +28,7 @@ const ROWS: [Row; 8] = [
     ),
     // The packets of a log of two plain words, decoded with an image that did not run.
     (
+        "an image with a jump",
         &[JUMP_LOOP],
         &[
             (OPEN, Ok(()), 0),
@@ -37,6 +38,7 @@ const ROWS: [Row; 8] = [
         ],
     ),
     (
+        "an image that ends",
         &[NOP],
         &[
             (OPEN, Ok(()), 0),
@@ -48,6 +50,7 @@ const ROWS: [Row; 8] = [
     // Behind the packet that opens the trace a field names the second word, by a packet that does not wait and by one
     // that does, and a field that holds it in the other mode names no word.
     (
+        "differences, and addresses in their place",
         &[NOP, NOP],
         &[
             (OPEN, Ok(()), 0),
@@ -59,6 +62,7 @@ const ROWS: [Row; 8] = [
         ],
     ),
     (
+        "differences, a field that waits",
         &[NOP, NOP],
         &[
             (OPEN, Ok(()), 0),
@@ -68,6 +72,7 @@ const ROWS: [Row; 8] = [
         ],
     ),
     (
+        "addresses, and differences in their place",
         &[NOP, NOP],
         &[
             (OPEN_FULL, Ok(()), 0),
@@ -79,6 +84,7 @@ const ROWS: [Row; 8] = [
         ],
     ),
     (
+        "addresses, a field that waits",
         &[NOP, NOP],
         &[
             (OPEN_FULL, Ok(()), 0),
@@ -87,8 +93,8 @@ const ROWS: [Row; 8] = [
             (ENDED_REP, Ok(()), 2),
         ],
     ),
-    // A packet that waits is kept at a fault.
     (
+        "a packet that waits is kept at a fault",
         &[NOP, NOP],
         &[
             (OPEN, Ok(()), 0),
@@ -103,13 +109,13 @@ const ROWS: [Row; 8] = [
 ];
 
 /// The turns of a row are as it says.
-fn are_told<R: Abort + AllocGlobal>(rt: &R, i: usize, (words, turns): Row) {
+fn is_told<R: Abort + AllocGlobal>(rt: &R, i: usize, (what, words, turns): Row) {
     let program = program_of(rt, words, &[]);
     let mut log = Vec::new(rt.alloc());
     let mut decoder = Decoder::default();
     go(
         rt,
-        ("turns", i),
+        (what, i),
         &program,
         &mut decoder,
         &mut log,
@@ -121,6 +127,6 @@ fn are_told<R: Abort + AllocGlobal>(rt: &R, i: usize, (words, turns): Row) {
 #[test]
 fn turns_by_table(rt: HostRuntime) {
     for (i, row) in ROWS.iter().enumerate() {
-        are_told(&rt, i, *row);
+        is_told(&rt, i, *row);
     }
 }

@@ -202,8 +202,8 @@ const ROWS: [Row; 20] = [
     ),
 ];
 
-/// Each list on the way of the payloads of a row is a beginning of its log; the decoder is not closed before the end,
-/// and there it is, with the log.
+/// Behind each payload of a row the list is a beginning of the row's log. The decoder is closed behind the last payload
+/// and not before, and the list is then the whole log.
 fn is_log_of<R: Abort + AllocGlobal>(rt: &R, i: usize, row: &Row) {
     let (words, bytes, payloads, steps) = *row;
     let program = program_of(rt, words, bytes);

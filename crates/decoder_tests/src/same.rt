@@ -3,7 +3,7 @@
 use std::fmt::Debug;
 use std::process::Abort;
 
-/// Ends the test unless both are the same, and then tells the row of a table or the round of a loop.
+/// Ends the test where they differ, and tells the place: a row of a table, a round of a loop, or what is looked at.
 pub(crate) fn same_at<P: Debug + Drop, T: PartialEq + Debug + Drop>(
     rt: &impl Abort,
     place: P,

@@ -199,7 +199,7 @@ pub(crate) fn copy_of<R: Abort + AllocGlobal>(rt: &R, log: &[Event]) -> Vec<Even
 /// A packet, what it comes to, and how many events the list then has.
 pub(crate) type Turn = (Sent, Result<(), DecodeFault>, usize);
 
-/// What is looked at, and the row of its table.
+/// What is looked at, and the row of its table or which time it is.
 pub(crate) type Place = (&'static str, usize);
 
 /// Each of these turns comes to what is told of it: the answer, the events of the list, of which there are so many, and

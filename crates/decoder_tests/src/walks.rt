@@ -148,9 +148,8 @@ fn count_behind(
     }
 }
 
-/// What the packet of a row comes to, behind the one event of the first word, in a list without room: the walk is
-/// measured. It comes to the same with room, where the walk is written as it is found, and a fault leaves the one
-/// event.
+/// The packet of a row comes to what the row says, behind the one event of the first word: in a list without room,
+/// where the walk is measured, and in one with room, where it is written as it is found. A fault leaves the one event.
 fn is_told<R: Abort + AllocGlobal>(rt: &R, place: Place, row: &Row) {
     let (words, (itype, privilege), sent, wanted) = *row;
     let program = program_of(rt, words, &[]);
@@ -170,7 +169,7 @@ fn is_told<R: Abort + AllocGlobal>(rt: &R, place: Place, row: &Row) {
     }
 }
 
-/// The tables above, and what their rows are of.
+/// The tables above, each with a name that tells what its rows show.
 const TABLES: [(&str, &[Row]); 6] = [
     ("walks that are found", &FOUND),
     ("words that do not retire", &OFF_THE_PROGRAM),

@@ -52,7 +52,7 @@ pub(crate) fn fate_of<A: Allocator, R: Abort + Wait>(rt: &R, port: &mut Port<A>,
     fate
 }
 
-/// A payload of one byte is sent.
+/// A payload of this byte is sent.
 pub(crate) fn sends<A: Allocator, R: Abort + Wait>(rt: &R, port: &mut Port<A>, byte: u8)
     ensures { port.new.funnel ≡ port.old.funnel }
 {

@@ -42,7 +42,7 @@ fn answers<R: Abort>(rt: &R, core: &mut Core, capacity: u32, waiting: usize, off
     same_at(rt, (capacity, number), answer, wanted);
 }
 
-/// The front message of a queue is this one, which is taken, or there is none. The place is told of another.
+/// The front message of a queue is this one, which is taken, or there is none. Where it is not, the place is told.
 fn gives<R: Abort>(rt: &R, core: &mut Core, place: (u32, u64), front: Option<Waiting>)
     ensures { core.new.harts ≡ core.old.harts }
 {

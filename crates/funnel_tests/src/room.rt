@@ -25,7 +25,8 @@ fn send_two<R: Abort + Wait>(rt: &R, mut port: Port, flag: &AtomicBool) {
     flag.store(true, Ordering::SeqCst);
 }
 
-// Fills the channel, sends the closing payload, of which this becomes, and raises the flag.
+// Fills the channel, sends the closing payload, asks that this becomes of it, and raises the flag. What becomes of the
+// others is not asked: where a sender starts late, the outlet may have been dropped.
 fn send_all<R: Abort + Wait>(rt: &R, mut port: Port, wanted: Fate, flag: &AtomicBool) {
     for _ in 0..FULL {
         fate_of(rt, &mut port, OPEN);

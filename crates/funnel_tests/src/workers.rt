@@ -2,9 +2,9 @@
 
 ghost use Rattle.std.specs.Prelude.{◌≡◌, All};
 
-use super::made::{ENDED, OPEN, has_ended, sends};
+use super::made::{ENDED, OPEN, sends};
 use super::same::same_at;
-use funnel::{Outlet, Port, Receipt, open};
+use funnel::{Ended, Outlet, Port, Receipt, open};
 use message::Message;
 use std::process::Abort;
 use std::snapshot::Snapshot;
@@ -73,7 +73,8 @@ fn start_all<'s, E, R: Abort + AllocGlobal + Wait + Sync>(
     workers
 }
 
-// The message is the next of its hart, and closing where it is the last of so many. Of another the capacity is told.
+// The message is the next of its hart, and closing where it is the last of so many. Where it is not, the capacity
+// and the hart are told.
 fn is_next<R: Abort>(rt: &R, message: &Message, next: &mut [u64; 64], capacity: u32, count: u64) {
     let number = next
         .get_mut(usize::from(message.hart))
@@ -101,7 +102,9 @@ fn take_some<R: Abort + Wait>(
     ensures { outlet.new.funnel ≡ outlet.old.funnel }
 {
     for _ in 0..messages {
-        let message = outlet.take(rt).expect(rt, "a message");
+        let Ok(message) = outlet.take(rt) else {
+            panic!(rt; "at capacity {capacity}: the channel ends early");
+        };
         is_next(rt, &message, next, capacity, count);
     }
 }
@@ -145,7 +148,7 @@ fn conduct<'s, E, R: Abort + AllocGlobal + Threads + Wait + Sync>(
     take_some(rt, &mut outlet, &mut next, first, capacity, count);
     settle_all(rt, workers, &mut outlet, &next, capacity, count);
     take_some(rt, &mut outlet, &mut next, last, capacity, count);
-    has_ended(rt, &mut outlet);
+    same_at(rt, (capacity, "the end"), outlet.take(rt), Err(Ended));
 }
 
 // All that so many workers send is taken in order, their receipts say so, and then the channel ends.

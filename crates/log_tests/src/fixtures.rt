@@ -18,8 +18,8 @@ pub(crate) fn program_of<R: Abort + AllocGlobal>(rt: &R, words: &[u32]) -> Progr
     Program::new(BASE, bytes).expect(rt, "a program")
 }
 
-/// Ends the test unless both are the same, and then tells the row of a table or the round of a loop: a comparison that
-/// is called is proved once, and not at each place.
+/// Ends the test where they differ, and tells the place: a row of a table, a round of a loop, or what is looked at.
+/// A comparison that is called is proved once, and not at each place.
 pub(crate) fn same_at<P: Debug + Drop, T: PartialEq + Debug + Drop>(
     rt: &impl Abort,
     place: P,

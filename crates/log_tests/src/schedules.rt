@@ -56,7 +56,7 @@ const CASES: [Case; 30] = [
     (2, "0 \u{661}", Err(ScheduleFault::Word(2))),
 ];
 
-/// A text tells this to so many harts.
+/// A text tells this where there are so many harts.
 fn tells<R: Abort + AllocGlobal>(
     rt: &R,
     harts: u16,
@@ -115,5 +115,5 @@ fn tells_that_memory_is_refused(rt: HostRuntime) {
             }
         }
     }
-    assert!(rt; 1 <= refused && refused < 64, "{refused}");
+    assert!(rt; 1 <= refused && refused < 64, "{refused} are refused");
 }

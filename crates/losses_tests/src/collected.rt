@@ -1,22 +1,45 @@
 //! What is wanted of what is left of harts' logs, and messages.
 
 use crate::same::same_at;
-use losses::{HartPieces, Part};
+use losses::{HartPieces, Part, collect_lossy};
 use message::Message;
-use payload::Payload;
+use payload::{Mode, Payload};
 use retire::Event;
+use rvclass::Program;
 use std::fmt::Debug;
 use std::process::Abort;
 
 /// Where programs begin.
 pub(crate) const BASE: u64 = 0x8000_0000;
 
-/// A message of this hart with this payload.
-pub(crate) fn message_of<R: Abort>(rt: &R, hart: u16, number: u64, payload: &[u8]) -> Message {
-    Message {
+/// Adds a message of this hart with this number and payload.
+pub(crate) fn add<R: Abort>(
+    rt: &R,
+    messages: &mut Vec<Message>,
+    hart: u16,
+    number: u64,
+    payload: &[u8],
+) {
+    let message = Message {
         hart,
         number,
         payload: Payload::new(payload).expect(rt, "a payload"),
+    };
+    messages.push(message).ok().expect(rt, "memory");
+}
+
+/// What is left of the logs of so many harts. Where nothing is collected, the place is told.
+pub(crate) fn pieces_of<P: Debug + Drop, R: Abort + AllocGlobal>(
+    rt: &R,
+    place: P,
+    program: &Program,
+    harts: u16,
+    mode: Mode,
+    messages: &[Message],
+) -> Vec<HartPieces> {
+    match collect_lossy(rt.alloc(), program, harts, mode, messages) {
+        Ok(pieces) => pieces,
+        Err(why) => panic!(rt; "at {place:?}: {why:?}"),
     }
 }
 
@@ -39,8 +62,8 @@ fn is_wanted(log: &[Event], part: &Part, wanted: Wanted) -> bool {
     }
 }
 
-/// These are the parts that are wanted of a log, and its hart is closed where that is wanted. The place is told of
-/// others.
+/// These are the parts that are wanted of a log, and its hart is closed where that is wanted. Where they are
+/// not, the place is told.
 pub(crate) fn are_wanted<P: Copy + Debug + Drop, R: Abort>(
     rt: &R,
     place: P,

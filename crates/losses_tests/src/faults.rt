@@ -1,6 +1,6 @@
 //! Messages of which nothing is collected.
 
-use crate::collected::message_of;
+use crate::collected::add;
 use crate::made::program_of;
 use crate::same::same_at;
 use crate::small_logs::{NOPS, payload_of};
@@ -87,8 +87,7 @@ fn is_told<R: Abort + AllocGlobal>(rt: &R, program: &Program, place: usize, row:
     let (count, sent, fault) = row;
     let mut messages = Vec::new(rt.alloc());
     for (hart, number, payload) in sent {
-        let message = message_of(rt, hart, number, payload);
-        messages.push(message).ok().expect(rt, "memory");
+        add(rt, &mut messages, hart, number, payload);
     }
     let told = collect_lossy(rt.alloc(), program, count, Mode::Differential, &messages).err();
     same_at(rt, place, told, Some(fault));
@@ -138,8 +137,7 @@ fn memory_is_refused(rt: HostRuntime) {
     let program = program_of(&rt, &NOPS);
     let mut messages = Vec::new(rt.alloc());
     for number in [0, 1, 3, 4] {
-        let message = message_of(&rt, 0, number, payload_of(number));
-        messages.push(message).ok().expect(&rt, "memory");
+        add(&rt, &mut messages, 0, number, payload_of(number));
     }
     let mut refused = 0usize;
     let mut collected = 0usize;

@@ -1,6 +1,6 @@
 //! Made logs, which branch, jump back, return and take traps, and what their harts send.
 
-use crate::collected::{BASE, message_of};
+use crate::collected::{BASE, add};
 use encoder::Source;
 use legalpath::LegalLog;
 use message::Message;
@@ -134,8 +134,7 @@ pub(crate) fn mixed<R: Abort + AllocGlobal>(rt: &R, harts: &[Sent]) -> Vec<Messa
                 && sent.came.get(number) == Some(&true)
             {
                 let hart = hart.min(8) as u16;
-                let message = message_of(rt, hart, number as u64, payload.bytes());
-                messages.push(message).ok().expect(rt, "memory");
+                add(rt, &mut messages, hart, number as u64, payload.bytes());
             }
         }
     }

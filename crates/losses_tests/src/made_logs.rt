@@ -1,11 +1,11 @@
 //! Losses of logs which branch, jump back, return and take traps. The parts are compared with positions in the log:
 //! such as were worked by hand, and those of a plain reading of the rules of docs/FORMATS.md.
 
-use crate::collected::{Wanted, are_wanted, message_of};
+use crate::collected::{Wanted, add, are_wanted, pieces_of};
 use crate::made::{Draws, Sent, WORDS, interrupted, mixed, payloads_of, program_of, retired};
 use crate::reading::{Reading, left};
 use crate::same::same_at;
-use losses::{HartPieces, collect_lossy};
+use losses::HartPieces;
 use payload::Mode;
 use retire::Event;
 use rvclass::Program;
@@ -33,11 +33,10 @@ fn is_left<R: Abort + AllocGlobal>(
     let mut messages = Vec::new(rt.alloc());
     for (number, payload) in payloads.iter().enumerate() {
         if !lost.contains(&number) {
-            let message = message_of(rt, 0, number as u64, payload.bytes());
-            messages.push(message).ok().expect(rt, "memory");
+            add(rt, &mut messages, 0, number as u64, payload.bytes());
         }
     }
-    let harts = collect_lossy(rt.alloc(), program, 1, mode, &messages).expect(rt, "parts");
+    let harts = pieces_of(rt, (mode, place), program, 1, mode, &messages);
     match harts.as_slice() {
         [pieces] => are_wanted(rt, (mode, place), events, pieces, wanted, closed),
         _ => panic!(rt; "at {mode:?}, {place}: other than one hart"),
@@ -144,7 +143,8 @@ fn drawn<R: Abort + AllocGlobal>(
     harts
 }
 
-/// What is left of a hart's log is what a reading finds. Of another the round of the loop and the hart are told.
+/// What is left of a hart's log is what a reading finds. Where it is not, the round of the loop and the hart
+/// are told.
 fn is_as_read<R: Abort + AllocGlobal>(
     rt: &R,
     place: (usize, usize),
@@ -163,7 +163,7 @@ fn is_as_read<R: Abort + AllocGlobal>(
     are_wanted(rt, place, &sent.events, pieces, &wanted, closed);
 }
 
-/// That is so of all of these harts.
+/// What is left of each of these harts' logs is what a reading finds.
 fn are_as_read<R: Abort + AllocGlobal>(
     rt: &R,
     program: &Program,
@@ -174,7 +174,7 @@ fn are_as_read<R: Abort + AllocGlobal>(
 ) {
     let messages = mixed(rt, harts);
     let count = harts.len().min(8) as u16;
-    let collected = collect_lossy(rt.alloc(), program, count, mode, &messages).expect(rt, "parts");
+    let collected = pieces_of(rt, round, program, count, mode, &messages);
     same_at(rt, round, collected.len(), harts.len());
     for (hart, (pieces, sent)) in collected.iter().zip(harts.iter()).enumerate() {
         is_as_read(rt, (round, hart), pieces, sent, period);

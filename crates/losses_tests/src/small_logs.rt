@@ -1,25 +1,14 @@
 //! Losses of a log of three words, worked by hand.
 
-use crate::collected::{BASE, Wanted, are_wanted, message_of};
-use crate::made::program_of;
-use losses::collect_lossy;
+use crate::collected::{Wanted, add, are_wanted, pieces_of};
+use crate::made::{program_of, retired};
 use message::Message;
 use payload::Mode;
-use retire::Event;
 use rvclass::Program;
 use std::process::Abort;
 
 /// Three words `nop`.
 pub(crate) const NOPS: [u32; 3] = [0x0000_0013; 3];
-
-/// The retirement of the word so far from the base.
-const fn retired(offset: u64) -> Event {
-    Event::Retire {
-        addr: BASE.wrapping_add(offset),
-        itype: 0,
-        privilege: 3,
-    }
-}
 
 /// The payload with this number, where every second retirement is a synchronisation: that of Open, of the first word,
 /// of an address, of the third word, and the closing one.
@@ -48,11 +37,9 @@ fn messages_of<R: Abort + AllocGlobal>(rt: &R, told: Mode, numbers: &[u64]) -> V
     for number in 0..5 {
         let payload = payload_in(told, number);
         if numbers.contains(&number) {
-            let message = message_of(rt, 0, number, payload);
-            messages.push(message).ok().expect(rt, "memory");
+            add(rt, &mut messages, 0, number, payload);
         }
-        let message = message_of(rt, 1, number, payload);
-        messages.push(message).ok().expect(rt, "memory");
+        add(rt, &mut messages, 1, number, payload);
     }
     messages
 }
@@ -117,9 +104,9 @@ const F: Mode = Mode::Full;
 /// The parts of hart 0 are those of a row, and hart 1 has all.
 fn are_those_of<R: Abort + AllocGlobal>(rt: &R, program: &Program, place: usize, row: Row) {
     let (handed, told, numbers, wanted, closed) = row;
-    let log = [retired(0), retired(4), retired(8)];
+    let log = [retired(0, 0), retired(4, 0), retired(8, 0)];
     let messages = messages_of(rt, told, numbers);
-    let harts = collect_lossy(rt.alloc(), program, 2, handed, &messages).expect(rt, "parts");
+    let harts = pieces_of(rt, place, program, 2, handed, &messages);
     match harts.as_slice() {
         [first, second] => {
             are_wanted(rt, (place, 0), &log, first, wanted, closed);

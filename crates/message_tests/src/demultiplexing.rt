@@ -93,7 +93,7 @@ const AFTER_LOSSES: [Row; 23] = [
     (Accept, 1, FAR, OPEN, Err(AfterClose)),
 ];
 
-/// Without losses both calls answer the same, and one may be called after the other.
+/// One call may be made after the other, also behind a loss.
 const BOTH_CALLS: [Row; 5] = [
     (Accept, 0, 0, OPEN, Ok(0)),
     (AcceptLossy, 0, 2, OPEN, Ok(1)),

@@ -63,8 +63,8 @@ fn are_refused(rt: &impl Abort, length: usize, calls: usize, kind: ErrorKind, fa
     same_at(rt, place, start, Err(fault));
 }
 
-/// Ends the test unless the message, and the header, are read by readers that fail at one call; and this behind the
-/// message.
+/// Ends the test unless the message and the header are read by readers that fail at one call, and this is answered
+/// behind the message.
 fn are_read(
     rt: &impl Abort,
     calls: usize,

@@ -46,7 +46,7 @@ fn with_settings(settings: [u8; 5]) -> [u8; 28] {
 }
 
 /// Ends the test unless bytes that begin with the mark and these settings are read so as a header, both ways.
-fn is_read(rt: &impl Abort, bytes: &[u8], settings: [u8; 5], header: Result<Header, MessageFault>) {
+fn reads(rt: &impl Abort, bytes: &[u8], settings: [u8; 5], header: Result<Header, MessageFault>) {
     let (told, start) = match header {
         Ok(header) => (Ok(Some(header)), Ok(Start::Version2(header))),
         Err(fault) => (Err(fault), Err(fault)),
@@ -56,12 +56,12 @@ fn is_read(rt: &impl Abort, bytes: &[u8], settings: [u8; 5], header: Result<Head
 }
 
 /// Ends the test unless a header is written as the mark and these settings, and read from them.
-fn is_written<R: Abort + AllocGlobal>(rt: &R, header: Header, settings: [u8; 5]) {
+fn writes<R: Abort + AllocGlobal>(rt: &R, header: Header, settings: [u8; 5]) {
     let want = with_settings(settings);
     let mut bytes = Vec::new(rt.alloc());
     write_header(&mut bytes, &header).expect(rt, "memory");
     same_at(rt, header, bytes.as_slice(), &want[..16]);
-    is_read(rt, &want[..16], settings, Ok(header));
+    reads(rt, &want[..16], settings, Ok(header));
 }
 
 #[test]
@@ -72,7 +72,7 @@ fn headers_are_written_and_read(rt: HostRuntime) {
             period,
             harts,
         };
-        is_written(&rt, header, settings);
+        writes(&rt, header, settings);
     }
 }
 
@@ -134,7 +134,7 @@ fn cut_headers_are_short(rt: HostRuntime) {
     are_short(&rt, &bytes[..12]);
 }
 
-/// The header that settings tell by their bytes, and the fault where they tell none.
+/// The header that settings tell by their bytes, or the fault where they tell none.
 fn by_bytes(settings: [u8; 5]) -> Result<Header, MessageFault> {
     let period = usize::from(settings[1]) + 256 * usize::from(settings[2]);
     let harts = usize::from(settings[3]) + 256 * usize::from(settings[4]);
@@ -161,7 +161,7 @@ fn each_setting_takes_each_value(rt: HostRuntime) {
                 let mut settings = [0, 0, other, 1, 0];
                 settings[place] = value;
                 let bytes = with_settings(settings);
-                is_read(&rt, &bytes, settings, by_bytes(settings));
+                reads(&rt, &bytes, settings, by_bytes(settings));
             }
         }
     }

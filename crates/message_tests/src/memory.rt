@@ -20,7 +20,8 @@ fn closes_the_last<A: Allocator>(rt: &impl Abort, size: usize, demux: &mut Demux
     same_at(rt, size, closed, [false, true, false]);
 }
 
-/// Whether so much memory is enough for 64 harts, of which the last is then closed rightly; behind that none is held.
+/// Whether so much memory is enough for 64 harts. Ends the test unless the last is then closed, and no memory is held
+/// afterwards.
 fn closes_within<R: Abort + AllocGlobal>(rt: &R, size: usize) -> bool {
     let heap = LocalHeap::new(rt.alloc(), size).expect(rt, "memory");
     let enough = match Demux::new(&heap, 64) {

@@ -25,20 +25,21 @@ fn capture_is_written(rt: HostRuntime) {
     same_at(&rt, "the capture", bytes.as_slice(), GAP.as_slice());
 }
 
-/// Ends the test unless so many messages of the capture are read of its beginning, both ways, and this behind them.
+/// Ends the test unless so many messages of the capture are read from its beginning, both ways, and this is answered
+/// behind them.
 fn are_read(rt: &impl Abort, bytes: &[u8], count: usize, end: Result<(), MessageFault>) {
     let length = bytes.len();
     let mut rest = bytes;
     let mut messages = Messages::new(bytes);
     for (number, payload) in MESSAGES.iter().take(count) {
-        is_message(rt, length, read_message(&mut rest), (0, *number, payload));
-        is_message(rt, length, messages.next(), (0, *number, payload));
+        message_at(rt, length, read_message(&mut rest), (0, *number, payload));
+        message_at(rt, length, messages.next(), (0, *number, payload));
     }
-    is_end(rt, length, read_message(&mut rest), end);
-    is_end(rt, length, messages.next(), end);
-    is_end(rt, length, messages.next(), end);
+    end_at(rt, length, read_message(&mut rest), end);
+    end_at(rt, length, messages.next(), end);
+    end_at(rt, length, messages.next(), end);
     if end.is_ok() {
-        is_end(rt, length, read_message(&mut rest), end);
+        end_at(rt, length, read_message(&mut rest), end);
     }
 }
 
@@ -46,7 +47,7 @@ fn are_read(rt: &impl Abort, bytes: &[u8], count: usize, end: Result<(), Message
 type Read = Result<Option<Message>, MessageFault>;
 
 /// Ends the test unless this message is read: its hart, its number and its payload.
-fn is_message(
+fn message_at(
     rt: &impl Abort,
     length: usize,
     read: Read,
@@ -57,7 +58,7 @@ fn is_message(
 }
 
 /// Ends the test unless no message is read, at the end of a capture or by a fault.
-fn is_end(rt: &impl Abort, length: usize, read: Read, end: Result<(), MessageFault>) {
+fn end_at(rt: &impl Abort, length: usize, read: Read, end: Result<(), MessageFault>) {
     let want = match end {
         Ok(()) => Ok(None),
         Err(fault) => Err(fault),
@@ -65,7 +66,7 @@ fn is_end(rt: &impl Abort, length: usize, read: Read, end: Result<(), MessageFau
     same_at(rt, length, read, want);
 }
 
-/// It goes on to answer so.
+/// At the end, and in memory also at a fault, the same is answered again.
 #[test]
 fn capture_is_read_and_cut_it_is_short(rt: HostRuntime) {
     for length in 0..=40usize {
@@ -97,11 +98,11 @@ fn bytes_stand_in_their_order(rt: HostRuntime) {
 }
 
 /// Ends the test unless bytes are refused for the length that they tell, both ways.
-fn are_bad(rt: &impl Abort, length: u8, mut bytes: &[u8]) {
+fn refuses_length(rt: &impl Abort, length: u8, mut bytes: &[u8]) {
     let place = usize::from(length);
     let bad = Err(MessageFault::BadLength);
-    is_end(rt, place, Messages::new(bytes).next(), bad);
-    is_end(rt, place, read_message(&mut bytes), bad);
+    end_at(rt, place, Messages::new(bytes).next(), bad);
+    end_at(rt, place, read_message(&mut bytes), bad);
 }
 
 /// Ends the test unless a length of a payload is taken where it is 1 to 18, and else is refused, also where no byte of
@@ -112,11 +113,11 @@ fn is_taken(rt: &impl Abort, length: u8) {
     if (1..=18).contains(&length) {
         let place = usize::from(length);
         let sent = (0x0707, 0x0707_0707_0707_0707, &bytes[11..11 + place]);
-        is_message(rt, place, Messages::new(&bytes).next(), sent);
-        is_message(rt, place, read_message(&mut bytes.as_slice()), sent);
+        message_at(rt, place, Messages::new(&bytes).next(), sent);
+        message_at(rt, place, read_message(&mut bytes.as_slice()), sent);
     } else {
-        are_bad(rt, length, &bytes);
-        are_bad(rt, length, &bytes[..11]);
+        refuses_length(rt, length, &bytes);
+        refuses_length(rt, length, &bytes[..11]);
     }
 }
 

@@ -33,9 +33,9 @@ const WRITE_FAULTS: [(WriteFault, &'static str); 2] = [
 
 /// Each fault is told as its row says.
 fn are_told<R: Abort + AllocGlobal, F: Display>(rt: &R, table: &[(F, &'static str)]) {
-    for (fault, want) in table {
+    for (i, (fault, want)) in table.iter().enumerate() {
         let told = format!(in rt.alloc(); "{fault}").expect(rt, "memory");
-        same_at(rt, "a fault's text", told.as_str(), *want);
+        same_at(rt, i, told.as_str(), *want);
     }
 }
 

@@ -34,7 +34,7 @@ fn list_is_refused(rt: HostRuntime) {
             }
         }
     }
-    assert!(rt; 40 <= refused && refused < 256, "{refused}");
+    assert!(rt; 40 <= refused && refused < 256, "{refused} are refused");
 }
 
 /// Whether events are written where their text has so much memory, or that is refused; and how long what is written is.
@@ -65,5 +65,5 @@ fn text_is_refused(rt: HostRuntime) {
             refused += 1;
         }
     }
-    assert!(rt; 0 < refused && refused < 40, "{refused}");
+    assert!(rt; 0 < refused && refused < 40, "{refused} are refused");
 }

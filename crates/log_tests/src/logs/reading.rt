@@ -119,9 +119,10 @@ fn one_row(rt: HostRuntime) {
     }
 }
 
-/// No event is read, or two of which this is the first.
+/// No event is read.
 const NONE: Told = Ok((0, None));
 
+/// Two events are read, of which this is the first.
 const TWO: Told = Ok((
     2,
     Some(Event::Retire {

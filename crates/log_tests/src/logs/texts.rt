@@ -150,5 +150,8 @@ fn random_texts(rt: HostRuntime) {
         logs = logs.saturating_add(u32::from(log));
     }
     // Some are logs, and some are not.
-    assert!(rt; TEXTS / 10 < logs && logs < TEXTS - TEXTS / 10, "{logs}");
+    assert!(rt;
+        TEXTS / 10 < logs && logs < TEXTS - TEXTS / 10,
+        "{logs} are logs"
+    );
 }

@@ -5,11 +5,11 @@ use crate::fixtures::same_at;
 use retire::{Event, read_log, write_log};
 use std::process::Abort;
 
-/// Events are written as a row so many times, and read of that.
+/// Events are written as the header and these rows, so many times, and are read back from that.
 fn is_written<R: Abort + AllocGlobal>(rt: &R, events: &[Event], row: &str, count: usize) {
     let want = text_of_rows(rt, row, count);
     let mut written = Vec::new(rt.alloc());
-    write_log(rt.alloc(), &mut written, events).expect(rt, "memory");
+    write_log(rt.alloc(), &mut written, events).expect(rt, "a written log");
     same_at(rt, events, written.as_slice(), want.as_slice());
     let back = read_log(rt.alloc(), rt.alloc(), written.as_slice()).expect(rt, "a log");
     same_at(rt, "read", back.as_slice(), events);

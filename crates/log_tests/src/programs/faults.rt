@@ -21,10 +21,12 @@ const IMAGES: [(u64, usize, &'static str); 7] = [
     (u64::MAX - 1, 2, PAST),
 ];
 
-/// That is told of an image.
+/// This is told of an image of so many bytes at this base.
 fn is_told<R: Abort + AllocGlobal>(rt: &R, base: u64, count: usize, want: &str) {
     let bytes = vec![in rt.alloc(); 0; count].expect(rt, "memory");
-    let fault = Program::new(base, bytes).err().expect(rt, "a fault");
+    let Err(fault) = Program::new(base, bytes) else {
+        panic!(rt; "base {base:x}, {count} bytes: a program");
+    };
     let told = format!(in rt.alloc(); "{fault}").expect(rt, "memory");
     same_at(rt, (base, count), told.as_str(), want);
 }

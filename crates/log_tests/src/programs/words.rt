@@ -273,7 +273,7 @@ const WORDS: [Row; 90] = [
     ),
 ];
 
-/// Each word, of 16 or 32 bits, alone in an image at the base.
+/// Each word of 16 or 32 bits, alone in an image at the base, has the class and the length of its row.
 #[test]
 fn each_word_alone(rt: HostRuntime) {
     for (name, word, length, class) in &WORDS {

@@ -260,7 +260,7 @@ const ROWS: [Row; 20] = [
     ),
 ];
 
-/// An encoder, and a source, gives the payloads of a row.
+/// An encoder gives the payloads of a row, and so does a source.
 fn gives_payloads<R: Abort + AllocGlobal>(rt: &R, i: usize, row: &Row) {
     let (words, period, mode, steps, want) = *row;
     let log = log_of(rt, steps);
