@@ -49,15 +49,8 @@ module _ (content : Content) (asked : Decode) (base : ℕ) (program : Image) (by
 
   -- And once that can be written, `decode` writes.
   can_lead : (lossy : Bool) → asked.lossy ≡ lossy → CanTell lossy asked.harts program bytes → CanDecode content asked
-  can_lead lossy is can = record {
-    base = base;
-    program = program;
-    bytes = bytes;
-    based = based;
-    found = found;
-    read = read;
-    can = subst (λ l. CanTell l asked.harts program bytes) (sym is) can;
-  }
+  can_lead lossy is can =
+      (base, based, (program, found, (bytes, read, subst (λ l. CanTell l asked.harts program bytes) (sym is) can)))
 
   -- What is printed of the capture is what `decode` prints.
   pub told_printed : (lossy : Bool) (ended : Result Status Fault) (old new : Option (List ℕ)) → asked.lossy ≡ lossy

@@ -1,67 +1,89 @@
--- What a run prints that looks at a base, a count of logs and an image first.
-use Rattle.std.proofs.Common.{◌≡◌, ◌⊎◌, inr, refl, ℕ, sym, subst, List, Option, Result, Ok, Err}
+-- What a run prints that finds the program of logs first, or legal logs.
+use Rattle.std.proofs.Common.{◌≡◌, ◌⊎◌, inl, inr, refl, ℕ, sym, subst, ap, ◌∙◌, List, length, Option, Some, None, Result, Ok, Err}
+use Rattle.std.proofs.lemmas.Result.{IfErr-at_err}
+use Rattle.std.specs.Prelude.{IfErr, IfSome}
 use Rattle.legalpath.specs.ProgramLog.{ProgramLog}
+use Rattle.retire.specs.Number.{number_of}
 use Rattle.rvclass.specs.Image.{Image}
 use Rattle.commands.specs.Faults.{Path}
-use Rattle.commands.specs.Found.{AreFew, AreLegalLogs, IsBase, IsProgram}
+use Rattle.commands.specs.Found.{AreFew, AreLegalLogs, AreLogs, IsBase, IsProgram, IsProgramOfLogs}
 use Rattle.commands.specs.Known.{Content}
+use Rattle.commands.specs.Order.{logs_fault}
 use Rattle.commands.specs.Printed.{First, Printed, PrintsUnlessDenied}
 use Rattle.commands.specs.declared.fault.Fault.{Fault}
 use Rattle.commands.specs.declared.fault.Fault.TheVariants as fault
 use Rattle.commands.specs.declared.status.Status.{Status}
 use Rattle.commands.proofs.Runs.{ends_silently}
 
-module _ (content : Content) (most : ℕ) (text : List ℕ) (image : Path) (items paths : List Path) (CanWrite : Type 0) (out : Option (List ℕ))
-    (base : ℕ) (why : Fault) (ended : Result Status Fault) (based : IsBase text (Ok base)) (same : paths ≡ items)
-    (is : ended ≡ Err why) where
-  -- The base, the count of logs and the image are looked at in this order, and then it goes on.
-  abbrev Steps : (ℕ → Image → Printed → Type 0) → Printed → Type 0
-  Steps Next = First (IsBase text) (λ base. First (AreFew most items) (λ _. First (IsProgram content base image) (Next base)))
+-- Once there are a base and logs, it is the image that makes no program.
+pub program_lacked : (content : Content) (most : ℕ) (text : List ℕ) (image : Path) (paths : List Path) (base : ℕ) (one : Unit {0})
+    → IsBase text (Ok base) → AreFew most paths (Ok one) → (why : Fault)
+    → (why ≡ fault.Memory) ⊎ IsProgram content base image (Err why)
+    → (why ≡ fault.Memory) ⊎ IsProgramOfLogs content most text image paths (Err why)
+program_lacked content most text image paths base one based few why (inl denied) = inl denied
+program_lacked content most text image paths base one based few why (inr none) = inr (Ok base, based, (Ok one, few, none))
 
-  -- There are too many logs.
-  pub count_ends : (Next : ℕ → Image → Printed → Type 0) → AreFew most paths (Err why)
-      → PrintsUnlessDenied (Steps Next) CanWrite ended out out
-  count_ends Next many =
-      subst (λ r. PrintsUnlessDenied (Steps Next) CanWrite r out out) (sym is)
-      (ends_silently (Steps Next) CanWrite (AreFew most items (Err why)) why out (inr (subst (λ logs. AreFew most logs (Err why)) same many))
-      (λ many. (Ok base, based, (Err why, many, refl))))
+-- What ends the search for the program ends the run.
+same_end : {A : Type 0} (told : Option Fault) (result : Result A Fault) (why : Fault) (ended : Result Status Fault)
+    → result ≡ Err why → ended ≡ Err why → IfSome told (λ fault. result ≡ Err fault) → IfSome told (λ fault. ended ≡ Err fault)
+same_end None result why ended failed is early = tt
+same_end (Some fault) result why ended failed is early =
+    is ∙ ap Err (IfErr-at_err (λ fault. why ≡ fault) early (subst (λ r. IfErr r (λ fault. why ≡ fault)) (sym failed) refl))
 
-  module _ (one : Unit {0}) (few : AreFew most paths (Ok one)) where
-    -- The image makes no program.
-    pub program_ends : (Next : ℕ → Image → Printed → Type 0) → (why ≡ fault.Memory) ⊎ IsProgram content base image (Err why)
-        → PrintsUnlessDenied (Steps Next) CanWrite ended out out
+-- And so does what is found before any file is read.
+pub early_ends : {A : Type 0} (most : ℕ) (text : List ℕ) (items paths : List Path) (result : Result A Fault) (why : Fault)
+    (ended : Result Status Fault) → paths ≡ items → result ≡ Err why → ended ≡ Err why
+    → IfSome (logs_fault most (number_of text) (length paths)) (λ fault. result ≡ Err fault)
+    → IfSome (logs_fault most (number_of text) (length items)) (λ fault. ended ≡ Err fault)
+early_ends most text items paths result why ended same failed is early =
+    same_end (logs_fault most (number_of text) (length items)) result why ended failed is
+    (subst (λ paths. IfSome (logs_fault most (number_of text) (length paths)) (λ fault. result ≡ Err fault)) same early)
+
+module _ (content : Content) (most : ℕ) (text : List ℕ) (image : Path) (items paths : List Path) (same : paths ≡ items) where
+  -- What is found of the program by a slice of the paths is found by the paths.
+  pub program_there : (found : Result Image Fault) → IsProgramOfLogs content most text image paths found
+      → IsProgramOfLogs content most text image items found
+  program_there found is = subst (λ paths. IsProgramOfLogs content most text image paths found) same is
+
+  -- And so it is with the logs, once there is a program and the files are as they were.
+  pub logs_there : (program : Image) (told : Content) (found : Result (List ProgramLog) Fault)
+      → IsProgramOfLogs content most text image paths (Ok program) → told ≡ content
+      → AreLegalLogs told program paths found → AreLogs content most text image items found
+  logs_there program told found is kept logs = (
+    Ok program,
+    program_there (Ok program) is,
+    subst (λ paths. AreLegalLogs content program paths found) same
+        (subst (λ told. AreLegalLogs told program paths found) kept logs),
+  )
+
+  module _ (CanWrite : Type 0) (out : Option (List ℕ)) (why : Fault) (ended : Result Status Fault) (is : ended ≡ Err why) where
+    -- There is no program.
+    pub program_ends : (Next : Image → Printed → Type 0)
+        → (why ≡ fault.Memory) ⊎ IsProgramOfLogs content most text image paths (Err why)
+        → PrintsUnlessDenied (First (IsProgramOfLogs content most text image items) Next) CanWrite ended out out
     program_ends Next none =
-        subst (λ r. PrintsUnlessDenied (Steps Next) CanWrite r out out) (sym is)
-        (ends_silently (Steps Next) CanWrite (IsProgram content base image (Err why)) why out none
-        (λ none. (Ok base, based, (Ok one, subst (λ logs. AreFew most logs (Ok one)) same few, (Err why, none, refl)))))
+        let Run = First (IsProgramOfLogs content most text image items) Next in
+        subst (λ r. PrintsUnlessDenied Run CanWrite r out out) (sym is)
+        (ends_silently Run CanWrite (IsProgramOfLogs content most text image paths (Err why)) why out none
+        (λ none. (Err why, program_there (Err why) none, refl)))
+
+    -- There is no program, so there are no logs.
+    pub no_logs : (Next : List ProgramLog → Printed → Type 0)
+        → (why ≡ fault.Memory) ⊎ IsProgramOfLogs content most text image paths (Err why)
+        → PrintsUnlessDenied (First (AreLogs content most text image items) Next) CanWrite ended out out
+    no_logs Next none =
+        let Run = First (AreLogs content most text image items) Next in
+        subst (λ r. PrintsUnlessDenied Run CanWrite r out out) (sym is)
+        (ends_silently Run CanWrite (IsProgramOfLogs content most text image paths (Err why)) why out none
+        (λ none. (Err why, (Err why, program_there (Err why) none, refl), refl)))
 
     -- A log is not legal.
-    pub logs_end : (Next : List ProgramLog → Printed → Type 0) (program : Image) (told : Content) (those : List Path) → told ≡ content
-        → those ≡ items → IsProgram content base image (Ok program) → (why ≡ fault.Memory) ⊎ AreLegalLogs told program those (Err why)
-        → PrintsUnlessDenied (Steps (λ _ program. First (AreLegalLogs content program items) Next)) CanWrite ended out out
-    logs_end Next program told those kept alike found none =
-        let Run = Steps (λ _ program. First (AreLegalLogs content program items) Next) in
-        let first = subst (λ logs. (why ≡ fault.Memory) ⊎ AreLegalLogs content program logs (Err why)) alike
-        (subst (λ told. (why ≡ fault.Memory) ⊎ AreLegalLogs told program those (Err why)) kept none) in
+    pub logs_end : (Next : List ProgramLog → Printed → Type 0) (program : Image) (told : Content)
+        → IsProgramOfLogs content most text image paths (Ok program) → told ≡ content
+        → (why ≡ fault.Memory) ⊎ AreLegalLogs told program paths (Err why)
+        → PrintsUnlessDenied (First (AreLogs content most text image items) Next) CanWrite ended out out
+    logs_end Next program told found kept none =
+        let Run = First (AreLogs content most text image items) Next in
         subst (λ r. PrintsUnlessDenied Run CanWrite r out out) (sym is)
-        (ends_silently Run CanWrite (AreLegalLogs content program items (Err why)) why out first
-        (λ none. (
-          Ok base,
-          based,
-          (Ok one, subst (λ logs. AreFew most logs (Ok one)) same few, (Ok program, found, (Err why, none, refl))),
-        )))
-
--- The steps up to the legal logs are gone, and it goes on from these.
-pub logs_found : (content told : Content) (most : ℕ) (text : List ℕ) (image : Path) (items paths those : List Path) (base : ℕ)
-    (program : Image) (one : Unit {0}) (logs : List ProgramLog)
-    → IsBase text (Ok base) → paths ≡ items → AreFew most paths (Ok one) → IsProgram content base image (Ok program)
-    → told ≡ content → those ≡ items → AreLegalLogs told program those (Ok logs)
-    → (Next : List ProgramLog → Printed → Type 0) (printed : Printed) → Next logs printed
-    → First (IsBase text) (λ base. First (AreFew most items) (λ _. First (IsProgram content base image) (λ program.
-    First (AreLegalLogs content program items) Next))) printed
-logs_found content told most text image items paths those base program one logs based same few found kept alike legal
-    Next printed next =
-    let there = subst (λ paths. AreLegalLogs content program paths (Ok logs)) alike
-    (subst (λ told. AreLegalLogs told program those (Ok logs)) kept legal) in
-    let counted = subst (λ paths. AreFew most paths (Ok one)) same few in
-    (Ok base, based, (Ok one, counted, (Ok program, found, (Ok logs, there, next))))
+        (ends_silently Run CanWrite (AreLegalLogs told program paths (Err why)) why out none
+        (λ none. (Err why, logs_there program told (Err why) found kept none, refl)))

@@ -9,5 +9,6 @@ mod HartTexts
 mod JudgedLogs
 mod LegalLogs
 mod PartTexts
+mod Reports
 mod Runs
 mod Schedules

@@ -1,5 +1,6 @@
 -- What a run prints, from what it wrote.
-use Rattle.std.proofs.Common.{◌≡◌, ◌⊎◌, inl, inr, ℕ, sym, ◌∙◌, append-nil, List, [], Option, Some, None, Result, Ok, Err}
+use Rattle.std.proofs.Common.{◌≡◌, ◌⊎◌, inl, inr, ℕ, sym, subst, ◌∙◌, append-nil, List, [], Option, Some, None, Result, Ok, Err}
+use Rattle.std.specs.Prelude.{IfErr, IfOk, OnOk}
 use Rattle.std.specs.Io.KnownBytes.{Appends, Keeps}
 use Rattle.commands.specs.Printed.{IsPrinted, Printed, PrintsUnlessDenied, silent}
 use Rattle.commands.specs.declared.fault.Fault.{Fault}
@@ -24,6 +25,18 @@ pub ends_silently : (Prints : Printed → Type 0) (CanWrite Finds : Type 0) (why
 ends_silently Prints CanWrite Finds why old (inl denied) prints = inl (inl denied)
 ends_silently Prints CanWrite Finds why old (inr finds) prints =
     inr (record { text = []; prints = prints finds; appended = appends-nothing old })
+
+-- A text was written and the run ended so, unless the output failed.
+pub written : (Prints : Printed → Type 0) (CanWrite : Type 0) (text : List ℕ) (status : Status) (ended : Result Status Fault)
+    (old new : Option (List ℕ)) → Prints (record { text = text; ended = Ok status }) → CanWrite
+    → IfErr ended (λ why. why ≡ fault.Output) → IfOk ended (λ told. told ≡ status) → OnOk ended (Appends old new text)
+    → PrintsUnlessDenied Prints CanWrite ended old new
+written Prints CanWrite text status (Ok told) old new prints can failed same appended = record {
+  text = text;
+  prints = subst (λ told. Prints (record { text = text; ended = Ok told })) (sym same) prints;
+  appended = appended;
+}
+written Prints CanWrite text status (Err why) old new prints can failed same appended = inl (inr (failed, can))
 
 -- What is printed holds, whether memory was refused or not.
 pub prints : (Prints : Printed → Type 0) (CanWrite : Type 0) (ended : Result Status Fault) (old new : Option (List ℕ))

@@ -2,6 +2,8 @@
 use Rattle.std.specs.Prelude.{◌≡◌, ◌⊎◌, ℕ, ◌++◌, List, Option, Ok}
 use Rattle.std.specs.Io.KnownBytes.{Keeps}
 use Rattle.output.specs.Begun.{AppendsBeginning}
+use Rattle.message.specs.Version.{most_harts}
+use Rattle.message.specs.declared.header.Version.TheVariants.{Two}
 use Rattle.rvclass.specs.Image.{Image}
 use Rattle.subcommands.specs.declared.words.Asked.{Asked}
 use Rattle.subcommands.specs.declared.words.Asked.TheVariants.{Bench, Check, Decode, Dump, Encode, Replay}
@@ -12,10 +14,11 @@ use Rattle.commands.specs.Decoded.{Decodes}
 use Rattle.commands.specs.Dumping.{Dumps}
 use Rattle.commands.specs.Encoding.{Encodes}
 use Rattle.commands.specs.Faults.{Path}
-use Rattle.commands.specs.Found.{IsBase, IsProgram}
+use Rattle.commands.specs.Found.{IsProgramOfLogs}
 use Rattle.commands.specs.Known.{Content}
 use Rattle.commands.specs.Printed.{IsPrinted, Printed}
 use Rattle.commands.specs.Replaying.{Replays}
+use Rattle.commands.specs.Steps.{Once}
 use Rattle.commands.specs.declared.status.Status.{Status}
 
 -- The lines of some first ones of the logs at these paths were appended.
@@ -27,12 +30,10 @@ pub record AppendsFirstLines (content : Content) (program : Image) (paths : List
   pub lines : IsPrinted (WritesLines content program front) (Ok status) old new
 
 -- The program was found, and the lines of some first logs were appended.
-pub record BeginsLines (content : Content) (asked : CheckWords) (old new : Option (List ℕ)) : Type 0 where
-  pub base : ℕ
-  pub program : Image
-  pub based : IsBase asked.base.now (Ok base)
-  pub found : IsProgram content base asked.image (Ok program)
-  pub lines : AppendsFirstLines content program asked.logs.items old new
+abbrev pub BeginsLines : Content → CheckWords → Option (List ℕ) → Option (List ℕ) → Type 0
+BeginsLines content asked old new =
+    Once (IsProgramOfLogs content (most_harts Two) asked.base.now asked.image asked.logs.items) (λ program.
+    AppendsFirstLines content program asked.logs.items old new)
 
 -- A beginning of a text was appended that may be printed.
 pub record BeginsPrinted (Prints : Printed → Type 0) (old new : Option (List ℕ)) : Type 0 where
@@ -64,12 +65,10 @@ pub record WritesFirstLines (content : Content) (program : Image) (paths : List 
   pub lines : WritesLines content program front printed
 
 -- The program was found, and the lines of some first logs are written.
-pub record ChecksFirst (content : Content) (asked : CheckWords) (printed : Printed) : Type 0 where
-  pub base : ℕ
-  pub program : Image
-  pub based : IsBase asked.base.now (Ok base)
-  pub found : IsProgram content base asked.image (Ok program)
-  pub lines : WritesFirstLines content program asked.logs.items printed
+abbrev pub ChecksFirst : Content → CheckWords → Printed → Type 0
+ChecksFirst content asked printed =
+    Once (IsProgramOfLogs content (most_harts Two) asked.base.now asked.image asked.logs.items) (λ program.
+    WritesFirstLines content program asked.logs.items printed)
 
 -- Nothing was written, or a beginning of a text that may be printed.
 abbrev pub IsCutOf : (Printed → Type 0) → Option (List ℕ) → Option (List ℕ) → Type 0

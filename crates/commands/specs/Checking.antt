@@ -14,7 +14,7 @@ use Rattle.rvclass.specs.Image.{Image}
 use Rattle.rvclass.specs.Words.{Words}
 use Rattle.subcommands.specs.declared.words.Check.{Check}
 use Rattle.commands.specs.Faults.{Path}
-use Rattle.commands.specs.Found.{AreFew, IsBase, IsLog, IsProgram}
+use Rattle.commands.specs.Found.{IsLog, IsProgramOfLogs}
 use Rattle.commands.specs.Known.{Content}
 use Rattle.commands.specs.Printed.{First, Printed}
 use Rattle.commands.specs.declared.fault.Fault.{Fault}
@@ -82,11 +82,8 @@ EndsLines content program paths text (Err why) = ChecksUpTo content program path
 abbrev pub WritesLines : Content → Image → List Path → Printed → Type 0
 WritesLines content program paths printed = EndsLines content program paths printed.text printed.ended
 
--- The base is looked at first, then the count of logs and the image; where there is no fault, the lines of the logs are
--- written.
+-- The program is found first; where there is no fault, the lines of the logs are written.
 abbrev pub Checks : Content → Check → Printed → Type 0
 Checks content asked =
-    First (IsBase asked.base.now) (λ base.
-    First (AreFew (most_harts Two) asked.logs.items) (λ _.
-    First (IsProgram content base asked.image) (λ program.
-    WritesLines content program asked.logs.items)))
+    First (IsProgramOfLogs content (most_harts Two) asked.base.now asked.image asked.logs.items) (λ program.
+    WritesLines content program asked.logs.items)

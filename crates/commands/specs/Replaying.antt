@@ -16,7 +16,7 @@ use Rattle.bench.specs.declared.stop.Stop.{Stop}
 use Rattle.bench.specs.declared.stop.Stop.TheVariants as stop
 use Rattle.subcommands.specs.declared.words.Replay.{Replay}
 use Rattle.commands.specs.Faults.{Path, schedule_fault}
-use Rattle.commands.specs.Found.{AreFew, AreLegalLogs, IsBase, IsProgram, IsRead}
+use Rattle.commands.specs.Found.{AreLogs, IsRead}
 use Rattle.commands.specs.Known.{Content}
 use Rattle.commands.specs.Printed.{First, Printed}
 use Rattle.commands.specs.Sending.{IsSetting, config_at, end_of_report}
@@ -70,14 +70,15 @@ pub record WritesReport (asked : Replay) (logs : List ProgramLog) (turns : List 
   pub text : printed.text ≡ report_text stop gots logs
   pub ended : printed.ended ≡ Ok (end_of_report stop (is_whole stop gots logs))
 
--- The base is looked at first, then the count of logs, the image, each log and the schedule; where there is no fault,
--- and nothing stands against sending, the report is written of what the turns let through.
+-- The turns of the schedule are found; where there is no fault, and nothing stands against sending, the report is
+-- written of what they let through of these logs.
+abbrev pub ReplaysLogs : Content → Replay → List ProgramLog → Printed → Type 0
+ReplaysLogs content asked logs =
+    First (IsSchedule content (length logs) asked.schedule) (λ turns.
+    First (IsSetting (most_harts Two) (length logs) (config_at asked.period asked.mode asked.capacity)) (λ _.
+    WritesReport asked logs turns))
+
+-- The legal logs are found first; where there is no fault, they are replayed.
 abbrev pub Replays : Content → Replay → Printed → Type 0
 Replays content asked =
-    First (IsBase asked.base.now) (λ base.
-    First (AreFew (most_harts Two) asked.logs.items) (λ _.
-    First (IsProgram content base asked.image) (λ program.
-    First (AreLegalLogs content program asked.logs.items) (λ logs.
-    First (IsSchedule content (length asked.logs.items) asked.schedule) (λ turns.
-    First (IsSetting (most_harts Two) (length asked.logs.items) (config_at asked.period asked.mode asked.capacity)) (λ _.
-    WritesReport asked logs turns))))))
+    First (AreLogs content (most_harts Two) asked.base.now asked.image asked.logs.items) (ReplaysLogs content asked)

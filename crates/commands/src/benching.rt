@@ -6,17 +6,17 @@ ghost use Rattle.funnel.specs.Limits.{most_ports};
 ghost use Rattle.bench.specs.Beginnings.{AreBeginnings};
 ghost use Rattle.bench.specs.Stopping.{NamesOpen};
 ghost use Rattle.commands.specs.Begun.{IsCutOf};
-ghost use Rattle.commands.specs.Benching.{Benches};
+ghost use Rattle.commands.specs.Benching.{Benches, BenchesLogs};
 ghost use Rattle.commands.specs.Faults.{end_of};
-ghost use Rattle.commands.specs.Inputs.{CanBench};
+ghost use Rattle.commands.specs.Inputs.{CanBench, CanBenchLogs};
 ghost use Rattle.commands.specs.Order.{logs_fault};
 ghost use Rattle.commands.specs.Printed.{PrintsUnlessDenied};
 ghost use Rattle.commands.specs.Sending.{IsSetting, config_at};
 
 use crate::fault::Fault;
 use crate::files::Files;
-use crate::inputs::{base_of, counted, legal_logs_of, program_of};
-use crate::reporting::{status_of, write_report};
+use crate::inputs::{legal_logs_of, program_of_logs};
+use crate::reporting::end_with_report;
 use crate::status::Status;
 use bench::{Config, Open, Outcome, run};
 use funnel::MOST_PORTS;
@@ -45,14 +45,28 @@ pub fn bench<'a, F: Files, O: Write, R: Threads + Wait + Sync>(
         (O.contents out.old) (O.contents out.new) }
     ensures cut { IsCutOf (Benches (F.content files.old) asked.now) (O.contents out.old) (O.contents out.new) }
 {
-    let base = base_of(asked.base)?;
-    counted(asked.logs.as_slice(), MOST_PORTS)?;
-    let program = program_of(files, base, asked.image)?;
-    let legal = legal_logs_of(alloc, files, &program, asked.logs.as_slice())?;
-    let outcome = outcome_of(alloc, rt, legal.as_slice(), asked)?;
-    write_report(&outcome, legal.as_slice(), out)?;
-    out.flush().map_err(|_| Fault::Output)?;
-    Ok(status_of(&outcome, legal.as_slice()))
+    let paths = asked.logs.as_slice();
+    let program = program_of_logs(files, MOST_PORTS, asked.base, asked.image, paths)?;
+    let logs = legal_logs_of(alloc, files, &program, paths)?;
+    bench_logs(alloc, rt, asked, logs.as_slice(), out)
+}
+
+/// Sends each legal log through the funnel from a thread of its own, and writes the report of what comes of them.
+fn bench_logs<'a, O: Write, R: Threads + Wait + Sync>(
+    alloc: Global,
+    rt: &R,
+    asked: &Bench<'a>,
+    logs: &[LegalLog<'_>],
+    out: &mut O,
+) -> Result<Status, Fault<'a>>
+    ensures refused { end_of result ≡ Status.Refused → out.new ≡ out.old }
+    ensures untouched { result ≡ Err Fault.Memory → out.new ≡ out.old }
+    ensures printed { PrintsUnlessDenied (BenchesLogs asked.now logs.now) (CanBenchLogs asked.now logs.now) result
+        (O.contents out.old) (O.contents out.new) }
+    ensures cut { IsCutOf (BenchesLogs asked.now logs.now) (O.contents out.old) (O.contents out.new) }
+{
+    let outcome = outcome_of(alloc, rt, logs, asked)?;
+    end_with_report(&outcome, logs, out)
 }
 
 /// What comes of the logs, which keep no packets.

@@ -1,6 +1,6 @@
 //! The subcommand `encode`.
 
-ghost use Rattle.std.specs.Prelude.{◌≡◌, ◌≤◌, Err, IfErr, IfSome, OnOk, length};
+ghost use Rattle.std.specs.Prelude.{◌≡◌, ◌≤◌, Err, IfErr, IfOk, IfSome, OnOk, length};
 ghost use Rattle.std.specs.Io.KnownBytes.{Appends};
 ghost use Rattle.message.specs.Version.{most_harts};
 ghost use Rattle.output.specs.Begun.{AppendsBeginning};
@@ -14,7 +14,7 @@ ghost use Rattle.retire.specs.Number.{number_of};
 
 use crate::fault::Fault;
 use crate::files::Files;
-use crate::inputs::{base_of, counted, legal_logs_of, program_of};
+use crate::inputs::{legal_logs_of, program_of_logs};
 use crate::status::Status;
 use captures::{encode_capture, encode_hex};
 use legalpath::LegalLog;
@@ -39,11 +39,28 @@ pub fn encode<'a, F: Files, O: Write>(
         (O.contents out.old) (O.contents out.new) }
     ensures cut { IsCutOf (Encodes (F.content files.old) asked.now) (O.contents out.old) (O.contents out.new) }
 {
-    let base = base_of(asked.base)?;
-    counted(asked.logs.as_slice(), asked.version.most_harts())?;
-    let program = program_of(files, base, asked.image)?;
-    let legal = legal_logs_of(alloc, files, &program, asked.logs.as_slice())?;
-    write_messages(asked, legal.as_slice(), out)?;
+    let paths = asked.logs.as_slice();
+    let most = asked.version.most_harts();
+    let program = program_of_logs(files, most, asked.base, asked.image, paths)?;
+    let logs = legal_logs_of(alloc, files, &program, paths)?;
+    encode_logs(asked, logs.as_slice(), out)
+}
+
+/// Writes the messages of legal logs, and that is all.
+fn encode_logs<'a, O: Write>(
+    asked: &Encode<'a>,
+    logs: &[LegalLog<'_>],
+    out: &mut O,
+) -> Result<Status, Fault<'a>>
+    requires period { 1 ≤ asked.now.period }
+    requires some { 1 ≤ length logs.now }
+    requires few { length logs.now ≤ most_harts asked.now.version }
+    ensures fault { IfErr result (λ fault. fault ≡ Fault.Output) }
+    ensures ended { IfOk result (λ status. status ≡ Status.Whole) }
+    ensures text { OnOk result (Appends (O.contents out.old) (O.contents out.new) (written asked.now logs.now)) }
+    ensures begun { AppendsBeginning (written asked.now logs.now) (O.contents out.old) (O.contents out.new) }
+{
+    write_messages(asked, logs, out)?;
     out.flush().map_err(|_| Fault::Output)?;
     Ok(Status::Whole)
 }

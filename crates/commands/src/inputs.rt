@@ -1,9 +1,10 @@
 //! What a command is given: a base, an image and logs.
 
-ghost use Rattle.std.specs.Prelude.{◌≡◌, ◌⊎◌, ◌≤◌, ◌<◌, ◌^◌, IfErr, IfOk, Err, Ok, length, vec_len};
+ghost use Rattle.std.specs.Prelude.{◌≡◌, ◌⊎◌, ◌≤◌, ◌<◌, ◌^◌, IfErr, IfOk, IfSome, Err, Ok, length, vec_len};
 ghost use Rattle.commands.specs.Faults.{status_of};
 ghost use Rattle.commands.specs.declared.fault.Fault.TheVariants as fault;
-ghost use Rattle.commands.specs.Found.{AreFew, AreLegalLogs, IsBase, IsLegalLogAt, IsLog, IsProgram, IsRead};
+ghost use Rattle.commands.specs.Found.{AreFew, AreLegalLogs, IsBase, IsLegalLogAt, IsLog, IsProgram, IsProgramOfLogs, IsRead};
+ghost use Rattle.commands.specs.Order.{logs_fault};
 ghost use Rattle.retire.specs.Number.{number_of};
 
 use crate::fault::Fault;
@@ -15,7 +16,7 @@ use rvclass::Program;
 use std::alloc::Global;
 
 /// Whether there are logs, and no more than so many.
-pub(crate) fn counted<'a>(logs: &[&'a str], most: u16) -> Result<(), Fault<'a>>
+fn counted<'a>(logs: &[&'a str], most: u16) -> Result<(), Fault<'a>>
     ensures found { AreFew most logs.now result }
     ensures some { IfOk result (λ _. 1 ≤ length logs.now) }
     ensures few { IfOk result (λ _. length logs.now ≤ most) }
@@ -64,6 +65,28 @@ pub(crate) fn program_of<'a, F: Files>(
 {
     let bytes = content_of(files, image)?;
     Ok(Program::new(base, bytes)?)
+}
+
+/// The program that logs are of, so many at most: the base is looked at first, then the count of logs, then the image.
+pub(crate) fn program_of_logs<'a, F: Files>(
+    files: &mut F,
+    most: u16,
+    base: &str,
+    image: &'a str,
+    logs: &[&'a str],
+) -> Result<Program, Fault<'a>>
+    ensures early { IfSome (logs_fault most (number_of base.now) (length logs.now)) (λ fault. result ≡ Err fault) }
+    ensures program { IfOk result (λ program.
+        IsProgramOfLogs (F.content files.old) most base.now image.entry logs.now (Ok program)) }
+    ensures fault { IfErr result (λ why.
+        (why ≡ Fault.Memory) ⊎ IsProgramOfLogs (F.content files.old) most base.now image.entry logs.now (Err why)) }
+    ensures some { IfOk result (λ _. 1 ≤ length logs.now) }
+    ensures few { IfOk result (λ _. length logs.now ≤ most) }
+    ensures kept { F.content files.new ≡ F.content files.old }
+{
+    let base = base_of(base)?;
+    counted(logs, most)?;
+    program_of(files, base, image)
 }
 
 /// The events of the log at a path.

@@ -1,6 +1,6 @@
 //! The subcommand `replay`.
 
-ghost use Rattle.std.specs.Prelude.{◌≡◌, ◌⊎◌, IfErr, IfOk, IfSome, Ok, Err, length, map};
+ghost use Rattle.std.specs.Prelude.{◌≡◌, ◌⊎◌, ◌≤◌, IfErr, IfOk, IfSome, Ok, Err, length, map};
 ghost use Rattle.retire.specs.Number.{number_of};
 ghost use Rattle.message.specs.Version.{most_harts};
 ghost use Rattle.message.specs.declared.header.Version.TheVariants.{Two};
@@ -9,15 +9,15 @@ ghost use Rattle.bench.specs.Replayed.{replayed};
 ghost use Rattle.commands.specs.Begun.{IsCutOf};
 ghost use Rattle.commands.specs.Faults.{end_of};
 ghost use Rattle.commands.specs.Order.{logs_fault};
-ghost use Rattle.commands.specs.Inputs.{CanReplay};
+ghost use Rattle.commands.specs.Inputs.{CanReplay, CanReplayLogs};
 ghost use Rattle.commands.specs.Printed.{PrintsUnlessDenied};
-ghost use Rattle.commands.specs.Replaying.{AreGot, IsSchedule, Replays};
+ghost use Rattle.commands.specs.Replaying.{AreGot, IsSchedule, Replays, ReplaysLogs};
 ghost use Rattle.commands.specs.Sending.{IsSetting, config_at};
 
 use crate::fault::Fault;
 use crate::files::Files;
-use crate::inputs::{base_of, content_of, counted, legal_logs_of, program_of};
-use crate::reporting::{status_of, write_report};
+use crate::inputs::{content_of, legal_logs_of, program_of_logs};
+use crate::reporting::end_with_report;
 use crate::status::Status;
 use bench::{Config, Outcome};
 use funnel::Turn;
@@ -45,15 +45,30 @@ pub fn replay<'a, F: Files, O: Write>(
         (O.contents out.old) (O.contents out.new) }
     ensures cut { IsCutOf (Replays (F.content files.old) asked.now) (O.contents out.old) (O.contents out.new) }
 {
-    let base = base_of(asked.base)?;
-    counted(asked.logs.as_slice(), MOST_HARTS)?;
-    let program = program_of(files, base, asked.image)?;
-    let legal = legal_logs_of(alloc, files, &program, asked.logs.as_slice())?;
-    let turns = turns_of(alloc, files, asked.logs.len() as u16, asked.schedule)?;
-    let outcome = outcome_of(alloc, legal.as_slice(), asked, turns.as_slice())?;
-    write_report(&outcome, legal.as_slice(), out)?;
-    out.flush().map_err(|_| Fault::Output)?;
-    Ok(status_of(&outcome, legal.as_slice()))
+    let paths = asked.logs.as_slice();
+    let program = program_of_logs(files, MOST_HARTS, asked.base, asked.image, paths)?;
+    let logs = legal_logs_of(alloc, files, &program, paths)?;
+    replay_logs(alloc, files, asked, logs.as_slice(), out)
+}
+
+/// Sends legal logs through the funnel as the schedule says, and writes the report of what comes of them.
+fn replay_logs<'a, F: Files, O: Write>(
+    alloc: Global,
+    files: &mut F,
+    asked: &Replay<'a>,
+    logs: &[LegalLog<'_>],
+    out: &mut O,
+) -> Result<Status, Fault<'a>>
+    requires { length logs.now ≤ most_harts Two }
+    ensures refused { end_of result ≡ Status.Refused → out.new ≡ out.old }
+    ensures untouched { result ≡ Err Fault.Memory → out.new ≡ out.old }
+    ensures printed { PrintsUnlessDenied (ReplaysLogs (F.content files.old) asked.now logs.now)
+        (CanReplayLogs (F.content files.old) asked.now logs.now) result (O.contents out.old) (O.contents out.new) }
+    ensures cut { IsCutOf (ReplaysLogs (F.content files.old) asked.now logs.now) (O.contents out.old) (O.contents out.new) }
+{
+    let turns = turns_of(alloc, files, logs.len() as u16, asked.schedule)?;
+    let outcome = outcome_of(alloc, logs, asked, turns.as_slice())?;
+    end_with_report(&outcome, logs, out)
 }
 
 /// The turns of the schedule at a path, of this many harts.

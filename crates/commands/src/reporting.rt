@@ -1,6 +1,6 @@
 //! The report of what came of logs.
 
-ghost use Rattle.std.specs.Prelude.{◌≡◌, IfErr, OnOk, length, map};
+ghost use Rattle.std.specs.Prelude.{◌≡◌, IfErr, IfOk, OnOk, length, map};
 ghost use Rattle.std.specs.Io.KnownBytes.{Appends};
 ghost use Rattle.output.specs.Begun.{AppendsBeginning};
 ghost use Rattle.bench.specs.Got.{got_of};
@@ -13,8 +13,28 @@ use bench::{Outcome, is_whole, report};
 use legalpath::LegalLog;
 use std::io::Write;
 
+/// Writes the report of what came of the logs, and answers how that ends the run.
+pub(crate) fn end_with_report<'a, O: Write>(
+    outcome: &Outcome,
+    logs: &[LegalLog<'_>],
+    out: &mut O,
+) -> Result<Status, Fault<'a>>
+    requires { length logs.now ≡ length outcome.now.harts.items }
+    ensures fault { IfErr result (λ fault. fault ≡ Fault.Output) }
+    ensures ended { IfOk result (λ status. status ≡ end_of_report outcome.now.stop
+        (is_whole outcome.now.stop (map got_of outcome.now.harts.items) logs.now)) }
+    ensures text { OnOk result (Appends (O.contents out.old) (O.contents out.new)
+        (report_text outcome.now.stop (map got_of outcome.now.harts.items) logs.now)) }
+    ensures begun { AppendsBeginning (report_text outcome.now.stop (map got_of outcome.now.harts.items) logs.now)
+        (O.contents out.old) (O.contents out.new) }
+{
+    write_report(outcome, logs, out)?;
+    out.flush().map_err(|_| Fault::Output)?;
+    Ok(status_of(outcome, logs))
+}
+
 /// Writes the report of what came of the logs.
-pub(crate) fn write_report<'a, O: Write>(
+fn write_report<'a, O: Write>(
     outcome: &Outcome,
     logs: &[LegalLog<'_>],
     out: &mut O,
@@ -29,8 +49,8 @@ pub(crate) fn write_report<'a, O: Write>(
     report(outcome, logs, out).map_err(|_| Fault::Output)
 }
 
-/// How it ends.
-pub(crate) fn status_of(outcome: &Outcome, logs: &[LegalLog<'_>]) -> Status
+/// How a run of which this came ends.
+fn status_of(outcome: &Outcome, logs: &[LegalLog<'_>]) -> Status
     requires { length logs.now ≡ length outcome.now.harts.items }
     ensures { result ≡ end_of_report outcome.now.stop
         (is_whole outcome.now.stop (map got_of outcome.now.harts.items) logs.now) }

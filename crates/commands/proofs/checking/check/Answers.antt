@@ -6,35 +6,42 @@ use Rattle.message.specs.Version.{most_harts}
 use Rattle.message.specs.declared.header.Version.TheVariants.{Two}
 use Rattle.commands.specs.Begun.{AppendsFirstLines, BeginsPrinted, ChecksFirst, WritesFirstLines}
 use Rattle.commands.specs.Checking.{Checks, WritesLines}
-use Rattle.commands.specs.Found.{AreFew}
+use Rattle.commands.specs.Found.{IsProgramOfLogs}
 use Rattle.commands.specs.Inputs.{CanCheck}
 use Rattle.commands.specs.Printed.{PrintsUnlessDenied}
 use Rattle.commands.proofs.Beginnings.{cut_kept, lines_kept}
-use Rattle.commands.proofs.FirstSteps.{count_ends, program_ends}
+use Rattle.commands.proofs.FirstSteps.{early_ends, program_ends, program_there}
 use Rattle.commands.proofs.Runs.{goes_on}
+use Rattle.commands.proofs.checking.check.Goals.{After-judge_all-ended}
 use Rattle.commands.proofs.checking.check.Goals as goal
 
-pub returns-in_err-counted-clause-printed : goal.returns-in_err-counted-clause-printed
-returns-in_err-counted-clause-printed g c =
-    let content = g.F.Files.content c.args.files.now in
+pub returns-in_err-program-clause-early : goal.returns-in_err-program-clause-early
+returns-in_err-program-clause-early g c =
     let asked = c.args.asked.now in
-    let is : c.from_residual-in_err-counted.result ≡ Err c.in_err-counted.field-0.0 = grind (arith, common_steps) in
-    count_ends content (most_harts Two) asked.base.now asked.image asked.logs.items c.as_slice.result.now (CanCheck content asked)
-    (g.O.Write.contents c.args.out.now) c.in_ok-base.base c.in_err-counted.field-0.0 c.from_residual-in_err-counted.result
-    c.in_ok-base.ensures.found c.as_slice.ensures.value is
-    (λ _ program. WritesLines content program asked.logs.items)
-    c.in_err-counted.ensures.found
+    let why = c.in_err-program.field-0.0 in
+    let failed : c.program_of_logs.result ≡ Err why = grind (arith, common_steps) in
+    let is : c.from_residual.result ≡ Err why = grind (arith, common_steps) in
+    early_ends (most_harts Two) asked.base.now asked.logs.items c.as_slice-logs.result.now c.program_of_logs.result why
+    c.from_residual.result c.as_slice-logs.ensures.value failed is c.program_of_logs.ensures.early
 
 pub returns-in_err-program-clause-printed : goal.returns-in_err-program-clause-printed
 returns-in_err-program-clause-printed g c =
     let content = g.F.Files.content c.args.files.now in
     let asked = c.args.asked.now in
-    let is : c.from_residual-in_err-program.result ≡ Err c.in_err-program.field-0.0 = grind (arith, common_steps) in
-    program_ends content (most_harts Two) asked.base.now asked.image asked.logs.items c.as_slice.result.now (CanCheck content asked)
-    (g.O.Write.contents c.args.out.now) c.in_ok-base.base c.in_err-program.field-0.0 c.from_residual-in_err-program.result
-    c.in_ok-base.ensures.found c.as_slice.ensures.value is c.in_ok-counted.field-0 c.in_ok-counted.ensures.found
-    (λ _ program. WritesLines content program asked.logs.items)
+    let why = c.in_err-program.field-0.0 in
+    let is : c.from_residual.result ≡ Err why = grind (arith, common_steps) in
+    program_ends content (most_harts Two) asked.base.now asked.image asked.logs.items c.as_slice-logs.result.now
+    c.as_slice-logs.ensures.value (CanCheck content asked) (g.O.Write.contents c.args.out.now) why
+    c.from_residual.result is (λ program. WritesLines content program asked.logs.items)
     c.in_err-program.ensures.fault
+
+-- The program that was found.
+there : (g : _) (c : After-judge_all-ended g) → IsProgramOfLogs (g.F.Files.content c.args.files.now) (most_harts Two)
+    c.args.asked.now.base.now c.args.asked.now.image c.args.asked.now.logs.items (Ok c.in_ok-program.program)
+there g c =
+    let asked = c.args.asked.now in
+    program_there (g.F.Files.content c.args.files.now) (most_harts Two) asked.base.now asked.image asked.logs.items
+    c.as_slice-logs.result.now c.as_slice-logs.ensures.value (Ok c.in_ok-program.program) c.in_ok-program.ensures.program
 
 pub returns-clause-printed : goal.returns-clause-printed
 returns-clause-printed g c =
@@ -42,27 +49,14 @@ returns-clause-printed g c =
     let asked = c.args.asked.now in
     let content = g.F.Files.content c.args.files.now in
     let program = c.in_ok-program.program in
-    let counted = Ok c.in_ok-counted.field-0 in
-    let few = subst (λ logs. AreFew (most_harts Two) logs counted) c.as_slice.ensures.value c.in_ok-counted.ensures.found in
+    let there = there g (goal.at.returns-clause-printed g c).After-judge_all-ended in
     let ended = c.judge_all-ended.result in
     let mid = contents c.judge_all-ended.new.out in
-    let lines = subst (λ logs. PrintsUnlessDenied (WritesLines content program logs) ⊤ ended (contents c.args.out.now) mid) c.as_slice-2.ensures.value
-    (subst (λ told. PrintsUnlessDenied (WritesLines told program c.as_slice-2.result.now) ⊤ ended (contents c.args.out.now) mid)
+    let lines = subst (λ logs. PrintsUnlessDenied (WritesLines content program logs) ⊤ ended (contents c.args.out.now) mid) c.as_slice-logs.ensures.value
+    (subst (λ told. PrintsUnlessDenied (WritesLines told program c.as_slice-logs.result.now) ⊤ ended (contents c.args.out.now) mid)
     c.in_ok-program.ensures.kept c.judge_all-ended.ensures.printed) in
     goes_on (WritesLines content program asked.logs.items) (Checks content asked) ⊤ (CanCheck content asked) ended (contents c.args.out.now) mid (contents c.flush.new.self)
-    (λ printed lines. (
-      Ok c.in_ok-base.base,
-      c.in_ok-base.ensures.found,
-      (counted, few, (Ok program, c.in_ok-program.ensures.program, lines)),
-    )) (
-      few,
-      record {
-        base = c.in_ok-base.base;
-        program = program;
-        based = c.in_ok-base.ensures.found;
-        found = c.in_ok-program.ensures.program;
-      },
-    )
+    (λ printed lines. (Ok program, there, lines)) (program, there, tt)
     lines c.flush.ensures.bytes
 
 pub returns-clause-begun : goal.returns-clause-begun
@@ -73,15 +67,14 @@ returns-clause-begun g c = λ memory.
     let program = c.in_ok-program.program in
     let old = contents c.args.out.now in
     let mid = contents c.judge_all-ended.new.out in
-    let lines = subst (λ logs. AppendsFirstLines content program logs old mid) c.as_slice-2.ensures.value
-    (subst (λ told. AppendsFirstLines told program c.as_slice-2.result.now old mid)
-    c.in_ok-program.ensures.kept (c.judge_all-ended.ensures.begun memory)) in inr (record {
-      base = c.in_ok-base.base;
-      program = program;
-      based = c.in_ok-base.ensures.found;
-      found = c.in_ok-program.ensures.program;
-      lines = lines_kept content program asked.logs.items old mid (contents c.flush.new.self) lines c.flush.ensures.bytes;
-    })
+    let lines = subst (λ logs. AppendsFirstLines content program logs old mid) c.as_slice-logs.ensures.value
+    (subst (λ told. AppendsFirstLines told program c.as_slice-logs.result.now old mid)
+    c.in_ok-program.ensures.kept (c.judge_all-ended.ensures.begun memory)) in
+    inr (
+      program,
+      there g (goal.at.returns-clause-begun g c).After-judge_all-ended,
+      lines_kept content program asked.logs.items old mid (contents c.flush.new.self) lines c.flush.ensures.bytes,
+    )
 
 pub returns-in_err-map_err-clause-cut : goal.returns-in_err-map_err-clause-cut
 returns-in_err-map_err-clause-cut g c =
@@ -92,17 +85,11 @@ returns-in_err-map_err-clause-cut g c =
     let old = contents c.args.out.now in
     let mid = contents c.judge_all-ended.new.out in
     let new = contents c.flush.new.self in
-    let lines = subst (λ logs. BeginsPrinted (WritesFirstLines content program logs) old mid) c.as_slice-2.ensures.value
-    (subst (λ told. BeginsPrinted (WritesFirstLines told program c.as_slice-2.result.now) old mid)
+    let lines = subst (λ logs. BeginsPrinted (WritesFirstLines content program logs) old mid) c.as_slice-logs.ensures.value
+    (subst (λ told. BeginsPrinted (WritesFirstLines told program c.as_slice-logs.result.now) old mid)
     c.in_ok-program.ensures.kept c.judge_all-ended.ensures.cut) in
     inr (cut_kept (WritesFirstLines content program asked.logs.items) (ChecksFirst content asked) old mid new
-    (λ printed lines. record {
-      base = c.in_ok-base.base;
-      program = program;
-      based = c.in_ok-base.ensures.found;
-      found = c.in_ok-program.ensures.program;
-      lines = lines;
-    }) lines c.flush.ensures.bytes)
+    (λ printed lines. (program, there g (goal.at.returns-in_err-map_err-clause-cut g c).After-judge_all-ended, lines)) lines c.flush.ensures.bytes)
 
 pub returns-clause-cut : goal.returns-clause-cut
 returns-clause-cut g c =
@@ -113,14 +100,8 @@ returns-clause-cut g c =
     let old = contents c.args.out.now in
     let mid = contents c.judge_all-ended.new.out in
     let new = contents c.flush.new.self in
-    let lines = subst (λ logs. BeginsPrinted (WritesFirstLines content program logs) old mid) c.as_slice-2.ensures.value
-    (subst (λ told. BeginsPrinted (WritesFirstLines told program c.as_slice-2.result.now) old mid)
+    let lines = subst (λ logs. BeginsPrinted (WritesFirstLines content program logs) old mid) c.as_slice-logs.ensures.value
+    (subst (λ told. BeginsPrinted (WritesFirstLines told program c.as_slice-logs.result.now) old mid)
     c.in_ok-program.ensures.kept c.judge_all-ended.ensures.cut) in
     inr (cut_kept (WritesFirstLines content program asked.logs.items) (ChecksFirst content asked) old mid new
-    (λ printed lines. record {
-      base = c.in_ok-base.base;
-      program = program;
-      based = c.in_ok-base.ensures.found;
-      found = c.in_ok-program.ensures.program;
-      lines = lines;
-    }) lines c.flush.ensures.bytes)
+    (λ printed lines. (program, there g (goal.at.returns-clause-cut g c).After-judge_all-ended, lines)) lines c.flush.ensures.bytes)

@@ -106,4 +106,4 @@ returns-in_err-map_err-clause-printed g c =
     let is : c.from_residual-in_err-map_err.result ≡ Err fault.Output = grind (arith, common_steps) in
     subst (λ r. PrintsUnlessDenied (Dumps content asked) (CanDump content asked) r (g.O.Write.contents c.args.out.now)
     (g.O.Write.contents c.flush.new.self)) (sym is)
-    (inl (inr (refl, record { bytes = c.in_ok-bytes.bytes.items; read = c.in_ok-bytes.ensures.held })))
+    (inl (inr (refl, (c.in_ok-bytes.bytes.items, c.in_ok-bytes.ensures.held, tt))))

@@ -1,119 +1,97 @@
 -- The prover tries no chain of steps by itself: what each step found is handed to it, in order.
-use Rattle.std.proofs.Common.{◌≡◌, ℕ, inr, refl, subst, arith, List, Ok, Err}
+use Rattle.std.proofs.Common.{◌≡◌, ◌⊎◌, inr, refl, subst, arith, Ok, Err}
 use Rattle.std.proofs.lemmas.Grind.{common_steps}
+use Rattle.std.specs.Prelude.{IfSome, OnOk, length}
 use Rattle.std.specs.Io.KnownBytes.{Appends}
 use Rattle.output.specs.Begun.{AppendsBeginning}
-use Rattle.output.proofs.Beginnings.{begun_kept}
 use Rattle.message.specs.Version.{most_harts}
 use Rattle.commands.specs.Encoding.{Encodes, WritesMessages, written}
-use Rattle.commands.specs.Faults.{Path}
-use Rattle.commands.specs.Found.{AreFew, AreLegalLogs}
+use Rattle.commands.specs.Found.{AreLogs, IsProgramOfLogs}
 use Rattle.commands.specs.Inputs.{CanEncode}
-use Rattle.commands.specs.Printed.{First}
+use Rattle.commands.specs.Order.{logs_fault}
+use Rattle.retire.specs.Number.{number_of}
+use Rattle.commands.specs.declared.fault.Fault.TheVariants as fault
 use Rattle.commands.specs.declared.status.Status.TheVariants.{Whole}
-use Rattle.commands.proofs.Beginnings.{printed_begun, printed_cut}
-use Rattle.commands.proofs.FirstSteps.{count_ends, logs_end, logs_found, program_ends}
-use Rattle.commands.proofs.Runs.{appends-keeps}
-use Rattle.commands.proofs.encoding.encode.Goals.{After-write_messages}
+use Rattle.commands.proofs.Beginnings.{printed_begun}
+use Rattle.commands.proofs.FirstSteps.{early_ends, logs_end, logs_there, no_logs}
+use Rattle.commands.proofs.Runs as runs
+use Rattle.commands.proofs.encoding.encode.Goals.{After-encode_logs}
 use Rattle.commands.proofs.encoding.encode.Goals as goal
 
--- There are no more logs than a capture of the version has harts.
-few : (paths : List Path) (one : Unit {0}) (limit most : ℕ) → limit ≡ most → AreFew limit paths (Ok one)
-    → AreFew most paths (Ok one)
-few paths one limit most is found = subst (λ most. AreFew most paths (Ok one)) is found
-
-pub returns-in_err-counted-clause-printed : goal.returns-in_err-counted-clause-printed
-returns-in_err-counted-clause-printed g c =
-    let content = g.F.Files.content c.args.files.now in
+pub returns-in_err-program-clause-early : goal.returns-in_err-program-clause-early
+returns-in_err-program-clause-early g c =
     let asked = c.args.asked.now in
-    let is : c.from_residual-in_err-counted.result ≡ Err c.in_err-counted.field-0.0 = grind (arith, common_steps) in
-    count_ends content (most_harts asked.version) asked.base.now asked.image asked.logs.items c.as_slice.result.now (CanEncode content asked)
-    (g.O.Write.contents c.args.out.now) c.in_ok-base.base c.in_err-counted.field-0.0 c.from_residual-in_err-counted.result
-    c.in_ok-base.ensures.found c.as_slice.ensures.value is
-    (λ _ program. First (AreLegalLogs content program asked.logs.items) (WritesMessages asked))
-    (subst (λ most. AreFew most c.as_slice.result.now (Err c.in_err-counted.field-0.0)) c.most_harts.ensures
-    c.in_err-counted.ensures.found)
+    let why = c.in_err-program.field-0.0 in
+    let failed : c.program_of_logs.result ≡ Err why = grind (arith, common_steps) in
+    let is : c.from_residual.result ≡ Err why = grind (arith, common_steps) in
+    early_ends (most_harts asked.version) asked.base.now asked.logs.items c.as_slice-paths.result.now c.program_of_logs.result why
+    c.from_residual.result c.as_slice-paths.ensures.value failed is
+    (subst (λ most. IfSome (logs_fault most (number_of asked.base.now) (length c.as_slice-paths.result.now))
+    (λ fault. c.program_of_logs.result ≡ Err fault)) c.most_harts-most.ensures c.program_of_logs.ensures.early)
 
 pub returns-in_err-program-clause-printed : goal.returns-in_err-program-clause-printed
 returns-in_err-program-clause-printed g c =
     let content = g.F.Files.content c.args.files.now in
     let asked = c.args.asked.now in
-    let is : c.from_residual-in_err-program.result ≡ Err c.in_err-program.field-0.0 = grind (arith, common_steps) in
-    program_ends content (most_harts asked.version) asked.base.now asked.image asked.logs.items c.as_slice.result.now (CanEncode content asked)
-    (g.O.Write.contents c.args.out.now) c.in_ok-base.base c.in_err-program.field-0.0 c.from_residual-in_err-program.result
-    c.in_ok-base.ensures.found c.as_slice.ensures.value is c.in_ok-counted.field-0
-    (few c.as_slice.result.now c.in_ok-counted.field-0 _ _ c.most_harts.ensures c.in_ok-counted.ensures.found)
-    (λ _ program. First (AreLegalLogs content program asked.logs.items) (WritesMessages asked))
-    c.in_err-program.ensures.fault
+    let why = c.in_err-program.field-0.0 in
+    let is : c.from_residual.result ≡ Err why = grind (arith, common_steps) in
+    no_logs content (most_harts asked.version) asked.base.now asked.image asked.logs.items c.as_slice-paths.result.now
+    c.as_slice-paths.ensures.value (CanEncode content asked) (g.O.Write.contents c.args.out.now) why
+    c.from_residual.result is (WritesMessages asked)
+    (subst (λ most. (why ≡ fault.Memory)
+    ⊎ IsProgramOfLogs content most asked.base.now asked.image c.as_slice-paths.result.now (Err why)) c.most_harts-most.ensures
+    c.in_err-program.ensures.fault)
 
-pub returns-in_err-legal-clause-printed : goal.returns-in_err-legal-clause-printed
-returns-in_err-legal-clause-printed g c =
+pub returns-in_err-logs-clause-printed : goal.returns-in_err-logs-clause-printed
+returns-in_err-logs-clause-printed g c =
     let content = g.F.Files.content c.args.files.now in
     let asked = c.args.asked.now in
-    let is : c.from_residual-in_err-legal.result ≡ Err c.in_err-legal.field-0.0 = grind (arith, common_steps) in
-    logs_end content (most_harts asked.version) asked.base.now asked.image asked.logs.items c.as_slice.result.now (CanEncode content asked)
-    (g.O.Write.contents c.args.out.now) c.in_ok-base.base c.in_err-legal.field-0.0 c.from_residual-in_err-legal.result
-    c.in_ok-base.ensures.found c.as_slice.ensures.value is c.in_ok-counted.field-0
-    (few c.as_slice.result.now c.in_ok-counted.field-0 _ _ c.most_harts.ensures c.in_ok-counted.ensures.found)
-    (WritesMessages asked)
-    c.in_ok-program.program (g.F.Files.content c.program_of.new.files) c.as_slice-2.result.now c.in_ok-program.ensures.kept
-    c.as_slice-2.ensures.value c.in_ok-program.ensures.program c.in_err-legal.ensures.fault
+    let why = c.in_err-logs.field-0.0 in
+    let program = c.in_ok-program.program in
+    let is : c.from_residual-in_err-logs.result ≡ Err why = grind (arith, common_steps) in
+    logs_end content (most_harts asked.version) asked.base.now asked.image asked.logs.items c.as_slice-paths.result.now
+    c.as_slice-paths.ensures.value (CanEncode content asked) (g.O.Write.contents c.args.out.now) why
+    c.from_residual-in_err-logs.result is (WritesMessages asked) program
+    (g.F.Files.content c.program_of_logs.new.files)
+    (subst (λ most. IsProgramOfLogs content most asked.base.now asked.image c.as_slice-paths.result.now (Ok program))
+    c.most_harts-most.ensures c.in_ok-program.ensures.program)
+    c.in_ok-program.ensures.kept c.in_err-logs.ensures.fault
 
-module _ (g : _) (c : After-write_messages g) where
-  -- The messages of the legal logs may be printed.
-  prints : Encodes (g.F.Files.content c.args.files.now) c.args.asked.now
-      (record { text = written c.args.asked.now c.in_ok-legal.legal.items; ended = Ok Whole })
-  prints =
-      let asked = c.args.asked.now in
+module _ (g : _) (c : After-encode_logs g) where
+  -- The logs that were found.
+  there : AreLogs (g.F.Files.content c.args.files.now) (most_harts c.args.asked.now.version) c.args.asked.now.base.now
+      c.args.asked.now.image c.args.asked.now.logs.items (Ok c.in_ok-logs.logs.items)
+  there =
       let content = g.F.Files.content c.args.files.now in
-      let logs = c.in_ok-legal.legal.items in
-      logs_found content (g.F.Files.content c.program_of.new.files) (most_harts asked.version) asked.base.now asked.image
-      asked.logs.items c.as_slice.result.now c.as_slice-2.result.now c.in_ok-base.base c.in_ok-program.program
-      c.in_ok-counted.field-0 logs c.in_ok-base.ensures.found c.as_slice.ensures.value
-      (few c.as_slice.result.now c.in_ok-counted.field-0 _ _ c.most_harts.ensures c.in_ok-counted.ensures.found)
-      c.in_ok-program.ensures.program c.in_ok-program.ensures.kept
-      c.as_slice-2.ensures.value c.in_ok-legal.ensures.logs
-      (WritesMessages asked) (record { text = written asked logs; ended = Ok Whole }) refl
-
-  -- A beginning of them was written.
-  begun : AppendsBeginning (written c.args.asked.now c.in_ok-legal.legal.items)
-      (g.O.Write.contents c.args.out.now) (g.O.Write.contents c.write_messages.new.out)
-  begun = subst (λ logs. AppendsBeginning (written c.args.asked.now logs) (g.O.Write.contents c.args.out.now)
-      (g.O.Write.contents c.write_messages.new.out)) c.as_slice-3.ensures.value c.write_messages.ensures.begun
+      let asked = c.args.asked.now in
+      let program = c.in_ok-program.program in
+      logs_there content (most_harts asked.version) asked.base.now asked.image asked.logs.items
+      c.as_slice-paths.result.now c.as_slice-paths.ensures.value program (g.F.Files.content c.program_of_logs.new.files)
+      (Ok c.in_ok-logs.logs.items)
+      (subst (λ most. IsProgramOfLogs content most asked.base.now asked.image c.as_slice-paths.result.now (Ok program))
+      c.most_harts-most.ensures c.in_ok-program.ensures.program)
+      c.in_ok-program.ensures.kept c.in_ok-logs.ensures.logs
 
 pub returns-clause-printed : goal.returns-clause-printed
 returns-clause-printed g c =
-    let contents = g.O.Write.contents in
+    let content = g.F.Files.content c.args.files.now in
     let asked = c.args.asked.now in
-    let after = (goal.at.returns-clause-printed g c).After-write_messages in
-    let text = written asked c.in_ok-legal.legal.items in
-    record {
-      text = text;
-      prints = prints g after;
-      appended = appends-keeps (contents c.args.out.now) (contents c.write_messages.new.out) (contents c.flush.new.self)
-          text
-          (subst (λ logs. Appends (contents c.args.out.now) (contents c.write_messages.new.out) (written asked logs))
-          c.as_slice-3.ensures.value c.in_ok-write_messages.ensures.text) c.flush.ensures.bytes;
-    }
-
-pub returns-in_err-write_messages-clause-cut : goal.returns-in_err-write_messages-clause-cut
-returns-in_err-write_messages-clause-cut g c =
-    let after = (goal.at.returns-in_err-write_messages-clause-cut g c).After-write_messages in
-    inr (printed_begun (Encodes (g.F.Files.content c.args.files.now) c.args.asked.now)
-    (written c.args.asked.now c.in_ok-legal.legal.items) (Ok Whole) (g.O.Write.contents c.args.out.now)
-    (g.O.Write.contents c.write_messages.new.out) (prints g after) (begun g after))
-
-pub returns-in_err-map_err-clause-cut : goal.returns-in_err-map_err-clause-cut
-returns-in_err-map_err-clause-cut g c =
-    let after = (goal.at.returns-in_err-map_err-clause-cut g c).After-write_messages in
-    let text = written c.args.asked.now c.in_ok-legal.legal.items in
+    let logs = c.in_ok-logs.logs.items in
     let old = g.O.Write.contents c.args.out.now in
-    let new = g.O.Write.contents c.flush.new.self in
-    inr (printed_begun (Encodes (g.F.Files.content c.args.files.now) c.args.asked.now) text (Ok Whole) old new
-    (prints g after)
-    (begun_kept text old (g.O.Write.contents c.write_messages.new.out) new (begun g after) c.flush.ensures.bytes))
+    let new = g.O.Write.contents c.encode_logs.new.out in
+    let there = there g (goal.at.returns-clause-printed g c).After-encode_logs in
+    runs.written (Encodes content asked) (CanEncode content asked) (written asked logs) Whole c.encode_logs.result old new
+    (Ok logs, there, refl) (logs, there, tt) c.encode_logs.ensures.fault c.encode_logs.ensures.ended
+    (subst (λ logs. OnOk c.encode_logs.result (Appends old new (written asked logs))) c.as_slice.ensures.value
+    c.encode_logs.ensures.text)
 
 pub returns-clause-cut : goal.returns-clause-cut
 returns-clause-cut g c =
-    inr (printed_cut (Encodes (g.F.Files.content c.args.files.now) c.args.asked.now) (Ok Whole)
-    (g.O.Write.contents c.args.out.now) (g.O.Write.contents c.flush.new.self) (returns-clause-printed g c))
+    let content = g.F.Files.content c.args.files.now in
+    let asked = c.args.asked.now in
+    let logs = c.in_ok-logs.logs.items in
+    let old = g.O.Write.contents c.args.out.now in
+    let new = g.O.Write.contents c.encode_logs.new.out in
+    inr (printed_begun (Encodes content asked) (written asked logs) (Ok Whole) old new
+    (Ok logs, there g (goal.at.returns-clause-cut g c).After-encode_logs, refl)
+    (subst (λ logs. AppendsBeginning (written asked logs) old new) c.as_slice.ensures.value c.encode_logs.ensures.begun))

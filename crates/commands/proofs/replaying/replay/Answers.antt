@@ -1,287 +1,88 @@
 -- The prover tries no chain of steps by itself: what each step found is handed to it, in order.
-use Rattle.std.proofs.Common.{◌≡◌, ◌⊎◌, inr, ◌∙◌, refl, subst, sym, ap, arith, List, length, map, Ok, Err}
+use Rattle.std.proofs.Common.{◌≡◌, ◌∙◌, subst, arith, Ok, Err}
 use Rattle.std.proofs.lemmas.Grind.{common_steps}
-use Rattle.std.specs.Io.KnownBytes.{Appends}
-use Rattle.output.specs.Begun.{AppendsBeginning}
-use Rattle.output.proofs.Beginnings.{begun_kept}
-use Rattle.legalpath.specs.ProgramLog.{ProgramLog}
-use Rattle.bench.specs.Got.{got_of}
-use Rattle.bench.specs.Replayed.{replayed}
-use Rattle.bench.specs.Report.{is_whole, report_text}
-use Rattle.subcommands.specs.declared.words.Replay.{Replay}
 use Rattle.message.specs.Version.{most_harts}
 use Rattle.message.specs.declared.header.Version.TheVariants.{Two}
-use Rattle.commands.specs.Found.{AreLegalLogs}
-use Rattle.commands.specs.Inputs.{CanReplay}
-use Rattle.commands.specs.Known.{Content}
-use Rattle.commands.specs.Printed.{First, Printed, PrintsUnlessDenied, silent}
-use Rattle.commands.specs.Replaying.{AreGot, IsSchedule, Replays, WritesReport}
-use Rattle.commands.specs.Sending.{IsSetting, config_at, end_of_report}
-use Rattle.commands.specs.declared.fault.Fault.TheVariants as fault
-use Rattle.commands.proofs.Beginnings.{printed_begun, printed_cut}
-use Rattle.commands.proofs.FirstSteps.{count_ends, logs_end, logs_found, program_ends}
-use Rattle.commands.proofs.Runs.{appends-keeps, ends_silently}
+use Rattle.commands.specs.Begun.{IsCutOf}
+use Rattle.commands.specs.Found.{AreLogs}
+use Rattle.commands.specs.Inputs.{CanReplay, CanReplayLogs}
+use Rattle.commands.specs.Printed.{PrintsUnlessDenied}
+use Rattle.commands.specs.Replaying.{Replays, ReplaysLogs}
+use Rattle.commands.proofs.Beginnings.{cut_leads}
+use Rattle.commands.proofs.FirstSteps.{early_ends, logs_end, logs_there, no_logs}
+use Rattle.commands.proofs.Runs.{leads_on}
+use Rattle.commands.proofs.replaying.replay.Goals.{After-replay_logs}
 use Rattle.commands.proofs.replaying.replay.Goals as goal
 
--- What is printed once the logs are found legal.
-abbrev Reports : Content → Replay → List ProgramLog → Printed → Type 0
-Reports content asked logs =
-    First (IsSchedule content (length asked.logs.items) asked.schedule) (λ turns.
-    First (IsSetting (most_harts Two) (length asked.logs.items) (config_at asked.period asked.mode asked.capacity)) (λ _.
-    WritesReport asked logs turns))
-
-pub returns-in_err-counted-clause-printed : goal.returns-in_err-counted-clause-printed
-returns-in_err-counted-clause-printed g c =
-    let content = g.F.Files.content c.args.files.now in
+pub returns-in_err-program-clause-early : goal.returns-in_err-program-clause-early
+returns-in_err-program-clause-early g c =
     let asked = c.args.asked.now in
-    let is : c.from_residual-in_err-counted.result ≡ Err c.in_err-counted.field-0.0 = grind (arith, common_steps) in
-    count_ends content (most_harts Two) asked.base.now asked.image asked.logs.items c.as_slice.result.now (CanReplay content asked)
-    (g.O.Write.contents c.args.out.now) c.in_ok-base.base c.in_err-counted.field-0.0 c.from_residual-in_err-counted.result
-    c.in_ok-base.ensures.found c.as_slice.ensures.value is
-    (λ _ program. First (AreLegalLogs content program asked.logs.items) (Reports content asked))
-    c.in_err-counted.ensures.found
+    let why = c.in_err-program.field-0.0 in
+    let failed : c.program_of_logs.result ≡ Err why = grind (arith, common_steps) in
+    let is : c.from_residual.result ≡ Err why = grind (arith, common_steps) in
+    early_ends (most_harts Two) asked.base.now asked.logs.items c.as_slice-paths.result.now c.program_of_logs.result why
+    c.from_residual.result c.as_slice-paths.ensures.value failed is c.program_of_logs.ensures.early
 
 pub returns-in_err-program-clause-printed : goal.returns-in_err-program-clause-printed
 returns-in_err-program-clause-printed g c =
     let content = g.F.Files.content c.args.files.now in
     let asked = c.args.asked.now in
-    let is : c.from_residual-in_err-program.result ≡ Err c.in_err-program.field-0.0 = grind (arith, common_steps) in
-    program_ends content (most_harts Two) asked.base.now asked.image asked.logs.items c.as_slice.result.now (CanReplay content asked)
-    (g.O.Write.contents c.args.out.now) c.in_ok-base.base c.in_err-program.field-0.0 c.from_residual-in_err-program.result
-    c.in_ok-base.ensures.found c.as_slice.ensures.value is c.in_ok-counted.field-0 c.in_ok-counted.ensures.found
-    (λ _ program. First (AreLegalLogs content program asked.logs.items) (Reports content asked))
-    c.in_err-program.ensures.fault
+    let why = c.in_err-program.field-0.0 in
+    let is : c.from_residual.result ≡ Err why = grind (arith, common_steps) in
+    no_logs content (most_harts Two) asked.base.now asked.image asked.logs.items c.as_slice-paths.result.now
+    c.as_slice-paths.ensures.value (CanReplay content asked) (g.O.Write.contents c.args.out.now) why
+    c.from_residual.result is (ReplaysLogs content asked) c.in_err-program.ensures.fault
 
-pub returns-in_err-legal-clause-printed : goal.returns-in_err-legal-clause-printed
-returns-in_err-legal-clause-printed g c =
+pub returns-in_err-logs-clause-printed : goal.returns-in_err-logs-clause-printed
+returns-in_err-logs-clause-printed g c =
     let content = g.F.Files.content c.args.files.now in
     let asked = c.args.asked.now in
-    let is : c.from_residual-in_err-legal.result ≡ Err c.in_err-legal.field-0.0 = grind (arith, common_steps) in
-    logs_end content (most_harts Two) asked.base.now asked.image asked.logs.items c.as_slice.result.now (CanReplay content asked)
-    (g.O.Write.contents c.args.out.now) c.in_ok-base.base c.in_err-legal.field-0.0 c.from_residual-in_err-legal.result
-    c.in_ok-base.ensures.found c.as_slice.ensures.value is c.in_ok-counted.field-0 c.in_ok-counted.ensures.found
-    (Reports content asked)
-    c.in_ok-program.program (g.F.Files.content c.program_of.new.files) c.as_slice-2.result.now c.in_ok-program.ensures.kept
-    c.as_slice-2.ensures.value c.in_ok-program.ensures.program c.in_err-legal.ensures.fault
+    let why = c.in_err-logs.field-0.0 in
+    let is : c.from_residual-in_err-logs.result ≡ Err why = grind (arith, common_steps) in
+    logs_end content (most_harts Two) asked.base.now asked.image asked.logs.items c.as_slice-paths.result.now
+    c.as_slice-paths.ensures.value (CanReplay content asked) (g.O.Write.contents c.args.out.now) why
+    c.from_residual-in_err-logs.result is (ReplaysLogs content asked) c.in_ok-program.program
+    (g.F.Files.content c.program_of_logs.new.files) c.in_ok-program.ensures.program c.in_ok-program.ensures.kept
+    c.in_err-logs.ensures.fault
 
-pub returns-in_err-turns-clause-printed : goal.returns-in_err-turns-clause-printed
-returns-in_err-turns-clause-printed g c =
-    let out = g.O.Write.contents c.args.out.now in
-    let asked = c.args.asked.now in
-    let content = g.F.Files.content c.args.files.now in
-    let run = Replays content asked in
-    let can = CanReplay content asked in
-    let logs = c.in_ok-legal.legal.items in
-    let why = c.in_err-turns.field-0.0 in
-    let is : c.from_residual-in_err-turns.result ≡ Err why = grind (arith, common_steps) in
-    let goes_on = logs_found content (g.F.Files.content c.program_of.new.files) (most_harts Two) asked.base.now asked.image
-    asked.logs.items c.as_slice.result.now c.as_slice-2.result.now c.in_ok-base.base c.in_ok-program.program
-    c.in_ok-counted.field-0 logs c.in_ok-base.ensures.found c.as_slice.ensures.value c.in_ok-counted.ensures.found
-    c.in_ok-program.ensures.program c.in_ok-program.ensures.kept c.as_slice-2.ensures.value
-    c.in_ok-legal.ensures.logs in
-    let harts : c.len.result ≡ length asked.logs.items = omega (arith, c.len.ensures, asked.logs.ok.0) in
-    let told = subst (λ harts. (why ≡ fault.Memory) ⊎ IsSchedule content harts asked.schedule (Err why)) harts
-    (subst (λ told. (why ≡ fault.Memory) ⊎ IsSchedule told c.len.result asked.schedule (Err why))
-    (c.in_ok-legal.ensures.kept ∙ c.in_ok-program.ensures.kept) c.in_err-turns.ensures.fault) in
-    subst (λ r. PrintsUnlessDenied run can r out out) (sym is)
-    (ends_silently run can (IsSchedule content (length asked.logs.items) asked.schedule (Err why)) why out told
-    (λ none. goes_on (Reports content asked) (silent why) (Err why, none, refl)))
-
-pub returns-in_err-outcome-clause-printed : goal.returns-in_err-outcome-clause-printed
-returns-in_err-outcome-clause-printed g c =
-    let out = g.O.Write.contents c.args.out.now in
-    let asked = c.args.asked.now in
-    let content = g.F.Files.content c.args.files.now in
-    let run = Replays content asked in
-    let can = CanReplay content asked in
-    let logs = c.in_ok-legal.legal.items in
-    let turns = c.in_ok-turns.turns.items in
-    let why = c.in_err-outcome.field-0.0 in
-    let is : c.from_residual-in_err-outcome.result ≡ Err why = grind (arith, common_steps) in
-    let goes_on = logs_found content (g.F.Files.content c.program_of.new.files) (most_harts Two) asked.base.now asked.image
-    asked.logs.items c.as_slice.result.now c.as_slice-2.result.now c.in_ok-base.base c.in_ok-program.program
-    c.in_ok-counted.field-0 logs c.in_ok-base.ensures.found c.as_slice.ensures.value c.in_ok-counted.ensures.found
-    c.in_ok-program.ensures.program c.in_ok-program.ensures.kept c.as_slice-2.ensures.value
-    c.in_ok-legal.ensures.logs in
-    let harts : c.len.result ≡ length asked.logs.items = omega (arith, c.len.ensures, asked.logs.ok.0) in
-    let told = subst (λ harts. IsSchedule content harts asked.schedule (Ok turns)) harts
-    (subst (λ told. IsSchedule told c.len.result asked.schedule (Ok turns))
-    (c.in_ok-legal.ensures.kept ∙ c.in_ok-program.ensures.kept) c.in_ok-turns.ensures.turns) in
-    let paths = ap length c.as_slice-2.ensures.value in
-    let count : length logs ≡ length asked.logs.items =
-    omega (arith, c.in_ok-legal.legal.ok.0, c.in_ok-legal.ensures.count, paths) in
-    let config = config_at asked.period asked.mode asked.capacity in
-    let stands = subst (λ harts. (why ≡ fault.Memory) ⊎ IsSetting (most_harts Two) harts config (Err why)) count
-    (subst (λ logs. (why ≡ fault.Memory) ⊎ IsSetting (most_harts Two) (length logs) config (Err why)) c.as_slice-3.ensures.value
-    c.in_err-outcome.ensures.fault) in
-    subst (λ r. PrintsUnlessDenied run can r out out) (sym is)
-    (ends_silently run can (IsSetting (most_harts Two) (length asked.logs.items) config (Err why)) why out stands
-    (λ none. goes_on (Reports content asked) (silent why) (Ok turns, told, (Err why, none, refl))))
+module _ (g : _) (c : After-replay_logs g) where
+  -- The logs that were found.
+  there : AreLogs (g.F.Files.content c.args.files.now) (most_harts Two) c.args.asked.now.base.now
+      c.args.asked.now.image c.args.asked.now.logs.items (Ok c.in_ok-logs.logs.items)
+  there =
+      let asked = c.args.asked.now in
+      logs_there (g.F.Files.content c.args.files.now) (most_harts Two) asked.base.now asked.image asked.logs.items
+      c.as_slice-paths.result.now c.as_slice-paths.ensures.value c.in_ok-program.program
+      (g.F.Files.content c.program_of_logs.new.files) (Ok c.in_ok-logs.logs.items) c.in_ok-program.ensures.program
+      c.in_ok-program.ensures.kept c.in_ok-logs.ensures.logs
 
 pub returns-clause-printed : goal.returns-clause-printed
 returns-clause-printed g c =
-    let contents = g.O.Write.contents in
-    let asked = c.args.asked.now in
     let content = g.F.Files.content c.args.files.now in
-    let logs = c.in_ok-legal.legal.items in
-    let turns = c.in_ok-turns.turns.items in
-    let outcome = c.in_ok-outcome.outcome in
-    let gots = map got_of outcome.harts.items in
-    let goes_on = logs_found content (g.F.Files.content c.program_of.new.files) (most_harts Two) asked.base.now asked.image
-    asked.logs.items c.as_slice.result.now c.as_slice-2.result.now c.in_ok-base.base c.in_ok-program.program
-    c.in_ok-counted.field-0 logs c.in_ok-base.ensures.found c.as_slice.ensures.value c.in_ok-counted.ensures.found
-    c.in_ok-program.ensures.program c.in_ok-program.ensures.kept c.as_slice-2.ensures.value
-    c.in_ok-legal.ensures.logs in
-    let harts : c.len.result ≡ length asked.logs.items = omega (arith, c.len.ensures, asked.logs.ok.0) in
-    let told = subst (λ harts. IsSchedule content harts asked.schedule (Ok turns)) harts
-    (subst (λ told. IsSchedule told c.len.result asked.schedule (Ok turns))
-    (c.in_ok-legal.ensures.kept ∙ c.in_ok-program.ensures.kept) c.in_ok-turns.ensures.turns) in
-    let paths = ap length c.as_slice-2.ensures.value in
-    let count : length logs ≡ length asked.logs.items =
-    omega (arith, c.in_ok-legal.legal.ok.0, c.in_ok-legal.ensures.count, paths) in
-    let config = config_at asked.period asked.mode asked.capacity in
-    let stands = subst (λ harts. IsSetting (most_harts Two) harts config (Ok tt)) count
-    (subst (λ logs. IsSetting (most_harts Two) (length logs) config (Ok tt)) c.as_slice-3.ensures.value c.in_ok-outcome.ensures.setting) in
-    let came = subst (λ turns. AreGot asked.period asked.mode logs
-    (replayed asked.period asked.mode asked.capacity logs turns).taken outcome.stop gots)
-    c.as_slice-4.ensures.value
-    (subst (λ logs. AreGot asked.period asked.mode logs
-    (replayed asked.period asked.mode asked.capacity logs c.as_slice-4.result.now).taken outcome.stop gots)
-    c.as_slice-3.ensures.value c.in_ok-outcome.ensures.came) in
-    let text = subst (λ logs. Appends (contents c.args.out.now) (contents c.write_report.new.out) (report_text outcome.stop gots logs))
-    c.as_slice-5.ensures.value c.in_ok-write_report.ensures.text in
-    let ended = ap (λ status. Ok status) (c.status_of.ensures
-    ∙ ap (λ logs. end_of_report outcome.stop (is_whole outcome.stop gots logs)) c.as_slice-6.ensures.value) in record {
-      text = report_text outcome.stop gots logs;
-      prints = goes_on (Reports content asked)
-          (record { text = report_text outcome.stop gots logs; ended = Ok c.status_of.result }) (
-            Ok turns,
-            told,
-            (
-              Ok tt,
-              stands,
-              record {
-                stop = outcome.stop;
-                gots = gots;
-                came = came;
-                text = refl;
-                ended = ended;
-              },
-            ),
-          );
-      appended = appends-keeps (contents c.args.out.now) (contents c.write_report.new.out) (contents c.flush.new.self)
-          (report_text outcome.stop gots logs) text c.flush.ensures.bytes;
-    }
-
-pub returns-in_err-write_report-clause-cut : goal.returns-in_err-write_report-clause-cut
-returns-in_err-write_report-clause-cut g c =
-    let contents = g.O.Write.contents in
     let asked = c.args.asked.now in
-    let content = g.F.Files.content c.args.files.now in
-    let logs = c.in_ok-legal.legal.items in
-    let turns = c.in_ok-turns.turns.items in
-    let outcome = c.in_ok-outcome.outcome in
-    let gots = map got_of outcome.harts.items in
-    let goes_on = logs_found content (g.F.Files.content c.program_of.new.files) (most_harts Two) asked.base.now asked.image
-    asked.logs.items c.as_slice.result.now c.as_slice-2.result.now c.in_ok-base.base c.in_ok-program.program
-    c.in_ok-counted.field-0 logs c.in_ok-base.ensures.found c.as_slice.ensures.value c.in_ok-counted.ensures.found
-    c.in_ok-program.ensures.program c.in_ok-program.ensures.kept c.as_slice-2.ensures.value
-    c.in_ok-legal.ensures.logs in
-    let harts : c.len.result ≡ length asked.logs.items = omega (arith, c.len.ensures, asked.logs.ok.0) in
-    let told = subst (λ harts. IsSchedule content harts asked.schedule (Ok turns)) harts
-    (subst (λ told. IsSchedule told c.len.result asked.schedule (Ok turns))
-    (c.in_ok-legal.ensures.kept ∙ c.in_ok-program.ensures.kept) c.in_ok-turns.ensures.turns) in
-    let paths = ap length c.as_slice-2.ensures.value in
-    let count : length logs ≡ length asked.logs.items =
-    omega (arith, c.in_ok-legal.legal.ok.0, c.in_ok-legal.ensures.count, paths) in
-    let config = config_at asked.period asked.mode asked.capacity in
-    let stands = subst (λ harts. IsSetting (most_harts Two) harts config (Ok tt)) count
-    (subst (λ logs. IsSetting (most_harts Two) (length logs) config (Ok tt)) c.as_slice-3.ensures.value c.in_ok-outcome.ensures.setting) in
-    let came = subst (λ turns. AreGot asked.period asked.mode logs (replayed asked.period asked.mode asked.capacity logs turns).taken outcome.stop gots)
-    c.as_slice-4.ensures.value
-    (subst (λ logs. AreGot asked.period asked.mode logs
-    (replayed asked.period asked.mode asked.capacity logs c.as_slice-4.result.now).taken outcome.stop gots)
-    c.as_slice-3.ensures.value c.in_ok-outcome.ensures.came) in
-    let text = report_text outcome.stop gots logs in
-    let ended = Ok (end_of_report outcome.stop (is_whole outcome.stop gots logs)) in
-    let old = contents c.args.out.now in
-    let mid = contents c.write_report.new.out in
-    let new = contents c.write_report.new.out in
-    let begun = subst (λ logs. AppendsBeginning (report_text outcome.stop gots logs) old mid) c.as_slice-5.ensures.value
-    c.write_report.ensures.begun in
-    inr (printed_begun (Replays content asked) text ended old new
-    (goes_on (Reports content asked) (record { text = text; ended = ended }) (
-      Ok turns,
-      told,
-      (
-        Ok tt,
-        stands,
-        record {
-          stop = outcome.stop;
-          gots = gots;
-          came = came;
-          text = refl;
-          ended = refl;
-        },
-      ),
-    ))
-    begun)
-
-pub returns-in_err-map_err-clause-cut : goal.returns-in_err-map_err-clause-cut
-returns-in_err-map_err-clause-cut g c =
-    let contents = g.O.Write.contents in
-    let asked = c.args.asked.now in
-    let content = g.F.Files.content c.args.files.now in
-    let logs = c.in_ok-legal.legal.items in
-    let turns = c.in_ok-turns.turns.items in
-    let outcome = c.in_ok-outcome.outcome in
-    let gots = map got_of outcome.harts.items in
-    let goes_on = logs_found content (g.F.Files.content c.program_of.new.files) (most_harts Two) asked.base.now asked.image
-    asked.logs.items c.as_slice.result.now c.as_slice-2.result.now c.in_ok-base.base c.in_ok-program.program
-    c.in_ok-counted.field-0 logs c.in_ok-base.ensures.found c.as_slice.ensures.value c.in_ok-counted.ensures.found
-    c.in_ok-program.ensures.program c.in_ok-program.ensures.kept c.as_slice-2.ensures.value
-    c.in_ok-legal.ensures.logs in
-    let harts : c.len.result ≡ length asked.logs.items = omega (arith, c.len.ensures, asked.logs.ok.0) in
-    let told = subst (λ harts. IsSchedule content harts asked.schedule (Ok turns)) harts
-    (subst (λ told. IsSchedule told c.len.result asked.schedule (Ok turns))
-    (c.in_ok-legal.ensures.kept ∙ c.in_ok-program.ensures.kept) c.in_ok-turns.ensures.turns) in
-    let paths = ap length c.as_slice-2.ensures.value in
-    let count : length logs ≡ length asked.logs.items =
-    omega (arith, c.in_ok-legal.legal.ok.0, c.in_ok-legal.ensures.count, paths) in
-    let config = config_at asked.period asked.mode asked.capacity in
-    let stands = subst (λ harts. IsSetting (most_harts Two) harts config (Ok tt)) count
-    (subst (λ logs. IsSetting (most_harts Two) (length logs) config (Ok tt)) c.as_slice-3.ensures.value c.in_ok-outcome.ensures.setting) in
-    let came = subst (λ turns. AreGot asked.period asked.mode logs (replayed asked.period asked.mode asked.capacity logs turns).taken outcome.stop gots)
-    c.as_slice-4.ensures.value
-    (subst (λ logs. AreGot asked.period asked.mode logs
-    (replayed asked.period asked.mode asked.capacity logs c.as_slice-4.result.now).taken outcome.stop gots)
-    c.as_slice-3.ensures.value c.in_ok-outcome.ensures.came) in
-    let text = report_text outcome.stop gots logs in
-    let ended = Ok (end_of_report outcome.stop (is_whole outcome.stop gots logs)) in
-    let old = contents c.args.out.now in
-    let mid = contents c.write_report.new.out in
-    let new = contents c.flush.new.self in
-    let begun = subst (λ logs. AppendsBeginning (report_text outcome.stop gots logs) old mid) c.as_slice-5.ensures.value
-    c.write_report.ensures.begun in
-    inr (printed_begun (Replays content asked) text ended old new
-    (goes_on (Reports content asked) (record { text = text; ended = ended }) (
-      Ok turns,
-      told,
-      (
-        Ok tt,
-        stands,
-        record {
-          stop = outcome.stop;
-          gots = gots;
-          came = came;
-          text = refl;
-          ended = refl;
-        },
-      ),
-    ))
-    (begun_kept text old mid new begun c.flush.ensures.bytes))
+    let logs = c.in_ok-logs.logs.items in
+    let slice = c.as_slice.result.now in
+    let ended = c.replay_logs.result in
+    let old = g.O.Write.contents c.args.out.now in
+    let new = g.O.Write.contents c.replay_logs.new.out in
+    let there = there g (goal.at.returns-clause-printed g c).After-replay_logs in
+    leads_on (ReplaysLogs content asked logs) (Replays content asked) (CanReplayLogs content asked logs)
+    (CanReplay content asked) ended old new (λ printed replays. (Ok logs, there, replays)) (λ can. (logs, there, can))
+    (subst (λ logs. PrintsUnlessDenied (ReplaysLogs content asked logs) (CanReplayLogs content asked logs) ended old new)
+    c.as_slice.ensures.value
+    (subst (λ told. PrintsUnlessDenied (ReplaysLogs told asked slice) (CanReplayLogs told asked slice) ended old new)
+    (c.in_ok-logs.ensures.kept ∙ c.in_ok-program.ensures.kept) c.replay_logs.ensures.printed))
 
 pub returns-clause-cut : goal.returns-clause-cut
 returns-clause-cut g c =
-    inr (printed_cut (Replays (g.F.Files.content c.args.files.now) c.args.asked.now) (Ok c.status_of.result)
-    (g.O.Write.contents c.args.out.now) (g.O.Write.contents c.flush.new.self) (returns-clause-printed g c))
+    let content = g.F.Files.content c.args.files.now in
+    let asked = c.args.asked.now in
+    let logs = c.in_ok-logs.logs.items in
+    let slice = c.as_slice.result.now in
+    let old = g.O.Write.contents c.args.out.now in
+    let new = g.O.Write.contents c.replay_logs.new.out in
+    let there = there g (goal.at.returns-clause-cut g c).After-replay_logs in
+    cut_leads (ReplaysLogs content asked logs) (Replays content asked) old new (λ printed replays. (Ok logs, there, replays))
+    (subst (λ logs. IsCutOf (ReplaysLogs content asked logs) old new) c.as_slice.ensures.value
+    (subst (λ told. IsCutOf (ReplaysLogs told asked slice) old new) (c.in_ok-logs.ensures.kept ∙ c.in_ok-program.ensures.kept)
+    c.replay_logs.ensures.cut))

@@ -1,0 +1,28 @@
+-- The prover tries no chain of steps by itself: what each step found is handed to it, in order.
+use Rattle.std.proofs.Common.{map}
+use Rattle.output.proofs.Beginnings.{begun_kept}
+use Rattle.bench.specs.Got.{got_of}
+use Rattle.bench.specs.Report.{report_text}
+use Rattle.commands.proofs.Runs.{appends-keeps}
+use Rattle.commands.proofs.reporting.end_with_report.Goals as goal
+
+pub returns-in_err-map_err-clause-begun : goal.returns-in_err-map_err-clause-begun
+returns-in_err-map_err-clause-begun g c =
+    let contents = g.O.Write.contents in
+    let outcome = c.args.outcome.now in
+    begun_kept (report_text outcome.stop (map got_of outcome.harts.items) c.args.logs.now) (contents c.args.out.now)
+    (contents c.write_report.new.out) (contents c.flush.new.self) c.write_report.ensures.begun c.flush.ensures.bytes
+
+pub returns-clause-begun : goal.returns-clause-begun
+returns-clause-begun g c =
+    let contents = g.O.Write.contents in
+    let outcome = c.args.outcome.now in
+    begun_kept (report_text outcome.stop (map got_of outcome.harts.items) c.args.logs.now) (contents c.args.out.now)
+    (contents c.write_report.new.out) (contents c.flush.new.self) c.write_report.ensures.begun c.flush.ensures.bytes
+
+pub returns-clause-text : goal.returns-clause-text
+returns-clause-text g c =
+    let contents = g.O.Write.contents in
+    let outcome = c.args.outcome.now in
+    appends-keeps (contents c.args.out.now) (contents c.write_report.new.out) (contents c.flush.new.self)
+    (report_text outcome.stop (map got_of outcome.harts.items) c.args.logs.now) c.in_ok-write_report.ensures.text c.flush.ensures.bytes
