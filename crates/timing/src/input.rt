@@ -18,7 +18,12 @@ impl Input {
     /// Reads the files that the words name.
     pub(crate) fn read<R: Env + Files + AllocGlobal>(rt: &R) -> Result<Input, Fault> {
         let words: Vec<String> = env::args(rt)?.collect(rt.alloc())?;
-        let [_, base, image, logs @ ..] = words.as_slice() else {
+        Input::of(rt, words.as_slice())
+    }
+
+    /// Reads the files that these words name, of which the first is the program's own name.
+    fn of<R: Files + AllocGlobal>(rt: &R, words: &[String]) -> Result<Input, Fault> {
+        let [_, base, image, logs @ ..] = words else {
             return Err(Fault::Words);
         };
         if logs.is_empty() {

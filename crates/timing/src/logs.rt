@@ -67,8 +67,13 @@ impl Phase for Judging<'_> {
     }
 }
 
-/// A log that is legal, of these events.
-pub(crate) fn legal(program: &Program, events: Vec<Event>) -> Result<LegalLog<'_>, Fault> {
+/// The log of this text, which is legal.
+pub(crate) fn read<'p>(
+    alloc: Global,
+    program: &'p Program,
+    text: &[u8],
+) -> Result<LegalLog<'p>, Fault> {
+    let events = read_log_from_slice(alloc, alloc, text).map_err(|_| Fault::Log)?;
     if events.len() > MOST {
         return Err(Fault::Log);
     }

@@ -1,7 +1,7 @@
 //! The phases of logs through the funnel: by turns, and over threads.
 
 use crate::fault::Fault;
-use crate::least::{Phase, RUNS, tell};
+use crate::least::{Phase, RUNS, measure, tell};
 use crate::packets::{MODE, PERIOD};
 use bench::{Config, Open, Outcome, Turn, replay, run};
 use encoder::Source;
@@ -29,7 +29,7 @@ fn payload_count(log: &LegalLog<'_>) -> usize {
 }
 
 /// Turns that go round the harts of these logs until each has sent all: one sends, and a message is taken.
-pub(crate) fn rounds(alloc: Global, logs: &[LegalLog<'_>]) -> Result<Vec<Turn>, AllocError> {
+fn rounds(alloc: Global, logs: &[LegalLog<'_>]) -> Result<Vec<Turn>, AllocError> {
     let mut counts = Vec::new(alloc);
     let mut longest = 0;
     for log in logs {
@@ -53,10 +53,10 @@ pub(crate) fn rounds(alloc: Global, logs: &[LegalLog<'_>]) -> Result<Vec<Turn>, 
 
 /// From the events of logs through the funnel to the events that are decoded, in lists that grow.
 #[derive(Drop)]
-pub(crate) struct Replaying<'a, 'p> {
-    pub(crate) alloc: Global,
-    pub(crate) logs: &'a [LegalLog<'p>],
-    pub(crate) turns: &'a [Turn],
+struct Replaying<'a, 'p> {
+    alloc: Global,
+    logs: &'a [LegalLog<'p>],
+    turns: &'a [Turn],
 }
 
 impl Phase for Replaying<'_, '_> {
@@ -68,6 +68,22 @@ impl Phase for Replaying<'_, '_> {
         let decoded = decoded_in(&outcome);
         Ok((outcome, decoded))
     }
+}
+
+/// Measures a replay of logs, a hart each, by turns that go round the harts.
+pub(crate) fn measure_replay<R: Clock + AllocGlobal, E: Write>(
+    rt: &R,
+    err: &mut E,
+    logs: &[LegalLog<'_>],
+) -> Result<(), Fault> {
+    let alloc = rt.alloc();
+    let turns = rounds(alloc, logs)?;
+    let replaying = Replaying {
+        alloc,
+        logs,
+        turns: turns.as_slice(),
+    };
+    measure(rt, err, "replay", event_count(logs), replaying)
 }
 
 /// Runs logs through the funnel over threads several times, and writes a name, the least time for each event and how many
@@ -90,11 +106,16 @@ pub(crate) fn measure_runs<R: Clock + AllocGlobal + Threads + Wait + Sync, E: Wr
         decoded = decoded_in(&outcome);
         least = least.min(start.elapsed(rt)?.as_nanos());
     }
+    tell(err, name, event_count(logs), least, decoded)
+}
+
+/// How many events the logs have.
+fn event_count(logs: &[LegalLog<'_>]) -> usize {
     let mut count = 0usize;
     for log in logs {
         count = count.wrapping_add(log.events().len());
     }
-    tell(err, name, count, least, decoded)
+    count
 }
 
 /// Logs go through a funnel that holds so many messages, and no packets are kept.

@@ -6,12 +6,12 @@ use crate::input::Input;
 use crate::least::measure;
 use crate::logs::{self, Judging, Reading, Writing};
 use crate::packets::{MODE, PERIOD, Packing, Unpacking, VERSION, packets_of, payloads_of};
-use crate::replaying::{Replaying, measure_runs, rounds};
+use crate::replaying::{measure_replay, measure_runs};
 use crate::sending::{Bare, IN_ONE_THREAD, OneThread, Senders, measure_senders};
 use crate::whole_captures::{CaptureDecoding, CaptureWriting};
 use captures::encode_capture;
 use legalpath::LegalLog;
-use retire::read_log_from_slice;
+use std::alloc::Global;
 use std::env::Env;
 use std::io::Write;
 use std::rt::Files;
@@ -24,46 +24,49 @@ pub(crate) fn run<R: Env + Files + Clock + AllocGlobal + Threads + Wait + Sync, 
     rt: &R,
     err: &mut E,
 ) -> Result<(), Fault> {
-    let alloc = rt.alloc();
     let input = Input::read(rt)?;
-    for text in &input.texts {
-        let text = text.as_slice();
-        let events = read_log_from_slice(alloc, alloc, text).map_err(|_| Fault::Log)?;
-        let logs = [logs::legal(&input.program, events)?];
-        measure_log(rt, err, text, &logs[0])?;
-        measure_packets(rt, err, &logs[0])?;
-        measure_captures(rt, err, &logs)?;
-    }
-    measure_harts(rt, err, &input)?;
+    measure_input(rt, err, &input)?;
     measure_funnel(rt, err)
 }
 
-/// Measures a replay of all logs, a hart each, by turns that go round the harts, and runs of them over threads.
-fn measure_harts<R: Clock + AllocGlobal + Threads + Wait + Sync, E: Write>(
+/// Measures each phase over each log, and then a replay and runs of all of them, a hart each.
+fn measure_input<R: Clock + AllocGlobal + Threads + Wait + Sync, E: Write>(
     rt: &R,
     err: &mut E,
     input: &Input,
 ) -> Result<(), Fault> {
-    let alloc = rt.alloc();
-    let mut logs = Vec::new(alloc);
-    let mut count = 0usize;
     for text in &input.texts {
-        let events = read_log_from_slice(alloc, alloc, text.as_slice()).map_err(|_| Fault::Log)?;
-        count = count.wrapping_add(events.len());
-        let log = logs::legal(&input.program, events)?;
-        logs.push(log).map_err(|_| Fault::Memory)?;
+        let logs = [logs::read(rt.alloc(), &input.program, text.as_slice())?];
+        measure_one(rt, err, text.as_slice(), &logs)?;
     }
-    let turns = rounds(alloc, logs.as_slice())?;
-    let replaying = Replaying {
-        alloc,
-        logs: logs.as_slice(),
-        turns: turns.as_slice(),
-    };
-    measure(rt, err, "replay", count, replaying)?;
+    let logs = logs_of(rt.alloc(), input)?;
+    measure_replay(rt, err, logs.as_slice())?;
     for (name, capacity) in [("bench 1", 1), ("bench 16", 16), ("bench 1024", 1024)] {
         measure_runs(rt, err, name, logs.as_slice(), capacity)?;
     }
     Ok(())
+}
+
+/// Measures each phase over a log and its text.
+fn measure_one<R: Clock + AllocGlobal, E: Write>(
+    rt: &R,
+    err: &mut E,
+    text: &[u8],
+    logs: &[LegalLog<'_>; 1],
+) -> Result<(), Fault> {
+    measure_log(rt, err, text, &logs[0])?;
+    measure_packets(rt, err, &logs[0])?;
+    measure_captures(rt, err, logs)
+}
+
+/// The logs of all texts.
+fn logs_of<'p>(alloc: Global, input: &'p Input) -> Result<Vec<LegalLog<'p>>, Fault> {
+    let mut logs = Vec::new(alloc);
+    for text in &input.texts {
+        let log = logs::read(alloc, &input.program, text.as_slice())?;
+        logs.push(log).map_err(|_| Fault::Memory)?;
+    }
+    Ok(logs)
 }
 
 /// How many messages go through a funnel with a capacity of 1, and with a greater one.
