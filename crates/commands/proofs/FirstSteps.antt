@@ -6,7 +6,7 @@ use Rattle.legalpath.specs.ProgramLog.{ProgramLog}
 use Rattle.retire.specs.Number.{number_of}
 use Rattle.rvclass.specs.Image.{Image}
 use Rattle.commands.specs.Faults.{Path}
-use Rattle.commands.specs.Found.{AreFew, AreLegalLogs, AreLogs, IsBase, IsProgram, IsProgramOfLogs}
+use Rattle.commands.specs.Found.{AreAskedLogs, AreFew, AreLegalLogs, IsAskedProgram, IsBase, IsProgram}
 use Rattle.commands.specs.Known.{Content}
 use Rattle.commands.specs.Order.{logs_fault}
 use Rattle.commands.specs.Printed.{First, Printed, PrintsUnlessDenied}
@@ -19,7 +19,7 @@ use Rattle.commands.proofs.Runs.{ends_silently}
 pub program_lacked : (content : Content) (most : ℕ) (text : List ℕ) (image : Path) (paths : List Path) (base : ℕ) (one : Unit {0})
     → IsBase text (Ok base) → AreFew most paths (Ok one) → (why : Fault)
     → (why ≡ fault.Memory) ⊎ IsProgram content base image (Err why)
-    → (why ≡ fault.Memory) ⊎ IsProgramOfLogs content most text image paths (Err why)
+    → (why ≡ fault.Memory) ⊎ IsAskedProgram content most text image paths (Err why)
 program_lacked content most text image paths base one based few why (inl denied) = inl denied
 program_lacked content most text image paths base one based few why (inr none) = inr (Ok base, based, (Ok one, few, none))
 
@@ -41,14 +41,14 @@ early_ends most text items paths result why ended same failed is early =
 
 module _ (content : Content) (most : ℕ) (text : List ℕ) (image : Path) (items paths : List Path) (same : paths ≡ items) where
   -- What is found of the program by a slice of the paths is found by the paths.
-  pub program_there : (found : Result Image Fault) → IsProgramOfLogs content most text image paths found
-      → IsProgramOfLogs content most text image items found
-  program_there found is = subst (λ paths. IsProgramOfLogs content most text image paths found) same is
+  pub program_there : (found : Result Image Fault) → IsAskedProgram content most text image paths found
+      → IsAskedProgram content most text image items found
+  program_there found is = subst (λ paths. IsAskedProgram content most text image paths found) same is
 
   -- And so it is with the logs, once there is a program and the files are as they were.
   pub logs_there : (program : Image) (told : Content) (found : Result (List ProgramLog) Fault)
-      → IsProgramOfLogs content most text image paths (Ok program) → told ≡ content
-      → AreLegalLogs told program paths found → AreLogs content most text image items found
+      → IsAskedProgram content most text image paths (Ok program) → told ≡ content
+      → AreLegalLogs told program paths found → AreAskedLogs content most text image items found
   logs_there program told found is kept logs = (
     Ok program,
     program_there (Ok program) is,
@@ -59,31 +59,31 @@ module _ (content : Content) (most : ℕ) (text : List ℕ) (image : Path) (item
   module _ (CanWrite : Type 0) (out : Option (List ℕ)) (why : Fault) (ended : Result Status Fault) (is : ended ≡ Err why) where
     -- There is no program.
     pub program_ends : (Next : Image → Printed → Type 0)
-        → (why ≡ fault.Memory) ⊎ IsProgramOfLogs content most text image paths (Err why)
-        → PrintsUnlessDenied (First (IsProgramOfLogs content most text image items) Next) CanWrite ended out out
+        → (why ≡ fault.Memory) ⊎ IsAskedProgram content most text image paths (Err why)
+        → PrintsUnlessDenied (First (IsAskedProgram content most text image items) Next) CanWrite ended out out
     program_ends Next none =
-        let Run = First (IsProgramOfLogs content most text image items) Next in
+        let Run = First (IsAskedProgram content most text image items) Next in
         subst (λ r. PrintsUnlessDenied Run CanWrite r out out) (sym is)
-        (ends_silently Run CanWrite (IsProgramOfLogs content most text image paths (Err why)) why out none
+        (ends_silently Run CanWrite (IsAskedProgram content most text image paths (Err why)) why out none
         (λ none. (Err why, program_there (Err why) none, refl)))
 
     -- There is no program, so there are no logs.
     pub no_logs : (Next : List ProgramLog → Printed → Type 0)
-        → (why ≡ fault.Memory) ⊎ IsProgramOfLogs content most text image paths (Err why)
-        → PrintsUnlessDenied (First (AreLogs content most text image items) Next) CanWrite ended out out
+        → (why ≡ fault.Memory) ⊎ IsAskedProgram content most text image paths (Err why)
+        → PrintsUnlessDenied (First (AreAskedLogs content most text image items) Next) CanWrite ended out out
     no_logs Next none =
-        let Run = First (AreLogs content most text image items) Next in
+        let Run = First (AreAskedLogs content most text image items) Next in
         subst (λ r. PrintsUnlessDenied Run CanWrite r out out) (sym is)
-        (ends_silently Run CanWrite (IsProgramOfLogs content most text image paths (Err why)) why out none
+        (ends_silently Run CanWrite (IsAskedProgram content most text image paths (Err why)) why out none
         (λ none. (Err why, (Err why, program_there (Err why) none, refl), refl)))
 
     -- A log is not legal.
     pub logs_end : (Next : List ProgramLog → Printed → Type 0) (program : Image) (told : Content)
-        → IsProgramOfLogs content most text image paths (Ok program) → told ≡ content
+        → IsAskedProgram content most text image paths (Ok program) → told ≡ content
         → (why ≡ fault.Memory) ⊎ AreLegalLogs told program paths (Err why)
-        → PrintsUnlessDenied (First (AreLogs content most text image items) Next) CanWrite ended out out
+        → PrintsUnlessDenied (First (AreAskedLogs content most text image items) Next) CanWrite ended out out
     logs_end Next program told found kept none =
-        let Run = First (AreLogs content most text image items) Next in
+        let Run = First (AreAskedLogs content most text image items) Next in
         subst (λ r. PrintsUnlessDenied Run CanWrite r out out) (sym is)
         (ends_silently Run CanWrite (AreLegalLogs told program paths (Err why)) why out none
         (λ none. (Err why, logs_there program told (Err why) found kept none, refl)))

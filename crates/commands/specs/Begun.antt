@@ -1,5 +1,5 @@
 -- What is written where memory is refused or the output fails: a beginning of the text.
-use Rattle.std.specs.Prelude.{◌≡◌, ◌⊎◌, ℕ, ◌++◌, List, Option, Ok}
+use Rattle.std.specs.Prelude.{◌≡◌, ◌⊎◌, ⊤, ℕ, ◌++◌, List, Option, Ok}
 use Rattle.std.specs.Io.KnownBytes.{Keeps}
 use Rattle.output.specs.Begun.{AppendsBeginning}
 use Rattle.message.specs.Version.{most_harts}
@@ -14,11 +14,11 @@ use Rattle.commands.specs.Decoded.{Decodes}
 use Rattle.commands.specs.Dumping.{Dumps}
 use Rattle.commands.specs.Encoding.{Encodes}
 use Rattle.commands.specs.Faults.{Path}
-use Rattle.commands.specs.Found.{IsProgramOfLogs}
+use Rattle.commands.specs.Found.{IsAskedProgram}
 use Rattle.commands.specs.Known.{Content}
 use Rattle.commands.specs.Printed.{IsPrinted, Printed}
 use Rattle.commands.specs.Replaying.{Replays}
-use Rattle.commands.specs.Steps.{Once}
+use Rattle.commands.specs.Finding.{Once}
 use Rattle.commands.specs.declared.status.Status.{Status}
 
 -- The lines of some first ones of the logs at these paths were appended.
@@ -32,7 +32,7 @@ pub record AppendsFirstLines (content : Content) (program : Image) (paths : List
 -- The program was found, and the lines of some first logs were appended.
 abbrev pub BeginsLines : Content → CheckWords → Option (List ℕ) → Option (List ℕ) → Type 0
 BeginsLines content asked old new =
-    Once (IsProgramOfLogs content (most_harts Two) asked.base.now asked.image asked.logs.items) (λ program.
+    Once (IsAskedProgram content (most_harts Two) asked.base.now asked.image asked.logs.items) (λ program.
     AppendsFirstLines content program asked.logs.items old new)
 
 -- A beginning of a text was appended that may be printed.
@@ -43,8 +43,8 @@ pub record BeginsPrinted (Prints : Printed → Type 0) (old new : Option (List �
 
 -- Of what is asked a part may be written before memory is refused.
 abbrev pub WritesInParts : Asked → Type 0
-WritesInParts (Check asked) = Unit {0}
-WritesInParts (Decode asked) = Unit {0}
+WritesInParts (Check asked) = ⊤
+WritesInParts (Decode asked) = ⊤
 WritesInParts _ = ⊥
 
 -- Nothing was written of what is asked, or a beginning: `check` has the lines of some first logs, `decode` a beginning of a
@@ -67,7 +67,7 @@ pub record WritesFirstLines (content : Content) (program : Image) (paths : List 
 -- The program was found, and the lines of some first logs are written.
 abbrev pub ChecksFirst : Content → CheckWords → Printed → Type 0
 ChecksFirst content asked printed =
-    Once (IsProgramOfLogs content (most_harts Two) asked.base.now asked.image asked.logs.items) (λ program.
+    Once (IsAskedProgram content (most_harts Two) asked.base.now asked.image asked.logs.items) (λ program.
     WritesFirstLines content program asked.logs.items printed)
 
 -- Nothing was written, or a beginning of a text that may be printed.

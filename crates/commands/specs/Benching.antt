@@ -11,7 +11,7 @@ use Rattle.bench.specs.declared.config.Config.{Config}
 use Rattle.bench.specs.declared.outcome.HartOutcome.{HartOutcome}
 use Rattle.bench.specs.declared.stop.Stop.{Stop}
 use Rattle.subcommands.specs.declared.words.Bench.{Bench}
-use Rattle.commands.specs.Found.{AreLogs}
+use Rattle.commands.specs.Found.{AreAskedLogs}
 use Rattle.commands.specs.Known.{Content}
 use Rattle.commands.specs.Printed.{First, Printed}
 use Rattle.commands.specs.Sending.{IsSetting, config_at, end_of_report}
@@ -26,14 +26,14 @@ pub record WritesOutcome (config : Config) (logs : List ProgramLog) (printed : P
   pub text : printed.text ≡ report_text stop (map got_of harts) logs
   pub ended : printed.ended ≡ Ok (end_of_report stop (is_whole stop (map got_of harts) logs))
 
--- Where nothing stands against sending these logs, the report is of harts of each of which came what comes of a
--- beginning of its packets.
+-- Where nothing stands against sending these logs, the report of what came of them is written.
 abbrev pub BenchesLogs : Bench → List ProgramLog → Printed → Type 0
 BenchesLogs asked logs =
     First (IsSetting most_ports (length logs) (config_at asked.period asked.mode asked.capacity)) (λ _.
     WritesOutcome (config_at asked.period asked.mode asked.capacity) logs)
 
--- The legal logs are found first; where there is no fault, they are sent.
+-- The base is looked at first, then the count of logs, the image and each log; where there is no fault, the logs are
+-- sent, and a report is written.
 abbrev pub Benches : Content → Bench → Printed → Type 0
 Benches content asked =
-    First (AreLogs content most_ports asked.base.now asked.image asked.logs.items) (BenchesLogs asked)
+    First (AreAskedLogs content most_ports asked.base.now asked.image asked.logs.items) (BenchesLogs asked)

@@ -14,7 +14,7 @@ use Rattle.rvclass.specs.Image.{Image}
 use Rattle.rvclass.specs.Words.{Words}
 use Rattle.subcommands.specs.declared.words.Check.{Check}
 use Rattle.commands.specs.Faults.{Path}
-use Rattle.commands.specs.Found.{IsLog, IsProgramOfLogs}
+use Rattle.commands.specs.Found.{IsAskedProgram, IsLog}
 use Rattle.commands.specs.Known.{Content}
 use Rattle.commands.specs.Printed.{First, Printed}
 use Rattle.commands.specs.declared.fault.Fault.{Fault}
@@ -82,8 +82,9 @@ EndsLines content program paths text (Err why) = ChecksUpTo content program path
 abbrev pub WritesLines : Content → Image → List Path → Printed → Type 0
 WritesLines content program paths printed = EndsLines content program paths printed.text printed.ended
 
--- The program is found first; where there is no fault, the lines of the logs are written.
+-- The program is found first, by the base, the count of logs and the image; where there is no fault, the lines of the
+-- logs are written.
 abbrev pub Checks : Content → Check → Printed → Type 0
 Checks content asked =
-    First (IsProgramOfLogs content (most_harts Two) asked.base.now asked.image asked.logs.items) (λ program.
+    First (IsAskedProgram content (most_harts Two) asked.base.now asked.image asked.logs.items) (λ program.
     WritesLines content program asked.logs.items)

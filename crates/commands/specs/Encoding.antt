@@ -6,7 +6,7 @@ use Rattle.captures.specs.Versions.{capture_of}
 use Rattle.legalpath.specs.ProgramLog.{ProgramLog}
 use Rattle.message.specs.Version.{most_harts}
 use Rattle.subcommands.specs.declared.words.Encode.{Encode}
-use Rattle.commands.specs.Found.{AreLogs}
+use Rattle.commands.specs.Found.{AreAskedLogs}
 use Rattle.commands.specs.Known.{Content}
 use Rattle.commands.specs.Printed.{First, Printed}
 use Rattle.commands.specs.declared.status.Status.TheVariants.{Whole}
@@ -22,7 +22,9 @@ written asked logs =
 abbrev pub WritesMessages : Encode → List ProgramLog → Printed → Type 0
 WritesMessages asked logs printed = printed ≡ record { text = written asked logs; ended = Ok Whole }
 
--- The legal logs are found first; where there is no fault, their messages are written.
+-- The base is looked at first, then the count of logs, the image and each log; where there is no fault, the messages of
+-- the logs are written.
 abbrev pub Encodes : Content → Encode → Printed → Type 0
 Encodes content asked =
-    First (AreLogs content (most_harts asked.version) asked.base.now asked.image asked.logs.items) (WritesMessages asked)
+    First (AreAskedLogs content (most_harts asked.version) asked.base.now asked.image asked.logs.items)
+    (WritesMessages asked)

@@ -14,7 +14,7 @@ use Rattle.rvclass.specs.Image.{Image}
 use Rattle.rvclass.specs.Program.{program_of}
 use Rattle.commands.specs.Faults.{Path, log_fault}
 use Rattle.commands.specs.Known.{Content, MayHold, MayLack}
-use Rattle.commands.specs.Steps.{Then}
+use Rattle.commands.specs.Finding.{After}
 use Rattle.commands.specs.declared.fault.Fault.{Fault}
 use Rattle.commands.specs.declared.fault.Fault.TheVariants as fault
 
@@ -52,11 +52,11 @@ pub record IsProgram (content : Content) (base : ℕ) (path : Path) (found : Res
   pub read : IsRead content path bytes
   pub made : found ≡ program_at base bytes
 
--- The program that logs are of is found: the base is looked at first, then whether there are logs, so many at most,
--- then the image.
-abbrev pub IsProgramOfLogs : Content → ℕ → List ℕ → Path → List Path → Result Image Fault → Type 0
-IsProgramOfLogs content most text image paths =
-    Then (IsBase text) (λ base. Then (AreFew most paths) (λ _. IsProgram content base image))
+-- The program that is asked for with logs is found: the base is looked at first, then that there are logs, and no more
+-- than so many, then the image.
+abbrev pub IsAskedProgram : Content → ℕ → List ℕ → Path → List Path → Result Image Fault → Type 0
+IsAskedProgram content most text image paths =
+    After (IsBase text) (λ base. After (AreFew most paths) (λ _. IsProgram content base image))
 
 -- The events of a log's bytes, or why it is none.
 abbrev pub log_at : Path → Result (List ℕ) Fault → Result (List Event) Fault
@@ -97,7 +97,8 @@ abbrev pub AreLegalLogs : Content → Image → List Path → Result (List Progr
 AreLegalLogs content program paths (Ok logs) = AllZip (λ path log. IsLegalLogAt content program path (Ok log)) paths logs
 AreLegalLogs content program paths (Err why) = IsFirstRefused content program paths why
 
--- The program of logs is found, and then the legal logs themselves.
-abbrev pub AreLogs : Content → ℕ → List ℕ → Path → List Path → Result (List ProgramLog) Fault → Type 0
-AreLogs content most text image paths =
-    Then (IsProgramOfLogs content most text image paths) (λ program. AreLegalLogs content program paths)
+-- The logs that are asked for are found: the program is looked at first, then each log in turn, which has to be legal
+-- for it.
+abbrev pub AreAskedLogs : Content → ℕ → List ℕ → Path → List Path → Result (List ProgramLog) Fault → Type 0
+AreAskedLogs content most text image paths =
+    After (IsAskedProgram content most text image paths) (λ program. AreLegalLogs content program paths)

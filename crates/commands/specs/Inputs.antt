@@ -11,21 +11,22 @@ use Rattle.subcommands.specs.declared.words.Decode.{Decode}
 use Rattle.subcommands.specs.declared.words.Dump.{Dump}
 use Rattle.subcommands.specs.declared.words.Encode.{Encode}
 use Rattle.subcommands.specs.declared.words.Replay.{Replay}
-use Rattle.commands.specs.Found.{AreLogs, IsBase, IsProgram, IsProgramOfLogs, IsRead}
+use Rattle.commands.specs.Found.{AreAskedLogs, IsAskedProgram, IsBase, IsProgram, IsRead}
 use Rattle.commands.specs.Known.{Content}
 use Rattle.commands.specs.Pieces.{HasPieces}
 use Rattle.commands.specs.Replaying.{IsSchedule}
 use Rattle.commands.specs.Sending.{IsSetting, config_at}
-use Rattle.commands.specs.Steps.{Once}
+use Rattle.commands.specs.Finding.{Once}
 
 -- `check` writes once it has the program.
 abbrev pub CanCheck : Content → Check → Type 0
-CanCheck content asked = Once (IsProgramOfLogs content (most_harts Two) asked.base.now asked.image asked.logs.items) (λ _. ⊤)
+CanCheck content asked =
+    Once (IsAskedProgram content (most_harts Two) asked.base.now asked.image asked.logs.items) (λ _. ⊤)
 
 -- `encode` writes once it has the legal logs.
 abbrev pub CanEncode : Content → Encode → Type 0
 CanEncode content asked =
-    Once (AreLogs content (most_harts asked.version) asked.base.now asked.image asked.logs.items) (λ _. ⊤)
+    Once (AreAskedLogs content (most_harts asked.version) asked.base.now asked.image asked.logs.items) (λ _. ⊤)
 
 -- `dump` writes once it has the capture.
 abbrev pub CanDump : Content → Dump → Type 0
@@ -44,7 +45,7 @@ CanDecode content asked =
     Once (IsRead content asked.capture) (λ bytes.
     CanTell asked.lossy asked.harts program bytes)))
 
--- These logs can be replayed once there are the turns, and nothing stands against sending.
+-- The report of a replay of these logs is written once there are the turns, and nothing stands against sending.
 abbrev pub CanReplayLogs : Content → Replay → List ProgramLog → Type 0
 CanReplayLogs content asked logs =
     Once (IsSchedule content (length logs) asked.schedule) (λ _.
@@ -53,9 +54,9 @@ CanReplayLogs content asked logs =
 -- `replay` writes once it has the legal logs and the turns, and nothing stands against sending.
 abbrev pub CanReplay : Content → Replay → Type 0
 CanReplay content asked =
-    Once (AreLogs content (most_harts Two) asked.base.now asked.image asked.logs.items) (CanReplayLogs content asked)
+    Once (AreAskedLogs content (most_harts Two) asked.base.now asked.image asked.logs.items) (CanReplayLogs content asked)
 
--- These logs can be sent once nothing stands against it.
+-- The report of what came of these logs is written once nothing stands against sending.
 abbrev pub CanBenchLogs : Bench → List ProgramLog → Type 0
 CanBenchLogs asked logs =
     IsSetting most_ports (length logs) (config_at asked.period asked.mode asked.capacity) (Ok tt)
@@ -63,4 +64,4 @@ CanBenchLogs asked logs =
 -- `bench` writes once it has the legal logs, and nothing stands against sending.
 abbrev pub CanBench : Content → Bench → Type 0
 CanBench content asked =
-    Once (AreLogs content most_ports asked.base.now asked.image asked.logs.items) (CanBenchLogs asked)
+    Once (AreAskedLogs content most_ports asked.base.now asked.image asked.logs.items) (CanBenchLogs asked)

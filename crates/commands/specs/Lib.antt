@@ -4,7 +4,7 @@ pub mod FaultText
 pub mod Decoding
 pub mod Order
 pub mod Known
-pub mod Steps
+pub mod Finding
 pub mod Found
 pub mod Printed
 pub mod Encoding

@@ -16,7 +16,7 @@ use Rattle.bench.specs.declared.stop.Stop.{Stop}
 use Rattle.bench.specs.declared.stop.Stop.TheVariants as stop
 use Rattle.subcommands.specs.declared.words.Replay.{Replay}
 use Rattle.commands.specs.Faults.{Path, schedule_fault}
-use Rattle.commands.specs.Found.{AreLogs, IsRead}
+use Rattle.commands.specs.Found.{AreAskedLogs, IsRead}
 use Rattle.commands.specs.Known.{Content}
 use Rattle.commands.specs.Printed.{First, Printed}
 use Rattle.commands.specs.Sending.{IsSetting, config_at, end_of_report}
@@ -78,7 +78,8 @@ ReplaysLogs content asked logs =
     First (IsSetting (most_harts Two) (length logs) (config_at asked.period asked.mode asked.capacity)) (λ _.
     WritesReport asked logs turns))
 
--- The legal logs are found first; where there is no fault, they are replayed.
+-- The base is looked at first, then the count of logs, the image and each log; where there is no fault, the logs are
+-- replayed.
 abbrev pub Replays : Content → Replay → Printed → Type 0
 Replays content asked =
-    First (AreLogs content (most_harts Two) asked.base.now asked.image asked.logs.items) (ReplaysLogs content asked)
+    First (AreAskedLogs content (most_harts Two) asked.base.now asked.image asked.logs.items) (ReplaysLogs content asked)

@@ -15,7 +15,7 @@ ghost use Rattle.commands.specs.Sending.{IsSetting, config_at};
 
 use crate::fault::Fault;
 use crate::files::Files;
-use crate::inputs::{legal_logs_of, program_of_logs};
+use crate::inputs::{asked_program, legal_logs_of};
 use crate::reporting::end_with_report;
 use crate::status::Status;
 use bench::{Config, Open, Outcome, run};
@@ -46,7 +46,7 @@ pub fn bench<'a, F: Files, O: Write, R: Threads + Wait + Sync>(
     ensures cut { IsCutOf (Benches (F.content files.old) asked.now) (O.contents out.old) (O.contents out.new) }
 {
     let paths = asked.logs.as_slice();
-    let program = program_of_logs(files, MOST_PORTS, asked.base, asked.image, paths)?;
+    let program = asked_program(files, MOST_PORTS, asked.base, asked.image, paths)?;
     let logs = legal_logs_of(alloc, files, &program, paths)?;
     bench_logs(alloc, rt, asked, logs.as_slice(), out)
 }

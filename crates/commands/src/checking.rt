@@ -15,7 +15,7 @@ ghost use Rattle.rvclass.specs.Fetch.{words_of};
 
 use crate::fault::Fault;
 use crate::files::Files;
-use crate::inputs::{log_of, program_of_logs};
+use crate::inputs::{asked_program, log_of};
 use crate::status::Status;
 use legalpath::PathFault;
 use message::MOST_HARTS;
@@ -42,9 +42,9 @@ pub fn check<'a, F: Files, O: Write>(
         ⊎ BeginsLines (F.content files.old) asked.now (O.contents out.old) (O.contents out.new) }
     ensures cut { IsCutOf (ChecksFirst (F.content files.old) asked.now) (O.contents out.old) (O.contents out.new) }
 {
-    let logs = asked.logs.as_slice();
-    let program = program_of_logs(files, MOST_HARTS, asked.base, asked.image, logs)?;
-    let ended = judge_all(alloc, files, &program, logs, out);
+    let paths = asked.logs.as_slice();
+    let program = asked_program(files, MOST_HARTS, asked.base, asked.image, paths)?;
+    let ended = judge_all(alloc, files, &program, paths, out);
     out.flush().map_err(|_| Fault::Output)?;
     ended
 }

@@ -14,7 +14,7 @@ ghost use Rattle.retire.specs.Number.{number_of};
 
 use crate::fault::Fault;
 use crate::files::Files;
-use crate::inputs::{legal_logs_of, program_of_logs};
+use crate::inputs::{asked_program, legal_logs_of};
 use crate::status::Status;
 use captures::{encode_capture, encode_hex};
 use legalpath::LegalLog;
@@ -41,12 +41,12 @@ pub fn encode<'a, F: Files, O: Write>(
 {
     let paths = asked.logs.as_slice();
     let most = asked.version.most_harts();
-    let program = program_of_logs(files, most, asked.base, asked.image, paths)?;
+    let program = asked_program(files, most, asked.base, asked.image, paths)?;
     let logs = legal_logs_of(alloc, files, &program, paths)?;
     encode_logs(asked, logs.as_slice(), out)
 }
 
-/// Writes the messages of legal logs, and that is all.
+/// Writes the messages of legal logs to the end, and answers that all is done.
 fn encode_logs<'a, O: Write>(
     asked: &Encode<'a>,
     logs: &[LegalLog<'_>],

@@ -3,7 +3,7 @@
 ghost use Rattle.std.specs.Prelude.{◌≡◌, ◌⊎◌, ◌≤◌, ◌<◌, ◌^◌, IfErr, IfOk, IfSome, Err, Ok, length, vec_len};
 ghost use Rattle.commands.specs.Faults.{status_of};
 ghost use Rattle.commands.specs.declared.fault.Fault.TheVariants as fault;
-ghost use Rattle.commands.specs.Found.{AreFew, AreLegalLogs, IsBase, IsLegalLogAt, IsLog, IsProgram, IsProgramOfLogs, IsRead};
+ghost use Rattle.commands.specs.Found.{AreFew, AreLegalLogs, IsAskedProgram, IsBase, IsLegalLogAt, IsLog, IsProgram, IsRead};
 ghost use Rattle.commands.specs.Order.{logs_fault};
 ghost use Rattle.retire.specs.Number.{number_of};
 
@@ -14,6 +14,15 @@ use legalpath::LegalLog;
 use retire::{Event, number, read_log_from_slice};
 use rvclass::Program;
 use std::alloc::Global;
+
+/// The number that a base is.
+pub(crate) fn base_of<'a>(text: &str) -> Result<u64, Fault<'a>>
+    ensures found { IsBase text.now result }
+    ensures number { IfOk result (λ base. number_of text.now ≡ Some base) }
+    ensures none { IfErr result (λ fault. (fault ≡ Fault.Base) × (number_of text.now ≡ None)) }
+{
+    number(text.as_bytes()).ok_or(Fault::Base)
+}
 
 /// Whether there are logs, and no more than so many.
 fn counted<'a>(logs: &[&'a str], most: u16) -> Result<(), Fault<'a>>
@@ -30,15 +39,6 @@ fn counted<'a>(logs: &[&'a str], most: u16) -> Result<(), Fault<'a>>
         return Err(Fault::ManyLogs(most));
     }
     Ok(())
-}
-
-/// The number that a base is.
-pub(crate) fn base_of<'a>(text: &str) -> Result<u64, Fault<'a>>
-    ensures found { IsBase text.now result }
-    ensures number { IfOk result (λ base. number_of text.now ≡ Some base) }
-    ensures none { IfErr result (λ fault. (fault ≡ Fault.Base) × (number_of text.now ≡ None)) }
-{
-    number(text.as_bytes()).ok_or(Fault::Base)
 }
 
 /// The content of the file at a path.
@@ -67,25 +67,26 @@ pub(crate) fn program_of<'a, F: Files>(
     Ok(Program::new(base, bytes)?)
 }
 
-/// The program that logs are of, so many at most: the base is looked at first, then the count of logs, then the image.
-pub(crate) fn program_of_logs<'a, F: Files>(
+/// The program that is asked for with logs: the base is looked at first, then that there are logs, and no more than so
+/// many, then the image.
+pub(crate) fn asked_program<'a, F: Files>(
     files: &mut F,
     most: u16,
     base: &str,
     image: &'a str,
-    logs: &[&'a str],
+    paths: &[&'a str],
 ) -> Result<Program, Fault<'a>>
-    ensures early { IfSome (logs_fault most (number_of base.now) (length logs.now)) (λ fault. result ≡ Err fault) }
+    ensures early { IfSome (logs_fault most (number_of base.now) (length paths.now)) (λ fault. result ≡ Err fault) }
     ensures program { IfOk result (λ program.
-        IsProgramOfLogs (F.content files.old) most base.now image.entry logs.now (Ok program)) }
+        IsAskedProgram (F.content files.old) most base.now image.entry paths.now (Ok program)) }
     ensures fault { IfErr result (λ why.
-        (why ≡ Fault.Memory) ⊎ IsProgramOfLogs (F.content files.old) most base.now image.entry logs.now (Err why)) }
-    ensures some { IfOk result (λ _. 1 ≤ length logs.now) }
-    ensures few { IfOk result (λ _. length logs.now ≤ most) }
+        (why ≡ Fault.Memory) ⊎ IsAskedProgram (F.content files.old) most base.now image.entry paths.now (Err why)) }
+    ensures some { IfOk result (λ _. 1 ≤ length paths.now) }
+    ensures few { IfOk result (λ _. length paths.now ≤ most) }
     ensures kept { F.content files.new ≡ F.content files.old }
 {
     let base = base_of(base)?;
-    counted(logs, most)?;
+    counted(paths, most)?;
     program_of(files, base, image)
 }
 

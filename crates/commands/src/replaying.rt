@@ -16,7 +16,7 @@ ghost use Rattle.commands.specs.Sending.{IsSetting, config_at};
 
 use crate::fault::Fault;
 use crate::files::Files;
-use crate::inputs::{content_of, legal_logs_of, program_of_logs};
+use crate::inputs::{asked_program, content_of, legal_logs_of};
 use crate::reporting::end_with_report;
 use crate::status::Status;
 use bench::{Config, Outcome};
@@ -46,7 +46,7 @@ pub fn replay<'a, F: Files, O: Write>(
     ensures cut { IsCutOf (Replays (F.content files.old) asked.now) (O.contents out.old) (O.contents out.new) }
 {
     let paths = asked.logs.as_slice();
-    let program = program_of_logs(files, MOST_HARTS, asked.base, asked.image, paths)?;
+    let program = asked_program(files, MOST_HARTS, asked.base, asked.image, paths)?;
     let logs = legal_logs_of(alloc, files, &program, paths)?;
     replay_logs(alloc, files, asked, logs.as_slice(), out)
 }

@@ -6,7 +6,7 @@ use Rattle.message.specs.Version.{most_harts}
 use Rattle.message.specs.declared.header.Version.TheVariants.{Two}
 use Rattle.commands.specs.Begun.{AppendsFirstLines, BeginsPrinted, ChecksFirst, WritesFirstLines}
 use Rattle.commands.specs.Checking.{Checks, WritesLines}
-use Rattle.commands.specs.Found.{IsProgramOfLogs}
+use Rattle.commands.specs.Found.{IsAskedProgram}
 use Rattle.commands.specs.Inputs.{CanCheck}
 use Rattle.commands.specs.Printed.{PrintsUnlessDenied}
 use Rattle.commands.proofs.Beginnings.{cut_kept, lines_kept}
@@ -19,10 +19,10 @@ pub returns-in_err-program-clause-early : goal.returns-in_err-program-clause-ear
 returns-in_err-program-clause-early g c =
     let asked = c.args.asked.now in
     let why = c.in_err-program.field-0.0 in
-    let failed : c.program_of_logs.result ≡ Err why = grind (arith, common_steps) in
+    let failed : c.asked_program.result ≡ Err why = grind (arith, common_steps) in
     let is : c.from_residual.result ≡ Err why = grind (arith, common_steps) in
-    early_ends (most_harts Two) asked.base.now asked.logs.items c.as_slice-logs.result.now c.program_of_logs.result why
-    c.from_residual.result c.as_slice-logs.ensures.value failed is c.program_of_logs.ensures.early
+    early_ends (most_harts Two) asked.base.now asked.logs.items c.as_slice-paths.result.now c.asked_program.result why
+    c.from_residual.result c.as_slice-paths.ensures.value failed is c.asked_program.ensures.early
 
 pub returns-in_err-program-clause-printed : goal.returns-in_err-program-clause-printed
 returns-in_err-program-clause-printed g c =
@@ -30,18 +30,18 @@ returns-in_err-program-clause-printed g c =
     let asked = c.args.asked.now in
     let why = c.in_err-program.field-0.0 in
     let is : c.from_residual.result ≡ Err why = grind (arith, common_steps) in
-    program_ends content (most_harts Two) asked.base.now asked.image asked.logs.items c.as_slice-logs.result.now
-    c.as_slice-logs.ensures.value (CanCheck content asked) (g.O.Write.contents c.args.out.now) why
+    program_ends content (most_harts Two) asked.base.now asked.image asked.logs.items c.as_slice-paths.result.now
+    c.as_slice-paths.ensures.value (CanCheck content asked) (g.O.Write.contents c.args.out.now) why
     c.from_residual.result is (λ program. WritesLines content program asked.logs.items)
     c.in_err-program.ensures.fault
 
 -- The program that was found.
-there : (g : _) (c : After-judge_all-ended g) → IsProgramOfLogs (g.F.Files.content c.args.files.now) (most_harts Two)
+there : (g : _) (c : After-judge_all-ended g) → IsAskedProgram (g.F.Files.content c.args.files.now) (most_harts Two)
     c.args.asked.now.base.now c.args.asked.now.image c.args.asked.now.logs.items (Ok c.in_ok-program.program)
 there g c =
     let asked = c.args.asked.now in
     program_there (g.F.Files.content c.args.files.now) (most_harts Two) asked.base.now asked.image asked.logs.items
-    c.as_slice-logs.result.now c.as_slice-logs.ensures.value (Ok c.in_ok-program.program) c.in_ok-program.ensures.program
+    c.as_slice-paths.result.now c.as_slice-paths.ensures.value (Ok c.in_ok-program.program) c.in_ok-program.ensures.program
 
 pub returns-clause-printed : goal.returns-clause-printed
 returns-clause-printed g c =
@@ -52,8 +52,8 @@ returns-clause-printed g c =
     let there = there g (goal.at.returns-clause-printed g c).After-judge_all-ended in
     let ended = c.judge_all-ended.result in
     let mid = contents c.judge_all-ended.new.out in
-    let lines = subst (λ logs. PrintsUnlessDenied (WritesLines content program logs) ⊤ ended (contents c.args.out.now) mid) c.as_slice-logs.ensures.value
-    (subst (λ told. PrintsUnlessDenied (WritesLines told program c.as_slice-logs.result.now) ⊤ ended (contents c.args.out.now) mid)
+    let lines = subst (λ logs. PrintsUnlessDenied (WritesLines content program logs) ⊤ ended (contents c.args.out.now) mid) c.as_slice-paths.ensures.value
+    (subst (λ told. PrintsUnlessDenied (WritesLines told program c.as_slice-paths.result.now) ⊤ ended (contents c.args.out.now) mid)
     c.in_ok-program.ensures.kept c.judge_all-ended.ensures.printed) in
     goes_on (WritesLines content program asked.logs.items) (Checks content asked) ⊤ (CanCheck content asked) ended (contents c.args.out.now) mid (contents c.flush.new.self)
     (λ printed lines. (Ok program, there, lines)) (program, there, tt)
@@ -67,8 +67,8 @@ returns-clause-begun g c = λ memory.
     let program = c.in_ok-program.program in
     let old = contents c.args.out.now in
     let mid = contents c.judge_all-ended.new.out in
-    let lines = subst (λ logs. AppendsFirstLines content program logs old mid) c.as_slice-logs.ensures.value
-    (subst (λ told. AppendsFirstLines told program c.as_slice-logs.result.now old mid)
+    let lines = subst (λ logs. AppendsFirstLines content program logs old mid) c.as_slice-paths.ensures.value
+    (subst (λ told. AppendsFirstLines told program c.as_slice-paths.result.now old mid)
     c.in_ok-program.ensures.kept (c.judge_all-ended.ensures.begun memory)) in
     inr (
       program,
@@ -85,8 +85,8 @@ returns-in_err-map_err-clause-cut g c =
     let old = contents c.args.out.now in
     let mid = contents c.judge_all-ended.new.out in
     let new = contents c.flush.new.self in
-    let lines = subst (λ logs. BeginsPrinted (WritesFirstLines content program logs) old mid) c.as_slice-logs.ensures.value
-    (subst (λ told. BeginsPrinted (WritesFirstLines told program c.as_slice-logs.result.now) old mid)
+    let lines = subst (λ logs. BeginsPrinted (WritesFirstLines content program logs) old mid) c.as_slice-paths.ensures.value
+    (subst (λ told. BeginsPrinted (WritesFirstLines told program c.as_slice-paths.result.now) old mid)
     c.in_ok-program.ensures.kept c.judge_all-ended.ensures.cut) in
     inr (cut_kept (WritesFirstLines content program asked.logs.items) (ChecksFirst content asked) old mid new
     (λ printed lines. (program, there g (goal.at.returns-in_err-map_err-clause-cut g c).After-judge_all-ended, lines)) lines c.flush.ensures.bytes)
@@ -100,8 +100,8 @@ returns-clause-cut g c =
     let old = contents c.args.out.now in
     let mid = contents c.judge_all-ended.new.out in
     let new = contents c.flush.new.self in
-    let lines = subst (λ logs. BeginsPrinted (WritesFirstLines content program logs) old mid) c.as_slice-logs.ensures.value
-    (subst (λ told. BeginsPrinted (WritesFirstLines told program c.as_slice-logs.result.now) old mid)
+    let lines = subst (λ logs. BeginsPrinted (WritesFirstLines content program logs) old mid) c.as_slice-paths.ensures.value
+    (subst (λ told. BeginsPrinted (WritesFirstLines told program c.as_slice-paths.result.now) old mid)
     c.in_ok-program.ensures.kept c.judge_all-ended.ensures.cut) in
     inr (cut_kept (WritesFirstLines content program asked.logs.items) (ChecksFirst content asked) old mid new
     (λ printed lines. (program, there g (goal.at.returns-clause-cut g c).After-judge_all-ended, lines)) lines c.flush.ensures.bytes)

@@ -6,7 +6,7 @@ use Rattle.std.specs.Io.KnownBytes.{Appends}
 use Rattle.output.specs.Begun.{AppendsBeginning}
 use Rattle.message.specs.Version.{most_harts}
 use Rattle.commands.specs.Encoding.{Encodes, WritesMessages, written}
-use Rattle.commands.specs.Found.{AreLogs, IsProgramOfLogs}
+use Rattle.commands.specs.Found.{AreAskedLogs, IsAskedProgram}
 use Rattle.commands.specs.Inputs.{CanEncode}
 use Rattle.commands.specs.Order.{logs_fault}
 use Rattle.retire.specs.Number.{number_of}
@@ -22,12 +22,12 @@ pub returns-in_err-program-clause-early : goal.returns-in_err-program-clause-ear
 returns-in_err-program-clause-early g c =
     let asked = c.args.asked.now in
     let why = c.in_err-program.field-0.0 in
-    let failed : c.program_of_logs.result ≡ Err why = grind (arith, common_steps) in
+    let failed : c.asked_program.result ≡ Err why = grind (arith, common_steps) in
     let is : c.from_residual.result ≡ Err why = grind (arith, common_steps) in
-    early_ends (most_harts asked.version) asked.base.now asked.logs.items c.as_slice-paths.result.now c.program_of_logs.result why
+    early_ends (most_harts asked.version) asked.base.now asked.logs.items c.as_slice-paths.result.now c.asked_program.result why
     c.from_residual.result c.as_slice-paths.ensures.value failed is
     (subst (λ most. IfSome (logs_fault most (number_of asked.base.now) (length c.as_slice-paths.result.now))
-    (λ fault. c.program_of_logs.result ≡ Err fault)) c.most_harts-most.ensures c.program_of_logs.ensures.early)
+    (λ fault. c.asked_program.result ≡ Err fault)) c.most_harts-most.ensures c.asked_program.ensures.early)
 
 pub returns-in_err-program-clause-printed : goal.returns-in_err-program-clause-printed
 returns-in_err-program-clause-printed g c =
@@ -39,7 +39,7 @@ returns-in_err-program-clause-printed g c =
     c.as_slice-paths.ensures.value (CanEncode content asked) (g.O.Write.contents c.args.out.now) why
     c.from_residual.result is (WritesMessages asked)
     (subst (λ most. (why ≡ fault.Memory)
-    ⊎ IsProgramOfLogs content most asked.base.now asked.image c.as_slice-paths.result.now (Err why)) c.most_harts-most.ensures
+    ⊎ IsAskedProgram content most asked.base.now asked.image c.as_slice-paths.result.now (Err why)) c.most_harts-most.ensures
     c.in_err-program.ensures.fault)
 
 pub returns-in_err-logs-clause-printed : goal.returns-in_err-logs-clause-printed
@@ -52,23 +52,23 @@ returns-in_err-logs-clause-printed g c =
     logs_end content (most_harts asked.version) asked.base.now asked.image asked.logs.items c.as_slice-paths.result.now
     c.as_slice-paths.ensures.value (CanEncode content asked) (g.O.Write.contents c.args.out.now) why
     c.from_residual-in_err-logs.result is (WritesMessages asked) program
-    (g.F.Files.content c.program_of_logs.new.files)
-    (subst (λ most. IsProgramOfLogs content most asked.base.now asked.image c.as_slice-paths.result.now (Ok program))
+    (g.F.Files.content c.asked_program.new.files)
+    (subst (λ most. IsAskedProgram content most asked.base.now asked.image c.as_slice-paths.result.now (Ok program))
     c.most_harts-most.ensures c.in_ok-program.ensures.program)
     c.in_ok-program.ensures.kept c.in_err-logs.ensures.fault
 
 module _ (g : _) (c : After-encode_logs g) where
   -- The logs that were found.
-  there : AreLogs (g.F.Files.content c.args.files.now) (most_harts c.args.asked.now.version) c.args.asked.now.base.now
+  there : AreAskedLogs (g.F.Files.content c.args.files.now) (most_harts c.args.asked.now.version) c.args.asked.now.base.now
       c.args.asked.now.image c.args.asked.now.logs.items (Ok c.in_ok-logs.logs.items)
   there =
       let content = g.F.Files.content c.args.files.now in
       let asked = c.args.asked.now in
       let program = c.in_ok-program.program in
       logs_there content (most_harts asked.version) asked.base.now asked.image asked.logs.items
-      c.as_slice-paths.result.now c.as_slice-paths.ensures.value program (g.F.Files.content c.program_of_logs.new.files)
+      c.as_slice-paths.result.now c.as_slice-paths.ensures.value program (g.F.Files.content c.asked_program.new.files)
       (Ok c.in_ok-logs.logs.items)
-      (subst (λ most. IsProgramOfLogs content most asked.base.now asked.image c.as_slice-paths.result.now (Ok program))
+      (subst (λ most. IsAskedProgram content most asked.base.now asked.image c.as_slice-paths.result.now (Ok program))
       c.most_harts-most.ensures c.in_ok-program.ensures.program)
       c.in_ok-program.ensures.kept c.in_ok-logs.ensures.logs
 

@@ -4,7 +4,7 @@ use Rattle.std.proofs.lemmas.Grind.{common_steps}
 use Rattle.message.specs.Version.{most_harts}
 use Rattle.message.specs.declared.header.Version.TheVariants.{Two}
 use Rattle.commands.specs.Begun.{IsCutOf}
-use Rattle.commands.specs.Found.{AreLogs}
+use Rattle.commands.specs.Found.{AreAskedLogs}
 use Rattle.commands.specs.Inputs.{CanReplay, CanReplayLogs}
 use Rattle.commands.specs.Printed.{PrintsUnlessDenied}
 use Rattle.commands.specs.Replaying.{Replays, ReplaysLogs}
@@ -18,10 +18,10 @@ pub returns-in_err-program-clause-early : goal.returns-in_err-program-clause-ear
 returns-in_err-program-clause-early g c =
     let asked = c.args.asked.now in
     let why = c.in_err-program.field-0.0 in
-    let failed : c.program_of_logs.result ≡ Err why = grind (arith, common_steps) in
+    let failed : c.asked_program.result ≡ Err why = grind (arith, common_steps) in
     let is : c.from_residual.result ≡ Err why = grind (arith, common_steps) in
-    early_ends (most_harts Two) asked.base.now asked.logs.items c.as_slice-paths.result.now c.program_of_logs.result why
-    c.from_residual.result c.as_slice-paths.ensures.value failed is c.program_of_logs.ensures.early
+    early_ends (most_harts Two) asked.base.now asked.logs.items c.as_slice-paths.result.now c.asked_program.result why
+    c.from_residual.result c.as_slice-paths.ensures.value failed is c.asked_program.ensures.early
 
 pub returns-in_err-program-clause-printed : goal.returns-in_err-program-clause-printed
 returns-in_err-program-clause-printed g c =
@@ -42,18 +42,18 @@ returns-in_err-logs-clause-printed g c =
     logs_end content (most_harts Two) asked.base.now asked.image asked.logs.items c.as_slice-paths.result.now
     c.as_slice-paths.ensures.value (CanReplay content asked) (g.O.Write.contents c.args.out.now) why
     c.from_residual-in_err-logs.result is (ReplaysLogs content asked) c.in_ok-program.program
-    (g.F.Files.content c.program_of_logs.new.files) c.in_ok-program.ensures.program c.in_ok-program.ensures.kept
+    (g.F.Files.content c.asked_program.new.files) c.in_ok-program.ensures.program c.in_ok-program.ensures.kept
     c.in_err-logs.ensures.fault
 
 module _ (g : _) (c : After-replay_logs g) where
   -- The logs that were found.
-  there : AreLogs (g.F.Files.content c.args.files.now) (most_harts Two) c.args.asked.now.base.now
+  there : AreAskedLogs (g.F.Files.content c.args.files.now) (most_harts Two) c.args.asked.now.base.now
       c.args.asked.now.image c.args.asked.now.logs.items (Ok c.in_ok-logs.logs.items)
   there =
       let asked = c.args.asked.now in
       logs_there (g.F.Files.content c.args.files.now) (most_harts Two) asked.base.now asked.image asked.logs.items
       c.as_slice-paths.result.now c.as_slice-paths.ensures.value c.in_ok-program.program
-      (g.F.Files.content c.program_of_logs.new.files) (Ok c.in_ok-logs.logs.items) c.in_ok-program.ensures.program
+      (g.F.Files.content c.asked_program.new.files) (Ok c.in_ok-logs.logs.items) c.in_ok-program.ensures.program
       c.in_ok-program.ensures.kept c.in_ok-logs.ensures.logs
 
 pub returns-clause-printed : goal.returns-clause-printed
