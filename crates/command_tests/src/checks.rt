@@ -22,47 +22,55 @@ const FILES: [(&str, &[u8]); 5] = [
     ("odd.csv", b"addr,itype,priv,cause,tval\n80000001,0,3,,\n"),
 ];
 
-/// Image, log, and what is told of the log.
-const ILLEGAL: [(&[u8], &[u8], &str); 8] = [
+/// Image, log, what `check` writes and what `encode` tells.
+const ILLEGAL: [(&[u8], &[u8], &str, &str); 8] = [
     (
         b"\x63\x04\0\0\x13\0\0\0\x13\0\0\0",
         b"addr,itype,priv,cause,tval\n80000000,4,3,,\n80000008,0,3,,\n",
-        "row 2: WrongNext",
+        "log.csv: row 2: WrongNext\n",
+        "tracebench: log.csv: row 2: WrongNext\n",
     ),
     (
         b"\x13\0\0\0",
         b"addr,itype,priv,cause,tval\n80000000,0,3,,\n80000004,0,3,,\n",
-        "row 2: OffProgram",
+        "log.csv: row 2: OffProgram\n",
+        "tracebench: log.csv: row 2: OffProgram\n",
     ),
     (
         b"\x73\0\0\0",
         b"addr,itype,priv,cause,tval\n80000000,0,3,,\n",
-        "row 1: NotRetirable",
+        "log.csv: row 1: NotRetirable\n",
+        "tracebench: log.csv: row 1: NotRetirable\n",
     ),
     (
         b"\x13\0\0\0",
         b"addr,itype,priv,cause,tval\n80000000,3,3,,\n",
-        "row 1: WrongType",
+        "log.csv: row 1: WrongType\n",
+        "tracebench: log.csv: row 1: WrongType\n",
     ),
     (
         b"\x13\0\0\0\x13\0\0\0",
         b"addr,itype,priv,cause,tval\n80000000,0,3,,\n80000008,1,3,2,0\n",
-        "row 2: WrongEpc",
+        "log.csv: row 2: WrongEpc\n",
+        "tracebench: log.csv: row 2: WrongEpc\n",
     ),
     (
         b"\x13\0\0\0\x13\0\0\0",
         b"addr,itype,priv,cause,tval\n80000000,0,3,,\n80000004,0,1,,\n",
-        "row 2: WrongPrivilege",
+        "log.csv: row 2: WrongPrivilege\n",
+        "tracebench: log.csv: row 2: WrongPrivilege\n",
     ),
     (
         b"\x73\x00\x20\x30",
         b"addr,itype,priv,cause,tval\n80000000,3,1,,\n",
-        "row 1: WrongPrivilege",
+        "log.csv: row 1: WrongPrivilege\n",
+        "tracebench: log.csv: row 1: WrongPrivilege\n",
     ),
     (
         b"\x73\x00\x20\x10\x13\0\0\0",
         b"addr,itype,priv,cause,tval\n80000000,3,3,,\n80000004,0,3,,\n",
-        "row 2: WrongPrivilege",
+        "log.csv: row 2: WrongPrivilege\n",
+        "tracebench: log.csv: row 2: WrongPrivilege\n",
     ),
 ];
 
@@ -83,10 +91,8 @@ fn refuses<'x, R: Abort + AllocGlobal + Threads + Wait + Sync>(
 
 #[test]
 fn names_the_illegal_row(rt: HostRuntime) {
-    for (image, log, why) in &ILLEGAL {
-        let written = format!(in rt.alloc(); "log.csv: {why}\n").expect(&rt, "memory");
-        let told = format!(in rt.alloc(); "tracebench: {written}").expect(&rt, "memory");
-        refuses(&rt, image, log, written.as_str(), told.as_str());
+    for (image, log, written, told) in &ILLEGAL {
+        refuses(&rt, image, log, written, told);
     }
 }
 
@@ -147,30 +153,33 @@ fn tells_each_log(rt: HostRuntime) {
     }
 }
 
-/// 1,024 logs are the most; the count is told after the base and before the image.
+/// A run of `check` over an image and logs ends with the status, writes the first text and tells the second.
+fn checks<R: Abort + AllocGlobal + Threads + Wait + Sync>(
+    rt: &R,
+    base: &str,
+    image: &str,
+    logs: &str,
+    wanted: (u8, &str, &str),
+) {
+    ends(rt, &FILES, Request::Check(base, image, logs), wanted);
+}
+
+/// 1,024 logs are the most; the image is told after the count.
 #[test]
-fn counts_the_logs(rt: HostRuntime) {
+fn takes_the_most_logs(rt: HostRuntime) {
     let logs = for_each_hart(&rt, 1024, " log.csv");
     let lines = for_each_hart(&rt, 1024, "log.csv: legal, 2 events\n");
-    let request = Request::Check("80000000", "image.bin", logs.as_str());
-    ends(&rt, &FILES, request, (0, lines.as_str(), ""));
-    let more = for_each_hart(&rt, 1025, " no.csv");
-    for (base, logs, status, told) in [
-        (
-            "80000000",
-            logs.as_str(),
-            3,
-            "tracebench: no.bin: cannot be read\n",
-        ),
-        (
-            "80000000",
-            more.as_str(),
-            2,
-            "tracebench: more than 1024 logs\n",
-        ),
-        ("zz", more.as_str(), 2, "tracebench: base is not a number\n"),
-    ] {
-        let request = Request::Check(base, "no.bin", logs);
-        ends(&rt, &FILES, request, (status, "", told));
-    }
+    checks(&rt, "80000000", "image.bin", &logs, (0, &lines, ""));
+    let told = "tracebench: no.bin: cannot be read\n";
+    checks(&rt, "80000000", "no.bin", &logs, (3, "", told));
+}
+
+/// The count of logs is told after the base and before the image.
+#[test]
+fn counts_the_logs(rt: HostRuntime) {
+    let logs = for_each_hart(&rt, 1025, " no.csv");
+    let told = "tracebench: more than 1024 logs\n";
+    checks(&rt, "80000000", "no.bin", &logs, (2, "", told));
+    let told = "tracebench: base is not a number\n";
+    checks(&rt, "zz", "no.bin", &logs, (2, "", told));
 }

@@ -170,15 +170,19 @@ fn ends_at<R: Abort + AllocGlobal + Threads + Wait + Sync>(
 
 /// The output fails at each of its calls in turn: at each byte's, and at that of the flush, which comes behind them and
 /// is the last call. What was written is the beginning of the text.
+fn ends_at_each<R: Abort + AllocGlobal + Threads + Wait + Sync>(rt: &R, run: Run<'_>) {
+    let (request, _, written, _) = run;
+    let calls = written.len() + 1;
+    for call in 1..calls + 1 {
+        ends_at(rt, call, (request, 3, &written[..call - 1], FAILED));
+    }
+    ends_at(rt, calls + 1, run);
+}
+
 #[test]
 fn writes_a_beginning(rt: HostRuntime) {
     for run in &RUNS {
-        let (request, _, written, _) = *run;
-        for call in 1..written.len() + 2 {
-            let wanted = (request, 3, &written[..call - 1], FAILED);
-            ends_at(&rt, call, wanted);
-        }
-        ends_at(&rt, written.len() + 2, *run);
+        ends_at_each(&rt, *run);
     }
 }
 
@@ -198,15 +202,20 @@ fn line_at<R: Abort + AllocGlobal + Threads + Wait + Sync>(
     same_at(rt, (request, kind, call), err.bytes.as_slice(), told);
 }
 
-/// Where the line of a fault is cut short, no status changes; an interrupted write is made again.
+/// The line of a fault fails at each of its calls in turn, or at none; an interrupted write is made again.
+fn line_at_each<R: Abort + AllocGlobal + Threads + Wait + Sync>(rt: &R, run: Run<'_>) {
+    let line = run.3.as_bytes();
+    line_at(rt, run, (ErrorKind::TimedOut, 0), line);
+    for call in 1..line.len() + 1 {
+        line_at(rt, run, (ErrorKind::TimedOut, call), &line[..call - 1]);
+        line_at(rt, run, (ErrorKind::Interrupted, call), line);
+    }
+}
+
+/// Where the line of a fault is cut short, no status changes.
 #[test]
 fn keeps_the_status_where_a_line_is_cut(rt: HostRuntime) {
     for run in &RUNS {
-        let line = run.3.as_bytes();
-        line_at(&rt, *run, (ErrorKind::TimedOut, 0), line);
-        for call in 1..line.len() + 1 {
-            line_at(&rt, *run, (ErrorKind::TimedOut, call), &line[..call - 1]);
-            line_at(&rt, *run, (ErrorKind::Interrupted, call), line);
-        }
+        line_at_each(&rt, *run);
     }
 }
