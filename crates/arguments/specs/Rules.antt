@@ -7,9 +7,10 @@ use Rattle.clap.specs.declared.builder.action.ArgAction.TheVariants.{Append, Set
 use Rattle.clap.specs.declared.builder.range.ValueRange.{ValueRange}
 use Rattle.clap.specs.declared.builder.value_parser.ValueParser.{ValueParser}
 use Rattle.clap.specs.declared.builder.value_parser.ValueParser.TheVariants.{Signed}
+use Rattle.message.specs.Capacity.{most_capacity}
 use Rattle.message.specs.Version.{most_harts}
 use Rattle.message.specs.declared.header.Version.TheVariants.{Two}
-use Rattle.subcommands.specs.Limits.{largest_capacity, longest_period}
+use Rattle.subcommands.specs.Limits.{longest_period}
 
 -- `--base B`, which has to be there.
 abbrev pub base_rule : Rule
@@ -60,7 +61,7 @@ period_rule = record (new_rule (codes "period")) {
 
 -- A number from 1 to 65536.
 abbrev pub capacity_parser : ValueParser
-capacity_parser = Signed (pos 1) (pos largest_capacity)
+capacity_parser = Signed (pos 1) (pos most_capacity)
 
 -- `--capacity N`, which is 16 where it is not there.
 abbrev pub capacity_rule : Rule

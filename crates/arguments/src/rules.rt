@@ -3,11 +3,44 @@
 ghost use Rattle.arguments.specs.Rules.{IsReadBy, base_rule, capacity_rule, capture_rule, full_rule, harts_rule};
 ghost use Rattle.arguments.specs.Rules.{hex_rule, image_rule, logs_rule, lossy_rule, period_rule, schedule_rule};
 ghost use Rattle.arguments.specs.Rules.{version_one_rule};
+ghost use Rattle.arguments.specs.steps.Forms.{file_rule, flag_rule, number_rule};
 
 use clap::{Arg, ArgAction, value_parser};
-use message::MOST_HARTS;
+use message::{MOST_CAPACITY, MOST_HARTS};
 use std::alloc::Global;
-use subcommands::{LARGEST_CAPACITY, LONGEST_PERIOD, SHORTEST_PERIOD, SMALLEST_CAPACITY};
+use subcommands::{LONGEST_PERIOD, SHORTEST_PERIOD, SMALLEST_CAPACITY};
+
+/// `--NAME`, which takes no value.
+fn flag<'a>(alloc: Global, name: &'a str, help: &'a str) -> Arg<'a>
+    ensures { IsReadBy (flag_rule name.entry.now) result }
+{
+    Arg::new(alloc, name)
+        .long(name)
+        .action(ArgAction::SetTrue)
+        .help(help)
+}
+
+/// A file's path, a word of its own that has to be given.
+fn file<'a>(alloc: Global, name: &'a str, help: &'a str) -> Arg<'a>
+    ensures { IsReadBy (file_rule name.entry.now) result }
+{
+    Arg::new(alloc, name)
+        .required(true)
+        .action(ArgAction::Set)
+        .help(help)
+}
+
+/// `--NAME N`, which has this value where it is not given.
+fn number<'a>(alloc: Global, name: &'a str, default: &'a str, help: &'a str) -> Arg<'a>
+    ensures { IsReadBy (number_rule name.entry.now default.entry.now) result }
+{
+    Arg::new(alloc, name)
+        .long(name)
+        .value_name("N")
+        .default_value(default)
+        .action(ArgAction::Set)
+        .help(help)
+}
 
 /// `--base B`, the address of the image's first byte, which has to be given.
 pub fn base<'a>(alloc: Global) -> Arg<'a>
@@ -25,68 +58,54 @@ pub fn base<'a>(alloc: Global) -> Arg<'a>
 pub fn capacity<'a>(alloc: Global) -> Arg<'a>
     ensures { IsReadBy capacity_rule result }
 {
-    Arg::new(alloc, "capacity")
-        .long("capacity")
-        .value_name("N")
-        .value_parser(value_parser!(u32).range(
-            i64::from(SMALLEST_CAPACITY)..=i64::from(LARGEST_CAPACITY),
-        ))
-        .default_value("16")
-        .action(ArgAction::Set)
-        .help("How many messages the funnel holds, 1 to 65536")
+    number(
+        alloc,
+        "capacity",
+        "16",
+        "How many messages the funnel holds, 1 to 65536",
+    )
+    .value_parser(value_parser!(u32).range(i64::from(SMALLEST_CAPACITY)..=i64::from(MOST_CAPACITY)))
 }
 
 /// CAPTURE, the file of trace messages, which has to be given.
 pub fn capture<'a>(alloc: Global) -> Arg<'a>
     ensures { IsReadBy capture_rule result }
 {
-    Arg::new(alloc, "CAPTURE")
-        .required(true)
-        .action(ArgAction::Set)
-        .help("File of trace messages")
+    file(alloc, "CAPTURE", "File of trace messages")
 }
 
 /// `--full`, which asks for addresses named in full.
 pub fn full<'a>(alloc: Global) -> Arg<'a>
     ensures { IsReadBy full_rule result }
 {
-    Arg::new(alloc, "full")
-        .long("full")
-        .action(ArgAction::SetTrue)
-        .help("Name addresses in full, not by differences")
+    flag(alloc, "full", "Name addresses in full, not by differences")
 }
 
 /// `--harts N`, how many harts a capture of version 1 may have, 1 to 1024, and 1 where it is not given.
 pub fn harts<'a>(alloc: Global) -> Arg<'a>
     ensures { IsReadBy harts_rule result }
 {
-    Arg::new(alloc, "harts")
-        .long("harts")
-        .value_name("N")
-        .value_parser(value_parser!(u16).range(1..=i64::from(MOST_HARTS)))
-        .default_value("1")
-        .action(ArgAction::Set)
-        .help("How many harts a capture of version 1 may have, 1 to 1024")
+    number(
+        alloc,
+        "harts",
+        "1",
+        "How many harts a capture of version 1 may have, 1 to 1024",
+    )
+    .value_parser(value_parser!(u16).range(1..=i64::from(MOST_HARTS)))
 }
 
 /// `--hex`, which asks for a line of hexadecimal for each message.
 pub fn hex<'a>(alloc: Global) -> Arg<'a>
     ensures { IsReadBy hex_rule result }
 {
-    Arg::new(alloc, "hex")
-        .long("hex")
-        .action(ArgAction::SetTrue)
-        .help("Write a line of hexadecimal for each message")
+    flag(alloc, "hex", "Write a line of hexadecimal for each message")
 }
 
 /// IMAGE, the file of the program's bytes, which has to be given.
 pub fn image<'a>(alloc: Global) -> Arg<'a>
     ensures { IsReadBy image_rule result }
 {
-    Arg::new(alloc, "IMAGE")
-        .required(true)
-        .action(ArgAction::Set)
-        .help("File of the program's bytes")
+    file(alloc, "IMAGE", "File of the program's bytes")
 }
 
 /// LOG..., the logs' files, of which one has to be given.
@@ -104,10 +123,11 @@ pub fn logs<'a>(alloc: Global) -> Arg<'a>
 pub fn lossy<'a>(alloc: Global) -> Arg<'a>
     ensures { IsReadBy lossy_rule result }
 {
-    Arg::new(alloc, "lossy")
-        .long("lossy")
-        .action(ArgAction::SetTrue)
-        .help("Go on where messages are missing, and tell how many are")
+    flag(
+        alloc,
+        "lossy",
+        "Go on where messages are missing, and tell how many are",
+    )
 }
 
 /// `--period N`, the retirements from one periodic synchronisation to the next, 1 to 65535, and 1024 where it is not
@@ -115,33 +135,33 @@ pub fn lossy<'a>(alloc: Global) -> Arg<'a>
 pub fn period<'a>(alloc: Global) -> Arg<'a>
     ensures { IsReadBy period_rule result }
 {
-    Arg::new(alloc, "period")
-        .long("period")
-        .value_name("N")
-        .value_parser(value_parser!(u16).range(
-            i64::from(SHORTEST_PERIOD)..=i64::from(LONGEST_PERIOD),
-        ))
-        .default_value("1024")
-        .action(ArgAction::Set)
-        .help("Retirements from one periodic synchronisation to the next, 1 to 65535")
+    number(
+        alloc,
+        "period",
+        "1024",
+        "Retirements from one periodic synchronisation to the next, 1 to 65535",
+    )
+    .value_parser(value_parser!(u16).range(i64::from(SHORTEST_PERIOD)..=i64::from(LONGEST_PERIOD)))
 }
 
 /// SCHEDULE, the file of turns, which has to be given.
 pub fn schedule<'a>(alloc: Global) -> Arg<'a>
     ensures { IsReadBy schedule_rule result }
 {
-    Arg::new(alloc, "SCHEDULE")
-        .required(true)
-        .action(ArgAction::Set)
-        .help("File of the turns: hart numbers, and `c` for taking a message")
+    file(
+        alloc,
+        "SCHEDULE",
+        "File of the turns: hart numbers, and `c` for taking a message",
+    )
 }
 
 /// `--v1`, which asks for a capture of version 1.
 pub fn version_one<'a>(alloc: Global) -> Arg<'a>
     ensures { IsReadBy version_one_rule result }
 {
-    Arg::new(alloc, "v1")
-        .long("v1")
-        .action(ArgAction::SetTrue)
-        .help("Write a capture of version 1, which has no header, of at most 64 logs")
+    flag(
+        alloc,
+        "v1",
+        "Write a capture of version 1, which has no header, of at most 64 logs",
+    )
 }

@@ -1,5 +1,6 @@
 -- How many events two lists have alike, behind the first ones.
-use Rattle.std.proofs.Common.{◌≡◌, ◌<◌, ◌≤◌, ◌+◌, ℕ, zero, suc, true, false, List, [], ◌∷◌, length, drop, get_or, refl, ap, arith}
+use Rattle.std.proofs.Common.{◌≡◌, ◌<◌, ◌≤◌, ◌+◌, ℕ, zero, suc, true, false, List, [], ◌∷◌, length, drop, get_or, refl}
+use Rattle.std.proofs.Common.{ap, arith}
 use Rattle.std.specs.Prelude.{if◌then◌else◌}
 use Rattle.retire.specs.declared.event.Event.{Event}
 use Rattle.bench.specs.Verdict.{count_alike, is_alike}

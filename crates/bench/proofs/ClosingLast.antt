@@ -1,5 +1,6 @@
 -- Of the packets of a log only the last closes a trace, and so does only the last of its payloads.
-use Rattle.std.proofs.Common.{◌≡◌, ℕ, zero, suc, true, All, List, [], ◌∷◌, ◌++◌, Some, length, map, slice_get, refl, sym, ap, subst, ◌∙◌, arith}
+use Rattle.std.proofs.Common.{◌≡◌, ℕ, zero, suc, true, All, List, [], ◌∷◌, ◌++◌, Some, length, map, slice_get, refl}
+use Rattle.std.proofs.Common.{sym, ap, subst, ◌∙◌, arith}
 use Rattle.std.proofs.lemmas.List.{length-map}
 use Rattle.std.proofs.lemmas.List.Elements.{All-get_or}
 use Rattle.std.proofs.lemmas.Option.{same_Some, slice_get_within, get_or_from_slice_get}

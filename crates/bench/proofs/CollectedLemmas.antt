@@ -1,5 +1,7 @@
 -- What a collector has of a hart of which first packets were taken in, and what one message more of it changes.
-use Rattle.std.proofs.Common.{◌≡◌, ◌+◌, ◌*◌, ◌<◌, ◌≤◌, ◌^◌, ◌==◌, ⊎_elim, ℕ, zero, suc, Bool, true, false, All, List, [], ◌∷◌, ◌++◌, Some, Ok, length, map, take, sum, set, slice_get, refl, sym, ap, subst, ◌∙◌, add-one, arith}
+use Rattle.std.proofs.Common.{◌≡◌, ◌+◌, ◌*◌, ◌<◌, ◌≤◌, ◌^◌, ◌==◌, ⊎_elim, ℕ, zero, suc, Bool, true, false, All, List}
+use Rattle.std.proofs.Common.{[], ◌∷◌, ◌++◌, Some, Ok, length, map, take, sum, set, slice_get, refl, sym, ap, subst}
+use Rattle.std.proofs.Common.{◌∙◌, add-one, arith}
 use Rattle.std.proofs.lemmas.Bool.{ne_eqb}
 use Rattle.std.proofs.lemmas.List.{length-map}
 use Rattle.std.proofs.lemmas.List.Elements.{All-cons, All-head, All-nil, All-tail}
@@ -33,7 +35,7 @@ use Rattle.message.specs.declared.hart.Hart.{Hart}
 use Rattle.message.specs.declared.message.Message.{Message}
 use Rattle.receiver.specs.Holds.{HoldsHart}
 use Rattle.receiver.specs.Received.{IsReceived, Received}
-use Rattle.bench.specs.Collected.{Collected, HasCollected, IsMessageOf, Taken, counted, packets_with, with_packet}
+use Rattle.bench.specs.Collected.{Collected, HasCollected, IsMessageOf, Taken, packets_with, saturating_sum, with_packet}
 use Rattle.bench.specs.Got.{Got, got_after, kept}
 use Rattle.bench.proofs.ClosingLast.{All_at, packet_at}
 use Rattle.bench.proofs.GotLemmas.{profile}
@@ -86,8 +88,8 @@ short_payloads (one ∷ ps) good =
     (short_payloads ps (All-tail InProfile one ps good))
 
 -- A number that is far from the largest is counted on.
-counted-few : (number more : ℕ) → number + more < 2 ^ 64 → counted number more ≡ number + more
-counted-few number more few = omega (arith, few)
+saturating_sum-few : (number more : ℕ) → number + more < 2 ^ 64 → saturating_sum number more ≡ number + more
+saturating_sum-few number more few = omega (arith, few)
 
 -- What is kept of packets, with one more.
 kept-next : (keep : Bool) (packet : Packet) (some : List Packet) (more : List Packet) → more ≡ some ++ packet ∷ []
@@ -209,14 +211,14 @@ module _ (period : ℕ) (mode : Mode) (log : ProgramLog) (legal : IsLegalLog log
       let short = sum-lengths-few lists (count + 1) (short_payloads ps (profile period mode log legal)) in
       let room : sum (map length (take count lists)) + length message.payload < 2 ^ 64 =
       let few = few_all in omega (arith, few, sums, short, length-map ps payload_of) in
-      let one : counted count 1 ≡ count + 1 = counted-few count 1 (let few = few_all in omega (arith, few, within)) in
-      let bytes : counted (sum (map length (take count lists))) (length message.payload)
+      let one : saturating_sum count 1 ≡ count + 1 = saturating_sum-few count 1 (let few = few_all in omega (arith, few, within)) in
+      let bytes : saturating_sum (sum (map length (take count lists))) (length message.payload)
       ≡ sum (map length (take (count + 1) lists)) =
-      counted-few (sum (map length (take count lists))) (length message.payload) room ∙ sym sums in
-      ap (λ some. taken some (counted count 1) (counted (sum (map length (take count lists))) (length message.payload)))
+      saturating_sum-few (sum (map length (take count lists))) (length message.payload) room ∙ sym sums in
+      ap (λ some. taken some (saturating_sum count 1) (saturating_sum (sum (map length (take count lists))) (length message.payload)))
       some
       ∙ ap (λ number. taken (if keep then take (count + 1) ps else []) number
-      (counted (sum (map length (take count lists))) (length message.payload))) one
+      (saturating_sum (sum (map length (take count lists))) (length message.payload))) one
       ∙ ap (taken (if keep then take (count + 1) ps else []) (count + 1)) bytes
     where
       taken : List Packet → ℕ → ℕ → Taken

@@ -1,13 +1,17 @@
 -- What a collector has at first, where a hart is refused, and at its end.
-use Rattle.std.proofs.Common.{◌≡◌, ◌≢◌, ◌+◌, ◌<◌, ◌≤◌, ⊎_elim, ℕ, Bool, true, false, All, List, [], ◌∷◌, ◌++◌, Some, None, if◌then◌else◌, length, take, drop, set, get_or, replicate, slice_get, refl, sym, ap, subst, ◌∙◌, add-one, arith}
+use Rattle.std.proofs.Common.{◌≡◌, ◌≢◌, ◌+◌, ◌<◌, ◌≤◌, ⊎_elim, ℕ, Bool, true, false, All, List, [], ◌∷◌, ◌++◌, Some}
+use Rattle.std.proofs.Common.{None, if◌then◌else◌, length, take, drop, set, get_or, replicate, slice_get, refl, sym, ap}
+use Rattle.std.proofs.Common.{subst, ◌∙◌, add-one, arith}
 use Rattle.std.specs.Prelude.{IsSomeAnd}
 use Rattle.std.specs.Option.{option_map}
 use Rattle.std.specs.declared.vec.Vec.{Vec}
 use Rattle.std.proofs.Math.ListN.{get_or-map}
 use Rattle.std.proofs.Math.Seq.{drop-cons, map-set_same, take-append_seam}
 use Rattle.std.proofs.lemmas.Bool.{cases_eq, ne_eqb}
-use Rattle.std.proofs.lemmas.List.{drop-set, get_or-replicate, get_or-take, length_push, map-append, take-take, length-map, length-replicate, length-set, map-set, replicate-append-replicate}
-use Rattle.std.proofs.lemmas.Option.{get_or_from_slice_get, slice_get-get_or, slice_get-map, slice_get_read, slice_get_within, same_Some}
+use Rattle.std.proofs.lemmas.List.{drop-set, get_or-replicate, get_or-take, length_push, map-append, take-take}
+use Rattle.std.proofs.lemmas.List.{length-map, length-replicate, length-set, map-set, replicate-append-replicate}
+use Rattle.std.proofs.lemmas.Option.{get_or_from_slice_get, slice_get-get_or, slice_get-map, slice_get_read}
+use Rattle.std.proofs.lemmas.Option.{slice_get_within, same_Some}
 use Rattle.retire.specs.declared.event.Event.{Event}
 use Rattle.rvclass.specs.Fetch.{words_of}
 use Rattle.rvclass.specs.Words.{Words}
@@ -246,7 +250,8 @@ filled_next {A} first lists closed harts left rest list at outcome written befor
       rest = left-before lists left rest (length rest) before.rest taken (ap length split ∙ length_push rest list);
       decoded = ap (λ n. drop n (decoded_in (set harts at written))) (sym here)
           ∙ ap (drop at)
-          (map-set decoded_of harts at written ∙ ap (λ (list : Vec Event A). set (decoded_in harts) at list.items) events)
+          (map-set decoded_of harts at written ∙ ap (λ (list : Vec Event A). set (decoded_in harts) at list.items)
+          events)
           ∙ behind-set (decoded_in harts) (events_in lists) at list.items
           (omega (arith, of_harts, length-map harts decoded_of))
           (omega (arith, of_lists, length-map lists items)) item

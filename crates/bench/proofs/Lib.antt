@@ -19,6 +19,7 @@ pub mod SendingTurn
 pub mod ReplayEnds
 pub mod ReplayTurns
 pub mod FirstItems
+pub mod FirstHarts
 pub mod WorkLemmas
 pub mod AmongLemmas
 pub mod GatheredLemmas

@@ -1,5 +1,6 @@
 -- Where a replay stands at first, and after one turn more.
-use Rattle.std.proofs.Common.{◌≡◌, ◌<◌, ◌+◌, ℕ, Bool, true, false, cond, All, List, [], ◌∷◌, ◌++◌, Option, Some, None, length, map, inl, nat_lt, slice_get, slice_index_or, take, refl, sym, ap, subst, ◌∙◌}
+use Rattle.std.proofs.Common.{◌≡◌, ◌<◌, ◌+◌, ℕ, Bool, true, false, cond, All, List, [], ◌∷◌, ◌++◌, Option, Some, None}
+use Rattle.std.proofs.Common.{length, map, inl, nat_lt, slice_get, slice_index_or, take, refl, sym, ap, subst, ◌∙◌}
 use Rattle.std.specs.Prelude.{IsSomeAnd, IsTrue}
 use Rattle.std.proofs.lemmas.List.{length-map, length-replicate}
 use Rattle.legalpath.specs.ProgramLog.{IsLegalLog, ProgramLog}

@@ -1,5 +1,6 @@
 -- The lines of first harts, and whether their logs came back whole, with one hart more.
-use Rattle.std.proofs.Common.{◌≡◌, ◌<◌, ◌≤◌, ◌+◌, ℕ, zero, suc, Bool, List, [], ◌∷◌, ◌++◌, Some, drop, get_or, length, map, take, slice_get, refl, subst, sym, ap, ◌∙◌, arith}
+use Rattle.std.proofs.Common.{◌≡◌, ◌<◌, ◌≤◌, ◌+◌, ℕ, zero, suc, Bool, List, [], ◌∷◌, ◌++◌, Some, drop, get_or, length}
+use Rattle.std.proofs.Common.{map, take, slice_get, refl, subst, sym, ap, ◌∙◌, arith}
 use Rattle.std.specs.Option.{option_map}
 use Rattle.std.specs.Prelude.{◌&&◌, true, false, is_none, is_some, not, Option, None}
 use Rattle.std.proofs.lemmas.List.{append_assoc, append-nil, length-map, take_all}

@@ -1,5 +1,7 @@
 -- What a message that the demultiplexer accepts changes of what a collector has.
-use Rattle.std.proofs.Common.{◌≡◌, ◌≢◌, ◌+◌, ◌<◌, ◌≤◌, ◌⊎◌, ⊎_elim, ℕ, Bool, true, false, All, List, [], ◌∷◌, ◌++◌, Option, Some, None, Result, Ok, Err, IfErr, OnOk, length, take, set, get_or, slice_get, refl, sym, ap, subst, ◌∙◌, arith}
+use Rattle.std.proofs.Common.{◌≡◌, ◌≢◌, ◌+◌, ◌<◌, ◌≤◌, ◌⊎◌, ⊎_elim, ℕ, Bool, true, false, All, List, [], ◌∷◌, ◌++◌}
+use Rattle.std.proofs.Common.{Option, Some, None, Result, Ok, Err, IfErr, OnOk, length, take, set, get_or, slice_get}
+use Rattle.std.proofs.Common.{refl, sym, ap, subst, ◌∙◌, arith}
 use Rattle.std.specs.Prelude.{IsSomeAnd, IsTrue, OnErr}
 use Rattle.std.specs.Option.{option_map}
 use Rattle.std.proofs.lemmas.List.{length-map, length-set, map-set}
@@ -25,14 +27,16 @@ use Rattle.receiver.proofs.HoldLemmas.{same_hart_twice, set-other}
 use Rattle.receiver.specs.Holds.{HoldsHart}
 use Rattle.receiver.specs.Received.{IsReceived, IsSameHart, Received}
 use Rattle.receiver.specs.Refused.{IsNotDecoded}
-use Rattle.bench.specs.Collected.{Accepts, Came, Collected, HasCollected, HasDecoded, IsMessageOf, IsSameOf, Taken, with_packet}
+use Rattle.bench.specs.Collected.{Accepts, Came, Collected, HasCollected, HasDecoded, IsMessageOf, IsSameOf, Taken}
+use Rattle.bench.specs.Collected.{with_packet}
 use Rattle.bench.specs.Got.{Got, got_after, kept}
 use Rattle.bench.specs.declared.collecting.CollectFault.{CollectFault}
 use Rattle.bench.specs.declared.collecting.CollectFault.TheVariants as fault
 use Rattle.bench.specs.declared.outcome.HartOutcome.{HartOutcome}
 use Rattle.bench.specs.steps.Collecting.{IsCollected, IsLeftBy, taken_in, taken_of}
 use Rattle.bench.proofs.ClosingLast.{All_at}
-use Rattle.bench.proofs.CollectedLemmas.{held_first, next_accepted, next_described, next_expected, next_first, next_packet, next_taken, set-at, taken_by}
+use Rattle.bench.proofs.CollectedLemmas.{held_first, next_accepted, next_described, next_expected, next_first}
+use Rattle.bench.proofs.CollectedLemmas.{next_packet, next_taken, set-at, taken_by}
 
 -- The answer to a message whose packet was accepted, and what a collector has then.
 pub record TakesIn (message : Message) (packet : Packet) (answer : Result (Unit {0}) CollectFault)

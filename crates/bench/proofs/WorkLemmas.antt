@@ -1,5 +1,5 @@
 -- Messages that carry the first payloads of a log.
-use Rattle.std.proofs.Common.{◌≡◌, ◌⊎◌, ◌≤◌, ◌+◌, ◌^◌, ℕ, zero, suc, Bool, true, List, [], ◌∷◌, ◌++◌, Some, length, set, take, slice_get, nat_le, refl, sym, ap, subst, inl, inr, ⊎_elim, ◌∙◌, arith}
+use Rattle.std.proofs.Common.{◌≡◌, ◌⊎◌, ◌<◌, ◌≤◌, ◌+◌, ◌^◌, ℕ, zero, suc, Bool, true, false, List, [], ◌∷◌, ◌++◌, Some, length, set, take, slice_get, nat_le, refl, sym, ap, subst, inl, inr, ⊎_elim, ◌∙◌, arith}
 use Rattle.std.specs.Option.{option_map}
 use Rattle.std.proofs.lemmas.Bool.{cases_eq, or_cases}
 use Rattle.std.proofs.lemmas.Bool.Decides.{nat_tests}
@@ -10,10 +10,12 @@ use Rattle.legalpath.specs.ProgramLog.{IsLegalLog, ProgramLog}
 use Rattle.payload.specs.Closing.{is_closing}
 use Rattle.payload.specs.declared.mode.Mode.{Mode}
 use Rattle.encoder.specs.Payloads.{payloads}
+use Rattle.encoder.specs.SourceAt.{IsAt, SourceAt}
 use Rattle.message.specs.OfHart.{of_hart}
 use Rattle.message.specs.declared.message.Message.{Message}
-use Rattle.funnel.specs.Ends.{IsBeginning, PortView, has_closing, is_finished}
+use Rattle.funnel.specs.Ends.{IsBeginning, PortView, after_sending, has_closing, is_finished}
 use Rattle.funnel.specs.Limits.{most_messages}
+use Rattle.funnel.specs.Order.{next_message}
 use Rattle.funnel.specs.Payloads.{ClosesOnlyLast, payloads_in}
 use Rattle.bench.specs.Stopping.{LacksPayloads}
 use Rattle.bench.specs.Working.{AreNotAll, CarryFirst, IsWork}
@@ -97,6 +99,72 @@ module _ (period : ℕ) (mode : Mode) (log : ProgramLog) where
 
       many : nat_le most_messages (length sent) ≡ true → ⊥
       many most = let over : most_messages ≤ length sent = grind (arith, nat_tests) in omega (arith, over, few)
+
+-- A source that gave nothing stands before the first payload.
+pub first_at : (at : SourceAt) → at.number ≡ 0 → IsAt at.period at.mode at.log 0 at
+first_at at first = ap (λ n. record at { number = n }) first
+
+-- This many payloads of a log went through a port.
+pub record HaveGone (period : ℕ) (mode : Mode) (log : ProgramLog) (port : PortView) (number : ℕ) (now : PortView)
+    : Type 0 where
+  pub funnel : now.funnel ≡ port.funnel
+  pub hart : now.hart ≡ port.hart
+  pub count : length now.sent ≡ number
+  pub sent : CarryFirst period mode log now.sent
+
+module _ (period : ℕ) (mode : Mode) (log : ProgramLog) (port : PortView) where
+  -- At first none did.
+  pub none_gone : port.sent ≡ [] → HaveGone period mode log port 0 port
+  none_gone none = record {
+    funnel = refl;
+    hart = refl;
+    count = ap length none;
+    sent = subst (CarryFirst period mode log) (sym none) refl;
+  }
+
+  -- With the next one.
+  pub one_gone : (number : ℕ) (old new : PortView) (payload : List ℕ) → HaveGone period mode log port number old
+      → Some payload ≡ slice_get (payloads period mode log) number → new ≡ after_sending old payload
+      → HaveGone period mode log port (number + 1) new
+  one_gone number old new payload gone next sending =
+      let message = next_message old.hart old.sent payload in
+      subst (HaveGone period mode log port (number + 1)) (sym sending) (record {
+        funnel = gone.funnel;
+        hart = gone.hart;
+        count = length_push old.sent message ∙ ap (λ n. n + 1) gone.count;
+        sent = carry_more period mode log old.sent message gone.sent
+            (ap (slice_get (payloads period mode log)) gone.count ∙ sym next);
+      })
+
+  -- The port is not finished before the next one.
+  pub goes_on : (number most : ℕ) (now : PortView) (payload : List ℕ) → HaveGone period mode log port number now
+      → Some payload ≡ slice_get (payloads period mode log) number → IsLegalLog log → number < most
+      → most ≤ 2 ^ 24 + 2 → is_finished now.sent ≡ true → ⊥
+  goes_on number most now payload gone next legal within few =
+      let count = gone.count in
+      not_finished period mode log now.sent payload legal gone.sent
+      (ap (slice_get (payloads period mode log)) gone.count ∙ sym next) (omega (arith, count, within, few))
+
+  -- What a worker leaves that was not refused.
+  pub all_gone : (number : ℕ) (now left : PortView) (flag : Bool) → HaveGone period mode log port number now
+      → left ≡ now → flag ≡ false → IsWork period mode port log left flag
+  all_gone number now left flag gone same off =
+      subst (λ p. IsWork period mode port log p flag) (sym same)
+      (gone.funnel, gone.hart, gone.sent, λ on. absurd (apart flag on off))
+    where
+      apart : (b : Bool) → b ≡ true → b ≡ false → ⊥
+      apart b on off = cc
+
+  -- What a worker leaves that was refused before the next one.
+  pub some_gone : (number : ℕ) (now left : PortView) (flag : Bool) (payload : List ℕ)
+      → HaveGone period mode log port number now
+      → Some payload ≡ slice_get (payloads period mode log) number → left ≡ now
+      → IsWork period mode port log left flag
+  some_gone number now left flag payload gone next same =
+      let within = slice_get_within (payloads period mode log) number payload (sym next) in
+      let count = gone.count in
+      subst (λ p. IsWork period mode port log p flag) (sym same)
+      (gone.funnel, gone.hart, gone.sent, λ on. omega (arith, within, count))
 
 -- What was taken of a worker's hart carries the first payloads of its log.
 pub settled_first : (period : ℕ) (mode : Mode) (log : ProgramLog) (port receipt : PortView) (taken : List Message)

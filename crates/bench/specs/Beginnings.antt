@@ -1,5 +1,6 @@
 -- What came of harts through a funnel.
-use Rattle.std.specs.Prelude.{ℕ, ◌≡◌, ◌≤◌, ◌<◌, All, Bool, true, false, IsFalse, IsSomeAnd, IsTrue, List, Option, Some, None, length, slice_get}
+use Rattle.std.specs.Prelude.{ℕ, ◌≡◌, ◌≤◌, ◌<◌, All, Bool, true, false, IsFalse, IsSomeAnd, IsTrue, List, Option, Some}
+use Rattle.std.specs.Prelude.{None, length, slice_get}
 use Rattle.legalpath.specs.ProgramLog.{ProgramLog}
 use Rattle.message.specs.OfHart.{of_hart}
 use Rattle.message.specs.declared.message.Message.{Message}

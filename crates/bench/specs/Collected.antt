@@ -1,5 +1,6 @@
 -- What a collector has of harts.
-use Rattle.std.specs.Prelude.{ℕ, ◌+◌, ◌-◌, ◌^◌, ◌≡◌, ◌≤◌, ◌==◌, ◌++◌, Bool, false, if◌then◌else◌, IsSomeAnd, IsTrue, List, [], ◌∷◌, Some, Ok, length, min, slice_get, take}
+use Rattle.std.specs.Prelude.{ℕ, ◌+◌, ◌-◌, ◌^◌, ◌≡◌, ◌≤◌, ◌==◌, ◌++◌, Bool, false, if◌then◌else◌, IsSomeAnd, IsTrue}
+use Rattle.std.specs.Prelude.{List, [], ◌∷◌, Some, Ok, length, min, slice_get, take}
 use Rattle.rvclass.specs.Fetch.{words_of}
 use Rattle.legalpath.specs.ProgramLog.{ProgramLog}
 use Rattle.payload.specs.declared.mode.Mode.{Mode}
@@ -62,15 +63,15 @@ abbrev pub packets_with : Bool → Packet → List Packet → List Packet
 packets_with keep packet packets = if keep then packets ++ packet ∷ [] else packets
 
 -- The sum, or the largest number of 64 bits where that is less.
-abbrev pub counted : ℕ → ℕ → ℕ
-counted number more = min (number + more) (2 ^ 64 - 1)
+abbrev pub saturating_sum : ℕ → ℕ → ℕ
+saturating_sum number more = min (number + more) (2 ^ 64 - 1)
 
 -- What came of a hart with one packet more, whose payload has so many bytes.
 abbrev pub with_packet : Bool → Packet → ℕ → Taken → Taken
 with_packet keep packet bytes taken = record {
   packets = packets_with keep packet taken.packets;
-  taken = counted taken.taken 1;
-  bytes = counted taken.bytes bytes;
+  taken = saturating_sum taken.taken 1;
+  bytes = saturating_sum taken.bytes bytes;
   refused = taken.refused;
 }
 

@@ -1,5 +1,6 @@
 -- The text of a report.
-use Rattle.std.specs.Prelude.{ℕ, ◌+◌, ◌++◌, ◌&&◌, Bool, true, false, is_none, List, [], ◌∷◌, Option, Some, None, codes, length}
+use Rattle.std.specs.Prelude.{ℕ, ◌+◌, ◌++◌, ◌&&◌, Bool, true, false, is_none, List, [], ◌∷◌, Option, Some, None, codes}
+use Rattle.std.specs.Prelude.{length}
 use Rattle.std.specs.Fmt.{decimal}
 use Rattle.legalpath.specs.ProgramLog.{ProgramLog}
 use Rattle.bench.specs.Got.{Got}
@@ -47,6 +48,7 @@ abbrev pub stop_line : Option Stop → List ℕ
 stop_line None = []
 stop_line (Some why) = codes "stop: " ++ (stop_text why ++ codes "\n")
 
+-- The verdict says that a log came back whole.
 abbrev pub is_whole_verdict : Verdict → Bool
 is_whole_verdict Whole = true
 is_whole_verdict Beginning = false

@@ -15,7 +15,7 @@ setup_by (Some open_fault.Capacity) period = Some setup.Capacity
 setup_by (Some open_fault.Memory) period = Some setup.Memory
 setup_by None period = if period == 0 then Some setup.Period else None
 
--- The first fault of so many harts with this configuration, before any memory is taken, where there may be so many harts
--- at most.
+-- The first fault of so many harts with this configuration, before any memory is taken, where there may be so many
+-- harts at most.
 abbrev pub setup_fault : ℕ → ℕ → Config → Option Setup
 setup_fault most harts config = setup_by (limit_fault most harts config.capacity) config.period

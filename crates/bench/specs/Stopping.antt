@@ -1,5 +1,6 @@
 -- What a stop of a run tells.
-use Rattle.std.specs.Prelude.{ℕ, ◌≡◌, ◌<◌, All, true, false, IsFalse, IsSomeAnd, IsTrue, List, Option, Some, None, slice_get}
+use Rattle.std.specs.Prelude.{ℕ, ◌≡◌, ◌<◌, All, true, false, IsFalse, IsSomeAnd, IsTrue, List, Option, Some, None}
+use Rattle.std.specs.Prelude.{slice_get}
 use Rattle.legalpath.specs.ProgramLog.{ProgramLog}
 use Rattle.payload.specs.declared.mode.Mode.{Mode}
 use Rattle.message.specs.OfHart.{of_hart}

@@ -242,23 +242,13 @@ fn take_packet<A: Allocator + Copy>(
     ensures expected { receiver.new.expected ≡ receiver.old.expected }
     ensures complete { IsReceived receiver.old → IsReceived receiver.new }
 {
-    if keep && outcome.packets.reserve(1).is_err() {
-        outcome.refused = true;
-        return Err(CollectFault::Memory);
-    }
-    if 0 < outcome.taken && receiver.reserve(message.hart, events).is_err() {
+    if !has_room(receiver, outcome, events, keep, message.hart) {
         outcome.refused = true;
         return Err(CollectFault::Memory);
     }
     match receiver.decode(program, message.hart, &packet) {
         Ok(()) => {}
-        Err(fault) => {
-            if matches!(fault, DecodeFault::Memory) {
-                outcome.refused = true;
-                return Err(CollectFault::Memory);
-            }
-            return Err(CollectFault::Decode(fault));
-        }
+        Err(fault) => return Err(undecoded(fault, outcome)),
     }
     let bytes = message.payload.bytes().len() as u64;
     outcome.taken = outcome.taken.saturating_add(1);
@@ -267,6 +257,41 @@ fn take_packet<A: Allocator + Copy>(
         outcome.packets.push_reserved(packet);
     }
     Ok(())
+}
+
+/// Whether there is room for the next packet of a hart, which is reserved: where packets are kept, for it, and from the
+/// second packet on for so many events.
+fn has_room<A: Allocator + Copy>(
+    receiver: &mut Receiver<A>,
+    outcome: &mut HartOutcome<A>,
+    events: usize,
+    keep: bool,
+    hart: u16,
+) -> bool
+    requires { hart < length receiver.old.lists }
+    ensures receiver { receiver.new ≡ receiver.old }
+    ensures outcome { taken_of outcome.new ≡ taken_of outcome.old }
+    ensures room { result ≡ true → keep ≡ true
+        → length outcome.new.packets.items < vec_capacity outcome.new.packets }
+{
+    if keep && outcome.packets.reserve(1).is_err() {
+        return false;
+    }
+    outcome.taken == 0 || receiver.reserve(hart, events).is_ok()
+}
+
+/// Why a packet is not decoded. The outcome tells of memory that was refused then.
+fn undecoded<A: Allocator>(fault: DecodeFault, outcome: &mut HartOutcome<A>) -> CollectFault
+    ensures left { IsLeftBy result (taken_of outcome.old) (taken_of outcome.new) }
+    ensures memory { fault ≡ DecodeFault.Memory → result ≡ CollectFault.Memory }
+    ensures why { (why : AnyDecodeFault) → result ≡ CollectFault.Decode why → fault ≡ why }
+    ensures one_memory { result ≢ CollectFault.Decode DecodeFault.Memory }
+{
+    if matches!(fault, DecodeFault::Memory) {
+        outcome.refused = true;
+        return CollectFault::Memory;
+    }
+    CollectFault::Decode(fault)
 }
 
 /// Gives the outcome of each hart its events, and whether it closed.

@@ -4,7 +4,9 @@ ghost use Rattle.std.specs.Prelude.{ℕ, ◌≡◌, ◌≤◌, All, List, Some, 
 ghost use Rattle.legalpath.specs.ProgramLog.{IsLegalLog, ProgramLog};
 ghost use Rattle.payload.specs.declared.mode.Mode.{Mode};
 ghost use Rattle.encoder.specs.Payloads.{payloads};
-ghost use Rattle.funnel.specs.Limits.{limit_fault, most_harts};
+ghost use Rattle.funnel.specs.Limits.{limit_fault};
+ghost use Rattle.message.specs.Version.{most_harts};
+ghost use Rattle.message.specs.declared.header.Version.TheVariants.{Two};
 ghost use Rattle.funnel.specs.Machine.{Funnel, after_turn, take_front};
 ghost use Rattle.funnel.specs.declared.turn.Turn.TheVariants as turn;
 ghost use Rattle.bench.specs.Beginnings.{AreBeginnings, AreThoseTaken, LackSome, NamesRefused};
@@ -20,9 +22,9 @@ use crate::outcome::Outcome;
 use crate::sender::{Sender, senders_of};
 use crate::setup::Setup;
 use crate::stop::Stop;
-use funnel::{Core, MOST_CAPACITY, Turn};
+use funnel::{Core, Turn};
 use legalpath::LegalLog;
-use message::MOST_HARTS;
+use message::{MOST_CAPACITY, MOST_HARTS};
 use std::alloc::Allocator;
 
 /// Sends the messages of logs through a funnel and decodes what is taken of it, in the order of the turns.
@@ -43,8 +45,8 @@ pub fn replay<A: Allocator + Copy, B: Allocator>(
     ensures lacks { IfOk result (λ outcome. LackSome
         (replayed config.period config.mode config.capacity logs.now turns.now).taken outcome.harts.items) }
     ensures stop { IfOk result (λ outcome. NamesRefused outcome.stop outcome.harts.items) }
-    ensures refused { (fault : AnySetup) → setup_fault most_harts (length logs.now) config ≡ Some fault → result ≡ Err fault }
-    ensures memory { setup_fault most_harts (length logs.now) config ≡ None → IfErr result (λ fault. fault ≡ Setup.Memory) }
+    ensures refused { (fault : AnySetup) → setup_fault (most_harts Two) (length logs.now) config ≡ Some fault → result ≡ Err fault }
+    ensures memory { setup_fault (most_harts Two) (length logs.now) config ≡ None → IfErr result (λ fault. fault ≡ Setup.Memory) }
 {
     if let Some(fault) = fault_of(MOST_HARTS, logs.len(), config) {
         return Err(fault);

@@ -79,7 +79,7 @@ pub fn run_on<A: Allocator + Copy, G: Gate, R: Threads + Wait + Sync>(
     requires period { 1 ≤ config.period }
     requires ports { AreNewPorts outlet.old.funnel (length logs.now) ports.items }
     requires outlet { (outlet.old.taken ≡ []) × (outlet.old.made ≡ length logs.now) }
-    requires count { length logs.now ≤ 64 }
+    requires count { length logs.now ≤ most_ports }
     ensures beginnings { IfOk result (λ outcome. AreBeginnings config logs.now outcome.harts.items) }
     // As many messages came of each hart as were taken of it, but where memory for it was refused.
     ensures taken { IfOk result (λ outcome. AreThoseTaken config logs.now outlet.new.taken outcome.harts.items) }
@@ -100,7 +100,7 @@ pub fn run_on<A: Allocator + Copy, G: Gate, R: Threads + Wait + Sync>(
         rt,
         move |scope| -> (Result<Outcome<A>, AllocError>, &mut Outlet)
             requires { (1 ≤ config.period) × AreNewPorts outlet.now.funnel (length logs.now) ports.items
-                × (outlet.now.taken ≡ []) × (outlet.now.made ≡ length logs.now) × (length logs.now ≤ 64) }
+                × (outlet.now.taken ≡ []) × (outlet.now.made ≡ length logs.now) × (length logs.now ≤ most_ports) }
             ensures same { result.1.ghost_name ≡ outlet.entry.ghost_name }
             ensures beginnings { IfOk result.0 (λ outcome. AreBeginnings config logs.entry.now outcome.harts.items) }
             ensures taken { IfOk result.0 (λ outcome. AreThoseTaken config logs.entry.now result.1.now.taken outcome.harts.items) }
@@ -135,7 +135,7 @@ fn conduct<'s, 'p, E, A: Allocator + Copy, G: Gate, R: Threads + Wait + Sync>(
     requires period { 1 ≤ config.period }
     requires ports { AreNewPorts outlet.old.funnel (length logs.now) ports.items }
     requires outlet { (outlet.old.taken ≡ []) × (outlet.old.made ≡ length logs.now) }
-    requires count { length logs.now ≤ 64 }
+    requires count { length logs.now ≤ most_ports }
     ensures beginnings { IfOk result (λ outcome. AreBeginnings config logs.now outcome.harts.items) }
     ensures taken { IfOk result (λ outcome. AreThoseTaken config logs.now outlet.new.taken outcome.harts.items) }
     ensures carried { IfOk result (λ outcome. AreCarried config logs.now outlet.new.taken outcome.harts.items) }

@@ -3,6 +3,7 @@
 ghost use Rattle.std.specs.Prelude.{ℕ, ◌≡◌, ◌≤◌, All, [], length, slice_get, Some, true, vec_capacity};
 ghost use Rattle.legalpath.specs.ProgramLog.{ProgramLog};
 ghost use Rattle.funnel.specs.Ends.{AreNewPorts};
+ghost use Rattle.funnel.specs.Limits.{most_ports};
 ghost use Rattle.bench.specs.Collected.{HasCollected};
 ghost use Rattle.bench.specs.steps.Gathering.{Among, AreGathered};
 
@@ -33,7 +34,7 @@ pub(crate) fn start_all<'s, 'p, E, A: Allocator + Copy, G: Gate, R: Wait + Sync>
     outlet: &Outlet,
 ) -> Vec<Worker<Source<'s, 'p>>, A>
     requires period { 1 ≤ period }
-    requires count { length logs.now ≤ 64 }
+    requires count { length logs.now ≤ most_ports }
     requires ports { AreNewPorts outlet.now.funnel (length logs.now) ports.items }
     requires room { (length logs.now ≤ vec_capacity workers) × (workers.items ≡ []) }
     requires flags { length started.old ≡ length logs.now }

@@ -1,6 +1,7 @@
 //! What stopped a run.
 
 ghost use Rattle.std.specs.Prelude.{◌≡◌, ◌≤◌, IfNone, IfSome, Some, length, slice_get, true};
+ghost use Rattle.funnel.specs.Limits.{most_ports};
 ghost use Rattle.bench.specs.Stopping.{AreClosed, IfHandedBack, IsEndedHart, IsFirst, IsOpenHart, NamesOpen, NoneEnded};
 ghost use Rattle.bench.specs.steps.Stopping.{IsHandedBack, IsOfNone, IsTold};
 
@@ -11,7 +12,7 @@ use std::alloc::Allocator;
 /// Why some hart is not closed, where one is not: a payload that was handed back, before a channel that ended, before
 /// memory that was refused.
 pub(crate) fn stop_of<A: Allocator>(harts: &[HartOutcome<A>], handed_back: &[bool]) -> Option<Stop>
-    requires { (length harts.now ≡ length handed_back.now) × (length harts.now ≤ 64) }
+    requires { (length harts.now ≡ length handed_back.now) × (length harts.now ≤ most_ports) }
     ensures told { IsTold harts.now handed_back.now result }
     ensures names { NamesOpen result harts.now }
     ensures back { IfHandedBack (λ hart. slice_get handed_back.now hart ≡ Some true) result }

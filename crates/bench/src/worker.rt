@@ -1,10 +1,12 @@
 //! The worker of a hart, which sends its log's payloads.
 
-ghost use Rattle.std.specs.Prelude.{ℕ, ◌≡◌, ◌≤◌, ◌+◌, ◌^◌, [], IfSome, slice_get};
+ghost use Rattle.std.specs.Prelude.{ℕ, ◌≡◌, ◌≤◌, ◌+◌, [], IfSome, false, slice_get, true};
+ghost use Rattle.retire.specs.Log.{most_rows};
 ghost use Rattle.legalpath.specs.ProgramLog.{IsLegalLog, ProgramLog};
 ghost use Rattle.payload.specs.declared.mode.Mode.{Mode};
 ghost use Rattle.encoder.specs.Payloads.{payloads};
 ghost use Rattle.encoder.specs.SourceAt.{IsAt, SourceAt, number_behind};
+ghost use Rattle.funnel.specs.Ends.{after_sending, is_finished};
 ghost use Rattle.bench.specs.Working.{IsWork};
 
 use crate::gate::Gate;
@@ -76,7 +78,7 @@ pub(crate) fn start<'s, E, S: Payloads + 's, G: Gate, R: Wait + Sync>(
     source: S,
     most: usize,
 ) -> Option<Worker<S>>
-    requires { ((S.at source).number ≡ 0) × (port.sent ≡ []) × IsLegalLog (S.at source).log × (most ≤ 2 ^ 24 + 2) }
+    requires { ((S.at source).number ≡ 0) × (port.sent ≡ []) × IsLegalLog (S.at source).log × (most ≤ most_rows + 2) }
     ensures { IfSome result (λ w. (w.promise.port.value ≡ port) × (w.promise.source.value ≡ source)) }
 {
     let promise = Sending {
@@ -88,7 +90,7 @@ pub(crate) fn start<'s, E, S: Payloads + 's, G: Gate, R: Wait + Sync>(
             promise,
             move || -> Work
                 requires { ((S.at source).number ≡ 0) × (port.sent ≡ []) × IsLegalLog (S.at source).log
-                    × (most ≤ 2 ^ 24 + 2) }
+                    × (most ≤ most_rows + 2) }
                 ensures { IsWork (S.at source).period (S.at source).mode port (S.at source).log result.receipt
                     result.handed_back }
             { send_all(rt, gate, hart, port, source, most) },
@@ -105,7 +107,7 @@ fn send_all<S: Payloads, G: Gate, R: Wait>(
     source: S,
     most: usize,
 ) -> Work
-    requires { ((S.at source).number ≡ 0) × (port.sent ≡ []) × IsLegalLog (S.at source).log × (most ≤ 2 ^ 24 + 2) }
+    requires { ((S.at source).number ≡ 0) × (port.sent ≡ []) × IsLegalLog (S.at source).log × (most ≤ most_rows + 2) }
     ensures { IsWork (S.at source).period (S.at source).mode port (S.at source).log result.receipt result.handed_back }
 {
     let mut port = port;
@@ -115,19 +117,36 @@ fn send_all<S: Payloads, G: Gate, R: Wait>(
         let Some(payload) = source.next() else {
             break;
         };
-        gate.before_send(rt, hart, number as u64);
-        match port.send(rt, payload) {
-            Ok(()) => {}
-            Err(SendFault::HandedBack(_)) => {
-                handed_back = true;
-                break;
-            }
-            Err(SendFault::Closed(_)) => unreachable!(),
+        if !send_one(rt, gate, hart, number as u64, &mut port, payload) {
+            handed_back = true;
+            break;
         }
-        gate.after_send(rt, hart, number as u64);
     }
     Work {
         receipt: port.finish(),
         handed_back,
     }
+}
+
+/// Sends a payload with the gate round it, and tells whether the channel took it.
+fn send_one<G: Gate, R: Wait>(
+    rt: &R,
+    gate: &G,
+    hart: u16,
+    number: u64,
+    port: &mut Port,
+    payload: Payload,
+) -> bool
+    requires { ¬ (is_finished port.old.sent ≡ true) }
+    ensures sent { result ≡ true → port.new ≡ after_sending port.old payload }
+    ensures refused { result ≡ false → port.new ≡ port.old }
+{
+    gate.before_send(rt, hart, number);
+    match port.send(rt, payload) {
+        Ok(()) => {}
+        Err(SendFault::HandedBack(_)) => return false,
+        Err(SendFault::Closed(_)) => unreachable!(),
+    }
+    gate.after_send(rt, hart, number);
+    true
 }

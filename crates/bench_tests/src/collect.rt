@@ -15,7 +15,7 @@ use std::process::Abort;
 
 /// How many messages of a log were taken in, how many bytes their payloads have, and how many messages were refused for
 /// want of memory.
-#[derive(Clone, Copy, Debug, PartialEq, Eq)]
+#[derive(Clone, Copy)]
 struct Sent {
     taken: u64,
     bytes: u64,
@@ -55,35 +55,47 @@ fn send<A: Allocator + Copy>(
     sent
 }
 
+/// What comes of all messages of the first log, five packets of nine bytes, and of three of the second, of as many bytes
+/// as were sent; of each, so many packets are kept.
+fn ends(bytes: u64, kept: [usize; 2]) -> [End; 2] {
+    let whole = End {
+        taken: 5,
+        bytes: 9,
+        kept: kept[0],
+        closed: true,
+        refused: false,
+    };
+    let beginning = End {
+        taken: 3,
+        bytes,
+        kept: kept[1],
+        closed: false,
+        refused: false,
+    };
+    [whole, beginning]
+}
+
+/// Ends the test unless all messages of the first log are taken in, though more are asked for, and three of the second,
+/// and they come to what they should, with so many packets kept.
+fn comes<R: Abort + AllocGlobal>(rt: &R, logs: &[LegalLog<'_>; 2], keep: bool, kept: [usize; 2]) {
+    let mut collector = Collector::new(rt.alloc(), logs, keep).expect(rt, "memory");
+    same_at(rt, keep, send(&mut collector, &logs[0], 0, 9).taken, 5);
+    let some = send(&mut collector, &logs[1], 1, 3);
+    same_at(rt, keep, some.taken, 3);
+    let outcome = collector.finish();
+    same_at(rt, keep, outcome.stop, None);
+    same_at(rt, keep, outcome.harts.len(), 2);
+    let [whole, beginning] = ends(some.bytes, kept);
+    came_at(rt, keep, &outcome, 0, whole, logs[0].events());
+    came_at(rt, keep, &outcome, 1, beginning, logs[1].events());
+}
+
 #[test]
 fn what_comes_of_messages(rt: HostRuntime) {
     let program = program(&rt);
     let logs = logs(&rt, &program);
-    for keep in [true, false] {
-        let mut collector = Collector::new(rt.alloc(), &logs, keep).expect(&rt, "memory");
-        same_at(&rt, keep, send(&mut collector, &logs[0], 0, 9).taken, 5);
-        let some = send(&mut collector, &logs[1], 1, 3);
-        let whole = End {
-            taken: 5,
-            bytes: 9,
-            kept: if keep { 5 } else { 0 },
-            closed: true,
-            refused: false,
-        };
-        let beginning = End {
-            taken: 3,
-            bytes: some.bytes,
-            kept: if keep { 3 } else { 0 },
-            closed: false,
-            refused: false,
-        };
-        same_at(&rt, keep, some.taken, 3);
-        let outcome = collector.finish();
-        same_at(&rt, keep, outcome.stop, None);
-        same_at(&rt, keep, outcome.harts.len(), 2);
-        came_at(&rt, keep, &outcome, 0, whole, logs[0].events());
-        came_at(&rt, keep, &outcome, 1, beginning, logs[1].events());
-    }
+    comes(&rt, &logs, true, [5, 3]);
+    comes(&rt, &logs, false, [0, 0]);
 }
 
 /// A message, by its hart, its number and its payload, and the answer to it.

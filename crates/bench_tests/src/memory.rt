@@ -26,7 +26,7 @@ const FIRST_REFUSED: &str = "hart 0: 33 events, 1 packets, 1 payload bytes, deco
     result: not whole\n";
 
 /// How a replay over a small heap ends.
-#[derive(Clone, Copy, PartialEq, Eq)]
+#[derive(Clone, Copy)]
 enum Ended {
     /// Nothing is sent.
     Setup,
@@ -63,7 +63,7 @@ fn replayed<R: Abort + AllocGlobal>(
     match replay(heap, logs, CONFIG, &TURNS) {
         Ok(outcome) => {
             let end = ended_of(rt, step, &outcome);
-            if end == Ended::First {
+            if matches!(end, Ended::First) {
                 reports_at(rt, step, &outcome, logs, FIRST_REFUSED);
             }
             end

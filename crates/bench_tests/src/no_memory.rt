@@ -5,6 +5,8 @@ use crate::same::same_at;
 use bench::Collector;
 use legalpath::LegalLog;
 use linked_list_allocator::LocalHeap;
+use retire::Event;
+use rvclass::Program;
 use std::process::Abort;
 
 /// All that a heap has left: it refuses everything as long as this lives.
@@ -38,6 +40,27 @@ fn collector_ends_with_no_memory_left(rt: HostRuntime) {
     }
 }
 
+/// Ends the test unless a log is made of these legal events, with no memory.
+fn is_made(rt: &impl Abort, program: &Program, list: Vec<Event, &LocalHeap>, events: &[Event]) {
+    assert!(rt; list.len() <= 1 << 24, "too many events");
+    let made = LegalLog::new(program, list).ok();
+    let log = made.expect(rt, "a legal log");
+    same_at(rt, "legal", log.events(), events);
+}
+
+/// Ends the test unless these events, which are not legal, are given back.
+fn is_given_back(
+    rt: &impl Abort,
+    program: &Program,
+    list: Vec<Event, &LocalHeap>,
+    events: &[Event],
+) {
+    assert!(rt; list.len() <= 1 << 24, "too many events");
+    let refused = LegalLog::new(program, list).err();
+    let (_, back) = refused.expect(rt, "a refused log");
+    same_at(rt, "illegal", back.as_slice(), events);
+}
+
 #[test]
 fn log_is_kept_with_no_memory_left(rt: HostRuntime) {
     let program = program(&rt);
@@ -47,12 +70,6 @@ fn log_is_kept_with_no_memory_left(rt: HostRuntime) {
     let first = legal.to_vec(&heap).expect(&rt, "memory");
     let second = illegal.to_vec(&heap).expect(&rt, "memory");
     let _taken = all_of(&rt, &heap);
-    let log = LegalLog::new(&program, first)
-        .ok()
-        .expect(&rt, "a legal log");
-    same_at(&rt, "legal", log.events(), legal.as_slice());
-    let (_, back) = LegalLog::new(&program, second)
-        .err()
-        .expect(&rt, "a refused log");
-    same_at(&rt, "illegal", back.as_slice(), illegal.as_slice());
+    is_made(&rt, &program, first, &legal);
+    is_given_back(&rt, &program, second, &illegal);
 }

@@ -1,8 +1,8 @@
 //! Captures of version 1 with one byte changed.
 
-use crate::made::program_of;
+use crate::made::{decoded, program_of};
 use crate::small_captures::{END, FIRST, NOPS, OPEN, SECOND, Sent, capture_of};
-use captures::{CaptureFault, CaptureOutcome, decode_capture};
+use captures::{CaptureFault, CaptureOutcome};
 use message::{DemuxFault, MessageFault};
 use retire::Event;
 use rvclass::Program;
@@ -15,8 +15,8 @@ const TWO_WORDS: [Sent; 4] = [(0, 0, OPEN), (0, 1, FIRST), (0, 2, SECOND), (0, 3
 const JUMPS: [Sent; 5] = [
     (0, 0, OPEN),
     (0, 1, FIRST),
-    (0, 2, &[0x02, 0, 0, 0, 0, 0, 0, 0, 0xfe]),
-    (0, 3, &[0x02]),
+    (0, 2, b"\x02\0\0\0\0\0\0\0\xfe"),
+    (0, 3, b"\x02"),
     (0, 4, END),
 ];
 
@@ -24,8 +24,8 @@ const JUMPS: [Sent; 5] = [
 const EXCEPTION: [Sent; 4] = [
     (0, 0, OPEN),
     (0, 1, FIRST),
-    (0, 2, &[0xf7, 0x45, 0x40, 0, 0, 0x20]),
-    (0, 3, &[0xcf, 0]),
+    (0, 2, b"\xf7\x45\x40\0\0\x20"),
+    (0, 3, b"\xcf\0"),
 ];
 
 /// A message of a capture: where it begins, how many come before, and the events that those tell.
@@ -64,6 +64,20 @@ fn is_answer(outcome: &CaptureOutcome, place: Place<'_>, told: Option<CaptureFau
         && (told.is_none() || list.len() == place.events.len())
 }
 
+/// The capture, in which the byte at a place has this value, is answered as it has to be where its head tells this.
+fn is_answered<R: Abort + AllocGlobal>(
+    rt: &R,
+    program: &Program,
+    capture: &[u8],
+    place: Place<'_>,
+    (at, value): (usize, u8),
+    told: Option<CaptureFault>,
+) {
+    let outcome = decoded(rt, program, 1, capture);
+    let is_right = is_answer(&outcome, place, told);
+    assert!(rt; is_right, "{at}: {value}");
+}
+
 /// Sets the byte at an offset of a message to each value.
 fn change<R: Abort + AllocGlobal>(
     rt: &R,
@@ -76,9 +90,8 @@ fn change<R: Abort + AllocGlobal>(
     let was = capture.get(at).copied().expect(rt, "such a byte");
     for value in 0..=u8::MAX {
         set(capture, at, value);
-        let outcome = decode_capture(rt.alloc(), program, 1, capture).expect(rt, "memory");
         let told = told_by_the_head(offset, was, value, place.count);
-        assert!(rt; is_answer(&outcome, place, told), "{at}: {value}");
+        is_answered(rt, program, capture, place, (at, value), told);
     }
     set(capture, at, was);
 }
@@ -90,10 +103,35 @@ fn set(bytes: &mut [u8], at: usize, value: u8) {
     }
 }
 
-/// The events of the only hart of a capture.
-fn events_of<R: Abort + AllocGlobal>(rt: &R, program: &Program, bytes: &[u8]) -> Vec<Event> {
-    let mut outcome = decode_capture(rt.alloc(), program, 1, bytes).expect(rt, "memory");
+/// The events of the only hart of the first bytes of a capture.
+fn events_of<R: Abort + AllocGlobal>(
+    rt: &R,
+    program: &Program,
+    capture: &[u8],
+    length: usize,
+) -> Vec<Event> {
+    let bytes = capture.get(..length).expect(rt, "so many bytes");
+    let mut outcome = decoded(rt, program, 1, bytes);
     outcome.harts.pop().expect(rt, "a hart")
+}
+
+/// Sets each byte of a message that begins at this place of a capture to each value.
+fn change_message<R: Abort + AllocGlobal>(
+    rt: &R,
+    program: &Program,
+    capture: &mut [u8],
+    begins: usize,
+    (count, length): (u64, usize),
+) {
+    let events = events_of(rt, program, capture, begins);
+    let place = Place {
+        begins,
+        count,
+        events: &events,
+    };
+    for offset in 0..length {
+        change(rt, program, capture, place, offset);
+    }
 }
 
 /// Sets each byte of the capture of these messages to each value.
@@ -102,16 +140,8 @@ fn change_each_byte<R: Abort + AllocGlobal>(rt: &R, words: &[u8], messages: &[Se
     let mut capture = capture_of(rt, None, messages);
     let mut begins = 0usize;
     for (_, count, payload) in messages {
-        let before = events_of(rt, &program, capture.get(..begins).unwrap_or(&[]));
-        let place = Place {
-            begins,
-            count: *count,
-            events: &before,
-        };
         let length = payload.len().saturating_add(11);
-        for offset in 0..length {
-            change(rt, &program, &mut capture, place, offset);
-        }
+        change_message(rt, &program, &mut capture, begins, (*count, length));
         begins = begins.saturating_add(length);
     }
 }

@@ -1,10 +1,9 @@
 //! Logs and their messages, as captures of both versions and as lines.
 
 use crate::headers::{Beginning, beginning_of, header_of};
-use crate::made::{MODES, PERIODS, WORDS, capture_of_logs, legal_log, log_of, program_of};
+use crate::made::{PERIODS, WORDS, capture_of_logs, legal_log, log_of, program_of, write_logs};
 use crate::same::same_at;
 use crate::small_captures::{BOTH, NOPS, WORKED, add};
-use captures::{encode_capture, encode_hex};
 use encoder::Encoder;
 use legalpath::LegalLog;
 use message::{MessageFault, Version};
@@ -77,6 +76,19 @@ const LINES: &[u8] = b"0 0 1f\n0 1 7300000020\n0 2 0a\n0 3 4f\n1 0 1f\n1 1 73000
 
 const FULL_LINES: &[u8] = b"0 0 1f01\n0 1 7300000020\n0 2 0a00000001\n0 3 4f\n";
 
+/// These logs have this capture in this version, or these lines where no version is named.
+fn is_written<R: Abort + AllocGlobal>(
+    rt: &R,
+    logs: &[LegalLog<'_>],
+    mode: Mode,
+    version: Option<Version>,
+    whole: &[u8],
+) {
+    let mut bytes = Vec::new(rt.alloc());
+    write_logs(rt, logs, 1024, mode, version, &mut bytes).expect(rt, "memory");
+    same_at(rt, (mode, version), bytes.as_slice(), whole);
+}
+
 /// The first log alone has this capture in this mode, without a header and behind one.
 fn is_captured<R: Abort + AllocGlobal>(
     rt: &R,
@@ -84,13 +96,11 @@ fn is_captured<R: Abort + AllocGlobal>(
     mode: Mode,
     capture: &[u8],
 ) {
-    let one = capture_of_logs(rt, &logs[..1], 1024, mode, Version::One);
-    same_at(rt, (mode, "bare"), one.as_slice(), capture);
-    let two = capture_of_logs(rt, &logs[..1], 1024, mode, Version::Two);
     let mut headed = Vec::new(rt.alloc());
     add(rt, &mut headed, &header_of(mode, 1));
     add(rt, &mut headed, capture);
-    same_at(rt, (mode, "headed"), two.as_slice(), headed.as_slice());
+    is_written(rt, &logs[..1], mode, Some(Version::One), capture);
+    is_written(rt, &logs[..1], mode, Some(Version::Two), &headed);
 }
 
 /// The first log alone in both versions and modes.
@@ -107,14 +117,9 @@ fn captures_of_a_log(rt: HostRuntime) {
 fn lines_of_a_log_and_no_logs(rt: HostRuntime) {
     let program = program_of(&rt, &NOPS);
     let logs = logs_of(&rt, &program);
-    let mut lines = Vec::new(rt.alloc());
-    encode_hex(&logs[..1], 1024, Mode::Full, &mut lines).expect(&rt, "memory");
-    same_at(&rt, "lines", lines.as_slice(), FULL_LINES);
-    let mode = Mode::Differential;
-    let mut none = Vec::new(rt.alloc());
-    encode_capture(&logs[..0], 1024, mode, Version::One, &mut none).expect(&rt, "memory");
-    encode_hex(&logs[..0], 1024, mode, &mut none).expect(&rt, "memory");
-    same_at(&rt, "no logs", none.as_slice(), &[]);
+    is_written(&rt, &logs[..1], Mode::Full, None, FULL_LINES);
+    is_written(&rt, &[], Mode::Differential, None, &[]);
+    is_written(&rt, &[], Mode::Differential, Some(Version::One), &[]);
 }
 
 /// The header of the first so many of two logs tells the period, the mode and their count.
@@ -127,21 +132,28 @@ fn is_headed<R: Abort + AllocGlobal>(
 ) {
     let first = logs.get(..count).expect(rt, "so many logs");
     let bytes = capture_of_logs(rt, first, period, mode, Version::Two);
-    let wanted = Beginning::Header(mode, usize::from(period), count);
-    same_at(rt, (mode, period, count), beginning_of(&bytes), wanted);
+    let place = (mode, usize::from(period), count);
+    match beginning_of(&bytes) {
+        Beginning::Header(mode, period, harts) => same_at(rt, place, (mode, period, harts), place),
+        _ => panic!(rt; "at {place:?}: no header"),
+    }
 }
 
-/// One log and two, in each mode and at each period.
+/// One log and two, at each period.
+fn are_headed<R: Abort + AllocGlobal>(rt: &R, logs: &[LegalLog<'_>; 2], mode: Mode) {
+    for period in PERIODS {
+        is_headed(rt, logs, mode, period, 1);
+        is_headed(rt, logs, mode, period, 2);
+    }
+}
+
+/// In each mode.
 #[test]
 fn headers_tell_what_was_asked_for(rt: HostRuntime) {
     let program = program_of(&rt, &NOPS);
     let logs = logs_of(&rt, &program);
-    for mode in MODES {
-        for period in PERIODS {
-            is_headed(&rt, &logs, mode, period, 1);
-            is_headed(&rt, &logs, mode, period, 2);
-        }
-    }
+    are_headed(&rt, &logs, Mode::Differential);
+    are_headed(&rt, &logs, Mode::Full);
 }
 
 /// A writer of so many calls holds as many bytes of the capture of two logs in this version, or of their lines where no
@@ -153,16 +165,11 @@ fn is_cut<R: Abort + AllocGlobal>(
     calls: usize,
     whole: &[u8],
 ) {
-    let mode = Mode::Differential;
     let mut sink = FailingWriter {
         held: Vec::new(rt.alloc()),
         calls,
     };
-    let told = match version {
-        Some(Version::One) => encode_capture(logs, 1024, mode, Version::One, &mut sink),
-        Some(Version::Two) => encode_capture(logs, 1024, mode, Version::Two, &mut sink),
-        None => encode_hex(logs, 1024, mode, &mut sink),
-    };
+    let told = write_logs(rt, logs, 1024, Mode::Differential, version, &mut sink);
     let expected = if calls < whole.len() {
         Err(MessageFault::Write)
     } else {
@@ -170,6 +177,16 @@ fn is_cut<R: Abort + AllocGlobal>(
     };
     same_at(rt, (version, calls), told, expected);
     holds(rt, (version, calls), &sink, calls, whole);
+}
+
+/// Writers of each count of calls take the captures of two logs, of which this is the one with a header, and their lines.
+fn are_cut<R: Abort + AllocGlobal>(rt: &R, logs: &[LegalLog<'_>; 2], headed: &[u8]) {
+    let bare = headed.get(16..).expect(rt, "a capture");
+    for calls in 0..111 {
+        is_cut(rt, logs, Some(Version::One), calls, bare);
+        is_cut(rt, logs, Some(Version::Two), calls, headed);
+        is_cut(rt, logs, None, calls, LINES);
+    }
 }
 
 /// The captures and the lines of two harts.
@@ -181,12 +198,7 @@ fn two_harts_to_writers_that_fail(rt: HostRuntime) {
     add(&rt, &mut headed, &header_of(Mode::Differential, 2));
     add(&rt, &mut headed, &WORKED);
     add(&rt, &mut headed, &SECOND_CAPTURE);
-    let whole = headed.get(16..).expect(&rt, "a capture");
-    for calls in 0..111 {
-        is_cut(&rt, &logs, Some(Version::One), calls, whole);
-        is_cut(&rt, &logs, Some(Version::Two), calls, &headed);
-        is_cut(&rt, &logs, None, calls, LINES);
-    }
+    are_cut(&rt, &logs, &headed);
 }
 
 /// The branches that packets tell: outcomes, and those that a synchronisation or a handler reports.
@@ -196,28 +208,37 @@ struct Told {
     reported: usize,
 }
 
-/// What a packet tells besides.
-fn told_with(told: Told, program: &Program, packet: &Packet) -> Told {
+/// How many outcomes a packet tells.
+fn outcomes_in(packet: &Packet) -> usize {
     match packet {
-        Packet::Address { outcomes, .. } | Packet::Map(outcomes) => Told {
-            outcomes: told.outcomes.saturating_add(outcomes.len()),
-            ..told
-        },
-        Packet::Sync { address, .. }
-        | Packet::Trap {
+        Packet::Address { outcomes, .. } => outcomes.len(),
+        Packet::Map(outcomes) => outcomes.len(),
+        _ => 0,
+    }
+}
+
+/// The address at which a packet reports a retirement, if it does.
+fn reported_at(packet: &Packet) -> Option<u64> {
+    match packet {
+        Packet::Sync { address, .. } => Some(*address),
+        Packet::Trap {
             handler: true,
             address,
             ..
-        } => {
-            match program.at(*address) {
-                Some((Class::Branch(_), _)) => Told {
-                    reported: told.reported.saturating_add(1),
-                    ..told
-                },
-                _ => told,
-            }
-        }
-        _ => told,
+        } => Some(*address),
+        _ => None,
+    }
+}
+
+/// What a packet tells besides.
+fn told_with(told: Told, program: &Program, packet: &Packet) -> Told {
+    let reports = match reported_at(packet) {
+        Some(address) => matches!(program.at(address), Some((Class::Branch(_), _))),
+        None => false,
+    };
+    Told {
+        outcomes: told.outcomes.saturating_add(outcomes_in(packet)),
+        reported: told.reported.saturating_add(usize::from(reports)),
     }
 }
 
@@ -251,24 +272,38 @@ fn branches_of(log: &LegalLog<'_>) -> usize {
     branches
 }
 
-/// A hundred thousand events: each branch is told once, as an outcome, by a synchronisation or with its trap. None is an
-/// outcome where each retirement is a synchronisation, and else many are.
+/// Each branch of a log is told once, as an outcome, by a synchronisation or with its trap. None is an outcome where each
+/// retirement is a synchronisation, and else many are.
+fn are_told_once<R: Abort>(
+    rt: &R,
+    program: &Program,
+    log: &LegalLog<'_>,
+    branches: usize,
+    (mode, period): (Mode, u16),
+) {
+    let Told { outcomes, reported } = told_by(program, log, period, mode);
+    same_at(
+        rt,
+        (mode, period),
+        outcomes.saturating_add(reported),
+        branches,
+    );
+    if period == 1 {
+        same_at(rt, (mode, period), outcomes, 0);
+    } else {
+        same_at(rt, (mode, period), 1000 < outcomes, true);
+    }
+}
+
+/// A hundred thousand events, of which many are branches.
 #[test]
 fn tells_each_branch_once(rt: HostRuntime) {
     let program = program_of(&rt, &WORDS);
     let log = legal_log(&rt, &program, log_of(&rt, 1, 100_000));
     let branches = branches_of(&log);
     assert!(rt; 10_000 < branches, "{branches}");
-    for mode in MODES {
-        for period in PERIODS {
-            let Told { outcomes, reported } = told_by(&program, &log, period, mode);
-            let told = outcomes.saturating_add(reported);
-            same_at(&rt, (mode, period), told, branches);
-            let many = 1000 < outcomes;
-            assert!(rt;
-                if period == 1 { outcomes == 0 } else { many },
-                "{mode:?}, {period}: {outcomes}"
-            );
-        }
+    for period in PERIODS {
+        are_told_once(&rt, &program, &log, branches, (Mode::Differential, period));
+        are_told_once(&rt, &program, &log, branches, (Mode::Full, period));
     }
 }

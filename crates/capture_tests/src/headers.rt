@@ -1,12 +1,9 @@
 //! Captures of version 2 to events: headers cut short and changed, and the modes that traces open in.
 
-use crate::made::program_of;
+use crate::made::{decoded, program_of};
 use crate::same::same_at;
-use crate::small_captures::{
-    BOTH, END, FIRST, NOPS, OPEN, OPEN_FULL, SECOND, SECOND_FULL, Sent, Start, Stop, WORKED, add,
-    capture_of, decodes,
-};
-use captures::{CaptureFault, CaptureOutcome, decode_capture};
+use crate::small_captures::{BOTH, NOPS, Start, Stop, WORKED, add, capture_of_letters, decodes};
+use captures::{CaptureFault, CaptureOutcome};
 use decoder::DecodeFault;
 use message::{DemuxFault, MessageFault};
 use payload::Mode;
@@ -32,7 +29,7 @@ pub(crate) fn header_of(mode: Mode, harts: u16) -> [u8; 16] {
 }
 
 /// What bytes begin with, read one by one.
-#[derive(Clone, Copy, Debug, PartialEq, Eq)]
+#[derive(Clone, Copy)]
 pub(crate) enum Beginning {
     /// No header.
     Unmarked,
@@ -109,7 +106,7 @@ fn cut_header_at<R: Abort + AllocGlobal>(rt: &R, program: &Program, mode: u8, le
     let mut bytes = HEADER;
     bytes[11] = mode;
     let cut = bytes.get(..length).expect(rt, "so many bytes");
-    let outcome = decode_capture(rt.alloc(), program, 2, cut).expect(rt, "memory");
+    let outcome = decoded(rt, program, 2, cut);
     answers_at(rt, (length, mode), cut, &outcome);
     same_at(rt, (length, mode), outcome.harts.len(), 2);
     same_at(rt, (length, mode), outcome.fault.is_some(), length > 0);
@@ -125,7 +122,7 @@ fn good_at<R: Abort + AllocGlobal>(rt: &R, program: &Program, place: usize) -> u
         if let Some(byte) = bytes.get_mut(place) {
             *byte = value;
         }
-        let outcome = decode_capture(rt.alloc(), program, 2, &bytes).expect(rt, "memory");
+        let outcome = decoded(rt, program, 2, &bytes);
         answers_at(rt, (place, value), &bytes, &outcome);
         if outcome.fault.is_none() {
             good = good.saturating_add(1);
@@ -149,142 +146,135 @@ fn headers_cut_and_changed(rt: HostRuntime) {
     same_at(&rt, "good", good, 12 + 256 + 255 + 255 + 4);
 }
 
-/// Two harts that open in modes of their own.
-const OF_TWO_MODES: &[Sent] = &[
-    (0, 0, OPEN),
-    (1, 0, OPEN_FULL),
-    (0, 1, FIRST),
-    (1, 1, FIRST),
-    (0, 2, SECOND),
-    (1, 2, SECOND_FULL),
-    (0, 3, END),
-    (1, 3, END),
-];
+/// The letters of two harts that open in modes of their own.
+const OF_TWO_MODES: &[u8] = b"00o 10O 01f 11f 02s 12S 03e 13e";
 
-/// Messages of two harts that are known, behind a header that tells this mode or behind none, how many of both events
-/// each has then, and why decoding stops, if it does.
+/// The name of a row, the mode that a header tells, or none where there is no header, the letters of messages of two
+/// harts that are known, the digits of how many of both events each has then, and why decoding stops, if it does.
 type Row = (
     &'static str,
     Option<Mode>,
-    &'static [Sent],
-    &'static [usize],
+    &'static [u8],
+    &'static [u8],
     Stop,
 );
+
+const D: Option<Mode> = Some(Mode::Differential);
+
+const F: Option<Mode> = Some(Mode::Full);
 
 const ROWS: [Row; 14] = [
     (
         "first, not full",
-        Some(Mode::Full),
-        &[(0, 0, OPEN)],
-        &[0, 0],
+        F,
+        b"00o",
+        b"00",
         Some((0, CaptureFault::Mode)),
     ),
     (
         "first, full",
-        Some(Mode::Differential),
-        &[(0, 0, OPEN_FULL)],
-        &[0, 0],
+        D,
+        b"00O",
+        b"00",
         Some((0, CaptureFault::Mode)),
     ),
     (
         "another hart, full",
-        Some(Mode::Differential),
-        &[(0, 0, OPEN), (0, 1, FIRST), (1, 0, OPEN_FULL)],
-        &[1, 0],
+        D,
+        b"00o 01f 10O",
+        b"10",
         Some((2, CaptureFault::Mode)),
     ),
     (
         "another hart, not full",
-        Some(Mode::Full),
-        &[(0, 0, OPEN_FULL), (0, 1, FIRST), (1, 0, OPEN)],
-        &[1, 0],
+        F,
+        b"00O 01f 10o",
+        b"10",
         Some((2, CaptureFault::Mode)),
     ),
     // In the middle of a hart's messages, before the packet is decoded.
     (
         "middle, another mode",
-        Some(Mode::Differential),
-        &[(0, 0, OPEN), (0, 1, FIRST), (0, 2, OPEN_FULL), (0, 3, END)],
-        &[1, 0],
+        D,
+        b"00o 01f 02O 03e",
+        b"10",
         Some((2, CaptureFault::Mode)),
     ),
     (
         "middle, same mode",
-        Some(Mode::Differential),
-        &[(0, 0, OPEN), (0, 1, FIRST), (0, 2, OPEN), (0, 3, END)],
-        &[1, 0],
+        D,
+        b"00o 01f 02o 03e",
+        b"10",
         Some((2, CaptureFault::Decode(DecodeFault::WrongPlace))),
     ),
     // What the demultiplexer refuses is refused for that.
     (
         "gap",
-        Some(Mode::Differential),
-        &[(0, 0, OPEN), (0, 2, OPEN_FULL)],
-        &[0, 0],
+        D,
+        b"00o 02O",
+        b"00",
         Some((1, CaptureFault::Demux(DemuxFault::Gap { expected: 1 }))),
     ),
     (
         "repeat",
-        Some(Mode::Differential),
-        &[(0, 0, OPEN), (0, 0, OPEN_FULL)],
-        &[0, 0],
+        D,
+        b"00o 00O",
+        b"00",
         Some((1, CaptureFault::Demux(DemuxFault::Repeat))),
     ),
     (
         "stranger",
-        Some(Mode::Differential),
-        &[(0, 0, OPEN), (2, 0, OPEN_FULL)],
-        &[0, 0],
+        D,
+        b"00o 20O",
+        b"00",
         Some((1, CaptureFault::Demux(DemuxFault::Stranger))),
     ),
     (
         "after the close",
-        Some(Mode::Differential),
-        &[
-            (0, 0, OPEN),
-            (0, 1, FIRST),
-            (0, 2, SECOND),
-            (0, 3, END),
-            (0, 4, OPEN_FULL),
-        ],
-        &[2, 0],
+        D,
+        b"00o 01f 02s 03e 04O",
+        b"20",
         Some((4, CaptureFault::Demux(DemuxFault::AfterClose))),
     ),
     // A hart that opens nothing is not told another mode.
     (
         "not opened",
-        Some(Mode::Full),
-        &[(0, 0, FIRST)],
-        &[0, 0],
+        F,
+        b"00f",
+        b"00",
         Some((0, CaptureFault::Decode(DecodeFault::NotOpened))),
     ),
     // Without a header each hart opens in a mode of its own.
-    ("no header", None, OF_TWO_MODES, &[2, 2], None),
+    ("no header", None, OF_TWO_MODES, b"22", None),
     (
         "two modes, not full",
-        Some(Mode::Differential),
+        D,
         OF_TWO_MODES,
-        &[0, 0],
+        b"00",
         Some((1, CaptureFault::Mode)),
     ),
     (
         "two modes, full",
-        Some(Mode::Full),
+        F,
         OF_TWO_MODES,
-        &[0, 0],
+        b"00",
         Some((0, CaptureFault::Mode)),
     ),
 ];
 
-/// Behind a header the count of harts that is asked for is another one, and does not hold.
+/// A row is so. Behind a header the count of harts that is asked for is another one, and does not hold.
+fn is_so<R: Abort + AllocGlobal>(rt: &R, (name, told, letters, digits, stop): &Row) {
+    let (start, asked): (Start, u16) = match told {
+        None => (None, 2),
+        Some(mode) => (Some((*mode, 2)), 1),
+    };
+    let bytes = capture_of_letters(rt, start, letters);
+    decodes(rt, *name, asked, &bytes, digits, *stop);
+}
+
 #[test]
 fn modes_by_table(rt: HostRuntime) {
-    for (name, told, messages, counts, stop) in &ROWS {
-        let (start, asked): (Start, u16) = match told {
-            None => (None, 2),
-            Some(mode) => (Some((*mode, 2)), 1),
-        };
-        let bytes = capture_of(&rt, start, messages);
-        decodes(&rt, *name, asked, &bytes, counts, *stop);
+    for row in &ROWS {
+        is_so(&rt, row);
     }
 }

@@ -1,11 +1,12 @@
 //! Programs, one of which branches, calls, returns and takes traps, logs of it, and their captures.
 
-use captures::encode_capture;
+use captures::{CaptureOutcome, decode_capture, encode_capture, encode_hex};
 use legalpath::LegalLog;
-use message::Version;
+use message::{MessageFault, Version};
 use payload::Mode;
 use retire::Event;
 use rvclass::Program;
+use std::io::Write;
 use std::process::Abort;
 
 pub(crate) const BASE: u64 = 0x8000_0000;
@@ -165,7 +166,30 @@ pub(crate) fn legal_log<'p, R: Abort>(
     }
 }
 
-/// The capture of these logs, 1 to 1,024 of them.
+/// Writes the messages of at most 1,024 logs as a capture of this version, or as lines where none is named. A capture of
+/// version 2 is that of one log at least.
+pub(crate) fn write_logs<R: Abort, W: Write>(
+    rt: &R,
+    logs: &[LegalLog<'_>],
+    period: u16,
+    mode: Mode,
+    version: Option<Version>,
+    sink: &mut W,
+) -> Result<(), MessageFault> {
+    let count = logs.len();
+    assert!(rt; count <= 1024, "{count} logs");
+    let period = period.max(1);
+    match version {
+        Some(Version::One) => encode_capture(logs, period, mode, Version::One, sink),
+        Some(Version::Two) => {
+            assert!(rt; 0 < count, "no logs");
+            encode_capture(logs, period, mode, Version::Two, sink)
+        }
+        None => encode_hex(logs, period, mode, sink),
+    }
+}
+
+/// The capture of these logs.
 pub(crate) fn capture_of_logs<R: Abort + AllocGlobal>(
     rt: &R,
     logs: &[LegalLog<'_>],
@@ -173,16 +197,17 @@ pub(crate) fn capture_of_logs<R: Abort + AllocGlobal>(
     mode: Mode,
     version: Version,
 ) -> Vec<u8> {
-    assert!(rt;
-        !logs.is_empty() && logs.len() <= 1024,
-        "{} logs",
-        logs.len()
-    );
     let mut bytes = Vec::new(rt.alloc());
-    let written = match version {
-        Version::One => encode_capture(logs, period.max(1), mode, Version::One, &mut bytes),
-        Version::Two => encode_capture(logs, period.max(1), mode, Version::Two, &mut bytes),
-    };
-    written.expect(rt, "memory");
+    write_logs(rt, logs, period, mode, Some(version), &mut bytes).expect(rt, "memory");
     bytes
+}
+
+/// What a capture decodes to over a program, where so many harts are asked for.
+pub(crate) fn decoded<R: Abort + AllocGlobal>(
+    rt: &R,
+    program: &Program,
+    asked: u16,
+    capture: &[u8],
+) -> CaptureOutcome {
+    decode_capture(rt.alloc(), program, asked, capture).expect(rt, "memory")
 }

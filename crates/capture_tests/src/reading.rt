@@ -5,9 +5,9 @@ use crate::same::same_at;
 use crate::small_captures::{
     END, FIRST, OPEN, SECOND, Sent, Start, WORKED, capture_of, whole_messages,
 };
-use captures::{ReadFault, read_messages};
+use captures::{ReadFault, WholeCapture, read_messages};
 use linked_list_allocator::LocalHeap;
-use message::{Header, MessageFault};
+use message::{Header, Message, MessageFault};
 use payload::Mode;
 use std::process::Abort;
 
@@ -28,16 +28,32 @@ const FULL: Header = Header {
     harts: 1024,
 };
 
+/// All messages of a capture, or why they are not read.
+fn read<R: AllocGlobal>(rt: &R, bytes: &[u8]) -> Result<WholeCapture, ReadFault> {
+    read_messages(rt.alloc(), bytes)
+}
+
+/// A message is the one that was sent.
+fn is_sent<R: Abort>(rt: &R, place: (Start, usize), message: &Message, sent: &Sent) {
+    let (hart, number, payload) = sent;
+    same_at(rt, place, (message.hart, message.number), (*hart, *number));
+    same_at(rt, place, message.payload.bytes(), *payload);
+}
+
+/// The messages are those that were sent.
+fn are_sent<R: Abort>(rt: &R, start: Start, messages: &[Message], sent: &[Sent]) {
+    same_at(rt, start, messages.len(), sent.len());
+    for (row, (message, one)) in messages.iter().zip(sent).enumerate() {
+        is_sent(rt, (start, row), message, one);
+    }
+}
+
 /// The capture of these messages is read, behind this start, which is this header.
 fn reads<R: Abort + AllocGlobal>(rt: &R, start: Start, header: Option<Header>, messages: &[Sent]) {
     let bytes = capture_of(rt, start, messages);
-    let whole = read_messages(rt.alloc(), &bytes).expect(rt, "messages");
+    let whole = read(rt, &bytes).expect(rt, "messages");
     same_at(rt, start, whole.header, header);
-    same_at(rt, start, whole.messages.len(), messages.len());
-    for (row, (message, sent)) in whole.messages.iter().zip(messages).enumerate() {
-        let found = (message.hart, message.number, message.payload.bytes());
-        same_at(rt, (start, row), found, *sent);
-    }
+    are_sent(rt, start, &whole.messages, messages);
 }
 
 /// All messages are read, whatever their harts, numbers and payloads are.
@@ -53,7 +69,7 @@ fn reads_any_messages(rt: HostRuntime) {
 fn cut_capture_at<R: Abort + AllocGlobal>(rt: &R, length: usize) {
     let (number, ends) = whole_messages(length);
     let bytes = WORKED.get(..length).expect(rt, "so many bytes");
-    let told = match read_messages(rt.alloc(), bytes) {
+    let told = match read(rt, bytes) {
         Ok(whole) => Ok(whole.messages.len() as u64),
         Err(fault) => Err(fault),
     };
@@ -75,7 +91,7 @@ fn reads_no_cut_capture(rt: HostRuntime) {
 
 /// Bytes are not read for this reason, before all messages.
 fn is_refused<R: Abort + AllocGlobal>(rt: &R, place: usize, bytes: &[u8], why: MessageFault) {
-    let fault = read_messages(rt.alloc(), bytes).err();
+    let fault = read(rt, bytes).err();
     same_at(rt, place, fault, Some(ReadFault::Message(0, why)));
 }
 
@@ -94,25 +110,34 @@ fn reads_no_bad_header(rt: HostRuntime) {
     }
 }
 
-/// Where memory ends that is told, and else all are read; nothing is kept of it afterwards.
+/// With so much memory all messages are read, or its end is told; nothing is kept of it afterwards. Answers whether they
+/// are read.
+fn reads_within<R: Abort + AllocGlobal>(rt: &R, bytes: &[u8], size: usize) -> bool {
+    let heap = LocalHeap::new(rt.alloc(), size).expect(rt, "memory");
+    let told = match read_messages(&heap, bytes) {
+        Ok(whole) => Ok(whole.messages.len()),
+        Err(fault) => Err(fault),
+    };
+    let is_read = told.is_ok();
+    let wanted = if is_read {
+        Ok(ANY.len())
+    } else {
+        Err(ReadFault::Memory)
+    };
+    same_at(rt, size, told, wanted);
+    same_at(rt, size, heap.used(), 0);
+    is_read
+}
+
+/// From no memory on: at first it is refused, and with more of it the messages are read.
 #[test]
 fn reads_with_little_memory(rt: HostRuntime) {
     let bytes = capture_of(&rt, Some((Mode::Differential, 1)), &ANY);
-    let mut refused = 0usize;
     let mut read = 0usize;
     for step in 0..40usize {
-        let heap = LocalHeap::new(rt.alloc(), step.saturating_mul(32)).expect(&rt, "memory");
-        match read_messages(&heap, &bytes) {
-            Ok(whole) => {
-                read = read.saturating_add(1);
-                same_at(&rt, step, whole.messages.len(), ANY.len());
-            }
-            Err(fault) => {
-                refused = refused.saturating_add(1);
-                same_at(&rt, step, fault, ReadFault::Memory);
-            }
+        if reads_within(&rt, &bytes, step.saturating_mul(32)) {
+            read = read.saturating_add(1);
         }
-        same_at(&rt, step, heap.used(), 0);
     }
-    assert!(rt; 0 < refused && 0 < read, "{refused} refused, {read} read");
+    assert!(rt; 0 < read && read < 40, "{read} read");
 }

@@ -14,51 +14,51 @@ use rvclass::Program;
 use std::alloc::{AllocError, Allocator};
 use std::process::Abort;
 
-/// Messages of three harts of whom one is not known, with what is answered to each and how many of both events each hart
-/// that is known has then.
-const ROWS: [(Sent, Option<ReceiveFault>, &[usize]); 14] = [
+/// Messages of three harts of whom one is not known, with what is answered to each and the digits of how many of both
+/// events each hart that is known has then.
+const ROWS: [(Sent, Option<ReceiveFault>, &[u8]); 14] = [
     (
         (0, 1, OPEN),
         Some(ReceiveFault::Demux(DemuxFault::Gap { expected: 0 })),
-        &[0, 0],
+        b"00",
     ),
-    ((0, 0, OPEN), None, &[0, 0]),
+    ((0, 0, OPEN), None, b"00"),
     (
         (2, 0, OPEN),
         Some(ReceiveFault::Demux(DemuxFault::Stranger)),
-        &[0, 0],
+        b"00",
     ),
-    ((0, 1, FIRST), None, &[1, 0]),
+    ((0, 1, FIRST), None, b"10"),
     (
         (0, 1, FIRST),
         Some(ReceiveFault::Demux(DemuxFault::Repeat)),
-        &[1, 0],
+        b"10",
     ),
     (
-        (0, 2, &[0x53]),
+        (0, 2, b"\x53"),
         Some(ReceiveFault::Demux(DemuxFault::Packet(PackFault::BadPrivilege))),
-        &[1, 0],
+        b"10",
     ),
     (
         (1, 0, FIRST),
         Some(ReceiveFault::Decode(DecodeFault::NotOpened)),
-        &[1, 0],
+        b"10",
     ),
-    ((1, 1, OPEN), None, &[1, 0]),
-    ((0, 2, SECOND), None, &[1, 0]),
-    ((0, 3, END), None, &[2, 0]),
+    ((1, 1, OPEN), None, b"10"),
+    ((0, 2, SECOND), None, b"10"),
+    ((0, 3, END), None, b"20"),
     (
         (0, 4, END),
         Some(ReceiveFault::Demux(DemuxFault::AfterClose)),
-        &[2, 0],
+        b"20",
     ),
-    ((1, 2, FIRST), None, &[2, 1]),
+    ((1, 2, FIRST), None, b"21"),
     (
         (1, 3, OPEN),
         Some(ReceiveFault::Decode(DecodeFault::WrongPlace)),
-        &[2, 1],
+        b"21",
     ),
-    ((1, 4, SECOND), None, &[2, 1]),
+    ((1, 4, SECOND), None, b"21"),
 ];
 
 /// A message is received, or it is not for this reason.
@@ -80,12 +80,12 @@ fn receives<R: Abort>(
 fn messages_by_table(rt: HostRuntime) {
     let program = program_of(&rt, &NOPS);
     let mut receiver = Receiver::new(rt.alloc(), 2).expect(&rt, "memory");
-    for (row, (sent, fault, counts)) in ROWS.iter().enumerate() {
+    for (row, (sent, fault, digits)) in ROWS.iter().enumerate() {
         receives(&rt, row, &mut receiver, &program, None, sent, *fault);
-        are_told(&rt, row, receiver.lists(), receiver.closed(), counts);
+        are_told(&rt, row, receiver.lists(), receiver.closed(), digits);
     }
     let (lists, closed) = receiver.into_parts();
-    are_told(&rt, "all", &lists, &closed, &[2, 1]);
+    are_told(&rt, "all", &lists, &closed, b"21");
 }
 
 /// What was told before, the payload of the first message, and why it is not received, if it is not.
@@ -124,19 +124,30 @@ fn count_of<A: Allocator + Copy>(receiver: &Receiver<A>) -> usize {
     count
 }
 
-/// Between the two calls the list waits.
+/// A message is accepted and then decoded. Between the two calls the list waits, with so many events.
+fn is_taken<R: Abort>(
+    rt: &R,
+    receiver: &mut Receiver,
+    program: &Program,
+    sent: &Sent,
+    events: usize,
+) {
+    let message = message_of(rt, sent);
+    let packet = receiver.accept(&message).expect(rt, "a packet");
+    same_at(rt, message.number, count_of(receiver), events);
+    let decoded = receiver.decode(program, message.hart, &packet);
+    same_at(rt, message.number, decoded, Ok(()));
+}
+
 #[test]
 fn accepts_and_then_decodes(rt: HostRuntime) {
     let program = program_of(&rt, &NOPS);
     let mut receiver = Receiver::new(rt.alloc(), 1).expect(&rt, "memory");
-    for (number, payload, events) in [(0, OPEN, 0), (1, FIRST, 0), (2, SECOND, 1), (3, END, 1)] {
-        let message = message_of(&rt, &(0, number, payload));
-        let packet = receiver.accept(&message).expect(&rt, "a packet");
-        same_at(&rt, number, count_of(&receiver), events);
-        let decoded = receiver.decode(&program, message.hart, &packet);
-        same_at(&rt, number, decoded, Ok(()));
-    }
-    are_told(&rt, "all", receiver.lists(), receiver.closed(), &[2]);
+    is_taken(&rt, &mut receiver, &program, &(0, 0, OPEN), 0);
+    is_taken(&rt, &mut receiver, &program, &(0, 1, FIRST), 0);
+    is_taken(&rt, &mut receiver, &program, &(0, 2, SECOND), 1);
+    is_taken(&rt, &mut receiver, &program, &(0, 3, END), 1);
+    are_told(&rt, "all", receiver.lists(), receiver.closed(), b"2");
 }
 
 /// Receives messages with the memory that there is, and answers how many events came and why no more.

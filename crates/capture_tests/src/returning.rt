@@ -1,6 +1,6 @@
 //! Logs that come back from their captures, in both versions.
 
-use crate::made::{BASE, MODES, WORDS, capture_of_logs, legal_log, log_of, program_of};
+use crate::made::{BASE, MODES, WORDS, capture_of_logs, decoded, legal_log, log_of, program_of};
 use crate::same::same_at;
 use captures::{CaptureFault, CaptureOutcome, decode_capture};
 use decoder::DecodeFault;
@@ -124,7 +124,7 @@ fn come_back<R: Abort + AllocGlobal>(
     asked: u16,
 ) {
     let bytes = capture_of_logs(rt, logs, 1024, mode, version);
-    let outcome = decode_capture(rt.alloc(), program, asked, &bytes).expect(rt, "memory");
+    let outcome = decoded(rt, program, asked, &bytes);
     are_whole(rt, (logs.len(), mode, version), &outcome, logs);
 }
 
@@ -192,6 +192,6 @@ fn harts_in_turn(rt: HostRuntime) {
     }
     same_at(&rt, "in turn", in_turn.len(), both.len());
     assert!(rt; in_turn.as_slice() != both.as_slice(), "not in turn");
-    let outcome = decode_capture(rt.alloc(), &program, 2, &in_turn).expect(&rt, "memory");
+    let outcome = decoded(&rt, &program, 2, &in_turn);
     are_whole(&rt, "in turn", &outcome, &logs);
 }

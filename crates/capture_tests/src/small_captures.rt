@@ -1,9 +1,9 @@
 //! Small captures to events, in both versions.
 
 use crate::headers::header_of;
-use crate::made::{BASE, program_of};
+use crate::made::{BASE, decoded, program_of};
 use crate::same::same_at;
-use captures::{CaptureFault, decode_capture};
+use captures::CaptureFault;
 use decoder::DecodeFault;
 use message::{DemuxFault, Message, MessageFault, write_message};
 use payload::{Mode, PackFault, Payload};
@@ -38,17 +38,17 @@ pub(crate) const BOTH: [Event; 2] = [
 
 // Its payloads.
 
-pub(crate) const OPEN: &[u8] = &[0x1f];
+pub(crate) const OPEN: &[u8] = b"\x1f";
 
-pub(crate) const OPEN_FULL: &[u8] = &[0x1f, 0x01];
+pub(crate) const OPEN_FULL: &[u8] = b"\x1f\x01";
 
-pub(crate) const FIRST: &[u8] = &[0x73, 0, 0, 0, 0x20];
+pub(crate) const FIRST: &[u8] = b"\x73\0\0\0\x20";
 
-pub(crate) const SECOND: &[u8] = &[0x0a];
+pub(crate) const SECOND: &[u8] = b"\x0a";
 
-pub(crate) const SECOND_FULL: &[u8] = &[0x0a, 0, 0, 0, 0x01];
+pub(crate) const SECOND_FULL: &[u8] = b"\x0a\0\0\0\x01";
 
-pub(crate) const END: &[u8] = &[0x4f];
+pub(crate) const END: &[u8] = b"\x4f";
 
 /// A message of a hart: its hart, its number and its payload.
 pub(crate) type Sent = (u16, u64, &'static [u8]);
@@ -80,6 +80,11 @@ pub(crate) fn message_of<R: Abort>(rt: &R, (hart, number, payload): &Sent) -> Me
     }
 }
 
+/// Appends a message that is sent to a capture.
+fn send<R: Abort>(rt: &R, bytes: &mut Vec<u8>, sent: &Sent) {
+    write_message(bytes, &message_of(rt, sent)).expect(rt, "memory");
+}
+
 /// The capture of these messages.
 pub(crate) fn capture_of<R: Abort + AllocGlobal>(
     rt: &R,
@@ -88,7 +93,52 @@ pub(crate) fn capture_of<R: Abort + AllocGlobal>(
 ) -> Vec<u8> {
     let mut bytes = start_of(rt, start);
     for sent in messages {
-        write_message(&mut bytes, &message_of(rt, sent)).expect(rt, "memory");
+        send(rt, &mut bytes, sent);
+    }
+    bytes
+}
+
+/// The payload that a letter names: `o` opens a trace, and `O` one of full addresses; `f` tells the first word; `s` tells
+/// the second, and `S` does so in full; `e` closes the trace. Any other letter names one that is no packet.
+fn payload_of(letter: u8) -> &'static [u8] {
+    match letter {
+        b'o' => OPEN,
+        b'O' => OPEN_FULL,
+        b'f' => FIRST,
+        b's' => SECOND,
+        b'S' => SECOND_FULL,
+        b'e' => END,
+        _ => b"\x1f\x80",
+    }
+}
+
+/// The number of a digit.
+fn number_of(digit: u8) -> u8 {
+    digit.wrapping_sub(b'0')
+}
+
+/// The message that three letters name: the digits of its hart and its number, and that of its payload.
+fn sent_of(letters: &[u8]) -> Option<Sent> {
+    match letters {
+        [hart, number, payload, ..] => Some((
+            u16::from(number_of(*hart)),
+            u64::from(number_of(*number)),
+            payload_of(*payload),
+        )),
+        _ => None,
+    }
+}
+
+/// The capture of the messages that these letters name, with a space between each two.
+pub(crate) fn capture_of_letters<R: Abort + AllocGlobal>(
+    rt: &R,
+    start: Start,
+    letters: &[u8],
+) -> Vec<u8> {
+    let mut bytes = start_of(rt, start);
+    for message in letters.chunks(4) {
+        let sent = sent_of(message).expect(rt, "three letters");
+        send(rt, &mut bytes, &sent);
     }
     bytes
 }
@@ -96,23 +146,39 @@ pub(crate) fn capture_of<R: Abort + AllocGlobal>(
 /// Why decoding stops, and at which message.
 pub(crate) type Stop = Option<(u64, CaptureFault)>;
 
-/// These are the lists of harts that have so many of both events, and the flags tell that just those are closed that have
-/// both.
+/// A list has as many of both events as the digit says.
+fn has_events<P: Debug + Drop>(rt: &impl Abort, place: P, list: &[Event], digit: u8) {
+    let count = usize::from(number_of(digit));
+    same_at(rt, place, list, &BOTH[..count.min(2)]);
+}
+
+/// The lists of harts have as many of both events as their digits say.
+fn have_events<R: Abort, P: Debug + Copy>(rt: &R, place: P, lists: &[Vec<Event>], digits: &[u8]) {
+    same_at(rt, place, lists.len(), digits.len());
+    for (hart, (list, digit)) in lists.iter().zip(digits).enumerate() {
+        has_events(rt, (place, hart), list, *digit);
+    }
+}
+
+/// Just those harts are closed that have both events.
+fn are_closed<R: Abort, P: Debug + Copy>(rt: &R, place: P, closed: &[bool], digits: &[u8]) {
+    same_at(rt, place, closed.len(), digits.len());
+    for (hart, (closed, digit)) in closed.iter().zip(digits).enumerate() {
+        same_at(rt, (place, hart), *closed, *digit == b'2');
+    }
+}
+
+/// These are the lists of harts of which each has as many of both events as its digit says, and the flags tell that just
+/// those are closed that have both.
 pub(crate) fn are_told<R: Abort, P: Debug + Copy>(
     rt: &R,
     place: P,
     lists: &[Vec<Event>],
     closed: &[bool],
-    counts: &[usize],
+    digits: &[u8],
 ) {
-    same_at(rt, place, lists.len(), counts.len());
-    same_at(rt, place, closed.len(), counts.len());
-    for (hart, (list, count)) in lists.iter().zip(counts).enumerate() {
-        same_at(rt, (place, hart), list.as_slice(), &BOTH[..(*count).min(2)]);
-    }
-    for (hart, (closed, count)) in closed.iter().zip(counts).enumerate() {
-        same_at(rt, (place, hart), *closed, *count == 2);
-    }
+    have_events(rt, place, lists, digits);
+    are_closed(rt, place, closed, digits);
 }
 
 /// These bytes decode to such lists and flags over two words `nop`, where so many harts are asked for, and stop like this.
@@ -121,78 +187,55 @@ pub(crate) fn decodes<R: Abort + AllocGlobal, P: Debug + Copy>(
     place: P,
     asked: u16,
     bytes: &[u8],
-    counts: &[usize],
+    digits: &[u8],
     stop: Stop,
 ) {
     let program = program_of(rt, &NOPS);
-    let outcome = decode_capture(rt.alloc(), &program, asked, bytes).expect(rt, "memory");
+    let outcome = decoded(rt, &program, asked, bytes);
     same_at(rt, place, outcome.fault, stop);
-    are_told(rt, place, &outcome.harts, &outcome.closed, counts);
+    are_told(rt, place, &outcome.harts, &outcome.closed, digits);
 }
 
-/// The name of a row, the mode that a header tells, messages, how many of both events each hart has then, and why decoding
-/// stops, if it does.
-type Row = (&'static str, Mode, &'static [Sent], &'static [usize], Stop);
+/// The name of a row, the mode that a header tells, the letters of messages, the digits of how many of both events each
+/// hart has then, and why decoding stops, if it does.
+type Row = (&'static str, Mode, &'static [u8], &'static [u8], Stop);
 
 const ROWS: [Row; 11] = [
-    (
-        "all",
-        Mode::Differential,
-        &[(0, 0, OPEN), (0, 1, FIRST), (0, 2, SECOND), (0, 3, END)],
-        &[2],
-        None,
-    ),
-    (
-        "full addresses",
-        Mode::Full,
-        &[
-            (0, 0, OPEN_FULL),
-            (0, 1, FIRST),
-            (0, 2, SECOND_FULL),
-            (0, 3, END),
-        ],
-        &[2],
-        None,
-    ),
+    ("all", Mode::Differential, b"00o 01f 02s 03e", b"2", None),
+    ("full addresses", Mode::Full, b"00O 01f 02S 03e", b"2", None),
     (
         "gap",
         Mode::Differential,
-        &[(0, 0, OPEN), (0, 1, FIRST), (0, 3, END)],
-        &[1],
+        b"00o 01f 03e",
+        b"1",
         Some((2, CaptureFault::Demux(DemuxFault::Gap { expected: 2 }))),
     ),
     (
         "repeat",
         Mode::Differential,
-        &[(0, 0, OPEN), (0, 1, FIRST), (0, 1, FIRST)],
-        &[1],
+        b"00o 01f 01f",
+        b"1",
         Some((2, CaptureFault::Demux(DemuxFault::Repeat))),
     ),
     (
         "stranger",
         Mode::Differential,
-        &[(0, 0, OPEN), (0, 1, FIRST), (1, 0, OPEN)],
-        &[1],
+        b"00o 01f 10o",
+        b"1",
         Some((2, CaptureFault::Demux(DemuxFault::Stranger))),
     ),
     (
         "after the close",
         Mode::Differential,
-        &[
-            (0, 0, OPEN),
-            (0, 1, FIRST),
-            (0, 2, SECOND),
-            (0, 3, END),
-            (0, 4, SECOND),
-        ],
-        &[2],
+        b"00o 01f 02s 03e 04s",
+        b"2",
         Some((4, CaptureFault::Demux(DemuxFault::AfterClose))),
     ),
     (
         "bad payload",
         Mode::Differential,
-        &[(0, 0, OPEN), (0, 1, FIRST), (0, 2, &[0x1f, 0x80])],
-        &[1],
+        b"00o 01f 02x",
+        b"1",
         Some((
             2,
             CaptureFault::Demux(DemuxFault::Packet(PackFault::BadPad)),
@@ -201,54 +244,48 @@ const ROWS: [Row; 11] = [
     (
         "opened again",
         Mode::Differential,
-        &[(0, 0, OPEN), (0, 1, FIRST), (0, 2, OPEN), (0, 3, END)],
-        &[1],
+        b"00o 01f 02o 03e",
+        b"1",
         Some((2, CaptureFault::Decode(DecodeFault::WrongPlace))),
     ),
     (
         "not opened",
         Mode::Differential,
-        &[(0, 0, FIRST)],
-        &[0],
+        b"00f",
+        b"0",
         Some((0, CaptureFault::Decode(DecodeFault::NotOpened))),
     ),
     (
         "closed at once",
         Mode::Differential,
-        &[(0, 0, OPEN), (0, 1, END)],
-        &[0],
+        b"00o 01e",
+        b"0",
         Some((1, CaptureFault::Decode(DecodeFault::WrongPlace))),
     ),
     // A fault leaves what was decoded before, of the hart that it is in and of others, one that closed among them.
     (
         "three harts",
         Mode::Differential,
-        &[
-            (2, 0, OPEN),
-            (0, 0, OPEN),
-            (2, 1, FIRST),
-            (0, 1, FIRST),
-            (2, 2, SECOND),
-            (1, 0, OPEN),
-            (2, 3, END),
-            (0, 2, OPEN),
-            (1, 1, FIRST),
-        ],
-        &[1, 0, 2],
+        b"20o 00o 21f 01f 22s 10o 23e 02o 11f",
+        b"102",
         Some((7, CaptureFault::Decode(DecodeFault::WrongPlace))),
     ),
 ];
 
-/// Each row is so without a header, and behind one, where the header's count of harts holds and not the one that is asked
+/// A row is so without a header, and behind one, where the header's count of harts holds and not the one that is asked
 /// for.
+fn is_so<R: Abort + AllocGlobal>(rt: &R, (name, mode, letters, digits, stop): &Row) {
+    let harts = digits.len().min(3) as u16;
+    let bare = capture_of_letters(rt, None, letters);
+    decodes(rt, (*name, "bare"), harts, &bare, digits, *stop);
+    let headed = capture_of_letters(rt, Some((*mode, harts)), letters);
+    decodes(rt, (*name, "headed"), harts + 1, &headed, digits, *stop);
+}
+
 #[test]
 fn messages_by_table(rt: HostRuntime) {
-    for (name, mode, messages, counts, stop) in &ROWS {
-        let harts = counts.len().min(3) as u16;
-        let bare = capture_of(&rt, None, messages);
-        decodes(&rt, (*name, "bare"), harts, &bare, counts, *stop);
-        let headed = capture_of(&rt, Some((*mode, harts)), messages);
-        decodes(&rt, (*name, "headed"), harts + 1, &headed, counts, *stop);
+    for row in &ROWS {
+        is_so(&rt, row);
     }
 }
 
@@ -273,14 +310,14 @@ fn decodes_cut<R: Abort + AllocGlobal>(rt: &R, start: Start, length: usize) {
     let mut bytes = start_of(rt, start);
     add(rt, &mut bytes, first);
     let (number, ends) = whole_messages(length);
-    let events = match number {
-        0 | 1 => 0,
-        2 | 3 => 1,
-        _ => 2,
+    let digits: &[u8] = match number {
+        0 | 1 => b"0",
+        2 | 3 => b"1",
+        _ => b"2",
     };
     let short = Some((number, CaptureFault::Message(MessageFault::Short)));
     let stop = if ends { None } else { short };
-    decodes(rt, (start, length), 1, &bytes, &[events], stop);
+    decodes(rt, (start, length), 1, &bytes, digits, stop);
 }
 
 /// The worked capture cut to each length.
@@ -299,7 +336,7 @@ fn any_count_is_asked_for(rt: HostRuntime) {
     add(&rt, &mut whole, &WORKED);
     same_at(&rt, "length", whole.len(), 68);
     for asked in [0, 1, 1024, 65_535] {
-        decodes(&rt, asked, asked, &whole, &[2], None);
+        decodes(&rt, asked, asked, &whole, b"2", None);
     }
 }
 
@@ -310,33 +347,27 @@ fn bad_lengths(rt: HostRuntime) {
     for length in [0, 19, 255] {
         let mut bytes = WORKED;
         bytes[38] = length;
-        decodes(&rt, length, 1, &bytes, &[1], bad);
+        decodes(&rt, length, 1, &bytes, b"1", bad);
     }
 }
 
 /// Of so many harts none has events where nobody sends anything, or one behind the last one does, and the last one has its
 /// own.
 fn are_many<R: Abort + AllocGlobal>(rt: &R, start: Start, asked: u16, harts: u16) {
-    let mut counts = vec![in rt.alloc(); 0; usize::from(harts)].expect(rt, "memory");
+    let mut digits = vec![in rt.alloc(); b'0'; usize::from(harts)].expect(rt, "memory");
     let stranger = Some((0, CaptureFault::Demux(DemuxFault::Stranger)));
     let empty = capture_of(rt, start, &[]);
-    decodes(rt, (start, harts, "empty"), asked, &empty, &counts, None);
+    decodes(rt, (start, harts, "empty"), asked, &empty, &digits, None);
     let behind = capture_of(rt, start, &[(harts, 0, OPEN)]);
-    decodes(
-        rt,
-        (start, harts, "behind"),
-        asked,
-        &behind,
-        &counts,
-        stranger,
-    );
-    let Some(count) = counts.last_mut() else {
+    let place = (start, harts, "behind");
+    decodes(rt, place, asked, &behind, &digits, stranger);
+    let Some(digit) = digits.last_mut() else {
         return;
     };
-    *count = 1;
+    *digit = b'1';
     let last = harts.saturating_sub(1);
     let one = capture_of(rt, start, &[(last, 0, OPEN), (last, 1, FIRST)]);
-    decodes(rt, (start, harts, "last"), asked, &one, &counts, None);
+    decodes(rt, (start, harts, "last"), asked, &one, &digits, None);
 }
 
 const FEW: Start = Some((Mode::Differential, 65));

@@ -3,7 +3,8 @@ use Rattle.std.proofs.Common.{◌≡◌, ℕ, ◌<◌, ◌≤◌, ◌^◌, All, 
 use Rattle.std.proofs.Common.{map, replicate, get_or, refl, sym, ap, subst, ◌∙◌, ⊎_elim, arith}
 use Rattle.std.specs.Prelude.{false}
 use Rattle.std.proofs.lemmas.List.Elements.{All-head}
-use Rattle.std.proofs.lemmas.List.{append_cancel_left, same_lists, length-map, length-replicate, get_or-map, get_or-replicate, append-nil}
+use Rattle.std.proofs.lemmas.List.{append_cancel_left, same_lists, length-map, length-replicate, get_or-map}
+use Rattle.std.proofs.lemmas.List.{get_or-replicate, append-nil}
 use Rattle.std.proofs.lemmas.Option.{slice_get-get_or}
 use Rattle.retire.specs.declared.event.Event.{Event}
 use Rattle.rvclass.proofs.WordsLemmas.{words_of-IsProgram}
@@ -72,10 +73,12 @@ module _ (program : Image) (period : ℕ) (mode : Mode) (logs : List ProgramLog)
       let log = get_or logs k (log_of program d) in
       let list = get_or lists k d in
       let image =
-      program_image program period mode logs legal all_same few k log (slice_get-get_or logs k (log_of program d) known) in
+      program_image program period mode logs legal all_same few k log (slice_get-get_or logs k (log_of program d)
+      known) in
       one_log (words_of program) (words_of-IsProgram program image) _ list log.events
       (decoded.described k list (slice_get-get_or lists k d within))
-      (log_described program period mode logs legal all_same few k log (slice_get-get_or logs k (log_of program d) known))
+      (log_described program period mode logs legal all_same few k log (slice_get-get_or logs k (log_of program d)
+      known))
       ∙ sym (get_or-map events logs k (log_of program d) d known))
 
   -- And every hart is closed.
@@ -136,7 +139,8 @@ module _ (program : Image) (period : ℕ) (mode : Mode) (logs : List ProgramLog)
       let one = next.taken accepted in
       let other = left.refused.accepted in
       let packet : next.packet ≡ left.refused.packet = cc in
-      let agrees = subst (λ p. opens_another told p ≡ false) packet (agrees_told mode told next.packet its next.agrees) in
+      let agrees = subst (λ p. opens_another told p ≡ false) packet
+      (agrees_told mode told next.packet its next.agrees) in
       let another = left.refused.another in
       cc
 

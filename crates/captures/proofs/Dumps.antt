@@ -1,5 +1,6 @@
 -- What a dump of bytes has, and beginnings of it.
-use Rattle.std.proofs.Common.{◌≡◌, ◌≤◌, ◌<◌, ◌++◌, Bool, ℕ, zero, suc, List, [], ◌∷◌, Option, Some, None, inl, inr, length}
+use Rattle.std.proofs.Common.{◌≡◌, ◌≤◌, ◌<◌, ◌++◌, Bool, ℕ, zero, suc, List, [], ◌∷◌, Option, Some, None, inl, inr}
+use Rattle.std.proofs.Common.{length}
 use Rattle.std.proofs.Common.{refl, sym, ap, subst, ◌∙◌, arith, append_assoc}
 use Rattle.std.specs.Prelude.{All}
 use Rattle.std.specs.List.{list_any}
@@ -73,7 +74,8 @@ parted_by bytes are later (inr (inr (inr (m, rest, is, begins)))) =
 
 -- Any bytes are parted so.
 parted : (most : ℕ) (bytes : List ℕ) → length bytes ≤ most → AreBytes bytes → Parted bytes
-parted zero bytes few are = parted_by bytes are (λ rest less more. absurd (omega (arith, few, less))) (front_of bytes are)
+parted zero bytes few are = parted_by bytes are (λ rest less more. absurd (omega (arith, few, less)))
+    (front_of bytes are)
 parted (suc most) bytes few are =
     parted_by bytes are (λ rest less more. parted most rest (omega (arith, few, less)) more) (front_of bytes are)
 
@@ -82,7 +84,8 @@ abbrev stop_at : ℕ → Option MessageFault → Option (ℕ × MessageFault)
 stop_at count None = None
 stop_at count (Some why) = Some (count, why)
 
-ends_at : (count : ℕ) (rest : List ℕ) (why : Option MessageFault) → EndsBy rest why → Ends count rest (stop_at count why)
+ends_at : (count : ℕ) (rest : List ℕ) (why : Option MessageFault) → EndsBy rest why
+    → Ends count rest (stop_at count why)
 ends_at count rest None ends = ends
 ends_at count rest (Some why) ends = (refl, ends)
 
@@ -93,7 +96,8 @@ capture_joined (m ∷ front) back =
     ∙ sym (append_assoc (message_bytes m) (capture front) (capture back))
 
 -- Messages were told, and a beginning of the line of the next.
-pub dump_begun : (mode : Mode) (bytes left next : List ℕ) (count : ℕ) (bad : Bool) (m : Message) (old mid new : Option (List ℕ))
+pub dump_begun : (mode : Mode) (bytes left next : List ℕ) (count : ℕ) (bad : Bool) (m : Message)
+    (old mid new : Option (List ℕ))
     → AreBytes bytes → HasTold mode bytes left count bad old mid → IsMessage m → left ≡ message_bytes m ++ next
     → AppendsBeginning (line_of mode m) mid new
     → BeginsDump (AreMessagesDumped mode bytes) old new
@@ -125,7 +129,8 @@ dump_begun mode bytes left next count bad m old mid new are told is begins begun
         ends = ends_at (length all) later.rest later.why later.ends;
       };
       begun = subst (λ (l : List ℕ). AppendsBeginning l old new) (sym text)
-          (begun_between (dump_text mode told.messages) (line_of mode m) (dump_text mode later.messages) old mid new told.text begun);
+          (begun_between (dump_text mode told.messages) (line_of mode m) (dump_text mode later.messages) old mid new
+          told.text begun);
     }
 
 -- Some text is the dump of any bytes.

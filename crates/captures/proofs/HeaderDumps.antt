@@ -1,5 +1,6 @@
 -- The dump of a capture, by what it begins with.
-use Rattle.std.proofs.Common.{◌≡◌, ◌⊎◌, ◌++◌, ℕ, Bool, false, List, [], Option, Some, None, inl, inr, refl, sym, subst, append-nil}
+use Rattle.std.proofs.Common.{◌≡◌, ◌⊎◌, ◌++◌, ℕ, Bool, false, List, [], Option, Some, None, inl, inr, refl, sym, subst}
+use Rattle.std.proofs.Common.{append-nil}
 use Rattle.std.specs.Io.KnownBytes.{Appends}
 use Rattle.std.proofs.KnownBytes.{Appends-trans}
 use Rattle.output.specs.Begun.{AppendsBeginning}
@@ -31,7 +32,8 @@ none_dumped bytes why old begins = record {
 module _ (bytes : List ℕ) (unmarked : ¬ IsMarked bytes) (old new : Option (List ℕ)) where
   -- Messages alone were dumped.
   pub messages_dumped : (bad : Bool) (stop : Option (ℕ × MessageFault))
-      → AppendsDump (AreMessagesDumped Differential bytes) bad stop old new → AppendsDump (IsDump bytes) bad stop old new
+      → AppendsDump (AreMessagesDumped Differential bytes) bad stop old new
+      → AppendsDump (IsDump bytes) bad stop old new
   messages_dumped bad stop all =
       record { text = all.text; dumped = IsDump.Version1 unmarked all.dumped; appended = all.appended }
 
@@ -63,7 +65,8 @@ module _ (bytes : List ℕ) (header : Header) (rest : List ℕ) (is : IsHeader h
   module _ (old mid new : Option (List ℕ)) (line : Appends old mid (header_line header)) where
     -- The line of a header and then messages were dumped.
     pub headed_dumped : (bad : Bool) (stop : Option (ℕ × MessageFault))
-        → AppendsDump (AreMessagesDumped header.mode rest) bad stop mid new → AppendsDump (IsDump bytes) bad stop old new
+        → AppendsDump (AreMessagesDumped header.mode rest) bad stop mid new
+        → AppendsDump (IsDump bytes) bad stop old new
     headed_dumped bad stop all = record {
       text = header_line header ++ all.text;
       dumped = IsDump.Version2 header rest all.text is whole all.dumped refl;

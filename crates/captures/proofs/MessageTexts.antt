@@ -1,6 +1,7 @@
 -- What is written of messages, a message at a time and a log at a time.
 use Rattle.std.proofs.Common.{ℕ, suc, ◌+◌, ◌≡◌, refl, ◌<◌, ◌≤◌, ◌⊎◌, inl, inr, List, [], ◌∷◌, ◌++◌, Option, Some, None}
-use Rattle.std.proofs.Common.{length, drop, take, take-append-drop, slice_get, sym, subst, ap, ◌∙◌, arith, append_assoc, get_or}
+use Rattle.std.proofs.Common.{length, drop, take, take-append-drop, slice_get, sym, subst, ap, ◌∙◌, arith, append_assoc}
+use Rattle.std.proofs.Common.{get_or}
 use Rattle.std.proofs.KnownBytes.{Appends-trans}
 use Rattle.std.proofs.lemmas.List.{append-nil, length-map, length-take-le, take_all, take_more}
 use Rattle.std.proofs.lemmas.Option.{get_or_from_slice_get, slice_get_cases, slice_get_within}
@@ -172,7 +173,8 @@ messages_of_harts-append period mode hart (first ∷ front) back =
     (messages_of_harts period mode (hart + suc (length front)) back))
 
 -- The messages of harts were written, and a beginning of those of the next.
-pub next_hart_begun : (text : Message → List ℕ) (old mid new : Option (List ℕ)) (period : ℕ) (mode : Mode) (i : ℕ) (logs : List ProgramLog)
+pub next_hart_begun : (text : Message → List ℕ) (old mid new : Option (List ℕ)) (period : ℕ) (mode : Mode) (i : ℕ)
+    (logs : List ProgramLog)
     (log : ProgramLog) → i < length logs → log ≡ get_or logs i log
     → Appends old mid (flat_map text (messages_of_harts period mode 0 (take i logs)))
     → AppendsBeginning (flat_map text (messages_from i 0 (payloads period mode log))) mid new

@@ -9,7 +9,8 @@ use Rattle.payload.specs.declared.mode.Mode.TheVariants.{Differential, Full}
 use Rattle.payload.specs.declared.packet.Packet.{Packet}
 use Rattle.payload.specs.declared.packet.Packet.TheVariants as packet
 use Rattle.payload.specs.declared.packet.Support.TheVariants.{Open}
-use Rattle.encoder.specs.Packets.{closing, closing_packet, first_or, last_rule, packet_by, packets, reports, reported_by}
+use Rattle.encoder.specs.Packets.{closing, closing_packet, first_or, last_rule, packet_by, packets, reports}
+use Rattle.encoder.specs.Packets.{reported_by}
 use Rattle.encoder.specs.Packets.{trap_packet}
 use Rattle.encoder.specs.Piece.{Piece, pieces_of}
 use Rattle.encoder.specs.declared.rule.Rule.{Rule}
@@ -37,7 +38,7 @@ report_agrees told mode reported front last by.Sync = refl
 report_agrees told mode reported front last (by.Target cut_off) = refl
 report_agrees told mode reported front last by.Explicit = refl
 report_agrees told mode reported front last by.Notify = refl
-report_agrees told mode reported front last by.Unreported = refl
+report_agrees told mode reported front last by.FullMap = refl
 
 reports_agree : (told mode : Mode) (reported : ℕ) (pieces : List Piece)
     → All (AgreesWith told) (reports mode reported pieces)
@@ -55,7 +56,7 @@ closing_agrees mode by.Sync = refl
 closing_agrees mode (by.Target cut_off) = refl
 closing_agrees mode by.Explicit = refl
 closing_agrees mode by.Notify = refl
-closing_agrees mode by.Unreported = refl
+closing_agrees mode by.FullMap = refl
 
 -- None of them opens a trace in another mode.
 pub packets_agree : (words : Words) (period : ℕ) (mode : Mode) (log : List Event)
@@ -65,5 +66,5 @@ packets_agree words period mode log =
     let end = closing_packet words period log in
     All-cons (AgreesWith mode) (packet.Support (Open mode)) (reports mode 0 pieces ++ end ∷ []) (open_agrees mode)
     (All-append (AgreesWith mode) (reports mode 0 pieces) (end ∷ []) (reports_agree mode mode 0 pieces)
-    (All-cons (AgreesWith mode) end [] (closing_agrees mode (last_rule by.Unreported pieces))
+    (All-cons (AgreesWith mode) end [] (closing_agrees mode (last_rule by.FullMap pieces))
     (All-nil (AgreesWith mode))))

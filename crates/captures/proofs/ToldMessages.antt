@@ -18,7 +18,8 @@ use Rattle.captures.specs.Dump.{is_refused, line_of, dump_text}
 
 -- So many messages stand before the bytes that are left, this tells whether a payload of theirs is bad, and their lines
 -- were appended.
-pub record HasTold (mode : Mode) (bytes left : List ℕ) (count : ℕ) (bad : Bool) (old new : Option (List ℕ)) : Type 0 where
+pub record HasTold (mode : Mode) (bytes left : List ℕ) (count : ℕ) (bad : Bool) (old new : Option (List ℕ))
+    : Type 0 where
   pub messages : List Message
   pub ranges : All IsMessage messages
   pub whole : bytes ≡ capture messages ++ left
@@ -28,7 +29,8 @@ pub record HasTold (mode : Mode) (bytes left : List ℕ) (count : ℕ) (bad : Bo
   pub room : count + length left ≤ length bytes
 
 -- One message more.
-pub told-next : (mode : Mode) (bytes left next : List ℕ) (count : ℕ) (bad : Bool) (m : Message) (old before after : Option (List ℕ))
+pub told-next : (mode : Mode) (bytes left next : List ℕ) (count : ℕ) (bad : Bool) (m : Message)
+    (old before after : Option (List ℕ))
     → HasTold mode bytes left count bad old before
     → IsMessage m → Appends before after (line_of mode m)
     → left ≡ message_bytes m ++ next → length next < length left
@@ -50,7 +52,8 @@ told-next mode bytes left next count bad m old before after told is line begins 
       room = omega (arith, room, fewer);
     }
   where
-    text-snoc : (messages : List Message) → dump_text mode messages ++ line_of mode m ≡ dump_text mode (messages ++ m ∷ [])
+    text-snoc : (messages : List Message) → dump_text mode messages ++ line_of mode m
+        ≡ dump_text mode (messages ++ m ∷ [])
     text-snoc messages = flat_map_more (line_of mode) [] messages m
 
     any-snoc : (messages : List Message)

@@ -1,12 +1,12 @@
 -- Captures that are read whole, and those that are not.
-use Rattle.std.proofs.Common.{◌≡◌, ◌⊎◌, ℕ, All, List, [], ◌∷◌, ◌++◌, Option, Some, None, length}
-use Rattle.std.proofs.Common.{refl, sym, ap, subst, ◌∙◌, append-nil, inl, inr}
+use Rattle.std.proofs.Common.{◌≡◌, ℕ, All, List, [], ◌∷◌, ◌++◌, Option, Some, None}
+use Rattle.std.proofs.Common.{refl, sym, ap, subst, ◌∙◌, append-nil}
 use Rattle.std.specs.Prelude.{IfSome}
 use Rattle.std.proofs.lemmas.List.{append_cancel_left}
-use Rattle.std.proofs.lemmas.List.Elements.{All-nil, All-push}
+use Rattle.std.proofs.lemmas.List.Elements.{All-push}
 use Rattle.message.proofs.StartsRead.{header_only}
 use Rattle.message.specs.Capture.{capture, message_bytes}
-use Rattle.message.specs.Cut.{IsMessage, IsCut, HasBadLength}
+use Rattle.message.specs.Cut.{IsMessage}
 use Rattle.message.specs.Header.{IsHeader, IsMarked, header_bytes, setting_bytes}
 use Rattle.message.specs.declared.fault.MessageFault.{MessageFault}
 use Rattle.message.specs.declared.fault.MessageFault.TheVariants as message
@@ -18,7 +18,7 @@ use Rattle.captures.proofs.HeaderFaults.{has_header, marked_by}
 use Rattle.captures.proofs.Reaching.{capture_next}
 use Rattle.captures.specs.NoMessage.{BeginsNone, BeginsNoHeader}
 use Rattle.captures.specs.Whole.{AtHeader, AtMessage, BeginsWith, IsReadFault, IsWhole}
-use Rattle.captures.specs.steps.Reading.{AreCutOff, AreRead, IsNotRead}
+use Rattle.captures.specs.steps.Reading.{AreRead, IsNotRead}
 use Rattle.captures.specs.declared.capture_reading.ReadFault.{ReadFault}
 use Rattle.captures.specs.declared.capture_reading.ReadFault.TheVariants as fault
 
@@ -27,10 +27,6 @@ pub record HasRead (bytes left : List ℕ) (messages : List Message) : Type 0 wh
   pub ranges : All IsMessage messages
   pub whole : bytes ≡ capture messages ++ left
 
--- At first none was.
-pub read_none : (bytes : List ℕ) → HasRead bytes bytes []
-read_none bytes = record { ranges = All-nil IsMessage; whole = refl }
-
 -- And then one more.
 pub read_next : (bytes left next : List ℕ) (messages : List Message) (m : Message) → HasRead bytes left messages
     → IsMessage m → left ≡ message_bytes m ++ next → HasRead bytes next (messages ++ m ∷ [])
@@ -38,30 +34,6 @@ read_next bytes left next messages m has is begins = record {
   ranges = All-push IsMessage messages m has.ranges is;
   whole = has.whole ∙ ap (λ rest. capture messages ++ rest) begins ∙ sym (capture_next messages m next);
 }
-
--- All of them were, where no bytes are left.
-pub read_all : (bytes left : List ℕ) (messages : List Message) → HasRead bytes left messages → left ≡ []
-    → AreRead bytes messages
-read_all bytes left messages has ended =
-    (has.ranges, has.whole ∙ ap (λ rest. capture messages ++ rest) ended ∙ append-nil (capture messages))
-
--- No message stands before the bytes that are left.
-pub read_before : (bytes left : List ℕ) (messages : List Message) (count : ℕ) (why : MessageFault)
-    → HasRead bytes left messages → count ≡ length messages → (why ≡ message.Short) ⊎ (why ≡ message.BadLength)
-    → (why ≡ message.Short → IsCut left) → (why ≡ message.BadLength → HasBadLength left)
-    → AreCutOff bytes count why
-read_before bytes left messages count why has counted either cut bad = record {
-  messages = messages;
-  rest = left;
-  ranges = has.ranges;
-  whole = has.whole;
-  counted = counted;
-  stops = stops either;
-}
-  where
-    stops : (why ≡ message.Short) ⊎ (why ≡ message.BadLength) → BeginsNone left why
-    stops (inl short) = subst (BeginsNone left) (sym short) (cut short)
-    stops (inr long) = subst (BeginsNone left) (sym long) (bad long)
 
 -- What stands in front of the bytes that are left.
 pub begins_with : (bytes left : List ℕ) (header : Option Header)

@@ -57,9 +57,9 @@ pub record AreMessagesDecoded (words : Words) (harts : ℕ) (told : Option Mode)
   pub decoded : AreDecoded (λ hart. words) harts messages lists closed
   pub stops : Stops words harts told messages rest stop
 
--- The bytes of a capture decode to these lists. Those of version 1, which do not begin with the mark, are messages of so
--- many harts; those of version 2 are a header and messages of as many harts as it counts, which open in its mode; and
--- where the header is cut short or bad, nothing is decoded.
+-- The bytes of a capture decode to these lists. Those of version 1, which do not begin with the mark, are messages of
+-- so many harts; those of version 2 are a header and messages of as many harts as it counts, which open in its mode;
+-- and where the header is cut short or bad, nothing is decoded.
 pub data IsDecoded (words : Words) (harts : ℕ) (bytes : List ℕ) (lists : List (List Event)) (closed : List Bool)
     (stop : Option (ℕ × CaptureFault)) : Type 0 where
   Version1 : ¬ IsMarked bytes → AreMessagesDecoded words harts None bytes lists closed stop

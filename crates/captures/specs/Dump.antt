@@ -55,8 +55,8 @@ header_line header =
     (mode_text header.mode ++
     (codes " period=" ++ (decimal header.period ++ (codes " harts=" ++ (decimal header.harts ++ codes "\n")))))
 
--- The bytes are those of messages and some rest, before which the dump ends. The text is the lines of the messages, whose
--- address fields are named by the mode that was told, and it is told whether a payload is bad.
+-- The bytes are those of messages and some rest, before which the dump ends. The text is the lines of the messages,
+-- whose address fields are named by the mode that was told, and it is told whether a payload is bad.
 pub record AreMessagesDumped (told : Mode) (bytes : List ℕ) (bad : Bool) (fault : Option (ℕ × MessageFault))
     (text : List ℕ) : Type 0 where
   pub messages : List Message
@@ -67,8 +67,9 @@ pub record AreMessagesDumped (told : Mode) (bytes : List ℕ) (bad : Bool) (faul
   pub lines : text ≡ dump_text told messages
   pub ends : Ends (length messages) rest fault
 
--- The text is the dump of a capture. Bytes of version 1, which do not begin with the mark, are messages; those of version
--- 2 are a header, which has a line of its own, and messages; and where the header is cut short or bad, there is no line.
+-- The text is the dump of a capture. Bytes of version 1, which do not begin with the mark, are messages; those of
+-- version 2 are a header, which has a line of its own, and messages; and where the header is cut short or bad, there is
+-- no line.
 pub data IsDump (bytes : List ℕ) (bad : Bool) (fault : Option (ℕ × MessageFault)) (text : List ℕ) : Type 0 where
   Version1 : ¬ IsMarked bytes → AreMessagesDumped Differential bytes bad fault text → IsDump bytes bad fault text
   Version2 : (header : Header) (rest lines : List ℕ) → IsHeader header → bytes ≡ header_bytes header ++ rest

@@ -10,7 +10,7 @@ ghost use Rattle.captures.specs.Messages.{messages_of_harts};
 ghost use Rattle.captures.specs.Versions.{MayStart, capture_of, header_of, start_bytes};
 ghost use Rattle.encoder.specs.Payloads.{payloads};
 
-use crate::form::{Capture, Form, Lines};
+use crate::form::{Capture, Form, HexLines};
 use encoder::Source;
 use legalpath::LegalLog;
 use message::{Header, MOST_HARTS, Message, MessageFault, Version, write_header};
@@ -86,7 +86,7 @@ pub fn encode_hex<W: Write, A: Allocator>(
         (W.contents sink.old) (W.contents sink.new) }
     ensures fault { IfErr result (λ fault. fault ≡ MessageFault.Write) }
 {
-    encode::<Lines, W, A>(logs, period, mode, sink)
+    encode::<HexLines, W, A>(logs, period, mode, sink)
 }
 
 /// Writes the messages of each hart's log in a form.

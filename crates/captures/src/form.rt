@@ -24,9 +24,9 @@ pub(crate) trait Form {
 }
 
 /// Lines of hexadecimal.
-pub(crate) struct Lines;
+pub(crate) struct HexLines;
 
-impl Form for Lines {
+impl Form for HexLines {
     ghost text = { hex_line };
 
     fn write<W: Write>(sink: &mut W, message: &Message) -> Result<(), MessageFault> {

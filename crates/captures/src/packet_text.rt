@@ -154,6 +154,7 @@ fn field_text(told: Mode) -> &'static str
     }
 }
 
+/// The word or words for a support packet.
 fn support_text(support: Support) -> &'static str
     ensures { result.now ≡ support_text support }
 {
@@ -165,6 +166,7 @@ fn support_text(support: Support) -> &'static str
     }
 }
 
+/// The word for what an address packet reports beside its address.
 fn report_text(report: Report) -> &'static str
     ensures { result.now ≡ report_text report }
 {

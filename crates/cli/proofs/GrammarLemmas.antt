@@ -1,6 +1,7 @@
 -- How a command's grammar grows as it is built.
-use Rattle.std.proofs.Common.{◌∙◌, ap, ap₂, ◌||◌}
-use Rattle.clap.specs.Words.{AddsArg, AddsSubcommand, App, Rule, with_rule, with_subcommand}
+use Rattle.std.proofs.Common.{◌≡◌, ◌∙◌, ap, ap₂, subst, sym, ◌||◌, List, [], ◌∷◌, Result, Ok, Err, IfOk}
+use Rattle.std.specs.List.{AllZip, fold}
+use Rattle.clap.specs.Words.{AddsArg, AddsInTurn, AddsSubcommand, App, Rule, with_rule, with_subcommand}
 use Rattle.clap.specs.declared.builder.arg.Arg.{Arg}
 use Rattle.clap.specs.declared.builder.command.Command.{Command}
 use Rattle.arguments.specs.Rules.{IsReadBy}
@@ -13,6 +14,30 @@ adds_rule old a new app rule has reads adds = (
   adds.shape reads.1 ∙ ap₂ with_rule has.0 reads.0,
   adds.globals ∙ ap₂ (λ x y. x || y) has.1 reads.1,
 )
+
+-- More arguments in turn.
+pub adds_rules : (old new : Command) (app : App) (rules : List Rule) (args : List Arg)
+    → HasGrammar app old → AllZip IsReadBy rules args → AddsInTurn AddsArg old args new
+    → HasGrammar (fold with_rule app rules) new
+adds_rules old new app [] [] has read adds = subst (HasGrammar app) adds has
+adds_rules old new app [] (a ∷ args) has read adds = absurd read
+adds_rules old new app (rule ∷ rules) [] has read adds = absurd read
+adds_rules old new app (rule ∷ rules) (a ∷ args) has read adds =
+    adds_rules adds.0 new (with_rule app rule) rules args (adds_rule old a adds.0 app rule has read.0 adds.1) read.1 adds.2
+
+-- The same of what adding them gives, where memory may be refused.
+pub adds_all : {E : Type 0} (made : Result Command E) (old : Command) (app : App) (args : List Arg) → HasGrammar app old
+    → IfOk made (AddsInTurn AddsArg old args)
+    → IfOk made (λ command. (rules : List Rule) → AllZip IsReadBy rules args → HasGrammar (fold with_rule app rules) command)
+adds_all (Ok command) old app args has adds = λ rules read. adds_rules old command app rules args has read adds
+adds_all (Err e) old app args has adds = tt
+
+-- What holds of every list of rules holds of these.
+pub with_these : {E : Type 0} (made : Result Command E) (start : App) (rules : List Rule) (args held : List Arg) → held ≡ args
+    → IfOk made (λ command. (rules : List Rule) → AllZip IsReadBy rules held → HasGrammar (fold with_rule start rules) command)
+    → AllZip IsReadBy rules args → IfOk made (HasGrammar (fold with_rule start rules))
+with_these (Ok command) start rules args held is has read = has rules (subst (AllZip IsReadBy rules) (sym is) read)
+with_these (Err e) start rules args held is has read = tt
 
 -- One more subcommand.
 pub adds_subcommand : (old sub new : Command) (app inner : App)

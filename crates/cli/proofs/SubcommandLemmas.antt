@@ -1,5 +1,7 @@
 -- Words with no fault name one of the program's own subcommands.
-use Rattle.std.proofs.Common.{◌≡◌, ◌≢◌, ◌∙◌, ◌&&◌, ◌||◌, ap, subst, refl, codes, cond, Bool, true, false, not, true≢false, if◌then◌else◌, is_some, List, [], ◌∷◌, Option, Some, None, ◌⊎◌, inl, inr, ⊎_elim, option_map, unwrap_or, sym}
+use Rattle.std.proofs.Common.{◌≡◌, ◌≢◌, ◌∙◌, ◌&&◌, ◌||◌, ap, subst, refl, codes, cond, Bool, true, false, not}
+use Rattle.std.proofs.Common.{true≢false, if◌then◌else◌, is_some, List, [], ◌∷◌, Option, Some, None, ◌⊎◌, inl, inr}
+use Rattle.std.proofs.Common.{⊎_elim, option_map, unwrap_or, sym}
 use Rattle.std.specs.List.{fold, list_any}
 use Rattle.clap.specs.Facts.{explicit_source}
 use Rattle.clap.specs.Takes.{is_given}
@@ -11,9 +13,12 @@ use Rattle.std.specs.Str.{bytes_eq}
 use Rattle.clap.specs.declared.error.kind.ErrorKind.{ErrorKind}
 use Rattle.clap.specs.Lexer.{long_of, short_of}
 use Rattle.clap.specs.Kinds.{Kinds, check_kinds, or_else}
-use Rattle.clap.specs.Faults.{built_fault, check_fault, defaults_fault, entered_fault, fault_of, other_fault, settle_fault, step_fault, turn_fault, walk_fault, word_fault}
-use Rattle.clap.specs.Simple.{App, Shape, argument_words, built, entered, names_of, rows_at, subcommand_of, subcommand_rows, label_of}
-use Rattle.clap.specs.Walk.{Held, Names, Outcome, Row, Rule, Step, Text, Waiting, Walk, finished, nothing_held, settled, walk, walk_from}
+use Rattle.clap.specs.Faults.{built_fault, check_fault, defaults_fault, entered_fault, fault_of, other_fault}
+use Rattle.clap.specs.Faults.{settle_fault, step_fault, turn_fault, walk_fault, word_fault}
+use Rattle.clap.specs.Simple.{App, Shape, argument_words, built, entered, names_of, rows_at, subcommand_of}
+use Rattle.clap.specs.Simple.{subcommand_rows, label_of}
+use Rattle.clap.specs.Walk.{Held, Names, Outcome, Row, Rule, Step, Text, Waiting, Walk, finished, nothing_held, settled}
+use Rattle.clap.specs.Walk.{walk, walk_from}
 use Rattle.std.proofs.lemmas.Slice.Eq.{bytes_eq-Decides}
 use Rattle.clap.specs.Words.{HasMatchesOf, app_of, is_simple, is_simple_and_free, subcommand_rows_of}
 use Rattle.clap.specs.declared.builder.command.Command.{Command}
@@ -30,8 +35,10 @@ use Rattle.std.proofs.lemmas.Option.{same_Some}
 use Rattle.cli.specs.Asking.{AreRefused, Asks, AsksFound, WordsAsk}
 use Rattle.cli.specs.Grammar.{HasGrammar, IsSubcommand, program_app}
 use Rattle.subcommands.specs.declared.words.Asked.{Asked}
-use Rattle.clap.specs.Walk.{done, waits, plain, refused, next, trailing, subcommand, value, idle, option, positional, answers_to}
-use Rattle.clap.specs.Walk.{after_flag, after_step, arg_by_index, arg_by_long, bundle, long_met, long_or_other, plain_word, short_or_plain}
+use Rattle.clap.specs.Walk.{done, waits, plain, refused, next, trailing, subcommand, value, idle, option, positional}
+use Rattle.clap.specs.Walk.{answers_to}
+use Rattle.clap.specs.Walk.{after_flag, after_step, arg_by_index, arg_by_long, bundle, long_met, long_or_other}
+use Rattle.clap.specs.Walk.{plain_word, short_or_plain}
 use Rattle.clap.specs.Walk.{subcommand_met, subcommand_or_other, to_positional, walked, walked_from, word_met}
 
 abbrev help : Text
@@ -106,18 +113,22 @@ avoids name kinds k disabled enabled none same =
 word_avoids : (s : Shape) (names : Names) (w : Walk) (word : Text) → s.disable_help_subcommand ≡ false
     → w.stopped ≡ None → (is_trailing : Bool) (name : Option Text)
     → or_else (if is_trailing then [] else other_fault s name word w.held)
-    (step_fault s w.position (if is_trailing then (w.held, value) else subcommand_or_other s.rules name w.waiting w.position word w.held).0
+    (step_fault s w.position (if is_trailing then (w.held, value) else subcommand_or_other s.rules name w.waiting
+    w.position word w.held).0
     (if is_trailing then (w.held, value) else subcommand_or_other s.rules name w.waiting w.position word w.held).1) ≡ []
     → AvoidsHelp (after_step s.rules word w
     (if is_trailing then (w.held, value) else subcommand_or_other s.rules name w.waiting w.position word w.held).0
-    (if is_trailing then (w.held, value) else subcommand_or_other s.rules name w.waiting w.position word w.held).1).stopped
+    (if is_trailing then (w.held, value) else subcommand_or_other s.rules name w.waiting w.position word
+    w.held).1).stopped
 word_avoids s names w word enabled going true name none = rw (goes_on s.rules word w w.held value going tt) tt
-word_avoids s names w word enabled going false (Some name) none = avoids name _ _ s.disable_help_subcommand enabled (first_none _ _ none)
+word_avoids s names w word enabled going false (Some name) none = avoids name _ _ s.disable_help_subcommand enabled
+    (first_none _ _ none)
 word_avoids s names w word enabled going false None none = dashes (bytes_eq word (45 ∷ 45 ∷ []))
   where
     dashes : (b : Bool) → AvoidsHelp (after_step s.rules word w
         (if b then (w.held, trailing w.position) else long_or_other s.rules w.waiting word (long_of word) w.held).0
-        (if b then (w.held, trailing w.position) else long_or_other s.rules w.waiting word (long_of word) w.held).1).stopped
+        (if b then (w.held, trailing w.position) else long_or_other s.rules w.waiting word (long_of word)
+        w.held).1).stopped
     dashes true = rw going tt
     dashes false =
         let met = long_or_other s.rules w.waiting word (long_of word) w.held in
@@ -133,7 +144,8 @@ turn_avoids s names w word enabled none so_far = go w.stopped refl none so_far
         (step_fault s w.position (word_met s.rules names w.is_trailing w.waiting w.position word w.held).0
         (word_met s.rules names w.is_trailing w.waiting w.position word w.held).1)) ≡ []
         → AvoidsHelp stop → AvoidsHelp (walked_from s.rules names stop w word).stopped
-    go None going none so_far = word_avoids s names w word enabled going w.is_trailing (subcommand_met names w.waiting word) none
+    go None going none so_far = word_avoids s names w word enabled going w.is_trailing
+        (subcommand_met names w.waiting word) none
     go (Some stop) going none so_far = so_far
 
 walk_avoids : (s : Shape) (names : Names) (w : Walk) (words : List Text) → s.disable_help_subcommand ≡ false
@@ -146,17 +158,20 @@ walk_avoids s names w (word ∷ rest) enabled none so_far =
 
 -- ---- a parse with no fault
 
-none_wanted : (wants_help wants_subcommand wants_argument : Bool) → check_kinds wants_help wants_subcommand wants_argument ≡ []
+none_wanted : (wants_help wants_subcommand wants_argument : Bool)
+    → check_kinds wants_help wants_subcommand wants_argument ≡ []
     → wants_subcommand ≡ false
 none_wanted true wants_subcommand wants_argument none = cc
 none_wanted false true wants_argument none = cc
 none_wanted false false wants_argument none = refl
 
 -- The last check passes only where a subcommand that is required was entered.
-entered_required : (s : Shape) (rows : List Row) (has : Bool) → s.subcommand_required ≡ true → check_fault s rows has ≡ [] → has ≡ true
+entered_required : (s : Shape) (rows : List Row) (has : Bool) → s.subcommand_required ≡ true → check_fault s rows has
+    ≡ [] → has ≡ true
 entered_required s rows true required none = refl
 entered_required s rows false required none =
-    let unwanted = none_wanted (true && (s.arg_required_else_help && not (list_any (λ r. explicit_source r.source) rows)))
+    let unwanted = none_wanted
+    (true && (s.arg_required_else_help && not (list_any (λ r. explicit_source r.source) rows)))
     (true && s.subcommand_required)
     (not (s.subcommand_negates_reqs && false) && list_any (λ a. a.required && not (is_given a.id rows)) s.rules) none in
     absurd (true≢false (sym required ∙ unwanted))
@@ -176,8 +191,10 @@ level_enters a words enabled required none =
     let end = walk a.top.rules (names_of a) nothing_held words in
     let rows = finished a.top.rules end.held in
     let has = is_some (entered a end.stopped) in
-    let parts = first_and_last (walk_fault a.top (names_of a) (walk_from nothing_held) words) (entered_fault a end.stopped)
-    (settle_fault a.top.rules a.top.args_override_self end.held) (defaults_fault (settled a.top.rules end.held).rows a.top.rules)
+    let parts = first_and_last (walk_fault a.top (names_of a) (walk_from nothing_held) words)
+    (entered_fault a end.stopped)
+    (settle_fault a.top.rules a.top.args_override_self end.held) (defaults_fault (settled a.top.rules end.held).rows
+    a.top.rules)
     (check_fault a.top rows has) none in (
       entered_required a.top rows has required parts.1,
       walk_avoids a.top (names_of a) (walk_from nothing_held) words enabled parts.0 tt,
@@ -200,7 +217,8 @@ entered_of subs name words = option_map (λ s. rows_at s words) (find (λ s. ans
 finds : (subs : List Shape) (name : Text) (words : List Text) → AreKnown subs → (name ≡ help → ⊥)
     → is_some (entered_of subs name words) ≡ true → FindsOwn (entered_of subs name words)
 finds [] name words known other some = absurd (true≢false (sym some))
-finds (s ∷ ss) name words known other some = go (answers_to name (label_of s)) refl (finds ss name words known.1 other) some
+finds (s ∷ ss) name words known other some = go (answers_to name (label_of s)) refl (finds ss name words known.1 other)
+    some
   where
     as_help : answers_to name (label_of s) ≡ true → (s.name ≡ help) × (s.aliases ≡ []) → ⊥
     as_help answers is =
@@ -210,12 +228,14 @@ finds (s ∷ ss) name words known other some = go (answers_to name (label_of s))
 
     go : (t : Bool) → answers_to name (label_of s) ≡ t
         → (is_some (entered_of ss name words) ≡ true → FindsOwn (entered_of ss name words))
-        → is_some (option_map (λ s. rows_at s words) (cond t (Some s) (find (λ s. answers_to name (label_of s)) ss))) ≡ true
+        → is_some (option_map (λ s. rows_at s words) (cond t (Some s) (find (λ s. answers_to name (label_of s)) ss)))
+        ≡ true
         → FindsOwn (option_map (λ s. rows_at s words) (cond t (Some s) (find (λ s. answers_to name (label_of s)) ss)))
     go true answers later some = ⊎_elim (λ own. own) (λ is. absurd (as_help answers is)) known.0
     go false answers later some = later some
 
-enters_known : (a : App) (stop : Option (Text × List Text)) → AreKnown a.subs → AvoidsHelp stop → is_some (entered a stop) ≡ true
+enters_known : (a : App) (stop : Option (Text × List Text)) → AreKnown a.subs → AvoidsHelp stop
+    → is_some (entered a stop) ≡ true
     → FindsOwn (entered a stop)
 enters_known a None known other some = absurd (true≢false (sym some))
 enters_known a (Some stop) known other some = finds a.subs stop.0 stop.1 known other some
@@ -229,7 +249,13 @@ finds_own words none =
         inl (inr (inl refl)),
         (
           inl (inr (inr (inl refl))),
-          (inl (inr (inr (inr (inl refl)))), (inl (inr (inr (inr (inr (inl refl))))), (inl (inr (inr (inr (inr (inr refl))))), (inr (refl, refl), tt)))),
+          (
+            inl (inr (inr (inr (inl refl)))),
+            (
+              inl (inr (inr (inr (inr (inl refl))))),
+              (inl (inr (inr (inr (inr (inr refl))))), (inr (refl, refl), tt)),
+            ),
+          ),
         ),
       ),
     ) met.1 met.0
@@ -243,7 +269,8 @@ pub faultless : (c : Command) (words : List Text) → HasGrammar program_app c �
     → fault_of program_app words ≡ []
 faultless c words has none = ap (λ a. fault_of a words) (sym has.0) ∙ none
 
-pub matches_own : (c : Command) (words : List Text) (m : ArgMatches) → HasGrammar program_app c → fault_of (app_of c) words ≡ []
+pub matches_own : (c : Command) (words : List Text) (m : ArgMatches) → HasGrammar program_app c
+    → fault_of (app_of c) words ≡ []
     → HasMatchesOf (app_of c) words m → FindsOwn (subcommand_rows_of m)
 matches_own c words m has none matches =
     let found = (matches (ap is_simple has.0)).1 ∙ ap (λ a. subcommand_of a words) has.0 in
@@ -279,7 +306,8 @@ refused_by words e (inr among) = inr (among_some (kind_of e) (fault_of program_a
 module _ {Z : Type 0} where
   asks_met : (met : Option (Box SubCommand Z)) (name : Text) (rows : List Row) (asked : Asked)
       → Some name ≡ option_map (λ b. (out-SubCommand (box_value b)).name.now) met
-      → Some rows ≡ option_map (λ p. p.1) (subcommand_rows met) → Asks name rows asked → AsksFound (subcommand_rows met) asked
+      → Some rows ≡ option_map (λ p. p.1) (subcommand_rows met) → Asks name rows asked
+      → AsksFound (subcommand_rows met) asked
   asks_met None name rows asked is has asks = cc
   asks_met (Some b) name rows asked is has asks =
       subst (λ n. Asks n (rows_of (found_of (out-SubCommand (box_value b)).matches)) asked) (same_Some _ _ is)

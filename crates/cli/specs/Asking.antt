@@ -4,13 +4,14 @@ use Rattle.std.specs.Str.Parse.{IsNumeral, digits_value, without_leading_plus}
 use Rattle.std.specs.Prelude.{Some, None, unwrap_or}
 use Rattle.clap.specs.Words.{Row, Text, all_of, fault_of, first_of, one_of, subcommand_of}
 use Rattle.cli.specs.Grammar.{program_app}
+use Rattle.message.specs.Capacity.{most_capacity}
 use Rattle.message.specs.Version.{most_harts}
 use Rattle.message.specs.declared.header.Version.{Version}
 use Rattle.message.specs.declared.header.Version.TheVariants.{One, Two}
 use Rattle.payload.specs.declared.mode.Mode.{Mode}
 use Rattle.payload.specs.declared.mode.Mode.TheVariants.{Differential, Full}
 use Rattle.subcommands.specs.Kind.{IsCheck}
-use Rattle.subcommands.specs.Limits.{largest_capacity, longest_period}
+use Rattle.subcommands.specs.Limits.{longest_period}
 use Rattle.subcommands.specs.declared.words.Asked.{Asked}
 use Rattle.subcommands.specs.declared.words.Asked.TheVariants.{Bench, Check, Decode, Dump, Encode, Replay}
 
@@ -64,7 +65,7 @@ IsPeriod = IsUpTo longest_period
 
 -- A capacity is 1 to 65536 messages.
 abbrev pub IsCapacity : Option Text → ℕ → Type 0
-IsCapacity = IsUpTo largest_capacity
+IsCapacity = IsUpTo most_capacity
 
 -- A capture is of 1 to 1024 harts.
 abbrev pub IsHarts : Option Text → ℕ → Type 0

@@ -9,12 +9,11 @@ ghost use Rattle.subcommands.specs.Limits.{IsWithinLimits};
 
 use crate::grammar::program;
 use clap::{ArgMatches, Error};
-use message::{MOST_HARTS, Version};
+use message::{MOST_CAPACITY, MOST_HARTS, Version};
 use payload::Mode;
 use std::alloc::{AllocError, Global};
 use subcommands::{
-    Asked, Bench, Check, Decode, Dump, Encode, LARGEST_CAPACITY, Replay, SHORTEST_PERIOD,
-    SMALLEST_CAPACITY,
+    Asked, Bench, Check, Decode, Dump, Encode, Replay, SHORTEST_PERIOD, SMALLEST_CAPACITY,
 };
 
 /// The period where the words give none.
@@ -26,14 +25,14 @@ const DEFAULT_CAPACITY: u32 = 16;
 /// The count of harts where the words give none.
 const DEFAULT_HARTS: u16 = 1;
 
-// The value of an argument, which a parse that succeeds has where the argument is required.
+/// The value of an argument, which a parse that succeeds has where the argument is required.
 fn text<'a>(given: &ArgMatches<'a>, id: &str) -> &'a str
     ensures { result.now ≡ unwrap_or (first_value (found_of given.now) id.now) [] }
 {
     given.get_str(id).unwrap_or("")
 }
 
-// The values of an argument, of which a parse that succeeds has one at least where it is required.
+/// The values of an argument, of which a parse that succeeds has one at least where it is required.
 fn texts<'a>(alloc: Global, given: &ArgMatches<'a>, id: &str) -> Result<Vec<&'a str>, AllocError>
     ensures { IfOk result (λ values.
         map (λ value. value.now) values.items ≡ texts_of id.now (rows_of (found_of given.now))) }
@@ -44,6 +43,7 @@ fn texts<'a>(alloc: Global, given: &ArgMatches<'a>, id: &str) -> Result<Vec<&'a 
     }
 }
 
+/// What was asked of `check`.
 fn check_asked<'a>(alloc: Global, given: &ArgMatches<'a>) -> Result<Asked<'a>, AllocError>
     ensures { IfOk result (Asks (codes "check") (rows_of (found_of given.now))) }
 {
@@ -54,7 +54,7 @@ fn check_asked<'a>(alloc: Global, given: &ArgMatches<'a>) -> Result<Asked<'a>, A
     }))
 }
 
-// The period, 1 to 65535 by the range that `clap` keeps.
+/// The period, 1 to 65535 by the range that `clap` keeps.
 fn period<'a>(given: &ArgMatches<'a>) -> u16
     ensures { IsPeriod (one_of (codes "period") (rows_of (found_of given.now))) result }
 {
@@ -64,14 +64,14 @@ fn period<'a>(given: &ArgMatches<'a>) -> u16
         .max(SHORTEST_PERIOD)
 }
 
-// Whether a flag is set.
+/// Whether a flag is set.
 fn flag<'a>(given: &ArgMatches<'a>, id: &str) -> bool
     ensures { IsFlag (one_of id.now (rows_of (found_of given.now))) result }
 {
     given.get_flag(id)
 }
 
-// The mode, which is differential where the words do not ask for full addresses.
+/// The mode, which is differential where the words do not ask for full addresses.
 fn mode<'a>(given: &ArgMatches<'a>) -> Mode
     ensures { IsMode (one_of (codes "full") (rows_of (found_of given.now))) result }
 {
@@ -82,7 +82,7 @@ fn mode<'a>(given: &ArgMatches<'a>) -> Mode
     }
 }
 
-// The version, which is the second where the words do not ask for the first.
+/// The version, which is the second where the words do not ask for the first.
 fn version<'a>(given: &ArgMatches<'a>) -> Version
     ensures { IsVersion (one_of (codes "v1") (rows_of (found_of given.now))) result }
 {
@@ -93,6 +93,7 @@ fn version<'a>(given: &ArgMatches<'a>) -> Version
     }
 }
 
+/// What was asked of `encode`.
 fn encode_asked<'a>(alloc: Global, given: &ArgMatches<'a>) -> Result<Asked<'a>, AllocError>
     ensures { IfOk result (Asks (codes "encode") (rows_of (found_of given.now))) }
 {
@@ -107,6 +108,7 @@ fn encode_asked<'a>(alloc: Global, given: &ArgMatches<'a>) -> Result<Asked<'a>, 
     }))
 }
 
+/// What was asked of `dump`.
 fn dump_asked<'a>(given: &ArgMatches<'a>) -> Asked<'a>
     ensures { Asks (codes "dump") (rows_of (found_of given.now)) result }
 {
@@ -115,7 +117,7 @@ fn dump_asked<'a>(given: &ArgMatches<'a>) -> Asked<'a>
     })
 }
 
-// The count of harts, 1 to 1024 by the range that `clap` keeps.
+/// The count of harts, 1 to 1024 by the range that `clap` keeps.
 fn harts<'a>(given: &ArgMatches<'a>) -> u16
     ensures { IsHarts (one_of (codes "harts") (rows_of (found_of given.now))) result }
 {
@@ -125,6 +127,7 @@ fn harts<'a>(given: &ArgMatches<'a>) -> u16
         .clamp(1, MOST_HARTS)
 }
 
+/// What was asked of `decode`.
 fn decode_asked<'a>(given: &ArgMatches<'a>) -> Asked<'a>
     ensures { Asks (codes "decode") (rows_of (found_of given.now)) result }
 {
@@ -137,16 +140,17 @@ fn decode_asked<'a>(given: &ArgMatches<'a>) -> Asked<'a>
     })
 }
 
-// The capacity, 1 to 65536 by the range that `clap` keeps.
+/// The capacity, 1 to 65536 by the range that `clap` keeps.
 fn capacity<'a>(given: &ArgMatches<'a>) -> u32
     ensures { IsCapacity (one_of (codes "capacity") (rows_of (found_of given.now))) result }
 {
     given
         .get_one::<u32>("capacity")
         .unwrap_or(DEFAULT_CAPACITY)
-        .clamp(SMALLEST_CAPACITY, LARGEST_CAPACITY)
+        .clamp(SMALLEST_CAPACITY, MOST_CAPACITY)
 }
 
+/// What was asked of `replay`.
 fn replay_asked<'a>(alloc: Global, given: &ArgMatches<'a>) -> Result<Asked<'a>, AllocError>
     ensures { IfOk result (Asks (codes "replay") (rows_of (found_of given.now))) }
 {
@@ -161,6 +165,7 @@ fn replay_asked<'a>(alloc: Global, given: &ArgMatches<'a>) -> Result<Asked<'a>, 
     }))
 }
 
+/// What was asked of `bench`.
 fn bench_asked<'a>(alloc: Global, given: &ArgMatches<'a>) -> Result<Asked<'a>, AllocError>
     ensures { IfOk result (Asks (codes "bench") (rows_of (found_of given.now))) }
 {
@@ -174,6 +179,7 @@ fn bench_asked<'a>(alloc: Global, given: &ArgMatches<'a>) -> Result<Asked<'a>, A
     }))
 }
 
+/// What was asked of the subcommand with this name.
 fn asked_of<'a>(alloc: Global, name: &str, given: &ArgMatches<'a>) -> Result<Asked<'a>, AllocError>
     requires { IsSubcommand name.now }
     ensures { IfOk result (Asks name.now (rows_of (found_of given.now))) }

@@ -1,91 +1,125 @@
 //! The program's subcommands, one function each.
 
-ghost use Rattle.std.specs.Prelude.{IfOk};
+ghost use Rattle.std.specs.Prelude.{IfOk, List};
+ghost use Rattle.std.specs.List.{AllZip, fold};
+ghost use Rattle.arguments.specs.Rules.{IsReadBy};
+ghost use Rattle.clap.specs.Words.{Rule, new_app, with_rule};
 ghost use Rattle.cli.specs.Grammar.{HasGrammar, bench_app, check_app, decode_app, dump_app, encode_app, program_app, replay_app};
 
 use arguments::{
     base, capacity, capture, full, harts, hex, image, logs, lossy, period, schedule, version_one,
 };
-use clap::Command;
+use clap::{Arg, Command};
 use std::alloc::{AllocError, Global};
 
+/// A subcommand of this name with these arguments, in this order.
+fn subcommand<'a>(
+    alloc: Global,
+    name: &'a str,
+    about: &'a str,
+    args: Vec<Arg<'a>>,
+) -> Result<Command<'a>, AllocError>
+    ensures { IfOk result (λ command. (rules : List Rule) → AllZip IsReadBy rules args.entry.items
+        → HasGrammar (fold with_rule (new_app name.entry.now) rules) command) }
+{
+    Command::new(alloc, name).about(about).args(args)
+}
+
+/// The words that `check` takes.
 fn check<'a>(alloc: Global) -> Result<Command<'a>, AllocError>
     ensures { IfOk result (HasGrammar check_app) }
 {
-    let command = Command::new(alloc, "check")
-        .about("Tell whether logs are legal")
-        .arg(base(alloc))?
-        .arg(image(alloc))?
-        .arg(logs(alloc))?;
-    Ok(command)
+    let args = vec![in alloc; base(alloc), image(alloc), logs(alloc)]?;
+    subcommand(alloc, "check", "Tell whether logs are legal", args)
 }
 
+/// The words that `encode` takes.
 fn encode<'a>(alloc: Global) -> Result<Command<'a>, AllocError>
     ensures { IfOk result (HasGrammar encode_app) }
 {
-    let command = Command::new(alloc, "encode")
-        .about("Write the trace messages of logs")
-        .arg(base(alloc))?
-        .arg(period(alloc))?
-        .arg(full(alloc))?
-        .arg(version_one(alloc))?
-        .arg(hex(alloc))?
-        .arg(image(alloc))?
-        .arg(logs(alloc))?;
-    Ok(command)
+    let args = vec![in alloc;
+        base(alloc),
+        period(alloc),
+        full(alloc),
+        version_one(alloc),
+        hex(alloc),
+        image(alloc),
+        logs(alloc),
+    ]?;
+    subcommand(alloc, "encode", "Write the trace messages of logs", args)
 }
 
+/// The words that `dump` takes.
 fn dump<'a>(alloc: Global) -> Result<Command<'a>, AllocError>
     ensures { IfOk result (HasGrammar dump_app) }
 {
-    let command = Command::new(alloc, "dump")
-        .about("Write the messages of a capture as text")
-        .arg(capture(alloc))?;
-    Ok(command)
+    let args = vec![in alloc; capture(alloc)]?;
+    subcommand(
+        alloc,
+        "dump",
+        "Write the messages of a capture as text",
+        args,
+    )
 }
 
+/// The words that `decode` takes.
 fn decode<'a>(alloc: Global) -> Result<Command<'a>, AllocError>
     ensures { IfOk result (HasGrammar decode_app) }
 {
-    let command = Command::new(alloc, "decode")
-        .about("Write the logs that the messages of a capture describe")
-        .arg(base(alloc))?
-        .arg(harts(alloc))?
-        .arg(lossy(alloc))?
-        .arg(image(alloc))?
-        .arg(capture(alloc))?;
-    Ok(command)
+    let args = vec![in alloc;
+        base(alloc),
+        harts(alloc),
+        lossy(alloc),
+        image(alloc),
+        capture(alloc),
+    ]?;
+    subcommand(
+        alloc,
+        "decode",
+        "Write the logs that the messages of a capture describe",
+        args,
+    )
 }
 
+/// The words that `replay` takes.
 fn replay<'a>(alloc: Global) -> Result<Command<'a>, AllocError>
     ensures { IfOk result (HasGrammar replay_app) }
 {
-    let command = Command::new(alloc, "replay")
-        .about("Send logs through the funnel as a schedule says, and report what comes of them")
-        .arg(base(alloc))?
-        .arg(period(alloc))?
-        .arg(full(alloc))?
-        .arg(capacity(alloc))?
-        .arg(image(alloc))?
-        .arg(schedule(alloc))?
-        .arg(logs(alloc))?;
-    Ok(command)
+    let args = vec![in alloc;
+        base(alloc),
+        period(alloc),
+        full(alloc),
+        capacity(alloc),
+        image(alloc),
+        schedule(alloc),
+        logs(alloc),
+    ]?;
+    subcommand(
+        alloc,
+        "replay",
+        "Send logs through the funnel as a schedule says, and report what comes of them",
+        args,
+    )
 }
 
+/// The words that `bench` takes.
 fn bench<'a>(alloc: Global) -> Result<Command<'a>, AllocError>
     ensures { IfOk result (HasGrammar bench_app) }
 {
-    let command = Command::new(alloc, "bench")
-        .about(
-            "Send logs through the funnel, each from a thread of its own, and report what comes of them",
-        )
-        .arg(base(alloc))?
-        .arg(period(alloc))?
-        .arg(full(alloc))?
-        .arg(capacity(alloc))?
-        .arg(image(alloc))?
-        .arg(logs(alloc))?;
-    Ok(command)
+    let args = vec![in alloc;
+        base(alloc),
+        period(alloc),
+        full(alloc),
+        capacity(alloc),
+        image(alloc),
+        logs(alloc),
+    ]?;
+    subcommand(
+        alloc,
+        "bench",
+        "Send logs through the funnel, each from a thread of its own, and report what comes of them",
+        args,
+    )
 }
 
 /// The program with all its subcommands.

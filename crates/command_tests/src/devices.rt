@@ -1,6 +1,6 @@
 //! Output that is not written.
 
-use super::same::same_at;
+use super::same::same;
 use super::table::{Request, run};
 use std::alloc::Global;
 use std::io;
@@ -163,9 +163,8 @@ fn ends_at<R: Abort + AllocGlobal + Threads + Wait + Sync>(
     let mut out = FailsAt::new(rt.alloc(), ErrorKind::TimedOut, call);
     let mut err = Vec::new(rt.alloc());
     let ended = run(rt, &FILES, request, &mut out, &mut err);
-    same_at(rt, (request, call), ended, status);
-    same_at(rt, (request, call), err.as_slice(), told.as_bytes());
-    same_at(rt, (request, call), out.bytes.as_slice(), written);
+    let found = (call, ended, out.bytes.as_slice(), err.as_slice());
+    same(rt, found, (call, status, written, told.as_bytes()));
 }
 
 /// The output fails at each of its calls in turn: at each byte's, and at that of the flush, which comes behind them and
@@ -197,9 +196,8 @@ fn line_at<R: Abort + AllocGlobal + Threads + Wait + Sync>(
     let mut out = Vec::new(rt.alloc());
     let mut err = FailsAt::new(rt.alloc(), kind, call);
     let ended = run(rt, &FILES, request, &mut out, &mut err);
-    same_at(rt, (request, kind, call), ended, status);
-    same_at(rt, (request, kind, call), out.as_slice(), written);
-    same_at(rt, (request, kind, call), err.bytes.as_slice(), told);
+    let found = (call, ended, out.as_slice(), err.bytes.as_slice());
+    same(rt, found, (call, status, written, told));
 }
 
 /// The line of a fault fails at each of its calls in turn, or at none; an interrupted write is made again.

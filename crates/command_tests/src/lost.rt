@@ -115,7 +115,7 @@ fn tells_the_lowest_open_hart(rt: HostRuntime) {
 fn takes_the_mode_of_the_header(rt: HostRuntime) {
     let files = [("image.bin", NOPS), ("log.csv", LOG)];
     let request = Request::EncodeFull("80000000", 1024, "image.bin", "log.csv");
-    let mut whole = writes(&rt, &files, request, 0, "");
+    let mut whole = writes(&rt, &files, request);
     // The header has 16 bytes, and the first message 11 and a payload of 2.
     let (header, messages) = whole.as_slice().split_at(whole.len().min(16));
     let mut cut = Vec::new(rt.alloc());

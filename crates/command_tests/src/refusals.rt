@@ -1,6 +1,7 @@
 //! Bases and images that are refused.
 
 use super::table::{NOP, Request, tells};
+use std::process::Abort;
 
 /// What is told of a base that is no number.
 const NO_NUMBER: &str = "tracebench: base is not a number\n";
@@ -103,9 +104,14 @@ const IMAGES: [(Request<'static>, u8, &str); 15] = [
     ),
 ];
 
+/// So many bytes 0.
+fn zeros<R: Abort + AllocGlobal>(rt: &R, count: usize) -> Vec<u8> {
+    vec![in rt.alloc(); 0; count].expect(rt, "memory")
+}
+
 #[test]
 fn images(rt: HostRuntime) {
-    let large: Vec<u8> = vec![in rt.alloc(); 0; 16_777_217].expect(&rt, "memory");
+    let large = zeros(&rt, 16_777_217);
     let files = [
         ("image.bin", NOP.as_slice()),
         ("large.bin", large.as_slice()),

@@ -162,21 +162,25 @@ fn encodes<'x, R: Abort + AllocGlobal + Threads + Wait + Sync>(
     let request = Request::Hex("80000000", 1024, "image.bin", "log.csv");
     ends(rt, &files, request, (0, messages, ""));
     let request = Request::Encode("80000000", 1024, "image.bin", "log.csv");
-    writes(rt, &files, request, 0, "")
+    writes(rt, &files, request)
 }
 
-/// Each log has its messages, and its capture decodes to it.
+/// The log of the run has its messages, and its capture decodes to it.
+fn comes_back<R: Abort + AllocGlobal + Threads + Wait + Sync>(rt: &R, run: &Run) {
+    let log = log_of(rt, run.first, run.rows);
+    let capture = encodes(rt, run.image, log.as_bytes(), run.written);
+    let mut decoded = String::new(rt.alloc());
+    append(rt, &mut decoded, "hart 0\n");
+    append(rt, &mut decoded, log.as_str());
+    let request = Request::Decode("80000000", 1, "image.bin", "log.capture");
+    let wanted = (0, decoded.as_str(), "");
+    decodes(rt, request, run.image, capture.as_slice(), wanted);
+}
+
 #[test]
 fn encodes_logs_and_has_them_back(rt: HostRuntime) {
-    for run in RUNS {
-        let log = log_of(&rt, run.first, run.rows);
-        let capture = encodes(&rt, run.image, log.as_bytes(), run.written);
-        let mut decoded = String::new(rt.alloc());
-        append(&rt, &mut decoded, "hart 0\n");
-        append(&rt, &mut decoded, log.as_str());
-        let request = Request::Decode("80000000", 1, "image.bin", "log.capture");
-        let wanted = (0, decoded.as_str(), "");
-        decodes(&rt, request, run.image, capture.as_slice(), wanted);
+    for run in &RUNS {
+        comes_back(&rt, run);
     }
 }
 

@@ -4,7 +4,7 @@ ghost use Rattle.std.specs.Prelude.{map};
 ghost use Rattle.commands.specs.Known.{content_in};
 ghost use Rattle.subcommands.specs.Limits.{IsWithinLimits};
 
-use super::same::same_at;
+use super::same::same;
 use commands::{FileFault, Files, carry_out, tell};
 use message::Version;
 use payload::Mode;
@@ -40,7 +40,7 @@ impl Files for Table<'_> {
 }
 
 /// What a test asks for: base, period or harts, image, and logs parted by spaces or a capture.
-#[derive(Clone, Copy, Debug)]
+#[derive(Clone, Copy)]
 pub(crate) enum Request<'a> {
     /// `check`.
     Check(&'a str, &'a str, &'a str),
@@ -187,27 +187,26 @@ pub(crate) fn ends<R: Abort + AllocGlobal + Threads + Wait + Sync>(
     rt: &R,
     files: &[(&str, &[u8])],
     request: Request<'_>,
-    (status, written, told): (u8, &str, &str),
+    wanted: (u8, &str, &str),
 ) {
-    let out = writes(rt, files, request, status, told);
-    let found = str::from_utf8(out.as_slice()).expect(rt, "a text");
-    same_at(rt, request, found, written);
+    let mut out = Vec::new(rt.alloc());
+    let mut err = Vec::new(rt.alloc());
+    let status = run(rt, files, request, &mut out, &mut err);
+    let written = str::from_utf8(out.as_slice()).expect(rt, "a text");
+    let told = str::from_utf8(err.as_slice()).expect(rt, "a text");
+    same(rt, (status, written, told), wanted);
 }
 
-/// What is asked for ends with the status and tells the text. The answer is what it writes.
+/// What is asked for is done, and tells nothing. The answer is what it writes.
 pub(crate) fn writes<R: Abort + AllocGlobal + Threads + Wait + Sync>(
     rt: &R,
     files: &[(&str, &[u8])],
     request: Request<'_>,
-    status: u8,
-    told: &str,
 ) -> Vec<u8> {
     let mut out = Vec::new(rt.alloc());
     let mut err = Vec::new(rt.alloc());
-    let ended = run(rt, files, request, &mut out, &mut err);
-    let found = str::from_utf8(err.as_slice()).expect(rt, "a text");
-    same_at(rt, request, found, told);
-    same_at(rt, request, ended, status);
+    let status = run(rt, files, request, &mut out, &mut err);
+    same(rt, (status, err.as_slice()), (0, b"".as_slice()));
     out
 }
 

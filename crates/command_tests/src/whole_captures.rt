@@ -1,6 +1,6 @@
 //! Runs of `encode` and `decode` over captures.
 
-use super::same::same_at;
+use super::same::same;
 use super::table::{NOP, PAIR, Request, add, add_message, capture_of, decodes, ends, writes};
 use super::text::for_each_hart;
 use std::process::Abort;
@@ -36,16 +36,11 @@ fn writes_a_capture(rt: HostRuntime) {
     let log = b"addr,itype,priv,cause,tval\n80000000,0,3,,\n80000004,0,3,,\n";
     let files = [("image.bin", NOPS), ("log.csv", log.as_slice())];
     let request = Request::EncodeOne("80000000", 1024, "image.bin", "log.csv");
-    let capture = writes(&rt, &files, request, 0, "");
-    same_at(&rt, "version 1", capture.as_slice(), WHOLE.as_slice());
+    let capture = writes(&rt, &files, request);
+    same(&rt, capture.as_slice(), WHOLE.as_slice());
     let request = Request::Encode("80000000", 1024, "image.bin", "log.csv");
-    let capture = writes(&rt, &files, request, 0, "");
-    same_at(
-        &rt,
-        "version 2",
-        capture.as_slice(),
-        headed(&rt, &START).as_slice(),
-    );
+    let capture = writes(&rt, &files, request);
+    same(&rt, capture.as_slice(), headed(&rt, &START).as_slice());
 }
 
 /// Decoding a capture that ends after so many whole messages, there or inside the next, writes and tells what it should.

@@ -2,27 +2,22 @@
 use Rattle.std.proofs.Common.{inl, inr, ℕ, List, Option, Result}
 use Rattle.std.specs.Io.KnownBytes.{Keeps}
 use Rattle.output.specs.Begun.{AppendsBeginning}
-use Rattle.output.proofs.Beginnings.{begun_kept, whole_begun}
+use Rattle.output.proofs.Beginnings.{begun_kept}
 use Rattle.rvclass.specs.Image.{Image}
 use Rattle.commands.proofs.Runs.{appends-keeps}
 use Rattle.commands.specs.Begun.{AppendsFirstLines, BeginsPrinted, IsCutOf}
 use Rattle.commands.specs.Faults.{Path}
 use Rattle.commands.specs.Known.{Content}
-use Rattle.commands.specs.Printed.{IsPrinted, Printed}
+use Rattle.commands.specs.Printed.{Printed}
 use Rattle.commands.specs.declared.fault.Fault.{Fault}
 use Rattle.commands.specs.declared.status.Status.{Status}
 
 -- A beginning was appended of a text that may be printed.
-pub printed_begun : (Prints : Printed → Type 0) (text : List ℕ) (ended : Result Status Fault) (old new : Option (List ℕ))
+pub printed_begun : (Prints : Printed → Type 0) (text : List ℕ) (ended : Result Status Fault)
+    (old new : Option (List ℕ))
     → Prints (record { text = text; ended = ended }) → AppendsBeginning text old new → BeginsPrinted Prints old new
 printed_begun Prints text ended old new prints begun =
     record { printed = record { text = text; ended = ended }; prints = prints; begun = begun }
-
--- What was printed is a beginning of itself.
-pub printed_cut : (Prints : Printed → Type 0) (ended : Result Status Fault) (old new : Option (List ℕ))
-    → IsPrinted Prints ended old new → BeginsPrinted Prints old new
-printed_cut Prints ended old new is =
-    printed_begun Prints is.text ended old new is.prints (whole_begun is.text old new is.appended)
 
 -- A beginning was appended of what may be printed, and then nothing more.
 pub cut_kept : (First Prints : Printed → Type 0) (old mid new : Option (List ℕ))

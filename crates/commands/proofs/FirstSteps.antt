@@ -1,5 +1,6 @@
 -- What a run prints that finds the program of logs first, or legal logs.
-use Rattle.std.proofs.Common.{◌≡◌, ◌⊎◌, inl, inr, refl, ℕ, sym, subst, ap, ◌∙◌, List, length, Option, Some, None, Result, Ok, Err}
+use Rattle.std.proofs.Common.{◌≡◌, ◌⊎◌, inl, inr, refl, ℕ, sym, subst, ap, ◌∙◌, List, length, Option, Some, None}
+use Rattle.std.proofs.Common.{Result, Ok, Err}
 use Rattle.std.proofs.lemmas.Result.{IfErr-at_err}
 use Rattle.std.specs.Prelude.{IfErr, IfSome}
 use Rattle.legalpath.specs.ProgramLog.{ProgramLog}
@@ -16,22 +17,27 @@ use Rattle.commands.specs.declared.status.Status.{Status}
 use Rattle.commands.proofs.Runs.{ends_silently}
 
 -- Once there are a base and logs, it is the image that makes no program.
-pub program_lacked : (content : Content) (most : ℕ) (text : List ℕ) (image : Path) (paths : List Path) (base : ℕ) (one : Unit {0})
+pub program_lacked : (content : Content) (most : ℕ) (text : List ℕ) (image : Path) (paths : List Path) (base : ℕ)
+    (one : Unit {0})
     → IsBase text (Ok base) → AreFew most paths (Ok one) → (why : Fault)
     → (why ≡ fault.Memory) ⊎ IsProgram content base image (Err why)
     → (why ≡ fault.Memory) ⊎ IsAskedProgram content most text image paths (Err why)
 program_lacked content most text image paths base one based few why (inl denied) = inl denied
-program_lacked content most text image paths base one based few why (inr none) = inr (Ok base, based, (Ok one, few, none))
+program_lacked content most text image paths base one based few why (inr none) =
+    inr (Ok base, based, (Ok one, few, none))
 
 -- What ends the search for the program ends the run.
 same_end : {A : Type 0} (told : Option Fault) (result : Result A Fault) (why : Fault) (ended : Result Status Fault)
-    → result ≡ Err why → ended ≡ Err why → IfSome told (λ fault. result ≡ Err fault) → IfSome told (λ fault. ended ≡ Err fault)
+    → result ≡ Err why → ended ≡ Err why → IfSome told (λ fault. result ≡ Err fault)
+    → IfSome told (λ fault. ended ≡ Err fault)
 same_end None result why ended failed is early = tt
 same_end (Some fault) result why ended failed is early =
-    is ∙ ap Err (IfErr-at_err (λ fault. why ≡ fault) early (subst (λ r. IfErr r (λ fault. why ≡ fault)) (sym failed) refl))
+    is ∙ ap Err (IfErr-at_err (λ fault. why ≡ fault) early (subst (λ r. IfErr r (λ fault. why ≡ fault)) (sym failed)
+    refl))
 
 -- And so does what is found before any file is read.
-pub early_ends : {A : Type 0} (most : ℕ) (text : List ℕ) (items paths : List Path) (result : Result A Fault) (why : Fault)
+pub early_ends : {A : Type 0} (most : ℕ) (text : List ℕ) (items paths : List Path) (result : Result A Fault)
+    (why : Fault)
     (ended : Result Status Fault) → paths ≡ items → result ≡ Err why → ended ≡ Err why
     → IfSome (logs_fault most (number_of text) (length paths)) (λ fault. result ≡ Err fault)
     → IfSome (logs_fault most (number_of text) (length items)) (λ fault. ended ≡ Err fault)
@@ -39,7 +45,8 @@ early_ends most text items paths result why ended same failed is early =
     same_end (logs_fault most (number_of text) (length items)) result why ended failed is
     (subst (λ paths. IfSome (logs_fault most (number_of text) (length paths)) (λ fault. result ≡ Err fault)) same early)
 
-module _ (content : Content) (most : ℕ) (text : List ℕ) (image : Path) (items paths : List Path) (same : paths ≡ items) where
+module _ (content : Content) (most : ℕ) (text : List ℕ) (image : Path) (items paths : List Path)
+    (same : paths ≡ items) where
   -- What is found of the program by a slice of the paths is found by the paths.
   pub program_there : (found : Result Image Fault) → IsAskedProgram content most text image paths found
       → IsAskedProgram content most text image items found
@@ -56,7 +63,8 @@ module _ (content : Content) (most : ℕ) (text : List ℕ) (image : Path) (item
         (subst (λ told. AreLegalLogs told program paths found) kept logs),
   )
 
-  module _ (CanWrite : Type 0) (out : Option (List ℕ)) (why : Fault) (ended : Result Status Fault) (is : ended ≡ Err why) where
+  module _ (CanWrite : Type 0) (out : Option (List ℕ)) (why : Fault) (ended : Result Status Fault)
+      (is : ended ≡ Err why) where
     -- There is no program.
     pub program_ends : (Next : Image → Printed → Type 0)
         → (why ≡ fault.Memory) ⊎ IsAskedProgram content most text image paths (Err why)

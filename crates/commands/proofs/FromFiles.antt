@@ -1,15 +1,10 @@
 -- What is found of an image and of a log, from what is read of its file.
-use Rattle.std.proofs.Common.{◌≡◌, ◌⊎◌, inl, inr, refl, ℕ, sym, ap, ap₂, List, Ok, Err}
+use Rattle.std.proofs.Common.{◌≡◌, ◌⊎◌, inl, inr, refl, ℕ, sym, ap, List, Ok, Err}
 use Rattle.std.specs.Result.{result_map_both}
-use Rattle.legalpath.specs.FirstFault.{IsFirstFault}
-use Rattle.legalpath.specs.Legal.{Legal}
-use Rattle.legalpath.specs.ProgramLog.{ProgramLog, log_of}
-use Rattle.legalpath.specs.declared.fault.PathFault.{PathFault}
 use Rattle.retire.specs.Log.{log_of as events_of, records_of}
 use Rattle.retire.specs.declared.event.Event.{Event}
 use Rattle.retire.specs.declared.fault.LogFault.{LogFault}
 use Rattle.retire.specs.declared.fault.LogFault.TheVariants as log
-use Rattle.rvclass.specs.Fetch.{words_of}
 use Rattle.rvclass.specs.Image.{Image}
 use Rattle.rvclass.specs.Program.{program_of}
 use Rattle.rvclass.specs.declared.fault.ProgramFault.{ProgramFault}
@@ -21,13 +16,15 @@ use Rattle.commands.specs.declared.fault.Fault.TheVariants as fault
 
 -- An image that is not read makes no program.
 pub program_unread : (content : Content) (base : ℕ) (path : Path) (why : Fault)
-    → (why ≡ fault.Memory) ⊎ IsRead content path (Err why) → (why ≡ fault.Memory) ⊎ IsProgram content base path (Err why)
+    → (why ≡ fault.Memory) ⊎ IsRead content path (Err why) → (why ≡ fault.Memory) ⊎ IsProgram content base path
+    (Err why)
 program_unread content base path why (inl denied) = inl denied
 program_unread content base path why (inr read) = inr (record { bytes = Err why; read = read; made = refl })
 
 -- An image that is refused makes no program.
 pub program_refused : (content : Content) (base : ℕ) (path : Path) (bytes : List ℕ) (why : ProgramFault)
-    → IsRead content path (Ok bytes) → Err why ≡ program_of base bytes → IsProgram content base path (Err (fault.Image why))
+    → IsRead content path (Ok bytes) → Err why ≡ program_of base bytes
+    → IsProgram content base path (Err (fault.Image why))
 program_refused content base path bytes why read is =
     record { bytes = Ok bytes; read = read; made = ap (result_map_both (λ program. program) fault.Image) is }
 
@@ -65,20 +62,7 @@ log_read content path bytes events read is = record {
 
 -- A log that is not read is not legal.
 pub legal_unread : (content : Content) (program : Image) (path : Path) (why : Fault)
-    → (why ≡ fault.Memory) ⊎ IsLog content path (Err why) → (why ≡ fault.Memory) ⊎ IsLegalLogAt content program path (Err why)
+    → (why ≡ fault.Memory) ⊎ IsLog content path (Err why) → (why ≡ fault.Memory) ⊎ IsLegalLogAt content program path
+    (Err why)
 legal_unread content program path why (inl denied) = inl denied
 legal_unread content program path why (inr read) = inr (record { events = Err why; read = read; judged = refl })
-
--- A log with an illegal row is not legal.
-pub legal_refused : (content : Content) (program : Image) (path : Path) (events : List Event) (illegal : PathFault)
-    → IsLog content path (Ok events) → IsFirstFault (words_of program) events illegal
-    → IsLegalLogAt content program path (Err (fault.Illegal path illegal))
-legal_refused content program path events illegal read first =
-    record { events = Ok events; read = read; judged = (illegal, refl, first) }
-
--- A log with no illegal row is legal.
-pub legal_read : (content : Content) (program : Image) (path : Path) (events : List Event) (log : ProgramLog)
-    → IsLog content path (Ok events) → log.program ≡ program → log.events ≡ events → Legal (words_of program) events
-    → IsLegalLogAt content program path (Ok log)
-legal_read content program path events log read of has legal =
-    record { events = Ok events; read = read; judged = (ap₂ log_of of has, legal) }

@@ -1,5 +1,6 @@
 -- What came of harts, each at its place, as a list.
-use Rattle.std.proofs.Common.{◌≡◌, ◌<◌, ◌≤◌, ◌∙◌, ◌+◌, ℕ, zero, suc, Bool, true, false, List, [], ◌∷◌, Option, Some, None, length, map, slice_get, refl, ap, ap₂, subst, arith}
+use Rattle.std.proofs.Common.{◌≡◌, ◌<◌, ◌≤◌, ◌∙◌, ◌+◌, ℕ, zero, suc, Bool, true, false, List, [], ◌∷◌, Option, Some}
+use Rattle.std.proofs.Common.{None, length, map, slice_get, refl, ap, ap₂, subst, arith}
 use Rattle.std.specs.Prelude.{All, IsFalse, IsSomeAnd, IsTrue}
 use Rattle.legalpath.specs.ProgramLog.{ProgramLog}
 use Rattle.payload.specs.declared.mode.Mode.{Mode}

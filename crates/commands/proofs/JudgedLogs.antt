@@ -1,5 +1,6 @@
 -- The lines of the logs at paths, one path more at a time.
-use Rattle.std.proofs.Common.{◌≡◌, ◌⊎◌, inl, inr, refl, ℕ, ◌+◌, ◌<◌, ◌||◌, Bool, true, false, sym, ap, ◌∙◌, subst, List, [], ◌∷◌, ◌++◌, Option, Ok, Err, length, get_or, take, drop, take-append-drop}
+use Rattle.std.proofs.Common.{◌≡◌, ◌⊎◌, inl, inr, refl, ℕ, ◌+◌, ◌<◌, ◌||◌, Bool, true, false, sym, ap, ◌∙◌, subst, List}
+use Rattle.std.proofs.Common.{[], ◌∷◌, ◌++◌, Option, Ok, Err, length, get_or, take, drop, take-append-drop}
 use Rattle.std.specs.Prelude.{⊤}
 use Rattle.std.specs.Prelude.{if◌then◌else◌, is_some}
 use Rattle.std.specs.Io.KnownBytes.{Appends}
@@ -16,9 +17,9 @@ use Rattle.rvclass.specs.Image.{Image}
 use Rattle.output.specs.Begun.{AppendsBeginning}
 use Rattle.output.proofs.Beginnings.{begun_behind, whole_begun}
 use Rattle.commands.proofs.LegalLogs.{paths_at}
-use Rattle.commands.proofs.Runs.{appends-nothing}
 use Rattle.commands.specs.Begun.{BeginsPrinted, WritesFirstLines}
-use Rattle.commands.specs.Checking.{IsJudgedAt, IsVerdict, Judged, WritesLines, is_illegal, line_of, status_with, verdict_line}
+use Rattle.commands.specs.Checking.{IsJudgedAt, IsVerdict, Judged, WritesLines, is_illegal, line_of, status_with}
+use Rattle.commands.specs.Checking.{verdict_line}
 use Rattle.commands.specs.Faults.{Path}
 use Rattle.commands.specs.Found.{IsLog}
 use Rattle.commands.specs.Known.{Content}
@@ -35,17 +36,9 @@ status_more true false = refl
 status_more false true = refl
 status_more false false = refl
 
--- Of no path there is no line.
-pub no_lines : (content : Content) (program : Image) (old : Option (List ℕ))
-    → IsPrinted (WritesLines content program []) (Ok (status_with false)) old old
-no_lines content program old = record {
-  text = [];
-  prints = record { logs = []; judged = tt; lines = refl; ended = refl };
-  appended = appends-nothing old;
-}
-
 -- The lines of first logs were written.
-pub first_lines : (content : Content) (program : Image) (paths : List Path) (i : ℕ) (status : Status) (old new : Option (List ℕ))
+pub first_lines : (content : Content) (program : Image) (paths : List Path) (i : ℕ) (status : Status)
+    (old new : Option (List ℕ))
     → IsPrinted (WritesLines content program (take i paths)) (Ok status) old new
     → BeginsPrinted (WritesFirstLines content program paths) old new
 first_lines content program paths i status old new before = record {
@@ -72,22 +65,31 @@ module _ (content : Content) (program : Image) (paths : List Path) (i : ℕ) (d 
   line_joins events illegal read verdict =
       let log : Judged = record { path = (get_or paths i d).now; events = events; illegal = illegal } in
       let logs = before.prints.logs in
-      let is : IsJudgedAt content program (get_or paths i d) log = record { named = refl; read = read; verdict = verdict } in
+      let is : IsJudgedAt content program (get_or paths i d) log = record {
+        named = refl;
+        read = read;
+        verdict =
+            verdict;
+      } in
       record {
         logs = logs ++ log ∷ [];
-        judged = subst (λ front. AllZip (IsJudgedAt content program) front (logs ++ log ∷ [])) (sym (take_more paths i d within))
-            (all_zipped_more (IsJudgedAt content program) (take i paths) logs (get_or paths i d) log before.prints.judged is);
+        judged = subst (λ front. AllZip (IsJudgedAt content program) front (logs ++ log ∷ []))
+            (sym (take_more paths i d within))
+            (all_zipped_more (IsJudgedAt content program) (take i paths) logs (get_or paths i d) log
+            before.prints.judged is);
         lines = ap (λ text. text ++ line_of log) before.prints.lines ∙ flat_map_more line_of [] logs log;
         ended = ap (λ status. if is_some illegal then Refused else status) before.prints.ended
             ∙ sym (status_more (list_any is_illegal logs) (is_some illegal))
-            ∙ ap status_with (ap (λ b. list_any is_illegal logs || b) (sym (or-false (is_some illegal))) ∙ sym (list_any-append is_illegal logs (log ∷ [])));
+            ∙ ap status_with (ap (λ b. list_any is_illegal logs || b) (sym (or-false (is_some illegal)))
+            ∙ sym (list_any-append is_illegal logs (log ∷ [])));
       }
 
   -- The line of one log more.
   pub lines_more : (events : List Event) (illegal : Option PathFault) (new : Option (List ℕ))
       → IsLog content (get_or paths i d) (Ok events) → IsVerdict (words_of program) events illegal
       → Appends mid new (verdict_line (get_or paths i d).now (length events) illegal)
-      → IsPrinted (WritesLines content program (take (i + 1) paths)) (Ok (if is_some illegal then Refused else status)) old new
+      → IsPrinted (WritesLines content program (take (i + 1) paths)) (Ok (if is_some illegal then Refused else status))
+      old new
   lines_more events illegal new read verdict line =
       let more = verdict_line (get_or paths i d).now (length events) illegal in
       record {

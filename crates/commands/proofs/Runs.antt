@@ -1,5 +1,6 @@
 -- What a run prints, from what it wrote.
-use Rattle.std.proofs.Common.{◌≡◌, ◌⊎◌, inl, inr, ℕ, sym, subst, ◌∙◌, append-nil, List, [], Option, Some, None, Result, Ok, Err}
+use Rattle.std.proofs.Common.{◌≡◌, ◌⊎◌, inl, inr, ℕ, sym, subst, ◌∙◌, append-nil, List, [], Option, Some, None, Result}
+use Rattle.std.proofs.Common.{Ok, Err}
 use Rattle.std.specs.Prelude.{IfErr, IfOk, OnOk}
 use Rattle.std.specs.Io.KnownBytes.{Appends, Keeps}
 use Rattle.commands.specs.Printed.{IsPrinted, Printed, PrintsUnlessDenied, silent}
@@ -13,7 +14,8 @@ appends-nothing None = tt
 appends-nothing (Some bytes) = sym (append-nil bytes)
 
 -- Bytes were appended, and then nothing more.
-pub appends-keeps : (old mid new : Option (List ℕ)) (bytes : List ℕ) → Appends old mid bytes → Keeps mid new → Appends old new bytes
+pub appends-keeps : (old mid new : Option (List ℕ)) (bytes : List ℕ) → Appends old mid bytes → Keeps mid new
+    → Appends old new bytes
 appends-keeps None mid new bytes first then = tt
 appends-keeps (Some xs) None new bytes first then = elim first [ ]
 appends-keeps (Some xs) (Some ys) None bytes first then = elim then [ ]
@@ -21,13 +23,15 @@ appends-keeps (Some xs) (Some ys) (Some zs) bytes first then = then ∙ first
 
 -- A fault that is found before anything is written, unless memory was refused.
 pub ends_silently : (Prints : Printed → Type 0) (CanWrite Finds : Type 0) (why : Fault) (old : Option (List ℕ))
-    → (why ≡ fault.Memory) ⊎ Finds → (Finds → Prints (silent why)) → PrintsUnlessDenied Prints CanWrite (Err why) old old
+    → (why ≡ fault.Memory) ⊎ Finds → (Finds → Prints (silent why)) → PrintsUnlessDenied Prints CanWrite (Err why) old
+    old
 ends_silently Prints CanWrite Finds why old (inl denied) prints = inl (inl denied)
 ends_silently Prints CanWrite Finds why old (inr finds) prints =
     inr (record { text = []; prints = prints finds; appended = appends-nothing old })
 
 -- A text was written and the run ended so, unless the output failed.
-pub written : (Prints : Printed → Type 0) (CanWrite : Type 0) (text : List ℕ) (status : Status) (ended : Result Status Fault)
+pub written : (Prints : Printed → Type 0) (CanWrite : Type 0) (text : List ℕ) (status : Status)
+    (ended : Result Status Fault)
     (old new : Option (List ℕ)) → Prints (record { text = text; ended = Ok status }) → CanWrite
     → IfErr ended (λ why. why ≡ fault.Output) → IfOk ended (λ told. told ≡ status) → OnOk ended (Appends old new text)
     → PrintsUnlessDenied Prints CanWrite ended old new
@@ -62,7 +66,8 @@ leads_on First Prints Early CanWrite (Err why) old new leads can (inr is) = inr 
 })
 
 -- What is printed at first, and then nothing more, is what is printed in the end.
-pub goes_on : (First Prints : Printed → Type 0) (Early CanWrite : Type 0) (ended : Result Status Fault) (old mid new : Option (List ℕ))
+pub goes_on : (First Prints : Printed → Type 0) (Early CanWrite : Type 0) (ended : Result Status Fault)
+    (old mid new : Option (List ℕ))
     → ((printed : Printed) → First printed → Prints printed)
     → CanWrite → PrintsUnlessDenied First Early ended old mid → Keeps mid new
     → PrintsUnlessDenied Prints CanWrite ended old new

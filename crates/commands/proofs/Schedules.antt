@@ -14,7 +14,8 @@ use Rattle.commands.specs.declared.fault.Fault.TheVariants as fault
 
 -- A schedule that is not read has no turns.
 pub schedule_unread : (content : Content) (harts : ℕ) (path : Path) (why : Fault)
-    → (why ≡ fault.Memory) ⊎ IsRead content path (Err why) → (why ≡ fault.Memory) ⊎ IsSchedule content harts path (Err why)
+    → (why ≡ fault.Memory) ⊎ IsRead content path (Err why) → (why ≡ fault.Memory) ⊎ IsSchedule content harts path
+    (Err why)
 schedule_unread content harts path why (inl denied) = inl denied
 schedule_unread content harts path why (inr read) = inr (record { bytes = Err why; read = read; made = refl })
 

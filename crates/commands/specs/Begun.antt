@@ -22,7 +22,8 @@ use Rattle.commands.specs.Finding.{Once}
 use Rattle.commands.specs.declared.status.Status.{Status}
 
 -- The lines of some first ones of the logs at these paths were appended.
-pub record AppendsFirstLines (content : Content) (program : Image) (paths : List Path) (old new : Option (List ℕ)) : Type 0 where
+pub record AppendsFirstLines (content : Content) (program : Image) (paths : List Path) (old new : Option (List ℕ))
+    : Type 0 where
   pub front : List Path
   pub rest : List Path
   pub status : Status
@@ -47,8 +48,8 @@ WritesInParts (Check asked) = ⊤
 WritesInParts (Decode asked) = ⊤
 WritesInParts _ = ⊥
 
--- Nothing was written of what is asked, or a beginning: `check` has the lines of some first logs, `decode` a beginning of a
--- text that it may print, and the others nothing.
+-- Nothing was written of what is asked, or a beginning: `check` has the lines of some first logs, `decode` a beginning
+-- of a text that it may print, and the others nothing.
 abbrev pub IsBegun : Content → Asked → Option (List ℕ) → Option (List ℕ) → Type 0
 IsBegun content (Check asked) old new = Keeps old new ⊎ BeginsLines content asked old new
 IsBegun content (Encode asked) old new = Keeps old new
@@ -74,8 +75,8 @@ ChecksFirst content asked printed =
 abbrev pub IsCutOf : (Printed → Type 0) → Option (List ℕ) → Option (List ℕ) → Type 0
 IsCutOf Prints old new = Keeps old new ⊎ BeginsPrinted Prints old new
 
--- Nothing was written of what is asked, or a beginning of a text that it may print: of `check`, of the lines of some first
--- logs.
+-- Nothing was written of what is asked, or a beginning of a text that it may print: of `check`, of the lines of some
+-- first logs.
 abbrev pub IsCut : Content → Asked → Option (List ℕ) → Option (List ℕ) → Type 0
 IsCut content (Check asked) = IsCutOf (ChecksFirst content asked)
 IsCut content (Encode asked) = IsCutOf (Encodes content asked)

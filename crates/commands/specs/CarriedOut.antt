@@ -17,9 +17,15 @@ use Rattle.commands.specs.declared.status.Status.{Status}
 -- What is asked for was printed, and was the end, unless memory was refused, or, once all inputs were found, the output
 -- failed.
 abbrev pub IsCarriedOut : Content → Asked → Result Status Fault → Option (List ℕ) → Option (List ℕ) → Type 0
-IsCarriedOut content (Check asked) ended old new = PrintsUnlessDenied (Checks content asked) (CanCheck content asked) ended old new
-IsCarriedOut content (Encode asked) ended old new = PrintsUnlessDenied (Encodes content asked) (CanEncode content asked) ended old new
-IsCarriedOut content (Dump asked) ended old new = PrintsUnlessDenied (Dumps content asked) (CanDump content asked) ended old new
-IsCarriedOut content (Decode asked) ended old new = PrintsUnlessDenied (Decodes content asked) (CanDecode content asked) ended old new
-IsCarriedOut content (Replay asked) ended old new = PrintsUnlessDenied (Replays content asked) (CanReplay content asked) ended old new
-IsCarriedOut content (Bench asked) ended old new = PrintsUnlessDenied (Benches content asked) (CanBench content asked) ended old new
+IsCarriedOut content (Check asked) ended old new = PrintsUnlessDenied (Checks content asked) (CanCheck content asked)
+    ended old new
+IsCarriedOut content (Encode asked) ended old new = PrintsUnlessDenied (Encodes content asked)
+    (CanEncode content asked) ended old new
+IsCarriedOut content (Dump asked) ended old new = PrintsUnlessDenied (Dumps content asked) (CanDump content asked)
+    ended old new
+IsCarriedOut content (Decode asked) ended old new = PrintsUnlessDenied (Decodes content asked)
+    (CanDecode content asked) ended old new
+IsCarriedOut content (Replay asked) ended old new = PrintsUnlessDenied (Replays content asked)
+    (CanReplay content asked) ended old new
+IsCarriedOut content (Bench asked) ended old new = PrintsUnlessDenied (Benches content asked) (CanBench content asked)
+    ended old new

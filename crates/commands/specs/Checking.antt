@@ -1,5 +1,6 @@
 -- What `check` prints, and how it ends.
-use Rattle.std.specs.Prelude.{◌≡◌, ℕ, ◌++◌, ◌∷◌, Bool, codes, List, Option, Some, None, Result, Ok, Err, if◌then◌else◌, is_some, length}
+use Rattle.std.specs.Prelude.{◌≡◌, ℕ, ◌++◌, ◌∷◌, Bool, codes, List, Option, Some, None, Result, Ok, Err, if◌then◌else◌}
+use Rattle.std.specs.Prelude.{is_some, length}
 use Rattle.std.specs.Fmt.{decimal}
 use Rattle.std.specs.List.{AllZip, flat_map, list_any}
 use Rattle.legalpath.specs.FaultText.{path_fault_text}
@@ -56,14 +57,16 @@ abbrev pub status_with : Bool → Status
 status_with some_illegal = if some_illegal then Refused else Whole
 
 -- Every log was read: each has its line, and the status tells whether one is illegal.
-pub record ChecksAll (content : Content) (program : Image) (paths : List Path) (text : List ℕ) (status : Status) : Type 0 where
+pub record ChecksAll (content : Content) (program : Image) (paths : List Path) (text : List ℕ) (status : Status)
+    : Type 0 where
   pub logs : List Judged
   pub judged : AllZip (IsJudgedAt content program) paths logs
   pub lines : text ≡ flat_map line_of logs
   pub ended : status ≡ status_with (list_any is_illegal logs)
 
 -- The logs before this path were read, each of which has its line, and the log at this path was not, for this reason.
-pub record ChecksUpTo (content : Content) (program : Image) (paths : List Path) (text : List ℕ) (why : Fault) : Type 0 where
+pub record ChecksUpTo (content : Content) (program : Image) (paths : List Path) (text : List ℕ) (why : Fault)
+    : Type 0 where
   pub front : List Path
   pub path : Path
   pub rest : List Path

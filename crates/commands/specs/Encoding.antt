@@ -11,8 +11,8 @@ use Rattle.commands.specs.Known.{Content}
 use Rattle.commands.specs.Printed.{First, Printed}
 use Rattle.commands.specs.declared.status.Status.TheVariants.{Whole}
 
--- The messages of legal logs, each log one hart's, in order: as lines of hexadecimal, or as a capture of the version that
--- is asked for.
+-- The messages of legal logs, each log one hart's, in order: as lines of hexadecimal, or as a capture of the version
+-- that is asked for.
 abbrev pub written : Encode → List ProgramLog → List ℕ
 written asked logs =
     if asked.hex then hex_text (messages_of_harts asked.period asked.mode 0 logs)

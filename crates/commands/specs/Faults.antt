@@ -71,8 +71,8 @@ lossy_fault (lossy.Demux place why) = fault.Message place (capture.Demux why)
 lossy_fault (lossy.Decode place why) = capture_fault place (capture.Decode why)
 lossy_fault lossy.Memory = fault.Memory
 
--- Files, the output and memory are the machine's, the header and messages are the capture's, and every other fault is one
--- of the input.
+-- Files, the output and memory are the machine's, the header and messages are the capture's, and every other fault is
+-- one of the input.
 abbrev pub status_of : Fault → Status
 status_of (fault.Unreadable path) = Machine
 status_of fault.Output = Machine

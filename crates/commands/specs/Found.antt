@@ -1,5 +1,6 @@
 -- What is found of a base, of files, an image and logs.
-use Rattle.std.specs.Prelude.{◌≡◌, ◌==◌, ℕ, ◌∷◌, ◌++◌, List, Option, Some, None, Result, Ok, Err, if◌then◌else◌, length, nat_lt}
+use Rattle.std.specs.Prelude.{◌≡◌, ◌==◌, ℕ, ◌∷◌, ◌++◌, List, Option, Some, None, Result, Ok, Err, if◌then◌else◌, length}
+use Rattle.std.specs.Prelude.{nat_lt}
 use Rattle.std.specs.List.{AllZip}
 use Rattle.std.specs.Result.{result_map_both}
 use Rattle.legalpath.specs.FirstFault.{IsFirstFault}
@@ -77,7 +78,8 @@ IsJudged program path (Ok events) (Err why) =
     (illegal : PathFault) × (why ≡ fault.Illegal path illegal) × IsFirstFault (words_of program) events illegal
 
 -- The legal log at a path is found, or why there is none.
-pub record IsLegalLogAt (content : Content) (program : Image) (path : Path) (found : Result ProgramLog Fault) : Type 0 where
+pub record IsLegalLogAt (content : Content) (program : Image) (path : Path) (found : Result ProgramLog Fault)
+    : Type 0 where
   pub events : Result (List Event) Fault
   pub read : IsLog content path events
   pub judged : IsJudged program path events found
@@ -94,7 +96,8 @@ pub record IsFirstRefused (content : Content) (program : Image) (paths : List Pa
 
 -- The legal logs at these paths are found, in order, or the fault of the first that is none.
 abbrev pub AreLegalLogs : Content → Image → List Path → Result (List ProgramLog) Fault → Type 0
-AreLegalLogs content program paths (Ok logs) = AllZip (λ path log. IsLegalLogAt content program path (Ok log)) paths logs
+AreLegalLogs content program paths (Ok logs) = AllZip (λ path log. IsLegalLogAt content program path (Ok log)) paths
+    logs
 AreLegalLogs content program paths (Err why) = IsFirstRefused content program paths why
 
 -- The logs that are asked for are found: the program is looked at first, then each log in turn, which has to be legal

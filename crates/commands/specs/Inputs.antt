@@ -54,7 +54,8 @@ CanReplayLogs content asked logs =
 -- `replay` writes once it has the legal logs and the turns, and nothing stands against sending.
 abbrev pub CanReplay : Content → Replay → Type 0
 CanReplay content asked =
-    Once (AreAskedLogs content (most_harts Two) asked.base.now asked.image asked.logs.items) (CanReplayLogs content asked)
+    Once (AreAskedLogs content (most_harts Two) asked.base.now asked.image asked.logs.items)
+    (CanReplayLogs content asked)
 
 -- The report of what came of these logs is written once nothing stands against sending.
 abbrev pub CanBenchLogs : Bench → List ProgramLog → Type 0

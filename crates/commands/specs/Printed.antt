@@ -24,7 +24,8 @@ abbrev pub First : {A : Type 0} → (Result A Fault → Type 0) → (A → Print
 First {A} Finds next printed = (found : Result A Fault) × Finds found × GoesOn found next printed
 
 -- The text was appended, and the run ended so.
-pub record IsPrinted (Prints : Printed → Type 0) (ended : Result Status Fault) (old new : Option (List ℕ)) : Type 0 where
+pub record IsPrinted (Prints : Printed → Type 0) (ended : Result Status Fault) (old new : Option (List ℕ))
+    : Type 0 where
   pub text : List ℕ
   pub prints : Prints (record { text = text; ended = ended })
   pub appended : Appends old new text
@@ -34,6 +35,7 @@ abbrev pub IsDenied : Type 0 → Fault → Type 0
 IsDenied CanWrite why = (why ≡ fault.Memory) ⊎ ((why ≡ fault.Output) × CanWrite)
 
 -- That is what was printed, unless memory was refused, or the output failed, which it can once this is so.
-abbrev pub PrintsUnlessDenied : (Printed → Type 0) → Type 0 → Result Status Fault → Option (List ℕ) → Option (List ℕ) → Type 0
+abbrev pub PrintsUnlessDenied : (Printed → Type 0) → Type 0 → Result Status Fault → Option (List ℕ) → Option (List ℕ)
+    → Type 0
 PrintsUnlessDenied Prints CanWrite (Ok status) old new = IsPrinted Prints (Ok status) old new
 PrintsUnlessDenied Prints CanWrite (Err why) old new = IsDenied CanWrite why ⊎ IsPrinted Prints (Err why) old new

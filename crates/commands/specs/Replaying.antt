@@ -1,5 +1,6 @@
 -- What `replay` prints, and how it ends.
-use Rattle.std.specs.Prelude.{◌≡◌, ℕ, ◌+◌, ◌<◌, ◌≤◌, ⊤, false, IsFalse, IsSomeAnd, List, [], ◌∷◌, Option, Some, None, Result, Ok, Err, length, slice_get}
+use Rattle.std.specs.Prelude.{◌≡◌, ℕ, ◌+◌, ◌<◌, ◌≤◌, ⊤, false, IsFalse, IsSomeAnd, List, [], ◌∷◌, Option, Some, None}
+use Rattle.std.specs.Prelude.{Result, Ok, Err, length, slice_get}
 use Rattle.std.specs.Result.{result_map_both}
 use Rattle.legalpath.specs.ProgramLog.{ProgramLog}
 use Rattle.payload.specs.declared.mode.Mode.{Mode}
@@ -82,4 +83,5 @@ ReplaysLogs content asked logs =
 -- replayed.
 abbrev pub Replays : Content → Replay → Printed → Type 0
 Replays content asked =
-    First (AreAskedLogs content (most_harts Two) asked.base.now asked.image asked.logs.items) (ReplaysLogs content asked)
+    First (AreAskedLogs content (most_harts Two) asked.base.now asked.image asked.logs.items)
+    (ReplaysLogs content asked)

@@ -1,6 +1,6 @@
 //! The subcommand `check`.
 
-ghost use Rattle.std.specs.Prelude.{⊤, ◌≡◌, ◌⊎◌, ◌≤◌, ◌^◌, Err, IfErr, IfSome, OnOk, length};
+ghost use Rattle.std.specs.Prelude.{⊤, ◌≡◌, ◌⊎◌, ◌≤◌, Err, IfErr, IfSome, OnOk, length};
 ghost use Rattle.std.specs.Io.KnownBytes.{Appends, Keeps};
 ghost use Rattle.message.specs.Version.{most_harts};
 ghost use Rattle.message.specs.declared.header.Version.TheVariants.{Two};
@@ -10,6 +10,7 @@ ghost use Rattle.commands.specs.Checking.{Checks, IsVerdict, WritesLines, verdic
 ghost use Rattle.commands.specs.Order.{logs_fault};
 ghost use Rattle.commands.specs.Inputs.{CanCheck};
 ghost use Rattle.commands.specs.Printed.{PrintsUnlessDenied};
+ghost use Rattle.retire.specs.Log.{most_rows};
 ghost use Rattle.retire.specs.Number.{number_of};
 ghost use Rattle.rvclass.specs.Fetch.{words_of};
 
@@ -83,7 +84,7 @@ fn judge_all<'a, F: Files, O: Write>(
 
 /// The first illegal row of a log, where it has one.
 fn illegal_row(program: &Program, log: &[Event]) -> Option<PathFault>
-    requires { length log.now ≤ 2 ^ 24 }
+    requires { length log.now ≤ most_rows }
     ensures { IsVerdict (words_of program.now) log.now result }
 {
     legalpath::check(program, log).err()

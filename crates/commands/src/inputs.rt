@@ -1,10 +1,11 @@
 //! What a command is given: a base, an image and logs.
 
-ghost use Rattle.std.specs.Prelude.{◌≡◌, ◌⊎◌, ◌≤◌, ◌<◌, ◌^◌, IfErr, IfOk, IfSome, Err, Ok, length, vec_len};
+ghost use Rattle.std.specs.Prelude.{◌≡◌, ◌⊎◌, ◌≤◌, ◌<◌, IfErr, IfOk, IfSome, Err, Ok, length, vec_len};
 ghost use Rattle.commands.specs.Faults.{status_of};
 ghost use Rattle.commands.specs.declared.fault.Fault.TheVariants as fault;
 ghost use Rattle.commands.specs.Found.{AreFew, AreLegalLogs, IsAskedProgram, IsBase, IsLegalLogAt, IsLog, IsProgram, IsRead};
 ghost use Rattle.commands.specs.Order.{logs_fault};
+ghost use Rattle.retire.specs.Log.{most_rows};
 ghost use Rattle.retire.specs.Number.{number_of};
 
 use crate::fault::Fault;
@@ -24,8 +25,8 @@ pub(crate) fn base_of<'a>(text: &str) -> Result<u64, Fault<'a>>
     number(text.as_bytes()).ok_or(Fault::Base)
 }
 
-/// Whether there are logs, and no more than so many.
-fn counted<'a>(logs: &[&'a str], most: u16) -> Result<(), Fault<'a>>
+/// Refuses no logs, and more than so many.
+fn check_count<'a>(logs: &[&'a str], most: u16) -> Result<(), Fault<'a>>
     ensures found { AreFew most logs.now result }
     ensures some { IfOk result (λ _. 1 ≤ length logs.now) }
     ensures few { IfOk result (λ _. length logs.now ≤ most) }
@@ -86,7 +87,7 @@ pub(crate) fn asked_program<'a, F: Files>(
     ensures kept { F.content files.new ≡ F.content files.old }
 {
     let base = base_of(base)?;
-    counted(paths, most)?;
+    check_count(paths, most)?;
     program_of(files, base, image)
 }
 
@@ -98,7 +99,7 @@ pub(crate) fn log_of<'a, F: Files>(
 ) -> Result<Vec<Event>, Fault<'a>>
     ensures log { IfOk result (λ events. IsLog (F.content files.old) path.entry (Ok events.items)) }
     ensures fault { IfErr result (λ why. (why ≡ Fault.Memory) ⊎ IsLog (F.content files.old) path.entry (Err why)) }
-    ensures short { IfOk result (λ events. vec_len events ≤ 2 ^ 24) }
+    ensures short { IfOk result (λ events. vec_len events ≤ most_rows) }
     ensures kept { F.content files.new ≡ F.content files.old }
 {
     let bytes = content_of(files, path)?;

@@ -1,7 +1,10 @@
 -- What a step along a measured walk reaches is where the step leads.
-use Rattle.std.proofs.Common.{◌≡◌, ℕ, Bool, true, false, cond, List, [], ◌∷◌, Option, Some, None, refl, sym, subst, ◌∙◌}
+use Rattle.std.proofs.Common.{◌≡◌, ℕ, Bool, true, false, cond, List, [], ◌∷◌, drop, Option, Some, None, refl, sym, subst}
+use Rattle.std.proofs.Common.{◌∙◌}
 use Rattle.retire.specs.declared.event.Event.{Event}
+use Rattle.retire.specs.declared.event.Event.TheVariants.{Retire}
 use Rattle.rvclass.specs.Words.{Word, Words}
+use Rattle.legalpath.specs.Allowed.{may_retire_at}
 use Rattle.legalpath.specs.Backward.{is_backward}
 use Rattle.legalpath.specs.Successor.{successor}
 use Rattle.legalpath.specs.declared.next.Next.{Next}
@@ -10,13 +13,42 @@ use Rattle.decoder.specs.steps.Leads.{may_stay_on}
 use Rattle.decoder.specs.steps.Retracing.{Reaches, Retraces}
 use Rattle.decoder.specs.Walk.{End, AtTarget}
 use Rattle.decoder.specs.steps.WalkSteps.{Stop, Last, On, retire_on, stops, next_move, last_move, target_move, move_to}
-use Rattle.decoder.specs.steps.WalkSteps.{advance}
+use Rattle.decoder.specs.steps.WalkSteps.{advance, retirement, type_on}
 use Rattle.decoder.specs.steps.Walks.{event_of, end_of, Carries}
 use Rattle.decoder.specs.declared.stepping.Goal.{Goal}
 use Rattle.decoder.specs.declared.stepping.Goal.TheVariants.{Address, Target, Branch as GoalBranch}
 use Rattle.decoder.specs.declared.stepping.Here.{Here}
 
 module _ (words : Words) (taken : List Bool) (here : Here) (used : ℕ) where
+  -- Nothing is reached off the program, nor on a word whose outcome is not there.
+  pub reaches_off : (addr priv : ℕ) (left : List Bool) → None ≡ words addr →
+      Reaches words taken here used false (retire_on addr priv (words addr) left)
+  reaches_off addr priv left off = subst (λ w. Reaches words taken here used false (retire_on addr priv w left)) off tt
+
+  pub reaches_none : (addr priv : ℕ) (word : Word) (left : List Bool) → Some word ≡ words addr →
+      None ≡ type_on word.0 left → Reaches words taken here used false (retire_on addr priv (words addr) left)
+  reaches_none addr priv word left at none =
+      subst (λ w. Reaches words taken here used false (retire_on addr priv w left)) at
+      (by_level (may_retire_at word.0 priv))
+    where
+      by_level : (b : Bool) →
+          Reaches words taken here used false (cond b (retirement addr priv (type_on word.0 left)) None)
+      by_level true = subst (λ t. Reaches words taken here used false (retirement addr priv t)) none tt
+      by_level false = tt
+
+  -- On any other word its retirement is reached.
+  pub reaches_there : (addr priv itype : ℕ) (word : Word) (left : List Bool) → Some word ≡ words addr →
+      Some (itype, drop used taken) ≡ type_on word.0 left → event_of here ≡ Retire addr itype priv →
+      Carries words here → Reaches words taken here used true (retire_on addr priv (words addr) left)
+  reaches_there addr priv itype word left at told is carries =
+      subst (λ w. Reaches words taken here used true (retire_on addr priv w left)) at
+      (by_level (may_retire_at word.0 priv))
+    where
+      by_level : (b : Bool) →
+          Reaches words taken here used true (cond b (retirement addr priv (type_on word.0 left)) None)
+      by_level true = subst (λ t. Reaches words taken here used true (retirement addr priv t)) told (is, refl, carries)
+      by_level false = tt
+
   retraces_next : (done : Bool) (end : End) (r : Option (Event × List Bool)) → Reaches words taken here used done r →
       Retraces words taken here used done (next_move words end r)
   retraces_next true end None reached = tt

@@ -7,7 +7,7 @@ use crate::same::same_at;
 use crate::traces::Sent::{self, Notify, Plain, Sync, Trap, Updiscon, Walk};
 use crate::traces::{
     BACK_JUMP, BACK_JUMP_TWICE, BEQ, BRANCH_LOOP, ECALL, ENDED_NTR, ENDED_REP, FAR, FULL_MAP,
-    JUMP_LOOP, MRET, NOP, OPEN, OPEN_FULL, Place, RET, SRET, START, TRAP, copy_of, fed, packet_of,
+    JUMP_LOOP, MRET, NOP, OPEN, OPEN_FULL, Place, RET, SRET, START, TRAP, copy_of, fed, feed,
     program_of,
 };
 use decoder::DecodeFault::{
@@ -68,9 +68,8 @@ fn go_on_alike<R: Abort>(
     copy: &mut Vec<Event>,
 ) {
     for sent in [OPEN, START, Plain(4), ENDED_REP] {
-        let packet = packet_of(sent);
-        let answer = decoder.feed(program, &packet, log);
-        same_at(rt, place, answer, twin.feed(program, &packet, copy));
+        let answer = feed(decoder, program, sent, log);
+        same_at(rt, place, answer, feed(twin, program, sent, copy));
         same_at(rt, place, log.as_slice(), copy.as_slice());
     }
 }
@@ -83,7 +82,7 @@ fn is_refused<R: Abort + AllocGlobal>(rt: &R, place: Place, row: &Row) {
     let (mut decoder, mut log) = fed(rt, &program, packets_of(before));
     let mut twin = decoder;
     let mut copy = copy_of(rt, log.as_slice());
-    let answer = decoder.feed(&program, &packet_of(next), &mut log);
+    let answer = feed(&mut decoder, &program, next, &mut log);
     let closed = (decoder.is_closed(), twin.is_closed());
     same_at(rt, place, (answer, closed.0), (Err(fault), closed.1));
     same_at(rt, place, log.as_slice(), copy.as_slice());

@@ -3,12 +3,11 @@
 use crate::same::same_at;
 use crate::traces::Sent::{self, Plain, Sync, Trap, Updiscon, Walk};
 use crate::traces::{
-    BRANCH_LOOP, ENDED_NTR, ENDED_REP, FULL_MAP, NOP, OPEN, RET, START, copy_of, packet_of,
-    program_of,
+    BRANCH_LOOP, ENDED_NTR, ENDED_REP, FULL_MAP, NOP, OPEN, RET, START, copy_of, feed, program_of,
 };
 use decoder::{DecodeFault, Decoder};
 use linked_list_allocator::LocalHeap;
-use payload::{Packet, Report};
+use payload::Report;
 use retire::Event;
 use rvclass::Program;
 use std::process::Abort;
@@ -26,7 +25,7 @@ fn lacks_memory<R: Abort + AllocGlobal>(
     rt: &R,
     bytes: usize,
     program: &Program,
-    packet: &Packet,
+    sent: Sent,
     decoder: &mut Decoder,
     log: &mut Vec<Event, &LocalHeap>,
     twin: &mut Twin,
@@ -35,22 +34,17 @@ fn lacks_memory<R: Abort + AllocGlobal>(
     same_at(
         rt,
         bytes,
-        twin.decoder.feed(program, packet, &mut twin.log),
+        feed(&mut twin.decoder, program, sent, &mut twin.log),
         Ok(()),
     );
-    let answer = decoder.feed(program, packet, log);
+    let answer = feed(decoder, program, sent, log);
     if answer.is_ok() {
         same_at(rt, bytes, log.as_slice(), twin.log.as_slice());
         return false;
     }
     same_at(rt, bytes, answer, Err(DecodeFault::Memory));
     same_at(rt, bytes, log.as_slice(), before.as_slice());
-    same_at(
-        rt,
-        bytes,
-        decoder.feed(program, packet, &mut before),
-        Ok(()),
-    );
+    same_at(rt, bytes, feed(decoder, program, sent, &mut before), Ok(()));
     same_at(rt, bytes, before.as_slice(), twin.log.as_slice());
     true
 }
@@ -70,16 +64,7 @@ fn one_is_refused<R: Abort + AllocGlobal>(
         log: Vec::new(rt.alloc()),
     };
     for sent in packets {
-        let packet = packet_of(*sent);
-        if lacks_memory(
-            rt,
-            bytes,
-            program,
-            &packet,
-            &mut decoder,
-            &mut log,
-            &mut twin,
-        ) {
+        if lacks_memory(rt, bytes, program, *sent, &mut decoder, &mut log, &mut twin) {
             return true;
         }
     }

@@ -4,8 +4,8 @@ use crate::same::same_at;
 use crate::traces::Sent::{self, Notify, Plain, Sync, Trap, Updiscon};
 use crate::traces::Step::{self, Retires};
 use crate::traces::{
-    BASE, ENDED_NTR, ENDED_REP, FULL_MAP, NOP, OPEN, OPEN_FULL, Place, START, Turn, fed, go,
-    packet_of, program_of,
+    BASE, ENDED_NTR, ENDED_REP, FULL_MAP, NOP, OPEN, OPEN_FULL, Place, START, Turn, fed, feed, go,
+    program_of,
 };
 use decoder::DecodeFault::{self, AfterClose, OffProgram, WrongPlace};
 use decoder::Decoder;
@@ -178,7 +178,7 @@ fn is_read<R: Abort + AllocGlobal>(
             &PASSED_OVER,
         );
         stretch.clear();
-        let answer = decoder.feed(&program, &packet_of(START), &mut stretch);
+        let answer = feed(&mut decoder, &program, START, &mut stretch);
         same_at(rt, ("synchronisation", row), answer, Ok(()));
     }
     let names = [(Notify(held), Ok(()), 2)];
@@ -217,7 +217,7 @@ fn synchronisation_that_is_refused(rt: HostRuntime) {
         &PASSED_OVER,
     );
     let heap = LocalHeap::new(rt.alloc(), 0).expect(&rt, "memory");
-    let answer = decoder.feed(&program, &packet_of(START), &mut Vec::new(&heap));
+    let answer = feed(&mut decoder, &program, START, &mut Vec::new(&heap));
     same_at(&rt, "no memory", answer, Err(DecodeFault::Memory));
     go_on(
         &rt,

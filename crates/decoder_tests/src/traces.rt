@@ -5,6 +5,7 @@ use decoder::{DecodeFault, Decoder};
 use payload::{Mode, Outcomes, Packet, Report, Support};
 use retire::Event;
 use rvclass::Program;
+use std::alloc::Allocator;
 use std::process::Abort;
 
 pub(crate) const BASE: u64 = 0x8000_0000;
@@ -175,6 +176,16 @@ pub(crate) fn program_of<R: Abort + AllocGlobal>(rt: &R, words: &[u32], bytes: &
     Program::new(BASE, image).expect(rt, "a program")
 }
 
+/// Feeds a packet to a decoder. All tests call it, so that the long contract of [`Decoder::feed`] is met at one place.
+pub(crate) fn feed<A: Allocator>(
+    decoder: &mut Decoder,
+    program: &Program,
+    sent: Sent,
+    log: &mut Vec<Event, A>,
+) -> Result<(), DecodeFault> {
+    decoder.feed(program, &packet_of(sent), log)
+}
+
 /// Feeds these packets to a new decoder.
 pub(crate) fn fed<R: Abort + AllocGlobal>(
     rt: &R,
@@ -184,9 +195,7 @@ pub(crate) fn fed<R: Abort + AllocGlobal>(
     let mut decoder = Decoder::new();
     let mut log = Vec::new(rt.alloc());
     for sent in packets {
-        decoder
-            .feed(program, &packet_of(*sent), &mut log)
-            .expect(rt, "a packet that is taken");
+        feed(&mut decoder, program, *sent, &mut log).expect(rt, "a packet that is taken");
     }
     (decoder, log)
 }
@@ -218,7 +227,7 @@ pub(crate) fn go<R: Abort>(
         let late = *answer == Err(DecodeFault::AfterClose);
         let closes = late || packet.is_closing() && answer.is_ok();
         let before = decoder.is_closed();
-        let found = decoder.feed(program, &packet, log);
+        let found = feed(decoder, program, *sent, log);
         let behind = (
             decoder.is_closed(),
             log.len(),

@@ -4,8 +4,8 @@ use crate::same::same_at;
 use crate::traces::Sent::{self, Map, Notify, Sync, Updiscon, Walk};
 use crate::traces::Step::Retires;
 use crate::traces::{
-    BEQ, BRANCH_LOOP, ECALL, JUMP_LOOP, MRET, NOP, OPEN, Place, RET, SRET, copy_of, fed, is_log,
-    packet_of, program_of,
+    BEQ, BRANCH_LOOP, ECALL, JUMP_LOOP, MRET, NOP, OPEN, Place, RET, SRET, copy_of, fed, feed,
+    is_log, program_of,
 };
 use decoder::DecodeFault::{self, Branches, MissedNotify, OffProgram, WrongPlace, WrongPrivilege};
 use decoder::Decoder;
@@ -142,7 +142,7 @@ fn count_behind(
     sent: Sent,
     log: &mut Vec<Event>,
 ) -> Result<usize, DecodeFault> {
-    match decoder.feed(program, &packet_of(sent), log) {
+    match feed(decoder, program, sent, log) {
         Ok(()) => Ok(log.len()),
         Err(fault) => Err(fault),
     }

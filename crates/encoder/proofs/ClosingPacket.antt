@@ -20,11 +20,11 @@ closing_closes by.Sync = refl
 closing_closes (by.Target cut_off) = refl
 closing_closes by.Explicit = refl
 closing_closes by.Notify = refl
-closing_closes by.Unreported = refl
+closing_closes by.FullMap = refl
 
 pub packets_end : (words : Words) (period : ℕ) (mode : Mode) (log : List Event)
     → has_ended (packets words period mode log) ≡ true
 packets_end words period mode log =
     let ps = pieces_of words period log in
     ap closes (last_or-snoc (Some (packet.Support (Open mode))) (reports mode 0 ps) (closing_packet words period log))
-    ∙ closing_closes (last_rule by.Unreported ps)
+    ∙ closing_closes (last_rule by.FullMap ps)

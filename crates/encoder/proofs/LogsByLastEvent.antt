@@ -95,7 +95,7 @@ module _ (words : Words) (period : ℕ) where
     where
       by_tests : (h y z b : Bool) → is_cut front (Retire at type level)
           (cond h by.Handler (cond y by.Sync (cond z (by.Target true)
-          (cond true by.Explicit (cond b by.Notify by.Unreported))))) ≡ true
+          (cond true by.Explicit (cond b by.Notify by.FullMap))))) ≡ true
       by_tests true y z b = refl
       by_tests false true z b = refl
       by_tests false false true b = refl

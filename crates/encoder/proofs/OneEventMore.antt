@@ -22,7 +22,7 @@ use Rattle.encoder.specs.Piece.{is_cut, pieces}
 use Rattle.encoder.specs.Rule.{holds, with_handler, rule}
 use Rattle.encoder.specs.Spot.{Spot, spots, count_with}
 use Rattle.encoder.specs.Stands.{count_all, reported_after, since_cut, reported_so_far, untold, AreLeft, Stands}
-use Rattle.encoder.specs.steps.Stepping.{rule_before, is_unreported, is_handler_due, next_due, packets_by}
+use Rattle.encoder.specs.steps.Stepping.{rule_before, is_full_map, is_handler_due, next_due, packets_by}
 use Rattle.encoder.specs.steps.Stepping.{handler_packet, pending_with, left_after, given, after}
 use Rattle.encoder.specs.declared.due.Due.{Due}
 use Rattle.encoder.specs.declared.due.Due.TheVariants as due
@@ -88,13 +88,13 @@ module _ (words : Words) (period : ℕ) (mode : Mode) where
       ap by.Trap ((and_parts (is_retirement next) (with_handler words b (Some next)) k).1)
 
   trap_unreported : (n : ℕ) (b2 b : Option Event) (held next : Event) (d' : Due) → is_retirement held ≡ false
-      → is_unreported (rule_before words held (due_at words period
+      → is_full_map (rule_before words held (due_at words period
       (record { number = n; before_that = b2; before = b; event = held; after = None })) next d') ≡ false
   trap_unreported n b2 b (Retire at type level) next d' t = cc
   trap_unreported n b2 b (Trap level irq code epc value) next d' t =
       by_before (holds is_retirement b && not (holds (is_discontinuity words) b))
     where
-      by_before : (x : Bool) → is_unreported (rule_before words (Trap level irq code epc value)
+      by_before : (x : Bool) → is_full_map (rule_before words (Trap level irq code epc value)
           (cond x due.TrapOrHandler due.Trap) next d') ≡ false
       by_before true = refl
       by_before false = refl
@@ -170,8 +170,8 @@ module _ (words : Words) (period : ℕ) (mode : Mode) where
         let not_next : is_handler_due d' ≡ false =
         sym (is_known-due words period there) ∙ known-behind words period here next None retired in
         let r : rule_before words held d next d' ≡ by.Handler = rule_before-handler words held d next d' is in
-        let q : (is_unreported (rule_before words held d next d') && nat_lt 0 31) ≡ false =
-        ap (λ x. is_unreported x && nat_lt 0 31) r in
+        let q : (is_full_map (rule_before words held d next d') && nat_lt 0 31) ≡ false =
+        ap (λ x. is_full_map x && nat_lt 0 31) r in
         let does =
         does_loud words e held next [] mode (place held) d d' is_held (stands.due ∙ old.asked)
         (stands.pending ∙ ap outcomes old.rest) stands.in_mode (stands.reported ∙ old.told) next_is q not_next in
@@ -202,7 +202,7 @@ module _ (words : Words) (period : ℕ) (mode : Mode) where
         (spot_after (front ++ held ∷ []) next None) ps r (held ∷ []) by.Handler (grown ps r (held ∷ []) on)
         (rule_known words period (spot_after (front ++ held ∷ []) next None) is) refl)) in
         let due_next : is_handler_due d' ≡ true = sym (is_known-due words period there) ∙ k' in
-        let q : (is_unreported (rule_before words held d next d') && nat_lt (length (outcomes (held ∷ []))) 31)
+        let q : (is_full_map (rule_before words held d next d') && nat_lt (length (outcomes (held ∷ []))) 31)
         ≡ false =
         ap (λ x. x && nat_lt (length (outcomes (held ∷ []))) 31) (trap_unreported _ _ _ held next d' trapped) in
         let does =

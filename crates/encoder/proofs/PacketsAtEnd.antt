@@ -126,12 +126,12 @@ module _ (words : Words) (period : ℕ) (mode : Mode) where
     closing_is =
         let p : Piece = record { front = since; last = held; by = rule_at_end d } in
         let before = pieces words period [] ss in
-        ap (λ x. packet.Support (closing (last_rule by.Unreported (pieces words period [] x))))
+        ap (λ x. packet.Support (closing (last_rule by.FullMap (pieces words period [] x))))
         (spots-snoc front held None)
-        ∙ ap (λ x. packet.Support (closing (last_rule by.Unreported x)))
+        ∙ ap (λ x. packet.Support (closing (last_rule by.FullMap x)))
         (one_more words period ss here since (rule_at_end d) refl rule_is
         ∙ ap (λ b. before ++ cut_or_go_on b p (λ w. [])) (cut_at_end d since held))
-        ∙ ap (λ x. packet.Support (closing x)) (last_rule-snoc by.Unreported before p)
+        ∙ ap (λ x. packet.Support (closing x)) (last_rule-snoc by.FullMap before p)
 
     packets_are : packets words period mode (front ++ held ∷ []) ≡ packet.Support (Open mode)
         ∷ (ps ++ last_packet ∷ []) ++ packet.Support (closing (rule_at_end d)) ∷ []

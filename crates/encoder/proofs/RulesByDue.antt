@@ -164,7 +164,7 @@ module _ (words : Words) (period : ℕ) where
       (holds (is_discontinuity words) b) _ _ (cut_off-due n b at type level next after) _
       (sym (jumps_back_to-is_backward words (Retire at type level) next r s))
     where
-      end : (c b : Bool) → cond (c || false) by.Explicit (cond b by.Notify by.Unreported) ≡ rule_of_quiet c b
+      end : (c b : Bool) → cond (c || false) by.Explicit (cond b by.Notify by.FullMap) ≡ rule_of_quiet c b
       end true b = refl
       end false true = refl
       end false false = refl
@@ -172,7 +172,7 @@ module _ (words : Words) (period : ℕ) where
       by_due : (h y z c : Bool) (d : Due) → c ≡ cuts_off d → (x : Bool)
           → x ≡ jumps_back_to words (Retire at type level) next
           → cond h by.Handler (cond y by.Sync (cond z (by.Target c)
-          (cond (c || false) by.Explicit (cond x by.Notify by.Unreported))))
+          (cond (c || false) by.Explicit (cond x by.Notify by.FullMap))))
           ≡ rule_before words (Retire at type level) (cond h due.Handler
           (cond y due.Sync (cond z due.Target due.Nothing))) next d
       by_due true y z c d e x f = refl

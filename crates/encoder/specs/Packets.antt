@@ -43,11 +43,11 @@ packet_by mode reported front last by.Explicit =
     packet.Address (outcomes (front ++ last ∷ [])) (delta mode reported (place last)) Plain
 packet_by mode reported front last by.Notify =
     packet.Address (outcomes (front ++ last ∷ [])) (delta mode reported (place last)) Notify
-packet_by mode reported front last by.Unreported = packet.Map (outcomes (front ++ last ∷ []))
+packet_by mode reported front last by.FullMap = packet.Map (outcomes (front ++ last ∷ []))
 
 -- The last reported address after a packet: a branch map leaves it.
 abbrev pub reported_by : Rule → ℕ → Event → ℕ
-reported_by by.Unreported reported last = reported
+reported_by by.FullMap reported last = reported
 reported_by other reported last = place last
 
 -- The packets of pieces, in this mode and after this last reported address.
@@ -69,7 +69,7 @@ closing other = EndedNtr
 
 -- The closing packet of a log.
 abbrev pub closing_packet : Words → ℕ → List Event → Packet
-closing_packet words period log = packet.Support (closing (last_rule by.Unreported (pieces_of words period log)))
+closing_packet words period log = packet.Support (closing (last_rule by.FullMap (pieces_of words period log)))
 
 -- The packets of a log: Open, which tells the mode, one for each piece, and the closing one.
 abbrev pub packets : Words → ℕ → Mode → List Event → List Packet

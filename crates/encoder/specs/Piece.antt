@@ -22,7 +22,7 @@ events_of piece = piece.front ++ piece.last ∷ []
 -- 31st branch since the last cut, which fills the branch map.
 abbrev pub is_cut : List Event → Event → Rule → Bool
 is_cut front event (rule_of.Trap handler) = not handler
-is_cut front event rule_of.Unreported = is_branch event && (length (outcomes (front ++ event ∷ [])) == 31)
+is_cut front event rule_of.FullMap = is_branch event && (length (outcomes (front ++ event ∷ [])) == 31)
 is_cut front event other = true
 
 -- A piece ends at a cut, and what follows begins the next one; where there is no cut it goes on.

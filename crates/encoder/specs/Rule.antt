@@ -52,7 +52,7 @@ retirement_rule words period spot =
     (is_cut_off period spot.number spot.event spot.after) else
     if is_cut_off period spot.number spot.event spot.after || is_none spot.after then by.Explicit else
     if is_backward words spot.event then by.Notify else
-    by.Unreported
+    by.FullMap
 
 -- The rule of the event at a spot.
 abbrev pub rule : Words → ℕ → Spot → Rule

@@ -204,7 +204,7 @@ impl Encoder {
             Some(held) => {
                 matches!(
                     rule_before(program, held, self.due, next, due),
-                    Rule::Unreported
+                    Rule::FullMap
                 ) && self.pending.len() < 31
             }
             None => false,

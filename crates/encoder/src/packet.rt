@@ -37,7 +37,7 @@ pub fn packet_by(
             Some(address(held, outcomes, mode, reported, Report::Plain))
         }
         Rule::Notify => Some(address(held, outcomes, mode, reported, Report::Notify)),
-        Rule::Unreported => Some(Packet::Map(*outcomes)),
+        Rule::FullMap => Some(Packet::Map(*outcomes)),
     }
 }
 
@@ -59,7 +59,7 @@ pub fn reported_by(rule: Rule, reported: u64, held: &Event) -> u64
     ensures { result ≡ reported_by rule reported held.now }
 {
     match rule {
-        Rule::Unreported => reported,
+        Rule::FullMap => reported,
         _ => held.place(),
     }
 }

@@ -30,8 +30,8 @@ pub enum Rule {
     Explicit,
     /// A retirement is reported as a backward jump.
     Notify,
-    /// Nothing reports the event, unless it fills the branch map.
-    Unreported,
+    /// Nothing reports the event but the branch map, where it fills it.
+    FullMap,
 }
 
 /// The rule of the held event, of which `due` is, before the next one, of which `after` is due, and
@@ -47,7 +47,7 @@ pub fn rule_before(program: &Program, held: &Event, due: Due, next: &Event, afte
             } else if jumps_back(program, held, next) {
                 Rule::Notify
             } else {
-                Rule::Unreported
+                Rule::FullMap
             }
         }
         Due::TrapOrHandler | Due::Trap => Rule::Trap { handler: false },

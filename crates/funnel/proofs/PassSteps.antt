@@ -2,7 +2,12 @@
 use Rattle.std.proofs.Common.{◌≡◌, ◌+◌, ◌<◌, nat_le, ℕ, Bool, true, false, List, [], ◌∷◌, ◌++◌, length, Option}
 use Rattle.std.proofs.Common.{Some, sym, refl, ap, ◌∙◌, subst, arith, length-append}
 use Rattle.std.proofs.lemmas.Bool.Decides.{nat_tests}
+use Rattle.atomic_table.specs.declared.badge.Badge.{Badge}
+use Rattle.crossbeam_channel.specs.Claims.{IsSeatAt, Pass}
 use Rattle.crossbeam_channel.specs.Fifo.{Pushes, Pops, Forks, Merges, Learns}
+use Rattle.crossbeam_channel.specs.declared.flavors.array.Doing.{Doing}
+use Rattle.crossbeam_channel.specs.declared.flavors.array.Key.{Key}
+use Rattle.crossbeam_channel.specs.declared.flavors.array.Rows.{Rows}
 use Rattle.payload.specs.Closing.{is_closing}
 use Rattle.message.specs.OfHart.{of_hart}
 use Rattle.message.specs.declared.message.Message.{Message}
@@ -12,7 +17,8 @@ use Rattle.funnel.specs.Limits.{most_messages}
 use Rattle.funnel.specs.Order.{AreInOrder}
 use Rattle.funnel.specs.Rule.{Kept, handed_out, next_port, told_of, TookInOrder, TakesOne, Compares, SendsOn, SendsLast}
 use Rattle.funnel.specs.Ends.{has_closing, is_finished}
-use Rattle.funnel.specs.steps.Passes.{IsPort, IsOutlet, sent_of, taken_of}
+use Rattle.funnel.specs.steps.Passes.{IsPort, IsOutlet, knows, sent_of, taken_of}
+use Rattle.funnel.specs.steps.Sending.{MaySend}
 use Rattle.funnel.proofs.OrderLemmas.{or_false, none_closes, has_closing-next}
 use Rattle.funnel.proofs.RuleSteps.{sends_on, sends_last, takes, takes_in_order, forks, merges, learns}
 
@@ -65,6 +71,27 @@ pub outlet_is : (v : View) (made : ℕ) (t : List Message) (u : Option ℕ) (l :
 outlet_is v made t u l e =
     let P : View → Type 0 = λ x. IsOutlet made x × (taken_of x ≡ t) in
     subst P (sym e) (record { told = u; list = l; is = refl }, refl)
+
+-- A port with no closing payload and not the most messages is not finished.
+pub is_unfinished : (sent : List Message) → has_closing sent ≡ false → length sent < most_messages
+    → is_finished sent ≡ false
+is_unfinished sent none few =
+    let room : nat_le most_messages (length sent) ≡ false = grind (arith, nat_tests) in
+    rw (none, room) refl
+
+-- A pass that learned nothing may send a message that came back.
+pub still_may : {Q M L A : Type 0}
+    (channel : Rows (Badge (Key Message)) (Doing Message View) Q M (Key Message) L A)
+    (old new : Pass Message View) (message back : Message) (closing : Bool)
+    → MaySend channel old message closing → IsSeatAt channel new → knows new ≡ knows old → back ≡ message
+    → MaySend channel new back closing
+still_may channel old new message back closing may seat same is = record {
+  closing_is = may.closing_is ∙ ap (λ (m : Message). is_closing m.payload) (sym is);
+  seat = seat;
+  port = rw (same, is) may.port;
+  number = rw (same, is) may.number;
+  unfinished = rw same may.unfinished;
+}
 
 -- The outlet's view once it took a message.
 pub took : (v : View) (made : ℕ) (message : Message) (w : View) → IsOutlet made v → TakesOne v message w

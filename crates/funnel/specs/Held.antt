@@ -1,7 +1,9 @@
 -- What a funnel in one thread holds.
 use Rattle.std.specs.Prelude.{◌≡◌, ◌<◌, ◌≤◌, ℕ, All, None, List, length}
 use Rattle.message.specs.declared.message.Message.{Message}
-use Rattle.funnel.specs.Limits.{limit_fault, most_harts}
+use Rattle.funnel.specs.Limits.{limit_fault}
+use Rattle.message.specs.Version.{most_harts}
+use Rattle.message.specs.declared.header.Version.TheVariants.{Two}
 
 -- How many harts it serves, how many messages it has room for, and those that wait.
 pub record Held : Type 0 where
@@ -11,6 +13,6 @@ pub record Held : Type 0 where
 
 -- The numbers are within the limits, and no more messages wait than there is room for, all of harts that it serves.
 pub record IsHeld (held : Held) : Type 0 where
-  pub limits : limit_fault most_harts held.harts held.capacity ≡ None
+  pub limits : limit_fault (most_harts Two) held.harts held.capacity ≡ None
   pub room : length held.queue ≤ held.capacity
   pub known : All (λ (message : Message). message.hart < held.harts) held.queue

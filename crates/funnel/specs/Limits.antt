@@ -1,21 +1,12 @@
 -- How many harts a funnel serves, how many messages it holds, and how many a hart sends.
 use Rattle.std.specs.Prelude.{ℕ, ◌^◌, ◌==◌, ◌||◌, nat_lt, if◌then◌else◌, Option, Some, None}
-use Rattle.message.specs.Version.{most_harts as most_harts_of}
-use Rattle.message.specs.declared.header.Version.TheVariants.{Two}
+use Rattle.message.specs.Capacity.{most_capacity}
 use Rattle.funnel.specs.declared.fault.OpenFault.{OpenFault}
 use Rattle.funnel.specs.declared.fault.OpenFault.TheVariants as fault
-
--- The most harts of a funnel in one thread.
-abbrev pub most_harts : ℕ
-most_harts = most_harts_of Two
 
 -- The most ports of a channel.
 abbrev pub most_ports : ℕ
 most_ports = 64
-
--- The most messages that are held.
-abbrev pub most_capacity : ℕ
-most_capacity = 65_536
 
 -- The most messages that a hart sends.
 abbrev pub most_messages : ℕ

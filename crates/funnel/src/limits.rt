@@ -4,12 +4,10 @@ ghost use Rattle.std.specs.Prelude.{◌≡◌};
 ghost use Rattle.funnel.specs.Limits.{limit_fault};
 
 use crate::fault::OpenFault;
+use message::MOST_CAPACITY;
 
 /// The most ports of a channel.
 pub const MOST_PORTS: u16 = 64;
-
-/// The most messages that a funnel holds.
-pub const MOST_CAPACITY: u32 = 65_536;
 
 /// The most messages that a hart sends.
 pub(crate) const MOST_MESSAGES: u64 = 1 << 32;

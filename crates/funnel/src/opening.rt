@@ -18,7 +18,6 @@ use std::sync::Arc;
 
 /// Opens a funnel over a channel that holds so many messages, 1 to 65,536, with a port for each hart, 1 to 64, at the
 /// hart's place.
-#[tactic(auto, using(crate::proofs::NewPorts::new_ports_each))]
 pub fn open<A: Allocator + Clone>(
     alloc: A,
     harts: u16,

@@ -7,6 +7,7 @@ ghost use Rattle.payload.specs.Closing.{is_closing};
 ghost use Rattle.funnel.specs.declared.rule.View.TheVariants as V;
 ghost use Rattle.funnel.specs.Ends.{PortView, has_closing, is_finished, after_sending};
 ghost use Rattle.funnel.specs.steps.Passes.{id_of, knows, sent_of, IsPort};
+ghost use Rattle.funnel.specs.steps.Sending.{MaySend};
 ghost use Rattle.funnel.specs.Refusals.{payload_of};
 
 use crate::SendFault;
@@ -122,11 +123,7 @@ fn pass_on<A: Allocator, R: Wait>(
     mut message: Message,
     closing: bool,
 ) -> Result<(), Payload>
-    requires closing { closing ≡ is_closing message.payload }
-    requires seat { IsSeatAt (sends_on sender.now) pass.old }
-    requires port { IsPort message.hart (knows pass.old) }
-    requires number { message.number ≡ length (sent_of (knows pass.old)) }
-    requires unfinished { is_finished (sent_of (knows pass.old)) ≡ false }
+    requires { MaySend (sends_on sender.now) pass.old message closing }
     ensures seat { IsSeatAt (sends_on sender.now) pass.new }
     ensures funnel { id_of pass.new ≡ id_of pass.old }
     ensures sent { OnOk result (knows pass.new ≡ V.Port message.hart (sent_of (knows pass.old) ++ message ∷ [])) }
@@ -152,11 +149,7 @@ fn wait_and_pass_on<A: Allocator, R: Wait>(
     mut message: Message,
     closing: bool,
 ) -> Result<(), Payload>
-    requires closing { closing ≡ is_closing message.payload }
-    requires seat { IsSeatAt (sends_on sender.now) pass.old }
-    requires port { IsPort message.hart (knows pass.old) }
-    requires number { message.number ≡ length (sent_of (knows pass.old)) }
-    requires unfinished { is_finished (sent_of (knows pass.old)) ≡ false }
+    requires { MaySend (sends_on sender.now) pass.old message closing }
     ensures seat { IsSeatAt (sends_on sender.now) pass.new }
     ensures funnel { id_of pass.new ≡ id_of pass.old }
     ensures sent { OnOk result (knows pass.new ≡ V.Port message.hart (sent_of (knows pass.old) ++ message ∷ [])) }
@@ -190,11 +183,7 @@ fn try_pass_on<A: Allocator, R: Wait>(
     message: Message,
     closing: bool,
 ) -> Result<(), TrySendError<Message>>
-    requires closing { closing ≡ is_closing message.payload }
-    requires seat { IsSeatAt (sends_on sender.now) pass.old }
-    requires port { IsPort message.hart (knows pass.old) }
-    requires number { message.number ≡ length (sent_of (knows pass.old)) }
-    requires unfinished { is_finished (sent_of (knows pass.old)) ≡ false }
+    requires { MaySend (sends_on sender.now) pass.old message closing }
     ensures seat { IsSeatAt (sends_on sender.now) pass.new }
     ensures funnel { id_of pass.new ≡ id_of pass.old }
     ensures sent { OnOk result (knows pass.new ≡ V.Port message.hart (sent_of (knows pass.old) ++ message ∷ [])) }

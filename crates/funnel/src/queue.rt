@@ -4,7 +4,9 @@ ghost use Rattle.std.specs.Prelude.{◌≡◌, ◌++◌, ◌<◌, nat_lt, not, i
 ghost use Rattle.std.specs.Option.{option_to_list};
 ghost use Rattle.std.specs.VecDeque.{deque_capacity};
 ghost use Rattle.funnel.specs.Held.{Held, IsHeld};
-ghost use Rattle.funnel.specs.Limits.{limit_fault, most_harts};
+ghost use Rattle.funnel.specs.Limits.{limit_fault};
+ghost use Rattle.message.specs.Version.{most_harts};
+ghost use Rattle.message.specs.declared.header.Version.TheVariants.{Two};
 ghost use Rattle.funnel.specs.Machine.{Funnel, send, take_front};
 ghost use Rattle.funnel.specs.declared.fault.OpenFault.{OpenFault as AnyFault};
 
@@ -37,8 +39,8 @@ impl<A: Allocator> Core<A> {
     /// 65,536. A fault leaves nothing taken.
     pub fn new(alloc: A, harts: u16, capacity: u32) -> Result<Core<A>, OpenFault>
         ensures made { IfOk result (λ core. core ≡ record { harts = harts; capacity = capacity; queue = [] }) }
-        ensures refused { (fault : AnyFault) → limit_fault most_harts harts capacity ≡ Some fault → result ≡ Err fault }
-        ensures memory { limit_fault most_harts harts capacity ≡ None → IfErr result (λ fault. fault ≡ OpenFault.Memory) }
+        ensures refused { (fault : AnyFault) → limit_fault (most_harts Two) harts capacity ≡ Some fault → result ≡ Err fault }
+        ensures memory { limit_fault (most_harts Two) harts capacity ≡ None → IfErr result (λ fault. fault ≡ OpenFault.Memory) }
     {
         if let Some(fault) = fault_of(MOST_HARTS, harts, capacity) {
             return Err(fault);

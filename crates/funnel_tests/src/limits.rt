@@ -3,6 +3,7 @@
 use super::same::same_at;
 use funnel::{Core, OpenFault, open};
 use std::alloc::Global;
+use std::process::Abort;
 
 /// Why no queue of these numbers is made, and why no channel of these numbers is opened.
 fn faults(alloc: Global, harts: u16, capacity: u32) -> (Option<OpenFault>, Option<OpenFault>) {
@@ -18,45 +19,55 @@ const MANY: Option<OpenFault> = Some(OpenFault::TooManyHarts);
 
 const CAPACITY: Option<OpenFault> = Some(OpenFault::Capacity);
 
-// The queue serves 1 to 1,024 harts, the channel 1 to 64.
+/// A number of harts, a capacity, and the faults of a queue and of a channel of them.
+type Row = (u16, u32, Option<OpenFault>, Option<OpenFault>);
+
+/// The queue serves 1 to 1,024 harts, the channel 1 to 64.
+const FAULTS: [Row; 18] = [
+    (0, 0, NO_HARTS, NO_HARTS),
+    (0, 16, NO_HARTS, NO_HARTS),
+    (0, 65_537, NO_HARTS, NO_HARTS),
+    (65, 0, CAPACITY, MANY),
+    (65, 16, None, MANY),
+    (1024, 16, None, MANY),
+    (1024, 0, CAPACITY, MANY),
+    (1024, 65_537, CAPACITY, MANY),
+    (1025, 0, MANY, MANY),
+    (1025, 16, MANY, MANY),
+    (65_535, u32::MAX, MANY, MANY),
+    (1, 0, CAPACITY, CAPACITY),
+    (64, 65_537, CAPACITY, CAPACITY),
+    (2, u32::MAX, CAPACITY, CAPACITY),
+    (1, 1, None, None),
+    (64, 1, None, None),
+    (1, 65_536, None, None),
+    (64, 65_536, None, None),
+];
+
 #[test]
 fn lowest_fault_is_told(rt: HostRuntime) {
-    let table = [
-        (0, 0, NO_HARTS, NO_HARTS),
-        (0, 16, NO_HARTS, NO_HARTS),
-        (0, 65_537, NO_HARTS, NO_HARTS),
-        (65, 0, CAPACITY, MANY),
-        (65, 16, None, MANY),
-        (1024, 16, None, MANY),
-        (1024, 0, CAPACITY, MANY),
-        (1024, 65_537, CAPACITY, MANY),
-        (1025, 0, MANY, MANY),
-        (1025, 16, MANY, MANY),
-        (65_535, u32::MAX, MANY, MANY),
-        (1, 0, CAPACITY, CAPACITY),
-        (64, 65_537, CAPACITY, CAPACITY),
-        (2, u32::MAX, CAPACITY, CAPACITY),
-        (1, 1, None, None),
-        (64, 1, None, None),
-        (1, 65_536, None, None),
-        (64, 65_536, None, None),
-    ];
-    for (harts, capacity, of_queue, of_channel) in table {
+    for (harts, capacity, of_queue, of_channel) in FAULTS {
         let told = faults(rt.alloc(), harts, capacity);
         same_at(&rt, (harts, capacity), told, (of_queue, of_channel));
     }
 }
 
+const TEXTS: [(OpenFault, &'static str); 4] = [
+    (OpenFault::NoHarts, "no harts"),
+    (OpenFault::TooManyHarts, "too many harts"),
+    (OpenFault::Capacity, "capacity is not 1 to 65536"),
+    (OpenFault::Memory, "out of memory"),
+];
+
+/// The fault has this text.
+fn is_told<R: Abort + AllocGlobal>(rt: &R, fault: OpenFault, text: &str) {
+    let told = format!(in rt.alloc(); "{fault}").expect(rt, "memory");
+    same_at(rt, fault, told.as_str(), text);
+}
+
 #[test]
 fn texts(rt: HostRuntime) {
-    let table = [
-        (OpenFault::NoHarts, "no harts"),
-        (OpenFault::TooManyHarts, "too many harts"),
-        (OpenFault::Capacity, "capacity is not 1 to 65536"),
-        (OpenFault::Memory, "out of memory"),
-    ];
-    for (fault, text) in table {
-        let told = format!(in rt.alloc(); "{fault}").expect(&rt, "memory");
-        assert!(rt; told.as_str() == text, "{told} at {text}");
+    for (fault, text) in TEXTS {
+        is_told(&rt, fault, text);
     }
 }

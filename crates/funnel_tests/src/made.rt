@@ -48,7 +48,7 @@ pub(crate) fn fate_of<A: Allocator, R: Abort + Wait>(rt: &R, port: &mut Port<A>,
         Err(SendFault::Closed(back)) => (back, Fate::Closed),
         Err(SendFault::HandedBack(back)) => (back, Fate::HandedBack),
     };
-    assert!(rt; back.bytes() == [byte].as_slice(), "{byte}: {back:?}");
+    same_at(rt, byte, back.bytes(), [byte].as_slice());
     fate
 }
 
@@ -57,6 +57,13 @@ pub(crate) fn sends<A: Allocator, R: Abort + Wait>(rt: &R, port: &mut Port<A>, b
     ensures { port.new.funnel ≡ port.old.funnel }
 {
     same_at(rt, byte, fate_of(rt, port, byte), Fate::Sent);
+}
+
+/// A payload of this byte comes back, since the port is closed.
+pub(crate) fn is_closed<A: Allocator, R: Abort + Wait>(rt: &R, port: &mut Port<A>, byte: u8)
+    ensures { port.new.funnel ≡ port.old.funnel }
+{
+    same_at(rt, byte, fate_of(rt, port, byte), Fate::Closed);
 }
 
 /// The next message that is taken is this one.

@@ -29,23 +29,33 @@ fn fills_and_empties<A: Allocator, R: Abort>(rt: &R, core: &mut Core<A>)
     same_at(rt, "empty", core.take(), None);
 }
 
+/// Whether so much memory is enough for a queue, which takes no more then and gives none back. It is all free afterwards.
+fn is_made<R: Abort + AllocGlobal>(rt: &R, size: usize) -> bool {
+    let heap = LocalHeap::new(rt.alloc(), size).expect(rt, "memory");
+    let enough = match Core::new(&heap, 64, CAPACITY) {
+        Ok(mut core) => {
+            let made = heap.used();
+            fills_and_empties(rt, &mut core);
+            same_at(rt, size, heap.used(), made);
+            true
+        }
+        Err(fault) => {
+            same_at(rt, size, fault, OpenFault::Memory);
+            false
+        }
+    };
+    same_at(rt, size, heap.used(), 0);
+    enough
+}
+
 #[test]
 fn room_is_refused_at_making_alone(rt: HostRuntime) {
     let mut refused = 0usize;
     for step in 0..128usize {
-        let heap = LocalHeap::new(rt.alloc(), step * 64).expect(&rt, "memory");
-        match Core::new(&heap, 64, CAPACITY) {
-            Ok(mut core) => {
-                let made = heap.used();
-                fills_and_empties(&rt, &mut core);
-                same_at(&rt, step, heap.used(), made);
-            }
-            Err(fault) => {
-                same_at(&rt, step, (fault, refused), (OpenFault::Memory, step));
-                refused = refused.saturating_add(1);
-            }
+        if !is_made(&rt, step * 64) {
+            same_at(&rt, step, refused, step);
+            refused = refused.saturating_add(1);
         }
-        same_at(&rt, step, heap.used(), 0);
     }
     assert!(rt; 32 <= refused && refused < 128, "refused {refused}");
 }

@@ -1,7 +1,6 @@
 //! Two harts in one thread, at capacity 4.
 
-use super::made::{ENDED, Fate, OPEN, comes, fate_of, sends, settles, two};
-use super::same::same_at;
+use super::made::{ENDED, OPEN, comes, is_closed, sends, settles, two};
 
 #[test]
 fn a_receipt_tells_what_was_sent_and_taken(rt: HostRuntime) {
@@ -9,8 +8,7 @@ fn a_receipt_tells_what_was_sent_and_taken(rt: HostRuntime) {
     sends(&rt, &mut first, OPEN);
     sends(&rt, &mut second, OPEN);
     sends(&rt, &mut first, ENDED);
-    let refused = fate_of(&rt, &mut first, OPEN);
-    same_at(&rt, "a closed port", refused, Fate::Closed);
+    is_closed(&rt, &mut first, OPEN);
     drop(second);
     comes(&rt, &mut outlet, 0, 0, OPEN);
     comes(&rt, &mut outlet, 1, 0, OPEN);

@@ -53,6 +53,43 @@ fn gives<R: Abort>(rt: &R, core: &mut Core, place: (u32, u64), front: Option<Wai
     same_at(rt, place, core.take(), wanted);
 }
 
+/// A queue of this capacity is offered a message, as the plain list of those that wait is. Whether it had no room.
+fn is_offered<R: Abort>(
+    rt: &R,
+    core: &mut Core,
+    waiting: &mut Vec<Waiting>,
+    capacity: u32,
+    offered: Waiting,
+) -> bool
+    requires { offered.0 < core.old.harts }
+    ensures { core.new.harts ≡ core.old.harts }
+{
+    answers(rt, core, capacity, waiting.len(), offered);
+    let is_full = waiting.len() >= capacity as usize;
+    if !is_full {
+        waiting.push(offered).expect(rt, "memory");
+    }
+    is_full
+}
+
+/// The front message of a queue and of the plain list is taken. Whether there was none.
+fn is_taken<R: Abort>(
+    rt: &R,
+    core: &mut Core,
+    waiting: &mut Vec<Waiting>,
+    place: (u32, u64),
+) -> bool
+    ensures { core.new.harts ≡ core.old.harts }
+{
+    let front = if waiting.is_empty() {
+        None
+    } else {
+        Some(waiting.remove(0))
+    };
+    gives(rt, core, place, front);
+    front.is_none()
+}
+
 /// A queue of this capacity does as a plain list does: it is offered messages mostly for a while, and then mostly gives
 /// them.
 fn is_a_list<R: Abort + AllocGlobal>(rt: &R, capacity: u32) {
@@ -66,18 +103,11 @@ fn is_a_list<R: Abort + AllocGlobal>(rt: &R, capacity: u32) {
         if below(&mut state, 4) < offers {
             let hart = below(&mut state, HARTS);
             let offered = (hart, number, below(&mut state, 256) as u8);
-            answers(rt, &mut core, capacity, waiting.len(), offered);
-            if waiting.len() < capacity as usize {
-                waiting.push(offered).expect(rt, "memory");
-            } else {
+            if is_offered(rt, &mut core, &mut waiting, capacity, offered) {
                 full = full.saturating_add(1);
             }
-        } else if waiting.is_empty() {
+        } else if is_taken(rt, &mut core, &mut waiting, (capacity, number)) {
             empty = empty.saturating_add(1);
-            gives(rt, &mut core, (capacity, number), None);
-        } else {
-            let front = waiting.remove(0);
-            gives(rt, &mut core, (capacity, number), Some(front));
         }
     }
     assert!(rt;

@@ -2,7 +2,7 @@
 
 ghost use Rattle.std.specs.Prelude.{◌≡◌};
 
-use super::made::{ENDED, Fate, OPEN, comes, fate_of, has_ended, sends, settles, two};
+use super::made::{ENDED, OPEN, comes, has_ended, is_closed, sends, settles, two};
 use super::same::same_at;
 use funnel::{Outlet, Port};
 use linked_list_allocator::LocalHeap;
@@ -34,8 +34,7 @@ fn take_nothing<A: Allocator, R: Abort + Wait>(
     same_at(rt, "open", heap.used(), made);
     sends(rt, &mut first, OPEN);
     sends(rt, &mut first, ENDED);
-    let refused = fate_of(rt, &mut first, OPEN);
-    same_at(rt, "a closed port", refused, Fate::Closed);
+    is_closed(rt, &mut first, OPEN);
     drop(second);
     same_at(rt, "sent", heap.used(), made);
     comes(rt, &mut outlet, 0, 0, OPEN);

@@ -22,13 +22,20 @@ impl Promise<Receipt> for Sending {
 
 type Worker = PromisedHandle<Receipt, Sending>;
 
+// Sends so many payloads, none of which is closing.
+fn send_open<R: Abort + Wait>(rt: &R, port: &mut Port, count: u64)
+    ensures { port.new.funnel ≡ port.old.funnel }
+{
+    for _ in 0..count {
+        sends(rt, port, OPEN);
+    }
+}
+
 // Sends so many payloads, of which the last alone is closing.
 fn send_all<R: Abort + Wait>(rt: &R, mut port: Port, count: u64) -> Receipt
     ensures { result.funnel ≡ port.funnel }
 {
-    for _ in 1..count {
-        sends(rt, &mut port, OPEN);
-    }
+    send_open(rt, &mut port, count.saturating_sub(1));
     sends(rt, &mut port, ENDED);
     port.finish()
 }
@@ -90,6 +97,23 @@ fn is_next<R: Abort>(rt: &R, message: &Message, next: &mut [u64; 64], capacity: 
     );
 }
 
+// Whether a message comes, the next of its hart, before the channel ends.
+fn take_next<R: Abort + Wait>(
+    rt: &R,
+    outlet: &mut Outlet,
+    next: &mut [u64; 64],
+    capacity: u32,
+    count: u64,
+) -> bool
+    ensures { outlet.new.funnel ≡ outlet.old.funnel }
+{
+    let Ok(message) = outlet.take(rt) else {
+        return false;
+    };
+    is_next(rt, &message, next, capacity, count);
+    true
+}
+
 // Takes so many messages, each the next of its hart.
 fn take_some<R: Abort + Wait>(
     rt: &R,
@@ -102,10 +126,8 @@ fn take_some<R: Abort + Wait>(
     ensures { outlet.new.funnel ≡ outlet.old.funnel }
 {
     for _ in 0..messages {
-        let Ok(message) = outlet.take(rt) else {
-            panic!(rt; "at capacity {capacity}: the channel ends early");
-        };
-        is_next(rt, &message, next, capacity, count);
+        let comes = take_next(rt, outlet, next, capacity, count);
+        same_at(rt, (capacity, "the channel ends early"), comes, true);
     }
 }
 
@@ -183,9 +205,7 @@ fn sixty_four_workers(rt: HostRuntime) {
 
 // Sends so many payloads, none of which is closing, and drops the port.
 fn send_and_drop<R: Abort + Wait>(rt: &R, mut port: Port, count: u64) {
-    for _ in 0..count {
-        sends(rt, &mut port, OPEN);
-    }
+    send_open(rt, &mut port, count);
 }
 
 // How many messages come before the channel ends, each the next of its hart.
@@ -193,10 +213,9 @@ fn take_to_the_end<R: Abort + Wait>(rt: &R, outlet: &mut Outlet, capacity: u32) 
     let mut next = [0u64; 64];
     let mut taken = 0u64;
     for _ in rt.forever() {
-        let Ok(message) = outlet.take(rt) else {
+        if !take_next(rt, outlet, &mut next, capacity, u64::MAX) {
             break;
-        };
-        is_next(rt, &message, &mut next, capacity, u64::MAX);
+        }
         taken = taken.saturating_add(1);
     }
     taken
@@ -211,5 +230,5 @@ fn what_comes_before_ports_are_dropped_is_all_taken(rt: HostRuntime) {
         }
         take_to_the_end(&rt, &mut outlet, 3)
     });
-    assert_eq!(rt; taken, 4000);
+    same_at(&rt, "taken", taken, 4000);
 }

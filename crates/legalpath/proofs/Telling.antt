@@ -1,5 +1,5 @@
 -- What a test tells of a fact.
-use Rattle.std.proofs.Common.{◌≡◌, ◌⊎◌, ◌≤◌, ◌<◌, ℕ, Bool, true, false, not, ◌&&◌, ◌||◌, nat_eq, nat_le, nat_lt, inl}
+use Rattle.std.proofs.Common.{◌≡◌, ◌⊎◌, ◌≤◌, ◌<◌, ℕ, Bool, true, false, ◌&&◌, ◌||◌, nat_eq, nat_le, nat_lt, inl}
 use Rattle.std.proofs.Common.{inr, refl, arith}
 use Rattle.std.proofs.lemmas.Bool.Decides.{nat_tests}
 
@@ -22,9 +22,6 @@ tells_le a b = record { holds = λ e. grind (arith, nat_tests); fails = λ e le.
 
 pub tells_lt : (a b : ℕ) → Tells (nat_lt a b) (a < b)
 tells_lt a b = record { holds = λ e. grind (arith, nat_tests); fails = λ e lt. grind (arith, nat_tests) }
-
-pub tells_truth : (a : Bool) → Tells a (a ≡ true)
-tells_truth a = record { holds = λ e. e; fails = λ e f. cc }
 
 -- The same test tells a fact that is as good.
 pub tells-same : {test : Bool} {P Q : Type 0} → (P → Q) → (Q → P) → Tells test P → Tells test Q
@@ -49,10 +46,3 @@ tells-or {a} {b} {P} {Q} s t = go a refl
           fails = λ f either. elim either
               [ inl p ↦ s.fails e p | inr q ↦ t.fails f q ];
         }
-
-pub tells-not : {a : Bool} {P : Type 0} → Tells a P → Tells (not a) (¬ P)
-tells-not {a} {P} s = go a refl
-  where
-    go : (v : Bool) → a ≡ v → Tells (not v) (¬ P)
-    go true e = tells_false (λ n. n (s.holds e))
-    go false e = tells_true (s.fails e)

@@ -1,6 +1,7 @@
 -- A log with the program that it ran.
-use Rattle.std.specs.Prelude.{◌≤◌, ◌^◌, All, List, length}
+use Rattle.std.specs.Prelude.{◌≤◌, All, List, length}
 use Rattle.retire.specs.Is64Bit.{Is64Bit}
+use Rattle.retire.specs.Log.{most_rows}
 use Rattle.retire.specs.declared.event.Event.{Event}
 use Rattle.rvclass.specs.Fetch.{words_of}
 use Rattle.rvclass.specs.Image.{Image, IsImage}
@@ -18,6 +19,6 @@ log_of program events = record { program = program; events = events }
 -- The log is legal for the program and has at most 2^24 events, its numbers have 64 bits, and the program is an image.
 pub record IsLegalLog (log : ProgramLog) : Type 0 where
   pub legal : Legal (words_of log.program) log.events
-  pub short : length log.events ≤ 2 ^ 24
+  pub short : length log.events ≤ most_rows
   pub numbers : All Is64Bit log.events
   pub image : IsImage log.program

@@ -1,7 +1,8 @@
 //! Which log is legal, and the first illegal row of one that is not.
 
-ghost use Rattle.std.specs.Prelude.{◌≡◌, ◌↔◌, ◌^◌, ◌≤◌, All, length, IsOk, IfErr, OnOk};
+ghost use Rattle.std.specs.Prelude.{◌≡◌, ◌↔◌, ◌≤◌, All, length, IsOk, IfErr, OnOk};
 ghost use Rattle.retire.specs.Is64Bit.{Is64Bit};
+ghost use Rattle.retire.specs.Log.{most_rows};
 ghost use Rattle.rvclass.specs.Fetch.{words_of};
 ghost use Rattle.legalpath.specs.FirstFault.{IsFirstFault};
 ghost use Rattle.legalpath.specs.steps.Judging as judging;
@@ -18,7 +19,7 @@ use rvclass::Program;
 /// The error names the first illegal row, and of the reasons that apply to it the first in the order
 /// of [`Why`](crate::Why).
 pub fn check(program: &Program, log: &[Event]) -> Result<(), PathFault>
-    requires { length log.now ≤ 2 ^ 24 }
+    requires { length log.now ≤ most_rows }
     ensures legal { IsOk result ↔ Legal (words_of program.now) log.now }
     ensures first { IfErr result (λ fault. IsFirstFault (words_of program.now) log.now fault) }
     ensures numbers { OnOk result (All Is64Bit log.now) }
@@ -29,7 +30,7 @@ pub fn check(program: &Program, log: &[Event]) -> Result<(), PathFault>
 /// Judges the events in turn, up to the first fault.
 #[inline(never)]
 fn judge_all(program: &Program, log: &[Event]) -> Result<(), PathFault>
-    requires { length log.now ≤ 2 ^ 24 }
+    requires { length log.now ≤ most_rows }
     ensures value { result ≡ judging.judge_all (words_of program.now) judging.left_at_start 1 log.now }
     ensures numbers { OnOk result (All Is64Bit log.now) }
 {

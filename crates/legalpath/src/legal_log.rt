@@ -1,7 +1,8 @@
 //! A log that is known to be legal.
 
-ghost use Rattle.std.specs.Prelude.{◌≡◌, ◌↔◌, ◌^◌, ◌≤◌, All, length, vec_len, IsOk, IfOk, IfErr};
+ghost use Rattle.std.specs.Prelude.{◌≡◌, ◌↔◌, ◌≤◌, All, length, vec_len, IsOk, IfOk, IfErr};
 ghost use Rattle.retire.specs.Is64Bit.{Is64Bit};
+ghost use Rattle.retire.specs.Log.{most_rows};
 ghost use Rattle.rvclass.specs.Fetch.{words_of};
 ghost use Rattle.rvclass.specs.Image.{IsImage};
 ghost use Rattle.legalpath.specs.FirstFault.{IsFirstFault};
@@ -37,7 +38,7 @@ impl<'p, A: Allocator> LegalLog<'p, A> {
         program: &'p Program,
         events: Vec<Event, A>,
     ) -> Result<LegalLog<'p, A>, (PathFault, Vec<Event, A>)>
-        requires { vec_len events ≤ 2 ^ 24 }
+        requires { vec_len events ≤ most_rows }
         ensures legal { IsOk result ↔ Legal (words_of program.now) events.items }
         ensures program { IfOk result (λ log. log.program ≡ program.now) }
         ensures events { IfOk result (λ log. log.events ≡ events.items) }
@@ -67,7 +68,7 @@ impl<'p, A: Allocator> LegalLog<'p, A> {
     pub fn events(&self) -> &[Event]
         ensures events { result.now ≡ self.now.events }
         ensures legal { Legal (words_of self.now.program) self.now.events }
-        ensures short { length self.now.events ≤ 2 ^ 24 }
+        ensures short { length self.now.events ≤ most_rows }
         ensures numbers { All Is64Bit self.now.events }
         ensures image { IsImage self.now.program }
     {

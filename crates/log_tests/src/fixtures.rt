@@ -7,13 +7,16 @@ use std::process::Abort;
 /// Where programs begin.
 pub(crate) const BASE: u64 = 0x8000_0000;
 
+/// Appends the bytes.
+pub(crate) fn add<R: Abort>(rt: &R, text: &mut Vec<u8>, bytes: &[u8]) {
+    text.extend_from_slice(bytes).expect(rt, "memory");
+}
+
 /// The program of these words, from the base on.
 pub(crate) fn program_of<R: Abort + AllocGlobal>(rt: &R, words: &[u32]) -> Program {
     let mut bytes = Vec::new(rt.alloc());
     for word in words {
-        bytes
-            .extend_from_slice(&word.to_le_bytes())
-            .expect(rt, "memory");
+        add(rt, &mut bytes, &word.to_le_bytes());
     }
     Program::new(BASE, bytes).expect(rt, "a program")
 }

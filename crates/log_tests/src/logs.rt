@@ -8,6 +8,7 @@ mod reading;
 mod texts;
 mod writing;
 
+use crate::fixtures::add;
 use retire::Event;
 use std::process::Abort;
 
@@ -25,11 +26,10 @@ const RETIRED: Event = Event::Retire {
 /// The text of a log of a row so many times.
 fn text_of_rows<R: Abort + AllocGlobal>(rt: &R, row: &str, count: usize) -> Vec<u8> {
     let mut text = Vec::new(rt.alloc());
-    text.extend_from_slice(HEADER.as_bytes())
-        .expect(rt, "memory");
+    add(rt, &mut text, HEADER.as_bytes());
     for _row in 0..count {
-        text.extend_from_slice(row.as_bytes()).expect(rt, "memory");
-        text.push(b'\n').expect(rt, "memory");
+        add(rt, &mut text, row.as_bytes());
+        add(rt, &mut text, b"\n");
     }
     text
 }

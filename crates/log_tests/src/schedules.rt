@@ -1,6 +1,6 @@
 //! What texts tell.
 
-use crate::fixtures::same_at;
+use crate::fixtures::{add, same_at};
 use funnel::Turn;
 use funnel::Turn::{Collect, Hart};
 use linked_list_allocator::LocalHeap;
@@ -80,11 +80,11 @@ fn tells_turns(rt: HostRuntime) {
 fn tells_of_a_turn_too_many(rt: HostRuntime) {
     let mut text = Vec::new(rt.alloc());
     for _ in 0..16_777_216u32 {
-        text.extend_from_slice(b"c ").expect(&rt, "memory");
+        add(&rt, &mut text, b"c ");
     }
     let turns = read_schedule(rt.alloc(), 1, text.as_slice()).expect(&rt, "turns");
     same_at(&rt, "the most", turns.len(), 16_777_216);
-    text.push(b'x').expect(&rt, "memory");
+    add(&rt, &mut text, b"x");
     let whole = read_schedule(rt.alloc(), 1, text.as_slice());
     same_at(&rt, "one more", whole.err(), Some(ScheduleFault::TooLong));
 }

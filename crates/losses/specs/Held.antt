@@ -27,7 +27,8 @@ BeginsAt (packet.Support (support.Open mode)) before events = before ≡ []
 BeginsAt other before events = ⊥
 
 -- The events are those of a log from the ones of the packet with the number `first` on. It came, with all others before
--- `end`, which did not come; and with the events of the packets before it they are all that the packets before `end` settle.
+-- `end`, which did not come; and with the events of the packets before it they are all that the packets before `end`
+-- settle.
 pub record IsHeld (words : Words) (period : ℕ) (mode : Mode) (log : List Event) (numbers : List ℕ) (first end : ℕ)
     (events : List Event) : Type 0 where
   pub some : first < end

@@ -4,6 +4,7 @@ use Rattle.losses.specs.Parts.{LogPart, Events, Missing}
 use Rattle.losses.specs.declared.part.Part.{Part}
 use Rattle.losses.specs.declared.part.Part.TheVariants.{Stretch, Gap}
 
+-- A part of a list of the code.
 abbrev pub part_of : {A : Type 0} → Part A → LogPart
 part_of (Stretch events) = Events events.items
 part_of (Gap missing) = Missing missing

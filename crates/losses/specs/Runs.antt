@@ -14,6 +14,7 @@ pub record Run : Type 0 where
   pub missing : ℕ
   pub packets : List Packet
 
+-- A run of these packets, before which so many messages are missing.
 abbrev pub run_of : ℕ → List Packet → Run
 run_of missing packets = record { missing = missing; packets = packets }
 
@@ -27,10 +28,12 @@ abbrev pub missing_behind : ℕ → ℕ → ℕ
 missing_behind zero before = before
 missing_behind (suc missing) before = suc missing
 
+-- The packets that it has then.
 abbrev pub packets_behind : ℕ → List Packet → List Packet
 packets_behind zero packets = packets
 packets_behind (suc missing) packets = []
 
+-- The run itself.
 abbrev pub run_behind : ℕ → Run → Run
 run_behind missing run = run_of (missing_behind missing run.missing) (packets_behind missing run.packets)
 
@@ -61,6 +64,7 @@ abbrev pub mode_or : Mode → Packet → Mode
 mode_or mode (packet.Support (support.Open told)) = told
 mode_or mode other = mode
 
+-- The mode that the first of these packets tells, where no message is missing before it.
 abbrev pub mode_of_first : ℕ → Mode → List Packet → Mode
 mode_of_first zero mode (packet ∷ packets) = mode_or mode packet
 mode_of_first missing mode packets = mode
@@ -87,6 +91,7 @@ abbrev pub trace_after : ℕ → Mode → List Packet → List Packet
 trace_after zero mode packets = packets
 trace_after (suc missing) mode packets = opened mode (from_sync packets)
 
+-- The trace of a run.
 abbrev pub trace_of_run : Mode → Run → List Packet
 trace_of_run mode run = trace_after run.missing mode run.packets
 

@@ -12,16 +12,16 @@ use payload::Mode;
 use rvclass::Program;
 use std::process::Abort;
 
-const OPEN: &[u8] = &[0x1f];
+const OPEN: &[u8] = b"\x1f";
 
-const FIRST: &[u8] = &[0x73, 0, 0, 0, 0x20];
+const FIRST: &[u8] = b"\x73\0\0\0\x20";
 
-const ADDRESS: &[u8] = &[0x0a];
+const ADDRESS: &[u8] = b"\x0a";
 
-const THIRD: &[u8] = &[0x73, 2, 0, 0, 0x20];
+const THIRD: &[u8] = b"\x73\x02\0\0\x20";
 
 /// The payload of a synchronisation at the address behind the program.
-const OFF_PROGRAM: &[u8] = &[0x73, 3, 0, 0, 0x20];
+const OFF_PROGRAM: &[u8] = b"\x73\x03\0\0\x20";
 
 /// The last number of a message.
 const LAST: u64 = (1 << 63) - 1;
@@ -83,14 +83,25 @@ const ROWS: [Row; 10] = [
 ];
 
 /// The messages of a row are not collected for its reason.
-fn is_told<R: Abort + AllocGlobal>(rt: &R, program: &Program, place: usize, row: Row) {
-    let (count, sent, fault) = row;
+fn is_told<R: Abort + AllocGlobal>(
+    rt: &R,
+    program: &Program,
+    place: usize,
+    (count, sent, fault): &Row,
+) {
     let mut messages = Vec::new(rt.alloc());
     for (hart, number, payload) in sent {
-        add(rt, &mut messages, hart, number, payload);
+        add(rt, &mut messages, *hart, *number, payload);
     }
-    let told = collect_lossy(rt.alloc(), program, count, Mode::Differential, &messages).err();
-    same_at(rt, place, told, Some(fault));
+    let told = collect_lossy(rt.alloc(), program, *count, Mode::Differential, &messages).err();
+    same_at(rt, place, told, Some(*fault));
+}
+
+/// None of the messages of each row are collected.
+fn are_told<R: Abort + AllocGlobal>(rt: &R, program: &Program, rows: &[Row]) {
+    for (place, row) in rows.iter().enumerate() {
+        is_told(rt, program, place, row);
+    }
 }
 
 /// A message that is refused and a packet that is not decoded are told with their places, behind those of other harts
@@ -99,9 +110,7 @@ fn is_told<R: Abort + AllocGlobal>(rt: &R, program: &Program, place: usize, row:
 #[test]
 fn faults_have_places(rt: HostRuntime) {
     let program = program_of(&rt, &NOPS);
-    for (place, row) in ROWS.into_iter().enumerate() {
-        is_told(&rt, &program, place, row);
-    }
+    are_told(&rt, &program, &ROWS);
 }
 
 /// Faults and their texts, in which no place stands.
@@ -115,11 +124,16 @@ const TEXTS: [(LossyFault, &str); 4] = [
     (LossyFault::Memory, "out of memory"),
 ];
 
+/// This is the text of the fault.
+fn tells<R: Abort + AllocGlobal>(rt: &R, fault: LossyFault, text: &str) {
+    let told = format!(in rt.alloc(); "{fault}").expect(rt, "memory");
+    same_at(rt, fault, told.as_str(), text);
+}
+
 #[test]
 fn faults_as_text(rt: HostRuntime) {
     for (fault, text) in TEXTS {
-        let told = format!(in rt.alloc(); "{fault}").expect(&rt, "memory");
-        assert!(rt; told.as_str() == text, "{told} at {text}");
+        tells(&rt, fault, text);
     }
 }
 

@@ -124,21 +124,44 @@ pub(crate) struct Sent {
     pub(crate) delay: usize,
 }
 
+/// Adds the message that a hart sends at this time, if one comes then.
+fn add_at<R: Abort>(rt: &R, messages: &mut Vec<Message>, time: usize, hart: u16, sent: &Sent) {
+    let number = time.wrapping_sub(sent.delay);
+    if sent.came.get(number) != Some(&true) {
+        return;
+    }
+    if let Some(payload) = sent.payloads.get(number) {
+        add(rt, messages, hart, number as u64, payload.bytes());
+    }
+}
+
 /// The messages of up to eight harts, mixed.
 pub(crate) fn mixed<R: Abort + AllocGlobal>(rt: &R, harts: &[Sent]) -> Vec<Message> {
     let mut messages = Vec::new(rt.alloc());
     for time in 0..100usize {
         for (hart, sent) in harts.iter().enumerate() {
-            let number = time.wrapping_sub(sent.delay);
-            if let Some(payload) = sent.payloads.get(number)
-                && sent.came.get(number) == Some(&true)
-            {
-                let hart = hart.min(8) as u16;
-                add(rt, &mut messages, hart, number as u64, payload.bytes());
-            }
+            add_at(rt, &mut messages, time, hart.min(8) as u16, sent);
         }
     }
     messages
+}
+
+/// The payloads of a log.
+fn payloads_of_log<R: Abort + AllocGlobal>(
+    rt: &R,
+    log: &LegalLog<'_>,
+    period: u16,
+    mode: Mode,
+) -> Vec<Payload> {
+    let mut payloads = Vec::new(rt.alloc());
+    let mut source = Source::new(log, period.max(1), mode);
+    for _ in 0..100 {
+        let Some(payload) = source.next() else {
+            break;
+        };
+        payloads.push(payload).ok().expect(rt, "memory");
+    }
+    payloads
 }
 
 /// The payloads of the log of these events.
@@ -152,12 +175,5 @@ pub(crate) fn payloads_of<R: Abort + AllocGlobal>(
     assert!(rt; events.len() <= 1 << 24, "a log is too long");
     let log = events.to_vec(rt.alloc()).expect(rt, "memory");
     let log = LegalLog::new(program, log).ok().expect(rt, "a legal log");
-    let mut payloads = Vec::new(rt.alloc());
-    let mut source = Source::new(&log, period.max(1), mode);
-    for _ in 0..100 {
-        if let Some(payload) = source.next() {
-            payloads.push(payload).ok().expect(rt, "memory");
-        }
-    }
-    payloads
+    payloads_of_log(rt, &log, period, mode)
 }

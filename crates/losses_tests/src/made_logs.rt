@@ -1,21 +1,31 @@
 //! Losses of logs which branch, jump back, return and take traps. The parts are compared with positions in the log:
 //! such as were worked by hand, and those of a plain reading of the rules of docs/FORMATS.md.
 
-use crate::collected::{Wanted, add, are_wanted, pieces_of};
+use crate::collected::{add, are_wanted, parts_of, pieces_of};
 use crate::made::{Draws, Sent, WORDS, interrupted, mixed, payloads_of, program_of, retired};
 use crate::reading::{Reading, left};
 use crate::same::same_at;
 use losses::HartPieces;
-use payload::Mode;
+use message::Message;
+use payload::{Mode, Payload};
 use retire::Event;
 use rvclass::Program;
 use std::process::Abort;
 
-/// The modes in which addresses are told.
-const MODES: [Mode; 2] = [Mode::Differential, Mode::Full];
+/// The digits of the messages that are lost, the text of the parts that are wanted, and whether the hart is closed.
+type Row = (&'static [u8], &'static [u8], bool);
 
-/// The numbers of the messages that are lost, the parts that are wanted, and whether the hart is closed.
-type Row = (&'static [usize], &'static [Wanted], bool);
+/// The messages of hart 0 with these payloads, at most ten, but for those whose digits are lost.
+fn messages_but<R: Abort + AllocGlobal>(rt: &R, payloads: &[Payload], lost: &[u8]) -> Vec<Message> {
+    let mut messages = Vec::new(rt.alloc());
+    for (number, payload) in payloads.iter().enumerate() {
+        let digit = b'0' + number.min(9) as u8;
+        if !lost.contains(&digit) {
+            add(rt, &mut messages, 0, number as u64, payload.bytes());
+        }
+    }
+    messages
+}
 
 /// Of the log of these events, with synchronisations of this period, a hart sends so many messages in this mode, and
 /// the parts of a row are left.
@@ -24,42 +34,47 @@ fn is_left<R: Abort + AllocGlobal>(
     program: &Program,
     events: &[Event],
     (period, count): (u16, usize),
-    mode: Mode,
-    (place, row): (usize, Row),
+    (mode, place): (Mode, usize),
+    (lost, wanted, closed): &Row,
 ) {
-    let (lost, wanted, closed) = row;
     let payloads = payloads_of(rt, program, events, period, mode);
     same_at(rt, (mode, place), payloads.len(), count);
-    let mut messages = Vec::new(rt.alloc());
-    for (number, payload) in payloads.iter().enumerate() {
-        if !lost.contains(&number) {
-            add(rt, &mut messages, 0, number as u64, payload.bytes());
-        }
-    }
+    let messages = messages_but(rt, &payloads, lost);
     let harts = pieces_of(rt, (mode, place), program, 1, mode, &messages);
-    match harts.as_slice() {
-        [pieces] => are_wanted(rt, (mode, place), events, pieces, wanted, closed),
-        _ => panic!(rt; "at {mode:?}, {place}: other than one hart"),
+    same_at(rt, (mode, place), harts.len(), 1);
+    let pieces = harts.first().expect(rt, "a hart");
+    let wanted = parts_of(rt, wanted);
+    are_wanted(rt, (mode, place), events, pieces, &wanted, *closed);
+}
+
+/// The parts of each row are left, in each mode.
+fn are_left<R: Abort + AllocGlobal>(
+    rt: &R,
+    program: &Program,
+    events: &[Event],
+    sent: (u16, usize),
+    rows: &[Row],
+) {
+    for (place, row) in rows.iter().enumerate() {
+        is_left(rt, program, events, sent, (Mode::Differential, place), row);
+        is_left(rt, program, events, sent, (Mode::Full, place), row);
     }
 }
 
-/// The stretch behind the last synchronisation.
-const LAST: Wanted = Wanted::Events(8, 11);
-
 const OF_A_TRAP: [Row; 13] = [
-    (&[], &[Wanted::Events(0, 11)], true),
-    (&[0], &[Wanted::Gap(1), Wanted::Events(0, 11)], true),
-    (&[0, 1], &[Wanted::Gap(2), LAST], true),
-    (&[1], &[Wanted::Gap(1), LAST], true),
-    (&[2], &[Wanted::Events(0, 1), Wanted::Gap(1), LAST], true),
-    (&[3], &[Wanted::Events(0, 3), Wanted::Gap(1), LAST], true),
-    (&[4], &[Wanted::Events(0, 3), Wanted::Gap(1), LAST], true),
-    (&[5], &[Wanted::Events(0, 6), Wanted::Gap(1), LAST], true),
-    (&[6], &[Wanted::Events(0, 8), Wanted::Gap(1)], true),
-    (&[7], &[Wanted::Events(0, 9), Wanted::Gap(1)], true),
-    (&[8], &[Wanted::Events(0, 9), Wanted::Gap(1)], true),
-    (&[9], &[Wanted::Events(0, 10)], false),
-    (&[1, 4, 5], &[Wanted::Gap(1), Wanted::Gap(2), LAST], true),
+    (b"", b"00-11", true),
+    (b"0", b"gap 1 00-11", true),
+    (b"01", b"gap 2 08-11", true),
+    (b"1", b"gap 1 08-11", true),
+    (b"2", b"00-01 gap 1 08-11", true),
+    (b"3", b"00-03 gap 1 08-11", true),
+    (b"4", b"00-03 gap 1 08-11", true),
+    (b"5", b"00-06 gap 1 08-11", true),
+    (b"6", b"00-08 gap 1", true),
+    (b"7", b"00-09 gap 1", true),
+    (b"8", b"00-09 gap 1", true),
+    (b"9", b"00-10", false),
+    (b"145", b"gap 1 gap 2 08-11", true),
 ];
 
 /// A log with a jump back and a trap, of ten packets: 0 opens the trace; 1 is a synchronisation at event 0; 2 tells the
@@ -82,25 +97,17 @@ fn a_trap_and_a_jump_back(rt: HostRuntime) {
         retired(4, 5),
     ];
     let program = program_of(&rt, &WORDS);
-    for mode in MODES {
-        for row in OF_A_TRAP.into_iter().enumerate() {
-            is_left(&rt, &program, &events, (7, 10), mode, row);
-        }
-    }
+    are_left(&rt, &program, &events, (7, 10), &OF_A_TRAP);
 }
 
 const OF_A_FULL_MAP: [Row; 7] = [
-    (&[], &[Wanted::Events(0, 33)], true),
-    (&[0], &[Wanted::Gap(1), Wanted::Events(0, 33)], true),
-    (&[1], &[Wanted::Gap(1)], true),
-    (&[2], &[Wanted::Events(0, 1), Wanted::Gap(1)], true),
-    (&[3], &[Wanted::Events(0, 32), Wanted::Gap(1)], true),
-    (
-        &[0, 3],
-        &[Wanted::Gap(1), Wanted::Events(0, 32), Wanted::Gap(1)],
-        true,
-    ),
-    (&[4], &[Wanted::Events(0, 32)], false),
+    (b"", b"00-33", true),
+    (b"0", b"gap 1 00-33", true),
+    (b"1", b"gap 1", true),
+    (b"2", b"00-01 gap 1", true),
+    (b"3", b"00-32 gap 1", true),
+    (b"03", b"gap 1 00-32 gap 1", true),
+    (b"4", b"00-32", false),
 ];
 
 /// The log of a branch to itself that is taken 32 times and then not, of five packets: 0 opens the trace; 1 is a
@@ -111,11 +118,7 @@ fn a_full_branch_map(rt: HostRuntime) {
     let program = program_of(&rt, &[0x0000_0063]);
     let mut events = [retired(0, 5); 33];
     events[32] = retired(0, 4);
-    for mode in MODES {
-        for row in OF_A_FULL_MAP.into_iter().enumerate() {
-            is_left(&rt, &program, &events, (1024, 5), mode, row);
-        }
-    }
+    are_left(&rt, &program, &events, (1024, 5), &OF_A_FULL_MAP);
 }
 
 /// One to eight harts with made logs, of whose messages random ones are lost.

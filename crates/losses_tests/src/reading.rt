@@ -5,7 +5,7 @@ use retire::Event;
 use std::process::Abort;
 
 /// What a packet is to a stretch: it begins one, or it is not settled before another comes.
-#[derive(Clone, Copy, PartialEq, Eq)]
+#[derive(Clone, Copy)]
 pub(crate) enum Kind {
     Begins,
     Waits,
@@ -127,13 +127,12 @@ fn stretch(packets: &[(Kind, usize)], came: &[bool], first: usize) -> Option<Wan
         if came.get(number) != Some(&true) {
             break;
         }
-        if from.is_none() && *kind == Kind::Begins {
+        if from.is_none() && matches!(kind, Kind::Begins) {
             from = Some(begin(packets, number));
         }
-        to = if *kind == Kind::Waits {
-            begin(packets, number)
-        } else {
-            *behind
+        to = match kind {
+            Kind::Waits => begin(packets, number),
+            _ => *behind,
         };
     }
     match from {

@@ -1,6 +1,6 @@
 //! Losses of a log of three words, worked by hand.
 
-use crate::collected::{Wanted, add, are_wanted, pieces_of};
+use crate::collected::{add, are_wanted, parts_of, pieces_of};
 use crate::made::{program_of, retired};
 use message::Message;
 use payload::Mode;
@@ -14,29 +14,30 @@ pub(crate) const NOPS: [u32; 3] = [0x0000_0013; 3];
 /// of an address, of the third word, and the closing one.
 pub(crate) fn payload_of(number: u64) -> &'static [u8] {
     match number {
-        0 => &[0x1f],
-        1 => &[0x73, 0, 0, 0, 0x20],
-        2 => &[0x0a],
-        3 => &[0x73, 2, 0, 0, 0x20],
-        _ => &[0xcf, 0],
+        0 => b"\x1f",
+        1 => b"\x73\0\0\0\x20",
+        2 => b"\x0a",
+        3 => b"\x73\x02\0\0\x20",
+        _ => b"\xcf\0",
     }
 }
 
 /// The payload with this number, with addresses told in this mode.
 fn payload_in(mode: Mode, number: u64) -> &'static [u8] {
     match (mode, number) {
-        (Mode::Full, 0) => &[0x1f, 0x01],
-        (Mode::Full, 2) => &[0x0a, 0, 0, 0, 1],
+        (Mode::Full, 0) => b"\x1f\x01",
+        (Mode::Full, 2) => b"\x0a\0\0\0\x01",
         _ => payload_of(number),
     }
 }
 
-/// The messages of hart 0 with these numbers, and all five of hart 1, mixed, with addresses told in this mode.
-fn messages_of<R: Abort + AllocGlobal>(rt: &R, told: Mode, numbers: &[u64]) -> Vec<Message> {
+/// The messages of hart 0 with these digits, and all five of hart 1, mixed, with addresses told in this mode.
+fn messages_of<R: Abort + AllocGlobal>(rt: &R, told: Mode, digits: &[u8]) -> Vec<Message> {
     let mut messages = Vec::new(rt.alloc());
-    for number in 0..5 {
+    for digit in b'0'..b'5' {
+        let number = u64::from(digit - b'0');
         let payload = payload_in(told, number);
-        if numbers.contains(&number) {
+        if digits.contains(&digit) {
             add(rt, &mut messages, 0, number, payload);
         }
         add(rt, &mut messages, 1, number, payload);
@@ -45,56 +46,26 @@ fn messages_of<R: Abort + AllocGlobal>(rt: &R, told: Mode, numbers: &[u64]) -> V
 }
 
 /// All three events.
-const ALL: &[Wanted] = &[Wanted::Events(0, 3)];
+const ALL: &[u8] = b"00-03";
 
-/// The mode that is handed in, that in which addresses are told, the numbers of the messages of hart 0 that come, the
-/// parts that are wanted of its log, and whether it is closed.
-type Row = (Mode, Mode, &'static [u64], &'static [Wanted], bool);
+/// The mode that is handed in, that in which addresses are told, the digits of the messages of hart 0 that come, the
+/// text of the parts that are wanted of its log, and whether it is closed.
+type Row = (Mode, Mode, &'static [u8], &'static [u8], bool);
 
 /// Full addresses are read where the packet that opens the trace tells so, whatever mode is handed in, and where the
 /// mode that is handed in does and this packet is lost.
 const ROWS: [Row; 11] = [
-    (D, D, &[0, 1, 2, 3, 4], ALL, true),
-    (
-        D,
-        D,
-        &[1, 2, 3, 4],
-        &[Wanted::Gap(1), Wanted::Events(0, 3)],
-        true,
-    ),
-    (
-        D,
-        D,
-        &[0, 2, 3, 4],
-        &[Wanted::Gap(1), Wanted::Events(2, 3)],
-        true,
-    ),
-    (
-        D,
-        D,
-        &[0, 1, 3, 4],
-        &[Wanted::Events(0, 1), Wanted::Gap(1), Wanted::Events(2, 3)],
-        true,
-    ),
-    (
-        D,
-        D,
-        &[0, 1, 2, 4],
-        &[Wanted::Events(0, 1), Wanted::Gap(1)],
-        true,
-    ),
-    (D, D, &[0, 1, 2, 3], ALL, false),
-    (D, D, &[0, 4], &[Wanted::Gap(3)], true),
-    (D, D, &[2, 4], &[Wanted::Gap(2), Wanted::Gap(1)], true),
-    (F, F, &[0, 1, 2, 3, 4], ALL, true),
-    (D, F, &[0, 1, 2, 3, 4], ALL, true),
-    (
-        F,
-        F,
-        &[1, 2, 3, 4],
-        &[Wanted::Gap(1), Wanted::Events(0, 3)],
-        true,
-    ),
+    (D, D, b"01234", ALL, true),
+    (D, D, b"1234", b"gap 1 00-03", true),
+    (D, D, b"0234", b"gap 1 02-03", true),
+    (D, D, b"0134", b"00-01 gap 1 02-03", true),
+    (D, D, b"0124", b"00-01 gap 1", true),
+    (D, D, b"0123", ALL, false),
+    (D, D, b"04", b"gap 3", true),
+    (D, D, b"24", b"gap 2 gap 1", true),
+    (F, F, b"01234", ALL, true),
+    (D, F, b"01234", ALL, true),
+    (F, F, b"1234", b"gap 1 00-03", true),
 ];
 
 const D: Mode = Mode::Differential;
@@ -102,17 +73,28 @@ const D: Mode = Mode::Differential;
 const F: Mode = Mode::Full;
 
 /// The parts of hart 0 are those of a row, and hart 1 has all.
-fn are_those_of<R: Abort + AllocGlobal>(rt: &R, program: &Program, place: usize, row: Row) {
-    let (handed, told, numbers, wanted, closed) = row;
+fn are_those_of<R: Abort + AllocGlobal>(
+    rt: &R,
+    program: &Program,
+    place: usize,
+    (handed, told, digits, wanted, closed): &Row,
+) {
     let log = [retired(0, 0), retired(4, 0), retired(8, 0)];
-    let messages = messages_of(rt, told, numbers);
-    let harts = pieces_of(rt, place, program, 2, handed, &messages);
+    let messages = messages_of(rt, *told, digits);
+    let harts = pieces_of(rt, place, program, 2, *handed, &messages);
     match harts.as_slice() {
         [first, second] => {
-            are_wanted(rt, (place, 0), &log, first, wanted, closed);
-            are_wanted(rt, (place, 1), &log, second, ALL, true);
+            are_wanted(rt, (place, 0), &log, first, &parts_of(rt, wanted), *closed);
+            are_wanted(rt, (place, 1), &log, second, &parts_of(rt, ALL), true);
         }
         _ => panic!(rt; "at {place}: other than two harts"),
+    }
+}
+
+/// The parts are those of each row.
+fn are_those_of_each<R: Abort + AllocGlobal>(rt: &R, program: &Program, rows: &[Row]) {
+    for (place, row) in rows.iter().enumerate() {
+        are_those_of(rt, program, place, row);
     }
 }
 
@@ -120,7 +102,5 @@ fn are_those_of<R: Abort + AllocGlobal>(rt: &R, program: &Program, place: usize,
 #[test]
 fn losses_by_table(rt: HostRuntime) {
     let program = program_of(&rt, &NOPS);
-    for (place, row) in ROWS.into_iter().enumerate() {
-        are_those_of(&rt, &program, place, row);
-    }
+    are_those_of_each(&rt, &program, &ROWS);
 }

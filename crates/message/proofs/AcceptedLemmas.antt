@@ -33,14 +33,6 @@ AreAccepted-next expected [] message packet all answer = (ap is_ok answer, tt)
 AreAccepted-next expected (first ∷ messages) message packet all answer =
     (all.0, AreAccepted-next (harts_after expected first) messages message packet all.1 answer)
 
--- The first of accepted messages are accepted, and the others after them.
-pub AreAccepted-split : (expected : Harts) (front rest : List Message) → AreAccepted expected (front ++ rest)
-    → AreAccepted expected front × AreAccepted (expected_after expected front) rest
-AreAccepted-split expected [] rest all = (tt, all)
-AreAccepted-split expected (first ∷ front) rest all =
-    let behind = AreAccepted-split (harts_after expected first) front rest all.1 in
-    ((all.0, behind.0), behind.1)
-
 -- A packet that is answered.
 pub answered : (answer : Result Packet DemuxFault) → IsOk answer → (packet : Packet) × (answer ≡ Ok packet)
 answered (Ok packet) is = (packet, refl)

@@ -70,10 +70,6 @@ kind (Err (fault.Packet why)) = 5
 pub apart : {T : Type 0} (a b : Result T DemuxFault) → (kind a < kind b) ⊎ (kind b < kind a) → a ≡ b → ⊥
 apart a b less e = let same = ap kind e in omega (arith, same, less)
 
-kind-packet_or_fault : (r : Result Packet PackFault) → (kind (packet_or_fault r) ≡ 0) ⊎ (kind (packet_or_fault r) ≡ 5)
-kind-packet_or_fault (Ok packet) = inl refl
-kind-packet_or_fault (Err why) = inr refl
-
 -- What a payload gives is no answer of another kind.
 unpacked_apart : (a : Answer) (r : Result Packet PackFault) → (kind a ≡ 0 → ⊥) → (kind a ≡ 5 → ⊥)
     → packet_or_fault r ≡ a → ⊥

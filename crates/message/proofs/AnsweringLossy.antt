@@ -1,5 +1,5 @@
 -- What is answered to a message where messages before it may be lost, by the tests in their order.
-use Rattle.std.proofs.Common.{◌≡◌, ◌+◌, ◌-◌, ◌<◌, ◌≤◌, ◌^◌, ◌⊎◌, ◌↔◌, ℕ, Bool, true, false, Option, Some, None, Result}
+use Rattle.std.proofs.Common.{◌≡◌, ◌+◌, ◌-◌, ◌<◌, ◌≤◌, ◌^◌, ◌↔◌, ℕ, Bool, true, false, Option, Some, None, Result}
 use Rattle.std.proofs.Common.{Ok, Err, arith, nat_lt, refl, sym, inl, inr, length, slice_get, ap, if◌then◌else◌, ◌∙◌}
 use Rattle.std.specs.Prelude.{IsSomeAnd, not, ◌||◌}
 use Rattle.std.proofs.lemmas.Bool.{ltb-true, ltb-false, lt-ltb, le-ltb}
@@ -47,11 +47,6 @@ by_tests_lossy h m P over low high taken =
     go false true g p q r = low p (ltb-true m.number h.expected q)
     go false false true p q r = taken p (ltb-false m.number h.expected q) (ltb-true m.number (2 ^ 63) r)
     go false false false p q r = high p (ltb-false m.number h.expected q) (ltb-false m.number (2 ^ 63) r)
-
-kind-packet_after_loss : (missed : ℕ) (r : Result Packet PackFault)
-    → (kind (packet_after_loss missed r) ≡ 0) ⊎ (kind (packet_after_loss missed r) ≡ 5)
-kind-packet_after_loss missed (Ok packet) = inl refl
-kind-packet_after_loss missed (Err why) = inr refl
 
 -- What a payload gives is none of the refusals that come before it.
 unpacked_apart : (missed : ℕ) (r : Result Packet PackFault) (a : Answer) → (1 ≤ kind a) × (kind a ≤ 4)

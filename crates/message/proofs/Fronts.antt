@@ -4,7 +4,8 @@ use Rattle.std.proofs.Common.{if◌then◌else◌, List, [], ◌∷◌, Option, 
 use Rattle.std.proofs.Common.{take, drop, replicate, slice_index, refl, sym, ap, subst, ◌∙◌, arith, inl, inr}
 use Rattle.std.proofs.Common.{◌⊎◌, take-append-drop, length-take-le}
 use Rattle.std.proofs.lemmas.Bool.{ltb-true, ltb-false, le-ltb, eqb-true, eqb-false, ne_eqb, or_cases, or_parts}
-use Rattle.std.proofs.lemmas.List.{length-append, length-drop, length-replicate, drop-drop, get_or-take, nil_from_length}
+use Rattle.std.proofs.lemmas.List.{length-append, length-drop, length-replicate, drop-drop, get_or-take}
+use Rattle.std.proofs.lemmas.List.{nil_from_length}
 use Rattle.std.proofs.lemmas.List.{get_or_append_left}
 use lib.Seq.{take-append_seam}
 use Rattle.message.specs.Capture.{message_bytes}
@@ -260,9 +261,11 @@ front_of bytes are = by_tests bytes (λ r. Stands bytes r → Front bytes)
     (λ some few fits stands.
     let count = slice_index bytes 10 in
     let left = length-drop 11 bytes in
-    let long : length (take count (drop 11 bytes)) ≡ count = length-take-le count (drop 11 bytes) (omega (arith, left, fits)) in
+    let long : length (take count (drop 11 bytes)) ≡ count = length-take-le count (drop 11 bytes)
+    (omega (arith, left, fits)) in
     let ranges =
     message_of-ranges (take 11 bytes) (take count (drop 11 bytes)) (AreBytes-take 11 bytes are)
-    (AreBytes-take count (drop 11 bytes) (AreBytes-drop 11 bytes are)) (omega (arith, long, some)) (omega (arith, long, few)) in
+    (AreBytes-take count (drop 11 bytes) (AreBytes-drop 11 bytes are)) (omega (arith, long, some))
+    (omega (arith, long, few)) in
     inr (inr (inr (_, _, ranges, stands.0))))
     (first_message-stands bytes are)

@@ -1,9 +1,8 @@
 -- The settings of a header that were read.
-use Rattle.std.proofs.Common.{◌≡◌, ◌++◌, ℕ, zero, suc, List, [], ◌∷◌, length, drop, slice_index, refl, sym, ap, ◌∙◌, arith}
-use Rattle.std.proofs.Common.{subst}
+use Rattle.std.proofs.Common.{◌≡◌, ◌++◌, ℕ, zero, suc, List, [], ◌∷◌, length, drop, slice_index, sym, ap, ◌∙◌}
+use Rattle.std.proofs.Common.{arith}
 use Rattle.byteorder.specs.Endian.{little_number, little_bytes}
-use Rattle.byteorder.specs.Numbers.{little_number-reads_back}
-use Rattle.message.specs.Header.{IsHeader, mode_byte, setting_bytes}
+use Rattle.message.specs.Header.{mode_byte, setting_bytes}
 use Rattle.message.specs.steps.Filling.{AreBytes}
 use Rattle.message.specs.declared.header.Header.{Header}
 use Rattle.message.proofs.LittleBytes.{little_bytes-little_number}
@@ -31,12 +30,3 @@ pub record AreTold (h : Header) (bytes : List ℕ) : Type 0 where
   pub mode : slice_index bytes 0 ≡ mode_byte h.mode
   pub period : little_number 2 (drop 1 bytes) ≡ h.period
   pub harts : little_number 2 (drop 3 bytes) ≡ h.harts
-
-pub settings_told : (bytes : List ℕ) (h : Header) → IsHeader h → setting_bytes h ≡ bytes → AreTold h bytes
-settings_told bytes h is same =
-    let few = is.harts in
-    subst (AreTold h) same (record {
-      mode = refl;
-      period = little_number-reads_back 2 h.period (little_bytes 2 h.harts) is.period;
-      harts = little_number-reads_back 2 h.harts [] (omega (arith, few));
-    })

@@ -40,7 +40,8 @@ header_only h k xs ys is also same =
     let few = is.harts in
     let few_too = also.harts in
     let mode = same_mode h.mode k.mode (ap (λ l. slice_index l 11) same) in
-    let period : h.period ≡ k.period = sym (little_number-reads_back 2 h.period (drop 14 (header_bytes h ++ xs)) is.period)
+    let period : h.period ≡ k.period = sym (little_number-reads_back 2 h.period (drop 14 (header_bytes h ++ xs))
+    is.period)
     ∙ ap (λ l. little_number 2 (drop 12 l)) same
     ∙ little_number-reads_back 2 k.period (drop 14 (header_bytes k ++ ys)) also.period in
     let harts : h.harts ≡ k.harts = sym (little_number-reads_back 2 h.harts xs (omega (arith, few)))
@@ -64,7 +65,8 @@ header_reads_back h rest (Ok (Version2 k)) (Some ys) is known =
 header_reads_back h rest (Ok (Version1 (Some m))) None is known = absurd (known.start.1)
 header_reads_back h rest (Ok (Version1 (Some m))) (Some ys) is known =
     absurd (never_both m ys (setting_bytes h ++ rest) known.start.0 (sym known.start.1))
-header_reads_back h rest (Ok (Version1 None)) new is known = absurd (let none = ap length known.start.0 in omega (arith, none))
+header_reads_back h rest (Ok (Version1 None)) new is known =
+    absurd (let none = ap length known.start.0 in omega (arith, none))
 header_reads_back h rest (Err fault.Short) new is known = elim (known.short refl) [
   | inl cut ↦
       let whole = append-nil (message_bytes cut.message) ∙ sym cut.whole in
@@ -87,7 +89,8 @@ message_reads_back m rest (Ok (Version2 k)) (Some ys) is known =
 message_reads_back m rest (Ok (Version1 (Some n))) None is known = absurd (known.start.1)
 message_reads_back m rest (Ok (Version1 (Some n))) (Some ys) is known =
     inl (ap (λ n. Ok (Version1 (Some n))) (sym (message_only m n rest ys is known.start.0 known.start.1)))
-message_reads_back m rest (Ok (Version1 None)) new is known = absurd (let none = ap length known.start.0 in omega (arith, none))
+message_reads_back m rest (Ok (Version1 None)) new is known =
+    absurd (let none = ap length known.start.0 in omega (arith, none))
 message_reads_back m rest (Err fault.Short) new is known = elim (known.short refl) [
   | inl cut ↦ absurd (not_cut m rest is cut)
   | inr cut ↦ absurd (never_both m rest cut.marked.0 is cut.marked.1)

@@ -10,6 +10,7 @@ use Rattle.message.specs.declared.message.Message.{Message}
 use Rattle.message.specs.declared.fault.DemuxFault.{DemuxFault}
 use Rattle.message.specs.declared.fault.DemuxFault.TheVariants as fault
 
+-- What is answered where this was read of a payload.
 abbrev pub packet_or_fault : Result Packet PackFault → Result Packet DemuxFault
 packet_or_fault (Ok packet) = Ok packet
 packet_or_fault (Err why) = Err (fault.Packet why)
@@ -22,6 +23,7 @@ answer h m =
     if nat_lt h.expected m.number then Err (fault.Gap h.expected) else
     packet_or_fault (reading m.payload)
 
+-- What is expected of the hart after a message of it to which this was answered.
 abbrev pub state_by : Hart → Result Packet DemuxFault → Hart
 state_by h (Ok packet) = record { expected = h.expected + 1; closed = is_closing_packet packet }
 state_by h (Err why) = h
@@ -34,6 +36,7 @@ state_after h m = state_by h (answer h m)
 abbrev pub next_of : ℕ → Packet → Hart
 next_of number packet = record { expected = number + 1; closed = is_closing_packet packet }
 
+-- What is answered to a message whose hart has this state, if there is such a hart.
 abbrev pub answer_of : Option Hart → Message → Result Packet DemuxFault
 answer_of None m = Err fault.Stranger
 answer_of (Some h) m = answer h m
@@ -42,6 +45,7 @@ answer_of (Some h) m = answer h m
 abbrev pub accepting : Harts → Message → Result Packet DemuxFault
 accepting harts m = answer_of (slice_get harts m.hart) m
 
+-- What is expected after a message whose hart had this state, if there is such a hart.
 abbrev pub harts_by : Harts → Message → Option Hart → Harts
 harts_by harts m None = harts
 harts_by harts m (Some h) = slice_set harts m.hart (state_after h m)

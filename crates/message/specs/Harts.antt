@@ -15,6 +15,7 @@ newcomer = record { expected = 0; closed = false }
 abbrev pub is_over : Hart → Bool
 is_over h = h.closed || not (nat_lt h.expected (2 ^ 63))
 
+-- There is such a hart, and its closing packet was accepted.
 abbrev pub is_closed : Option Hart → Bool
 is_closed None = false
 is_closed (Some h) = h.closed

@@ -3,7 +3,9 @@ use Rattle.std.specs.Prelude.{ℕ, ◌≡◌, ◌≢◌, ◌≤◌, ◌<◌, ◌
 use Rattle.byteorder.specs.Endian.{little_bytes}
 use Rattle.payload.specs.declared.mode.Mode.{Mode}
 use Rattle.payload.specs.declared.mode.Mode.TheVariants.{Differential, Full}
+use Rattle.message.specs.Version.{most_harts}
 use Rattle.message.specs.declared.header.Header.{Header}
+use Rattle.message.specs.declared.header.Version.TheVariants.{Two}
 
 -- The bytes with which a capture of version 2 begins: ff ff and the letters rvtrace2 where a message has its hart and
 -- its number, and 0 where a message has its payload's length, so that no message begins with them.
@@ -28,7 +30,7 @@ pub record IsHeader (header : Header) : Type 0 where
   pub some_period : 1 ≤ header.period
   pub period : header.period < 2 ^ 16
   pub some_harts : 1 ≤ header.harts
-  pub harts : header.harts ≤ 1024
+  pub harts : header.harts ≤ most_harts Two
 
 -- The bytes begin with the mark.
 abbrev pub IsMarked : List ℕ → Type 0

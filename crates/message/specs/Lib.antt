@@ -1,5 +1,6 @@
 pub mod OfHart
 pub mod Numbered
+pub mod Capacity
 pub mod Capture
 pub mod Cut
 pub mod Header

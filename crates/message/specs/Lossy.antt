@@ -25,10 +25,12 @@ answer_lossy h m =
     if nat_lt m.number (2 ^ 63) then packet_after_loss (m.number - h.expected) (reading m.payload) else
     Err (fault.Gap h.expected)
 
+-- What is expected of the hart after a message of it with this number, to which this was answered.
 abbrev pub state_by_lossy : Hart → ℕ → Result (Packet × ℕ) DemuxFault → Hart
 state_by_lossy h number (Ok taken) = next_of number taken.0
 state_by_lossy h number (Err why) = h
 
+-- What is answered to a message whose hart has this state, if there is such a hart.
 abbrev pub answer_lossy_of : Option Hart → Message → Result (Packet × ℕ) DemuxFault
 answer_lossy_of None m = Err fault.Stranger
 answer_lossy_of (Some h) m = answer_lossy h m
@@ -41,6 +43,7 @@ accepting_lossy harts m = answer_lossy_of (slice_get harts m.hart) m
 abbrev pub state_after_lossy : Hart → Message → Hart
 state_after_lossy h m = state_by_lossy h m.number (answer_lossy h m)
 
+-- What is expected after a message whose hart had this state, if there is such a hart.
 abbrev pub harts_by_lossy : Harts → Message → Option Hart → Harts
 harts_by_lossy harts m None = harts
 harts_by_lossy harts m (Some h) = slice_set harts m.hart (state_after_lossy h m)

@@ -62,6 +62,7 @@ impl<A: Allocator> Demux<A> {
         self.accept_by_hart(message)
     }
 
+    /// As [`Demux::accept`], by the state of the message's hart.
     fn accept_by_hart(&mut self, message: &Message) -> Result<Packet, DemuxFault>
         ensures value { result ≡ accepting self.old message.now }
         ensures state { self.new ≡ harts_after self.old message.now }
@@ -102,6 +103,7 @@ impl<A: Allocator> Demux<A> {
         self.accept_lossy_by_hart(message)
     }
 
+    /// As [`Demux::accept_lossy`], by the state of the message's hart.
     fn accept_lossy_by_hart(&mut self, message: &Message) -> Result<(Packet, u64), DemuxFault>
         ensures value { result ≡ accepting_lossy self.old message.now }
         ensures state { self.new ≡ harts_after_lossy self.old message.now }

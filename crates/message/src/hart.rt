@@ -7,8 +7,8 @@ ghost use Rattle.message.specs.Lossy.{answer_lossy, state_after_lossy};
 use crate::{DemuxFault, Message};
 use payload::{Packet, unpack};
 
-/// How many messages of a hart are accepted at most.
-const MOST: u64 = 1 << 63;
+/// The number from which on no message of a hart is accepted.
+const END_OF_NUMBERS: u64 = 1 << 63;
 
 /// What is expected of a hart.
 #[derive(Clone, Copy, Debug, PartialEq, Eq)]
@@ -31,7 +31,7 @@ impl Hart {
         ensures value { result ≡ is_over self.now }
         ensures few { IsFalse result → self.now.expected < 2 ^ 63 }
     {
-        self.closed || self.expected >= MOST
+        self.closed || self.expected >= END_OF_NUMBERS
     }
 
     /// The packet of the hart's next message.
@@ -71,7 +71,7 @@ impl Hart {
         let Some(missed) = message.number.checked_sub(self.expected) else {
             return Err(DemuxFault::Repeat);
         };
-        if message.number >= MOST {
+        if message.number >= END_OF_NUMBERS {
             return Err(DemuxFault::Gap {
                 expected: self.expected,
             });

@@ -12,7 +12,7 @@ use payload::Payload;
 pub(crate) const HEAD: usize = 11;
 
 /// The most bytes of a payload.
-pub(crate) const MOST: usize = 18;
+pub(crate) const MOST_PAYLOAD_BYTES: usize = 18;
 
 /// The payload's length that a head tells.
 pub(crate) fn payload_length(head: &[u8]) -> Result<usize, MessageFault>
@@ -21,7 +21,7 @@ pub(crate) fn payload_length(head: &[u8]) -> Result<usize, MessageFault>
     ensures fault { IfErr result (λ fault. (fault ≡ MessageFault.BadLength) × IsBadLength (slice_index head.now 10)) }
 {
     let length = usize::from(head[10]);
-    if length == 0 || length > MOST {
+    if length == 0 || length > MOST_PAYLOAD_BYTES {
         return Err(MessageFault::BadLength);
     }
     Ok(length)

@@ -7,6 +7,7 @@
 //! Only [`Demux::new`] takes memory.
 #![tactic(auto)]
 
+mod capacity;
 mod demux;
 mod fault;
 mod hart;
@@ -17,6 +18,7 @@ mod message;
 mod reading;
 mod writing;
 
+pub use capacity::MOST_CAPACITY;
 pub use demux::Demux;
 pub use fault::{DemuxFault, MessageFault};
 pub use header::{Header, MOST_HARTS, Start, Version};

@@ -12,7 +12,7 @@ ghost use Rattle.message.specs.declared.header.Start.{Start as AnyStart};
 ghost use Rattle.message.specs.steps.Filling.{Fills};
 ghost use Rattle.message.specs.declared.message.Message.{Message as AnyMessage};
 
-use crate::head::{HEAD, MOST, message_of, payload_length};
+use crate::head::{HEAD, MOST_PAYLOAD_BYTES, message_of, payload_length};
 use crate::header::{MARK, SETTINGS, header_of};
 use crate::{Header, Message, MessageFault, Start};
 use std::io::{ErrorKind, Read};
@@ -101,6 +101,7 @@ fn read_settings<R: Read>(r: &mut R) -> Result<Header, MessageFault>
     }
 }
 
+/// The message that comes next, or `None` at the end.
 fn next_message<R: Read>(r: &mut R) -> Result<Option<Message>, MessageFault>
     ensures ranges { IfOk result (λ found. IfSome found (λ message. IsMessage message)) }
     ensures message { IfOk result (λ found. IfSome found
@@ -134,7 +135,7 @@ fn read_payload<R: Read>(r: &mut R, head: &[u8]) -> Result<Message, MessageFault
         Ok(length) => length,
         Err(fault) => return Err(fault),
     };
-    let mut bytes = [0; MOST];
+    let mut bytes = [0; MOST_PAYLOAD_BYTES];
     if fill(r, &mut bytes[..length])? < length {
         return Err(MessageFault::Short);
     }

@@ -1,14 +1,11 @@
 -- Beginnings of what is written.
-use Rattle.std.proofs.Common.{◌+◌, ◌-◌, length, subst, ℕ, List, [], ◌++◌, Option, sym, ap, ◌∙◌, append_assoc, append-nil, refl, drop, take, take-append-drop}
-use Rattle.std.proofs.KnownBytes.{Appends-kept, Appends-nil, Appends-trans}
+use Rattle.std.proofs.Common.{◌+◌, ◌-◌, length, subst, ℕ, List, [], ◌++◌, Option, sym, ap, ◌∙◌, append_assoc}
+use Rattle.std.proofs.Common.{append-nil, drop, take, take-append-drop}
+use Rattle.std.proofs.KnownBytes.{Appends-kept, Appends-trans}
 use Rattle.std.proofs.Math.Seq.{take-add}
 use Rattle.std.proofs.lemmas.List.{take_rest}
 use Rattle.std.specs.Io.KnownBytes.{Appends, Keeps}
 use Rattle.output.specs.Begun.{AppendsBeginning}
-
--- Nothing was written yet.
-pub nothing_begun : (text : List ℕ) (old : Option (List ℕ)) → AppendsBeginning text old old
-nothing_begun text old = record { text = []; rest = text; parted = refl; appended = Appends-nil old }
 
 -- The whole of a text was written.
 pub whole_begun : (text : List ℕ) (old new : Option (List ℕ)) → Appends old new text → AppendsBeginning text old new
@@ -25,7 +22,8 @@ begun_kept text old mid new begun kept = record {
 }
 
 -- The first bytes of a text were written.
-pub first_bytes : (text : List ℕ) (n : ℕ) (old new : Option (List ℕ)) → Appends old new (take n text) → AppendsBeginning text old new
+pub first_bytes : (text : List ℕ) (n : ℕ) (old new : Option (List ℕ)) → Appends old new (take n text)
+    → AppendsBeginning text old new
 first_bytes text n old new written =
     record { text = take n text; rest = drop n text; parted = sym (take-append-drop n text); appended = written }
 
@@ -39,7 +37,8 @@ bytes_more text n more old mid new first then =
     (subst (λ rest. Appends mid new (take more rest)) (take_rest text n) then))
 
 -- A beginning of the front was written.
-pub begun_in_front : (front back : List ℕ) (old new : Option (List ℕ)) → AppendsBeginning front old new → AppendsBeginning (front ++ back) old new
+pub begun_in_front : (front back : List ℕ) (old new : Option (List ℕ)) → AppendsBeginning front old new
+    → AppendsBeginning (front ++ back) old new
 begun_in_front front back old new begun = record {
   text = begun.text;
   rest = begun.rest ++ back;

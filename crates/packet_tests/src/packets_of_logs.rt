@@ -4,9 +4,10 @@ mod drawn;
 mod reading;
 mod rows;
 
+use crate::formats::packets::payload_of;
 use encoder::{Encoder, Source};
 use legalpath::LegalLog;
-use payload::{Mode, Packet, Payload, pack};
+use payload::{Mode, Packet, Payload};
 use retire::Event;
 use rvclass::Program;
 use std::process::Abort;
@@ -91,8 +92,7 @@ fn packets_of<R: Abort + AllocGlobal>(
 fn payloads_of<R: Abort + AllocGlobal>(rt: &R, packets: &[Packet]) -> Vec<Payload> {
     let mut payloads = Vec::new(rt.alloc());
     for packet in packets {
-        assert!(rt; packet.in_profile(), "{packet:?} is not of the profile");
-        payloads.push(pack(packet)).expect(rt, "memory");
+        payloads.push(payload_of(rt, packet)).expect(rt, "memory");
     }
     payloads
 }

@@ -1,6 +1,7 @@
 -- Reading one kind after the other names the first fault, or else the packet.
 use Rattle.std.proofs.Common.{◌≡◌, ℕ, zero, suc, ◌+◌, ◌-◌, ◌*◌, ◌%◌, ◌^◌, ◌<◌, ◌≤◌, inl, inr, Bool, true, false, cond}
-use Rattle.std.proofs.Common.{ltb, ◌==◌, ◌&&◌, ◌||◌, not, List, [], length, Some, None, Ok, Err, refl, sym, ap, ◌∙◌, arith}
+use Rattle.std.proofs.Common.{ltb, ◌==◌, ◌&&◌, ◌||◌, not, List, [], length, Some, None, Ok, Err, refl, sym, ap, ◌∙◌}
+use Rattle.std.proofs.Common.{arith}
 use Rattle.std.proofs.Common.{eq-eqb, ne_eqb, eqb-true, lt-ltb, le-ltb, ltb-false}
 use Rattle.std.proofs.lemmas.Bool.{cases_lt, eqb-false, and_parts}
 use Rattle.std.proofs.lemmas.Nat.{mod_below, pow_pos}
@@ -96,12 +97,14 @@ support_order zero zero zero d f b c hi hm hs one e = refl
 support_order zero zero (suc zero) true f b c hi hm hs one e = pad_order b c (packet.Support support.EndedRep) e
 support_order zero zero (suc zero) false f b c hi hm hs one e = refl
 support_order zero zero (suc (suc zero)) d f b c hi hm hs one e = refl
-support_order zero zero (suc (suc (suc zero))) true f b c hi hm hs one e = pad_order b c (packet.Support support.EndedNtr) e
+support_order zero zero (suc (suc (suc zero))) true f b c hi hm hs one e =
+    pad_order b c (packet.Support support.EndedNtr) e
 support_order zero zero (suc (suc (suc zero))) false f b c hi hm hs one e = refl
 support_order (suc zero) zero zero true true b c hi hm hs one e = let no = one refl in absurd (cc)
 support_order (suc zero) zero zero true false b c hi hm hs one e =
     pad_order b c (packet.Support (support.Open mode.Differential)) e
-support_order (suc zero) zero zero false true b c hi hm hs one e = pad_order b c (packet.Support (support.Open mode.Full)) e
+support_order (suc zero) zero zero false true b c hi hm hs one e =
+    pad_order b c (packet.Support (support.Open mode.Full)) e
 support_order (suc zero) zero zero false false b c hi hm hs one e = refl
 support_order (suc zero) zero (suc s) d f b c hi hm hs one e = refl
 

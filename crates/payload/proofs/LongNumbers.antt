@@ -65,17 +65,6 @@ low_part_alone count low high few bound =
     let cut : (low + 2 ^ 128 * high) % 2 ^ 128 ≡ low = omega arith in
     ap (low_bytes count) (sym cut) ∙ low_bytes-mod count 128 (low + 2 ^ 128 * high) (omega arith)
 
-pub both_parts_of : (count low high : ℕ) → 16 ≤ count → low < 2 ^ 128
-    → low_bytes 16 low ++ low_bytes (count - 16) high ≡ low_bytes count (low + 2 ^ 128 * high)
-both_parts_of count low high many bound =
-    let whole : 16 + (count - 16) ≡ count = omega arith in
-    let above : (low + 2 ^ 128 * high) / 2 ^ (8 * 16) ≡ high = omega arith in
-    let split = low_bytes-append 16 (count - 16) (low + 2 ^ 128 * high) in
-    sym (ap (λ k. low_bytes k (low + 2 ^ 128 * high)) (sym whole) ∙ split
-    ∙ ap (λ xs. xs ++ low_bytes (count - 16) ((low + 2 ^ 128 * high) / 2 ^ (8 * 16)))
-    (sym (low_part_alone 16 low high (omega arith) bound))
-    ∙ ap (λ n. low_bytes 16 low ++ low_bytes (count - 16) n) above)
-
 -- 142 bits, with a top bit of 0 and of 1.
 pub shortest_clear : (n count : ℕ) → n < 2 ^ 141 → count ≡ fewest_bytes n → low_bytes count n ≡ shortest_bytes 142 n
 shortest_clear n count h is = rw (is, magnitude_low 142 n h, extended_low 142 n h) refl

@@ -7,7 +7,7 @@ use Rattle.std.proofs.lemmas.Nat.{pow-add}
 use Rattle.std.proofs.lemmas.List.{length-append, length-replicate, drop-replicate, append-nil, take-append-drop}
 use Rattle.std.proofs.lemmas.List.{drop-drop}
 use Rattle.std.proofs.Math.Seq.{take-suc}
-use Rattle.std.specs.Int.{byte_worth, sum_through, from_le_bytes, w16, w32, w64, w128}
+use Rattle.std.specs.Int.{byte_worth, sum_through, from_le_bytes, w128}
 use Rattle.payload.specs.Bytes.{number, IsBytes}
 use Rattle.payload.specs.Faults.{bits_of}
 use Rattle.payload.proofs.ByteLists.{power, number-lt}
@@ -74,10 +74,6 @@ filled n fill xs e few h (inr (set, is)) =
 powers : (k : ℕ) → 256 ^ k ≡ 2 ^ (8 * k)
 powers zero = refl
 powers (suc k) = let there = powers k in rw (power k, pow-suc 256 k) (omega arith)
-
-worth : (i b : ℕ) → byte_worth i b ≡ 2 ^ (8 * i) * b
-worth zero b = omega arith
-worth (suc i) b = rw (powers (suc i)) (omega arith)
 
 take_length : (xs : List ℕ) (k : ℕ) → k ≤ length xs → length (take k xs) ≡ k
 take_length xs zero h = refl
@@ -195,16 +191,6 @@ two_parts k xs a b h some few short is_a is_b =
     pow-le-pow_right {n = 2} (omega arith) {j = 128} (omega (arith, short)) in
     small_sum a (2 ^ (8 * k) * x) (x * 2 ^ (8 * k)) (number xs) (2 ^ (8 * length xs)) whole (mul_comm x (2 ^ (8 * k)))
     (number-lt xs h) wide
-
--- The sums that `from_le_bytes` makes of the bytes of a word.
-pub from_le_8 : (xs : List ℕ) → length xs ≡ 8 → from_le_bytes w64 xs ≡ number xs
-from_le_8 xs h = summed 7 xs (omega arith) ∙ ap number (take_whole xs 8 h)
-
-pub from_le_4 : (xs : List ℕ) → length xs ≡ 4 → from_le_bytes w32 xs ≡ number xs
-from_le_4 xs h = summed 3 xs (omega arith) ∙ ap number (take_whole xs 4 h)
-
-pub from_le_2 : (xs : List ℕ) → length xs ≡ 2 → from_le_bytes w16 xs ≡ number xs
-from_le_2 xs h = summed 1 xs (omega arith) ∙ ap number (take_whole xs 2 h)
 
 -- Bytes, from a bound at each index.
 pub bytes_from_each : (xs : List ℕ) → ((i : ℕ) → get_or xs i 0 < 256) → IsBytes xs

@@ -6,6 +6,7 @@ pub record Field : Type 0 where
   pub width : ℕ
   pub value : ℕ
 
+-- A field of so many bits with this value.
 abbrev pub field : ℕ → ℕ → Field
 field width value = record { width = width; value = value }
 

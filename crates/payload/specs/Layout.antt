@@ -8,6 +8,7 @@ pub record Place : Type 0 where
   pub from : ℕ
   pub width : ℕ
 
+-- The place from this bit on, of so many bits.
 abbrev pub place : ℕ → ℕ → Place
 place from width = record { from = from; width = width }
 

@@ -5,15 +5,18 @@ use Rattle.std.proofs.Common.{◌*◌, cond, eqb, refl, ap, arith}
 use Rattle.std.proofs.Math.Nat.{pow-suc}
 use Rattle.payload.specs.Outcomes.{outcomes, map_of}
 
+-- There are as many outcomes as are counted.
 pub length_outcomes : (count map : ℕ) → length (outcomes count map) ≡ count
 length_outcomes zero map = refl
 length_outcomes (suc count) map = ap suc (length_outcomes count (map / 2))
 
+-- A bit is 0 or 1.
 low_bit : (x : ℕ) → x < 2 → cond (eqb x 0) 0 1 ≡ x
 low_bit zero h = refl
 low_bit (suc zero) h = refl
 low_bit (suc (suc x)) h = absurd (omega arith)
 
+-- The map of the outcomes of a map is that map.
 pub map_outcomes : (count map : ℕ) → map < 2 ^ count → map_of (outcomes count map) ≡ map
 map_outcomes zero map h = omega arith
 map_outcomes (suc count) map h =

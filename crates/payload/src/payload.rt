@@ -7,13 +7,13 @@ use crate::{PackFault, unpack};
 use std::marker::Model;
 
 /// The most bytes of a payload.
-const MOST: usize = 18;
+const MOST_BYTES: usize = 18;
 
 /// One to 18 bytes, held in place.
 #[derive(Debug, PartialEq, Eq, Drop)]
 pub struct Payload {
     /// The bytes, and zeros behind them.
-    bytes: [u8; MOST],
+    bytes: [u8; MOST_BYTES],
     /// How many bytes there are.
     count: u8,
 }
@@ -43,10 +43,10 @@ impl Payload {
         if bytes.is_empty() {
             return Err(PackFault::Empty);
         }
-        if bytes.len() > MOST {
+        if bytes.len() > MOST_BYTES {
             return Err(PackFault::TooLong);
         }
-        let mut held = [0; MOST];
+        let mut held = [0; MOST_BYTES];
         held[..bytes.len()].copy_from_slice(bytes);
         Ok(Payload {
             bytes: held,
@@ -119,10 +119,10 @@ impl Payload {
 
 /// The 18 bytes of `low + 2^128 * high`, in words that a machine stores at once.
 #[inline(always)]
-fn bytes_of(low: u128, high: u16) -> [u8; MOST]
+fn bytes_of(low: u128, high: u16) -> [u8; MOST_BYTES]
     ensures { result ≡ low_bytes 18 (low + 2 ^ 128 * high) }
 {
-    let mut bytes = [0; MOST];
+    let mut bytes = [0; MOST_BYTES];
     bytes[..8].copy_from_slice(&((low % (1 << 64)) as u64).to_le_bytes());
     bytes[8..16].copy_from_slice(&((low >> 64) as u64).to_le_bytes());
     bytes[16..].copy_from_slice(&high.to_le_bytes());

@@ -45,7 +45,8 @@ pub eight-digits : (bytes : List ℕ) (v0 v1 v2 v3 v4 v5 v6 v7 : ℕ) → length
     → v7 ≡ value_or_excess (get_or bytes 7 0)
     → v0 * 268435456 + v1 * 16777216 + v2 * 1048576 + v3 * 65536 + v4 * 4096 + v5 * 256 + v6 * 16 + v7
     < 4294967296
-    → HasDigits bytes (v0 * 268435456 + v1 * 16777216 + v2 * 1048576 + v3 * 65536 + v4 * 4096 + v5 * 256 + v6 * 16 + v7) 8
+    → HasDigits bytes (v0 * 268435456 + v1 * 16777216 + v2 * 1048576 + v3 * 65536 + v4 * 4096 + v5 * 256 + v6 * 16
+    + v7) 8
 eight-digits bytes v0 v1 v2 v3 v4 v5 v6 v7 len e0 e1 e2 e3 e4 e5 e6 e7 small =
     let (i0, o0) = one_digit (get_or bytes 0 0) v0 e0 (omega (arith, small)) in
     let (i1, o1) = one_digit (get_or bytes 1 0) v1 e1 (omega (arith, small)) in

@@ -143,25 +143,6 @@ no_prefix-same (a ∷ b ∷ rest) digits e n = elim (cases_Bool (is_prefix a b))
   | inr m ↦ rw m at e
 ]
 
-first_digit : (c : ℕ) (field : List ℕ) (number : Option ℕ) → Spells (c ∷ field) number → is_hex_digit c ≡ true
-first_digit c [] number spells =
-    (and_parts (is_hex_digit c) true (numeral-digits (c ∷ []) (spelt-numeral (c ∷ []) number spells (omega arith)))).0
-first_digit c (b ∷ field) number spells = elim (cases_Bool (is_prefix c b)) [
-  | inl y ↦ rw (eqb-true c 48 (and_parts (c == 48) ((b == 120) || (b == 88)) y).0) refl
-  | inr n ↦
-      let numeral : is_numeral (c ∷ b ∷ field) ≡ true =
-      rw n at (spelt-numeral (c ∷ b ∷ field) number spells (omega arith)) in
-      (and_parts (is_hex_digit c) (list_all is_hex_digit (b ∷ field)) (numeral-digits (c ∷ b ∷ field) numeral)).0
-]
-
--- Where no digit stands in front, the field is empty.
-pub field-empty : (text : List ℕ) (number : Option ℕ) (rest : List ℕ) → HasField text number rest
-    → is_hex_digit (get_or text 0 0) ≡ false → text ≡ rest
-field-empty text number rest ([], e, spells) none = e
-field-empty text number rest (c ∷ field, e, spells) none =
-    let other : is_hex_digit c ≡ false = rw e at none in
-    absurd (false≢true (sym other ∙ first_digit c field number spells))
-
 -- Where a digit does, it is not.
 pub field-filled : (text : List ℕ) (number : Option ℕ) (rest : List ℕ) → HasField text number rest → EndsField rest
     → 0 < length text → is_hex_digit (get_or text 0 0) ≡ true

@@ -1,5 +1,5 @@
 -- The digits of a number, read one by one.
-use Rattle.std.proofs.Common.{◌≡◌, ◌≤◌, ◌<◌, ◌^◌, ◌*◌, ◌+◌, ◌==◌, ℕ, List, [], ◌∷◌, true, false, Some, None, length}
+use Rattle.std.proofs.Common.{◌≡◌, ◌≤◌, ◌<◌, ◌^◌, ◌*◌, ◌+◌, ℕ, List, true, false, length}
 use Rattle.std.proofs.Common.{take, get_or, arith, rules, refl, add-one, lit<, inl, inr}
 use Rattle.std.specs.Char.{digit_value}
 use Rattle.std.specs.List.{list_all}
@@ -7,8 +7,8 @@ use Rattle.std.specs.Str.Parse.{digits_value}
 use Rattle.std.proofs.Math.Nat.{pow-le-pow_right, pow-suc}
 use Rattle.std.proofs.lemmas.Bool.{cases_Bool}
 use Rattle.std.proofs.lemmas.Int.Digits.{digits_value_more}
-use Rattle.std.proofs.lemmas.List.Folds.{list_all_at, list_all_more}
-use Rattle.retire.specs.Number.{digits_number, hex_value, is_hex_digit}
+use Rattle.std.proofs.lemmas.List.Folds.{list_all_more}
+use Rattle.retire.specs.Number.{hex_value, is_hex_digit}
 
 -- A number of at most fifteen digits leaves room for one more.
 pub below_room : (value i : ℕ) → value < 16 ^ i → i < 16 → value < 2 ^ 60
@@ -81,16 +81,3 @@ digit_read text count value read within other = record {
   digits = list_all-digit_more text count within other read.digits;
   spelt = rw (digits_value-digit_more text count within other, ← read.spelt) refl;
 }
-
-pub list_all-digit_none : (text : List ℕ) (i : ℕ) → i < length text → hex_value (get_or text i 0) ≡ 16
-    → list_all is_hex_digit text ≡ false
-list_all-digit_none text i n e = list_all_at is_hex_digit text i 0 n (is_hex_digit-no_value (get_or text i 0) e)
-
-pub digits_number-other : (text : List ℕ) → list_all is_hex_digit text ≡ false → digits_number text ≡ None
-digits_number-other text e = rw e (search rules)
-
-pub digits_number-digits : (text : List ℕ) → (length text == 0) ≡ false → length text ≤ 16
-    → list_all is_hex_digit text ≡ true
-    → digits_number text ≡ Some (digits_value 16 text)
-digits_number-digits [] e n all = cc e
-digits_number-digits (c ∷ rest) e n all = rw all (search (rules, arith))

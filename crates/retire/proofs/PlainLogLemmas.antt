@@ -7,7 +7,7 @@ use Rattle.std.specs.List.{flat_map, join_with_byte, list_all, list_any}
 use Rattle.std.proofs.lemmas.Bool.{cases_Bool, and_parts, or_parts}
 use Rattle.csv.specs.Quoting.{needs_byte}
 use Rattle.csv.specs.Writing.{default_writer}
-use Rattle.retire.specs.Log.{events_from, header, limit}
+use Rattle.retire.specs.Log.{events_from, header, most_rows}
 use Rattle.retire.specs.LogText.{event_fields, event_line}
 use Rattle.retire.specs.Number.{is_hex_digit, is_numeral, is_prefix, number_of, without_prefix}
 use Rattle.retire.specs.PlainLog.{ArePlainRows, AreLines, EndsLine, IsLine, IsPlainLog, WrittenIsPlain}
@@ -125,10 +125,10 @@ plain-row row (a ∷ b ∷ c ∷ d ∷ f ∷ g ∷ more) text rest event line kn
 
 -- Where a text of plain rows goes on, a plain row stands in front, of a number within the limit, and plain rows follow.
 pub plain-next : (row : ℕ) (text : List ℕ) → ArePlainRows row text → 0 < length text
-    → (row ≤ limit) × ((rest : List ℕ) × IsPlainRow row text rest × ArePlainRows (row + 1) rest)
+    → (row ≤ most_rows) × ((rest : List ℕ) × IsPlainRow row text rest × ArePlainRows (row + 1) rest)
 unfolding events_from AreLines
 plain-next row text ([], events, empty, all) some = let none = ap length empty in absurd (omega (arith, none, some))
-plain-next row text (fields ∷ rows, events, (rest, line, lines), all) some = elim (cases_Bool (nat_lt limit row)) [
+plain-next row text (fields ∷ rows, events, (rest, line, lines), all) some = elim (cases_Bool (nat_lt most_rows row)) [
   | inl long ↦ cc (rw long at all)
   | inr short ↦
       let (event, more, first, others, whole) =
@@ -170,7 +170,7 @@ pub not_empty : (text : List ℕ) (empty : Bool) → empty ≡ (length text == 0
 not_empty text empty e none = search (rules, arith)
 
 -- Behind the last row of the greatest log nothing is left of plain rows.
-pub plain-all : (row : ℕ) (text : List ℕ) (empty : Bool) → limit < row → empty ≡ (length text == 0)
+pub plain-all : (row : ℕ) (text : List ℕ) (empty : Bool) → most_rows < row → empty ≡ (length text == 0)
     → ArePlainRows row text → empty ≡ true
 plain-all row [] empty past e plain = e
 plain-all row (c ∷ text) empty past e plain =

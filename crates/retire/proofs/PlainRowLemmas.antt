@@ -1,5 +1,5 @@
 -- A row at the front of a text.
-use Rattle.std.proofs.Common.{◌≡◌, ◌≢◌, ◌≤◌, ◌<◌, ◌==◌, ◌||◌, ◌++◌, ◌∙◌, ◌+◌, ◌-◌, get_or, ℕ, List, [], ◌∷◌}
+use Rattle.std.proofs.Common.{◌≡◌, ◌≤◌, ◌<◌, ◌==◌, ◌||◌, ◌++◌, ◌∙◌, ◌+◌, ◌-◌, get_or, ℕ, List, [], ◌∷◌}
 use Rattle.std.proofs.Common.{Option, Some, None, Result, Ok, Err, nat_eq, take, drop, length, true, false, codes}
 use Rattle.std.proofs.Common.{arith, refl, subst, sym, ap, inl, inr, rules}
 use Rattle.std.specs.List.{join_with_byte, list_any}
@@ -12,11 +12,11 @@ use Rattle.csv.specs.Reading.{default_config, strip_bom}
 use Rattle.csv.specs.Writing.{default_writer}
 use Rattle.csv.specs.declared.parser.State.TheVariants as st
 use Rattle.csv.proofs.RoundTrip.{plain-run, record-same, start-same}
-use Rattle.retire.specs.Number.{hex_value, is_prefix, number_of, without_prefix, digits_number}
+use Rattle.retire.specs.Number.{hex_value, is_prefix, number_of, digits_number}
 use Rattle.retire.specs.PlainLog.{EndsLine}
 use Rattle.retire.specs.steps.PlainRow.{EndsField, HasCell, HasDigits, HasField, HasRow, Spells}
 use Rattle.retire.specs.Row.{is_garbled, numbers_event, row_event}
-use Rattle.retire.specs.Log.{events_from, header, limit, log_of, records_of}
+use Rattle.retire.specs.Log.{events_from, header, log_of, most_rows, records_of}
 use Rattle.retire.specs.steps.RowsLeft.{after, records_left}
 use Rattle.retire.specs.declared.event.Event.{Event}
 use Rattle.retire.specs.declared.fault.LogFault.{LogFault}
@@ -98,16 +98,6 @@ field-prefixed a b digits rest value count prefix h some e =
         rw (needs.0, needs.1) (list_any-AllDigits (take count digits) all),
       ),
     )
-
--- A text is shorter by its prefix, or has none.
-pub prefix-of : (text digits : List ℕ) → digits ≡ without_prefix text → length digits ≢ length text
-    → (a : ℕ) × (b : ℕ) × (is_prefix a b ≡ true) × (text ≡ a ∷ b ∷ digits)
-prefix-of [] digits e n = absurd (n (ap length e))
-prefix-of (a ∷ []) digits e n = absurd (n (ap length e))
-prefix-of (a ∷ b ∷ rest) digits e n = elim (cases_Bool (is_prefix a b)) [
-  | inl y ↦ (a, b, y, let f : digits ≡ rest = rw y at e in rw f refl)
-  | inr m ↦ absurd (n (ap length (rw m at e)))
-]
 
 -- A field with a comma after it.
 field-comma : (fields : List (List ℕ)) (x tail : List ℕ) → list_any (needs_byte default_writer) x ≡ false
@@ -221,7 +211,7 @@ plain-end log row events rest e empty = e ∙ rw (records_left-empty rest empty)
 -- One row more.
 pub plain-more : (log : Result (List Event) LogFault) (row : ℕ) (events : List Event) (event : Event)
     (rest more : List ℕ) → log ≡ after events (events_from row (records_left st.StartRecord rest))
-    → row ≤ limit → HasRow row rest event more
+    → row ≤ most_rows → HasRow row rest event more
     → log ≡ after (events ++ event ∷ []) (events_from (row + 1) (records_left st.StartRecord more))
 plain-more log row events event rest more e few (fields, known, left) =
     e ∙ rw (left, events_from-event row fields (records_left st.StartRecord more) event few known)

@@ -12,7 +12,7 @@ use Rattle.csv.specs.Quoting.{needs_byte}
 use Rattle.csv.specs.Reading.{strip_bom}
 use Rattle.csv.specs.Writing.{default_writer, fields_text, is_blank, row_body, row_text}
 use Rattle.csv.specs.declared.parser.State.TheVariants.{StartRecord}
-use Rattle.retire.specs.Log.{events_from, limit}
+use Rattle.retire.specs.Log.{events_from, most_rows}
 use Rattle.retire.specs.LogText.{event_fields, event_line, hex, line_of}
 use Rattle.retire.specs.Number.{number_of}
 use Rattle.retire.specs.InRange.{IsAddress, IsInRange, IsRetirementType}
@@ -150,7 +150,7 @@ row_event-fields row (Trap priv false cause epc tval) (address, privilege, below
       is_low_cause cause below,
     ) refl
 
-pub events_from-fields : (row : ℕ) (events : List Event) → All IsInRange events → row + length events ≤ limit + 1
+pub events_from-fields : (row : ℕ) (events : List Event) → All IsInRange events → row + length events ≤ most_rows + 1
     → events_from row (map event_fields events) ≡ Ok events
 unfolding events_from
 events_from-fields row [] h n = refl

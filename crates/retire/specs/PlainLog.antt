@@ -2,7 +2,7 @@
 use Rattle.std.specs.Prelude.{◌≡◌, ◌⊎◌, ◌≤◌, ◌++◌, ℕ, List, [], ◌∷◌, All, Ok, length}
 use Rattle.std.specs.List.{join_with_byte}
 use Rattle.retire.specs.InRange.{IsInRange}
-use Rattle.retire.specs.Log.{events_from, header, limit}
+use Rattle.retire.specs.Log.{events_from, header, most_rows}
 use Rattle.retire.specs.LogText.{log_text}
 use Rattle.retire.specs.declared.event.Event.{Event}
 
@@ -30,4 +30,4 @@ IsPlainLog text = (rest : List ℕ) × IsLine header text rest × ArePlainRows 1
 
 -- The text of a log in range is a plain log.
 abbrev pub WrittenIsPlain : Type 0
-WrittenIsPlain = (events : List Event) → All IsInRange events → length events ≤ limit → IsPlainLog (log_text events)
+WrittenIsPlain = (events : List Event) → All IsInRange events → length events ≤ most_rows → IsPlainLog (log_text events)

@@ -1,7 +1,7 @@
 //! Reading a log that lies in memory.
 
 ghost use Rattle.std.specs.Prelude.{◌≡◌, ◌⊎◌, ◌≤◌, [], IfOk, IfErr, vec_len};
-ghost use Rattle.retire.specs.Log.{limit, log_of, records_of};
+ghost use Rattle.retire.specs.Log.{log_of, most_rows, records_of};
 ghost use Rattle.retire.specs.PlainLog.{IsPlainLog};
 
 use crate::event::Event;
@@ -21,7 +21,7 @@ fn read_by_csv<A: Allocator>(
     requires not_plain { IsPlainLog text.now → ⊥ }
     ensures events { IfOk result (λ events. log_of (records_of text.now) ≡ Ok events.items) }
     ensures faults { IfErr result (λ fault. (fault ≡ LogFault.Memory) ⊎ (log_of (records_of text.now) ≡ Err fault)) }
-    ensures short { IfOk result (λ events. vec_len events ≤ limit) }
+    ensures short { IfOk result (λ events. vec_len events ≤ most_rows) }
 {
     match read_from(events, global, text) {
         // No reader fails here: where nothing is wrong with the text, memory was refused.
@@ -43,7 +43,7 @@ pub fn read_log_from_slice<A: Allocator>(
 ) -> Result<Vec<Event, A>, LogFault>
     ensures events { IfOk result (λ events. log_of (records_of text.now) ≡ Ok events.items) }
     ensures faults { IfErr result (λ fault. (fault ≡ LogFault.Memory) ⊎ (log_of (records_of text.now) ≡ Err fault)) }
-    ensures short { IfOk result (λ events. vec_len events ≤ limit) }
+    ensures short { IfOk result (λ events. vec_len events ≤ most_rows) }
 {
     let mut events = Vec::new(alloc);
     if plain_log(&mut events, text)? {

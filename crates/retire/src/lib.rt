@@ -26,5 +26,5 @@ pub use in_memory::read_log_from_slice;
 pub use itype::{ITYPE_NOT_TAKEN, ITYPE_OTHER, ITYPE_TAKEN, ITYPE_TRAP_RETURN, ITYPE_UNINFERABLE};
 pub use laws::{plain_is_parted, read_is_in_range, written_is_plain, written_is_read_back};
 pub use privilege::is_privilege;
-pub use read::read_log;
+pub use read::{MOST_ROWS, read_log};
 pub use write::write_log;

@@ -3,7 +3,7 @@
 ghost use Rattle.std.specs.Prelude.{◌≡◌, ◌≤◌, ℕ, List, true, [], IfSome, IfOk, IfErr, Ok, vec_len};
 ghost use Rattle.std.specs.Option.{IsSomeAnd};
 ghost use Rattle.csv.specs.declared.parser.State.TheVariants.{StartRecord};
-ghost use Rattle.retire.specs.Log.{events_from, limit, log_of, records_of};
+ghost use Rattle.retire.specs.Log.{events_from, log_of, most_rows, records_of};
 ghost use Rattle.retire.specs.PlainLog.{ArePlainRows, EndsLine, IsPlainLog};
 ghost use Rattle.retire.specs.steps.PlainRow.{HasRow, IsPlainRow};
 ghost use Rattle.retire.specs.steps.RowsLeft.{records_left};
@@ -11,7 +11,7 @@ ghost use Rattle.retire.specs.steps.RowsLeft.{records_left};
 use crate::event::Event;
 use crate::fault::LogFault;
 use crate::field::{cell, field_before};
-use crate::read::ROWS;
+use crate::read::MOST_ROWS;
 use crate::row::event_of_numbers;
 use crate::short_row::{PlainRow, short_row};
 use std::alloc::Allocator;
@@ -73,11 +73,11 @@ fn plain_rows<A: Allocator>(events: &mut Vec<Event, A>, text: &[u8]) -> Result<b
     ensures told { IfOk result (λ all. all ≡ true
         → events_from 1 (records_left StartRecord text.now) ≡ Ok events.new.items) }
     ensures reads { IfOk result (λ all. ArePlainRows 1 text.now → all ≡ true) }
-    ensures short { vec_len events.new ≤ limit }
+    ensures short { vec_len events.new ≤ most_rows }
     ensures denied { IfErr result (λ fault. fault ≡ LogFault.Memory) }
 {
     let mut rest = text;
-    for row in 1..ROWS + 1 {
+    for row in 1..MOST_ROWS + 1 {
         if rest.is_empty() {
             return Ok(true);
         }
@@ -99,7 +99,7 @@ pub fn plain_log<A: Allocator>(events: &mut Vec<Event, A>, text: &[u8]) -> Resul
     requires none { vec_len events.old ≡ 0 }
     ensures told { IfOk result (λ all. all ≡ true → log_of (records_of text.now) ≡ Ok events.new.items) }
     ensures reads { IfOk result (λ all. IsPlainLog text.now → all ≡ true) }
-    ensures short { vec_len events.new ≤ limit }
+    ensures short { vec_len events.new ≤ most_rows }
     ensures denied { IfErr result (λ fault. fault ≡ LogFault.Memory) }
 {
     let Some(end) = text.strip_prefix(b"addr,itype,priv,cause,tval".as_slice()) else {
@@ -109,6 +109,6 @@ pub fn plain_log<A: Allocator>(events: &mut Vec<Event, A>, text: &[u8]) -> Resul
         return Ok(false);
     };
     // Where this room is refused or too little, the rows ask again.
-    let _ = events.reserve((rows.len() / ROW_BYTES).min(ROWS as usize));
+    let _ = events.reserve((rows.len() / ROW_BYTES).min(MOST_ROWS as usize));
     plain_rows(events, rows)
 }

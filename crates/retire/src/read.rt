@@ -5,7 +5,7 @@ ghost use Rattle.csv.specs.Reading.{ReadRecord, Ready, default_config, reader_co
 ghost use Rattle.csv.specs.Reading.{source_of};
 ghost use Rattle.csv.specs.Records.{fields_of};
 ghost use Rattle.csv.specs.declared.reader.Trim.TheVariants as trim;
-ghost use Rattle.retire.specs.Log.{IsDenied, events_from, limit, log_of, records_of};
+ghost use Rattle.retire.specs.Log.{IsDenied, events_from, log_of, most_rows, records_of};
 ghost use Rattle.retire.specs.steps.RowsLeft.{Answers, IsStart, fault_of_error, records_left};
 
 use crate::event::Event;
@@ -16,7 +16,7 @@ use std::alloc::{Allocator, Global};
 use std::io::Read;
 
 /// The most rows of a log.
-pub(crate) const ROWS: u32 = 16_777_216;
+pub const MOST_ROWS: u32 = 16_777_216;
 
 /// What an error of the reader tells.
 fn fault_of(error: csv::Error) -> LogFault
@@ -61,9 +61,9 @@ fn read_rows<A: Allocator, R: Read + Drop>(
     requires none { vec_len events ≡ 0 }
     ensures told { (text : List ℕ) → source_of R.remaining reader.old ≡ Some text → IsStart (reader_state reader.old)
         → Answers result (events_from 1 (records_left (reader_state reader.old) text)) }
-    ensures short { IfOk result (λ events. vec_len events ≤ limit) }
+    ensures short { IfOk result (λ events. vec_len events ≤ most_rows) }
 {
-    for row in 1..ROWS + 1 {
+    for row in 1..MOST_ROWS + 1 {
         if !next_record(reader, line)? {
             return Ok(events);
         }
@@ -94,7 +94,7 @@ fn read_records<A: Allocator, R: Read + Drop>(
     requires none { vec_len events ≡ 0 }
     ensures told { (text : List ℕ) → source_of R.remaining reader.old ≡ Some text → IsStart (reader_state reader.old)
         → Answers result (log_of (records_left (reader_state reader.old) text)) }
-    ensures short { IfOk result (λ events. vec_len events ≤ limit) }
+    ensures short { IfOk result (λ events. vec_len events ≤ most_rows) }
 {
     let mut line = ByteRecord::new(global);
     if !next_record(reader, &mut line)? || !is_header(&line) {
@@ -115,7 +115,7 @@ pub(crate) fn read_from<A: Allocator, R: Read + Drop>(
         (λ text. IfOk result (λ events. log_of (records_of text) ≡ Ok events.items)) }
     ensures faults { IfSome (R.remaining source)
         (λ text. IfErr result (λ fault. IsDenied fault ⊎ (log_of (records_of text) ≡ Err fault))) }
-    ensures short { IfOk result (λ events. vec_len events ≤ limit) }
+    ensures short { IfOk result (λ events. vec_len events ≤ most_rows) }
 {
     let mut reader = ReaderBuilder::new()
         .has_headers(false)
@@ -151,7 +151,7 @@ pub fn read_log<A: Allocator, R: Read + Drop>(
         (λ text. IfOk result (λ events. log_of (records_of text) ≡ Ok events.items)) }
     ensures faults { IfSome (R.remaining source)
         (λ text. IfErr result (λ fault. IsDenied fault ⊎ (log_of (records_of text) ≡ Err fault))) }
-    ensures short { IfOk result (λ events. vec_len events ≤ limit) }
+    ensures short { IfOk result (λ events. vec_len events ≤ most_rows) }
 {
     read_from(Vec::new(alloc), global, source)
 }

@@ -130,8 +130,8 @@ module _ (words : Words) (period : ℕ) (mode : Mode) where
         behind_cut_told before by.Explicit handler known tells tells.0 on
     at_cut_told before by.Notify handler known tells on =
         behind_cut_told before by.Notify handler known tells tells.0 on
-    at_cut_told before by.Unreported handler known tells on =
-        behind_cut_told before by.Unreported handler known tells tells.0 on
+    at_cut_told before by.FullMap handler known tells on =
+        behind_cut_told before by.FullMap handler known tells tells.0 on
 
     -- The handler of a trap is reported with it.
     pub handler_told : (epc level : ℕ) (interrupt : Bool) (cause tval : ℕ) (rule : Rule)
@@ -155,4 +155,4 @@ module _ (words : Words) (period : ℕ) (mode : Mode) where
     handler_told epc level interrupt cause tval (by.Target cut_off) is tells on = cc
     handler_told epc level interrupt cause tval by.Explicit is tells on = cc
     handler_told epc level interrupt cause tval by.Notify is tells on = cc
-    handler_told epc level interrupt cause tval by.Unreported is tells on = cc
+    handler_told epc level interrupt cause tval by.FullMap is tells on = cc

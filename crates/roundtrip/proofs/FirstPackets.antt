@@ -81,9 +81,9 @@ module _ (words : Words) (program : IsProgram words) (period : ℕ) (mode : Mode
   first_not_handled (event ∷ events) = refl
 
   log_told : (log : List Event) → Legal words log
-      → Told words mode None 0 by.Unreported [] log (explicit_before period 0 None by.Unreported log)
+      → Told words mode None 0 by.FullMap [] log (explicit_before period 0 None by.FullMap log)
       (pieces_of words period log)
-  log_told log legal = events_told log 0 None [] None None 0 by.Unreported legal (AtCut (first_not_handled log) tt)
+  log_told log legal = events_told log 0 None [] None None 0 by.FullMap legal (AtCut (first_not_handled log) tt)
 
   -- The stretches of a log are the whole log.
   pub join-stretches : (log : List Event) → Legal words log → join (stretches words period log) ≡ log
@@ -95,7 +95,7 @@ module _ (words : Words) (program : IsProgram words) (period : ℕ) (mode : Mode
   packets_have_stretches log legal =
       let pieces = pieces_of words period log in
       let order = subst (λ next. MayPrecede (packet.Support (Open mode)) next)
-      (sym (first_is_head mode 0 by.Unreported pieces)) (open_precedes mode 0 pieces) in
+      (sym (first_is_head mode 0 by.FullMap pieces)) (open_precedes mode 0 pieces) in
       (order, refl, (log_told log legal).fit)
 
   -- The packets of a legal log describe it.

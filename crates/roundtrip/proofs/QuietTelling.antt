@@ -102,25 +102,25 @@ module _ (words : Words) (period : ℕ) (mode : Mode) where
       unreported : Quiet words since front before → reported < 2 ^ 64
           → RetiresAt (privilege since) (Retire addr itype priv) →
           TellsOf words period number before_that (Some before) (Retire addr itype priv) (first_event events None)
-          by.Unreported →
+          by.FullMap →
           TellsOn words period mode (Some before) (Retire addr itype priv) (number + 1) events rest →
           Told words mode (Some since) reported by_last front (Retire addr itype priv ∷ events) false
-          (next_piece front (Retire addr itype priv) by.Unreported rest)
-      unreported quiet known here tells on = by_count (is_cut front (Retire addr itype priv) by.Unreported) refl
+          (next_piece front (Retire addr itype priv) by.FullMap rest)
+      unreported quiet known here tells on = by_count (is_cut front (Retire addr itype priv) by.FullMap) refl
         where
-          by_count : (full : Bool) → is_cut front (Retire addr itype priv) by.Unreported ≡ full
+          by_count : (full : Bool) → is_cut front (Retire addr itype priv) by.FullMap ≡ full
               → Told words mode (Some since) reported by_last front (Retire addr itype priv ∷ events) false
-              (cut_or_go_on full (record { front = front; last = Retire addr itype priv; by = by.Unreported }) rest)
+              (cut_or_go_on full (record { front = front; last = Retire addr itype priv; by = by.FullMap }) rest)
           by_count true full =
               let last = Retire addr itype priv in
-              let told = on (Some last) [] reported by.Unreported
+              let told = on (Some last) [] reported by.FullMap
               (AtCut (not_handled words (Some before) addr itype priv events) known) in
               let ends : EndsAt words AtBranch since front last = (
                 none_early-none (is_discontinuity words) since front
                     before quiet.early quiet.ends tells.1,
                 (and_parts _ _ full).0,
               ) in
-              cut words mode (Some since) reported by_last front last by.Unreported events _ (rest [])
+              cut words mode (Some since) reported by_last front last by.FullMap events _ (rest [])
               (quiet_walks words since front before last AtBranch quiet here ends) told
           by_count false full =
               let last = Retire addr itype priv in
@@ -176,5 +176,5 @@ module _ (words : Words) (period : ℕ) (mode : Mode) where
           fits) in
           cut words mode (Some since) reported by_last front last by.Notify events _ (rest [])
           (walk_to_address quiet known here fits tells.1) told
-      quiet_retirement_told quiet known here fits handler start by.Unreported tells on =
+      quiet_retirement_told quiet known here fits handler start by.FullMap tells on =
           unreported quiet known here tells on

@@ -16,7 +16,7 @@ use Rattle.encoder.specs.declared.rule.Rule.TheVariants as by
 abbrev pub rule_by : (handler start target cut_off last backward : Bool) → Rule
 rule_by handler start target cut_off last backward =
     cond handler by.Handler (cond start by.Sync (cond target (by.Target cut_off)
-    (cond (cut_off || last) by.Explicit (cond backward by.Notify by.Unreported))))
+    (cond (cut_off || last) by.Explicit (cond backward by.Notify by.FullMap))))
 
 -- What a rule tells of the answers.
 abbrev pub Tells : (handler start target cut_off last backward : Bool) → Rule → Type 0
@@ -28,7 +28,7 @@ Tells handler start target cut_off last backward (by.Target updiscon) =
 Tells handler start target cut_off last backward by.Explicit =
     (start ≡ false) × (target ≡ false) × ((cut_off || last) ≡ true)
 Tells handler start target cut_off last backward by.Notify = (start ≡ false) × (target ≡ false) × (backward ≡ true)
-Tells handler start target cut_off last backward by.Unreported =
+Tells handler start target cut_off last backward by.FullMap =
     (start ≡ false) × (target ≡ false) × ((cut_off || last) ≡ false) × (backward ≡ false)
 
 -- The first rule that applies tells so.

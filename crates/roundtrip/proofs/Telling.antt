@@ -115,7 +115,8 @@ pub cut : (words : Words) (mode : Mode) (since : Option Event) (reported : ℕ) 
     (Some (head_packet mode (reported_by rule reported last) rule pieces)) (front ++ last ∷ []) →
     Told words mode (Some last) (reported_by rule reported last) rule [] events explicit pieces →
     Told words mode since reported by_last front (last ∷ events)
-    (makes_explicit (packet_by mode reported front last rule)) (record { front = front; last = last; by = rule } ∷ pieces)
+    (makes_explicit (packet_by mode reported front last rule)) (record { front = front; last = last; by = rule } ∷
+    pieces)
 cut words mode since reported by_last front last rule events explicit pieces fits told =
     let after = reported_by rule reported last in
     let reporting = packet_by mode reported front last rule in

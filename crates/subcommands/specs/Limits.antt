@@ -1,5 +1,6 @@
 -- Which numbers words may ask for.
 use Rattle.std.specs.Prelude.{ℕ, ◌≤◌}
+use Rattle.message.specs.Capacity.{most_capacity}
 use Rattle.message.specs.Version.{most_harts}
 use Rattle.message.specs.declared.header.Version.TheVariants.{Two}
 use Rattle.subcommands.specs.declared.words.Asked.{Asked}
@@ -9,16 +10,12 @@ use Rattle.subcommands.specs.declared.words.Asked.TheVariants.{Bench, Decode, En
 abbrev pub longest_period : ℕ
 longest_period = 65535
 
--- The most messages that the funnel may hold.
-abbrev pub largest_capacity : ℕ
-largest_capacity = 65536
-
 -- A period is 1 to 65535 retirements, a count of harts 1 to 1024, and a capacity 1 to 65536 messages.
 abbrev pub IsWithinLimits : Asked → Type 0
 IsWithinLimits (Encode asked) = (1 ≤ asked.period) × (asked.period ≤ longest_period)
 IsWithinLimits (Decode asked) = (1 ≤ asked.harts) × (asked.harts ≤ most_harts Two)
 IsWithinLimits (Replay asked) =
-    (1 ≤ asked.period) × (asked.period ≤ longest_period) × (1 ≤ asked.capacity) × (asked.capacity ≤ largest_capacity)
+    (1 ≤ asked.period) × (asked.period ≤ longest_period) × (1 ≤ asked.capacity) × (asked.capacity ≤ most_capacity)
 IsWithinLimits (Bench asked) =
-    (1 ≤ asked.period) × (asked.period ≤ longest_period) × (1 ≤ asked.capacity) × (asked.capacity ≤ largest_capacity)
+    (1 ≤ asked.period) × (asked.period ≤ longest_period) × (1 ≤ asked.capacity) × (asked.capacity ≤ most_capacity)
 IsWithinLimits _ = Unit {0}

@@ -5,5 +5,5 @@
 mod limits;
 mod words;
 
-pub use limits::{LARGEST_CAPACITY, LONGEST_PERIOD, SHORTEST_PERIOD, SMALLEST_CAPACITY};
+pub use limits::{LONGEST_PERIOD, SHORTEST_PERIOD, SMALLEST_CAPACITY};
 pub use words::{Asked, Bench, Check, Decode, Dump, Encode, Replay};

@@ -8,6 +8,3 @@ pub const LONGEST_PERIOD: u16 = 65535;
 
 /// The fewest messages that the funnel may hold.
 pub const SMALLEST_CAPACITY: u32 = 1;
-
-/// The most messages that the funnel may hold.
-pub const LARGEST_CAPACITY: u32 = 65_536;

@@ -4,7 +4,7 @@ use message::Version;
 use payload::Mode;
 
 /// `check --base B IMAGE LOG...`: whether the log of each hart is legal.
-#[derive(Debug, PartialEq, Eq, Drop)]
+#[derive(Debug, Drop)]
 pub struct Check<'a> {
     /// The address of the image's first byte, not yet read as a number.
     pub base: &'a str,
@@ -15,7 +15,7 @@ pub struct Check<'a> {
 }
 
 /// `encode --base B [--period N] [--full] [--v1] [--hex] IMAGE LOG...`: the messages of the log of each hart.
-#[derive(Debug, PartialEq, Eq, Drop)]
+#[derive(Debug, Drop)]
 pub struct Encode<'a> {
     /// The address of the image's first byte, not yet read as a number.
     pub base: &'a str,
@@ -34,14 +34,14 @@ pub struct Encode<'a> {
 }
 
 /// `dump CAPTURE`: the messages of a capture, as text.
-#[derive(Debug, PartialEq, Eq, Drop)]
+#[derive(Debug, Drop)]
 pub struct Dump<'a> {
     /// The path of the capture.
     pub capture: &'a str,
 }
 
 /// `decode --base B [--harts N] [--lossy] IMAGE CAPTURE`: the logs that the messages of a capture describe.
-#[derive(Debug, PartialEq, Eq, Drop)]
+#[derive(Debug, Drop)]
 pub struct Decode<'a> {
     /// The address of the image's first byte, not yet read as a number.
     pub base: &'a str,
@@ -57,7 +57,7 @@ pub struct Decode<'a> {
 
 /// `replay --base B [--period N] [--full] [--capacity N] IMAGE SCHEDULE LOG...`: what comes of the log of each hart that
 /// is sent through the funnel.
-#[derive(Debug, PartialEq, Eq, Drop)]
+#[derive(Debug, Drop)]
 pub struct Replay<'a> {
     /// The address of the image's first byte, not yet read as a number.
     pub base: &'a str,
@@ -77,7 +77,7 @@ pub struct Replay<'a> {
 
 /// `bench --base B [--period N] [--full] [--capacity N] IMAGE LOG...`: what comes of the log of each hart that is sent
 /// through the funnel from a thread of its own.
-#[derive(Debug, PartialEq, Eq, Drop)]
+#[derive(Debug, Drop)]
 pub struct Bench<'a> {
     /// The address of the image's first byte, not yet read as a number.
     pub base: &'a str,
@@ -94,7 +94,7 @@ pub struct Bench<'a> {
 }
 
 /// A subcommand with its files and options, as texts of the words.
-#[derive(Debug, PartialEq, Eq, Drop)]
+#[derive(Debug, Drop)]
 pub enum Asked<'a> {
     /// A run of `check`.
     Check(Check<'a>),

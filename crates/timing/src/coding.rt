@@ -49,10 +49,12 @@ impl Phase for Decoding<'_> {
         let mut decoder = Decoder::new();
         let mut events = Vec::new(self.alloc);
         for payload in self.payloads {
-            let packet = unpack(payload.bytes()).map_err(|_| Fault::Log)?;
-            decoder
-                .feed(self.program, &packet, &mut events)
-                .map_err(|_| Fault::Log)?;
+            let Ok(packet) = unpack(payload.bytes()) else {
+                return Err(Fault::Log);
+            };
+            if decoder.feed(self.program, &packet, &mut events).is_err() {
+                return Err(Fault::Log);
+            }
         }
         let count = events.len() as u64;
         Ok((events, count))

@@ -34,7 +34,9 @@ impl Input {
         let mut texts = Vec::new(rt.alloc());
         for path in logs {
             let text = fs::read(rt, path.as_str())?;
-            texts.push(text).map_err(|_| Fault::Memory)?;
+            if texts.push(text).is_err() {
+                return Err(Fault::Memory);
+            }
         }
         Ok(Input { program, texts })
     }

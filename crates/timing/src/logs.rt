@@ -3,7 +3,7 @@
 use crate::fault::Fault;
 use crate::least::Phase;
 use legalpath::{LegalLog, check};
-use retire::{Event, read_log_from_slice, write_log};
+use retire::{Event, MOST_ROWS, read_log_from_slice, write_log};
 use rvclass::Program;
 use std::alloc::Global;
 use std::io::sink;
@@ -19,9 +19,9 @@ impl Phase for Reading<'_> {
     type Made = Vec<Event>;
 
     fn run(&mut self) -> Result<(Vec<Event>, u64), Fault> {
-        let events = read_log_from_slice(self.alloc, self.alloc, self.text).map_err(
-            |_| Fault::Log,
-        )?;
+        let Ok(events) = read_log_from_slice(self.alloc, self.alloc, self.text) else {
+            return Err(Fault::Log);
+        };
         let count = events.len() as u64;
         Ok((events, count))
     }
@@ -38,13 +38,12 @@ impl Phase for Writing<'_> {
     type Made = ();
 
     fn run(&mut self) -> Result<((), u64), Fault> {
-        write_log(self.alloc, &mut sink(), self.events).map_err(|_| Fault::Log)?;
-        Ok(((), self.events.len() as u64))
+        match write_log(self.alloc, &mut sink(), self.events) {
+            Ok(()) => Ok(((), self.events.len() as u64)),
+            Err(_) => Err(Fault::Log),
+        }
     }
 }
-
-/// The most events of a log.
-const MOST: usize = 1 << 24;
 
 /// From the events of a log to whether it is legal.
 #[derive(Drop)]
@@ -57,7 +56,7 @@ impl Phase for Judging<'_> {
     type Made = ();
 
     fn run(&mut self) -> Result<((), u64), Fault> {
-        if self.events.len() > MOST {
+        if self.events.len() > MOST_ROWS as usize {
             return Err(Fault::Log);
         }
         match check(self.program, self.events) {
@@ -73,9 +72,14 @@ pub(crate) fn read<'p>(
     program: &'p Program,
     text: &[u8],
 ) -> Result<LegalLog<'p>, Fault> {
-    let events = read_log_from_slice(alloc, alloc, text).map_err(|_| Fault::Log)?;
-    if events.len() > MOST {
+    let Ok(events) = read_log_from_slice(alloc, alloc, text) else {
+        return Err(Fault::Log);
+    };
+    if events.len() > MOST_ROWS as usize {
         return Err(Fault::Log);
     }
-    LegalLog::new(program, events).map_err(|_| Fault::Log)
+    match LegalLog::new(program, events) {
+        Ok(log) => Ok(log),
+        Err(_) => Err(Fault::Log),
+    }
 }

@@ -64,7 +64,9 @@ impl Phase for Replaying<'_, '_> {
 
     fn run(&mut self) -> Result<(Outcome, u64), Fault> {
         let config = config_of(CAPACITY);
-        let outcome = replay(self.alloc, self.logs, config, self.turns).map_err(|_| Fault::Log)?;
+        let Ok(outcome) = replay(self.alloc, self.logs, config, self.turns) else {
+            return Err(Fault::Log);
+        };
         let decoded = decoded_in(&outcome);
         Ok((outcome, decoded))
     }
@@ -100,9 +102,9 @@ pub(crate) fn measure_runs<R: Clock + AllocGlobal + Threads + Wait + Sync, E: Wr
     let mut decoded = 0;
     for _ in 0..RUNS {
         let start = Instant::now(rt)?;
-        let outcome = run(alloc, alloc, logs, config_of(capacity), &Open, rt).map_err(
-            |_| Fault::Log,
-        )?;
+        let Ok(outcome) = run(alloc, alloc, logs, config_of(capacity), &Open, rt) else {
+            return Err(Fault::Log);
+        };
         decoded = decoded_in(&outcome);
         least = least.min(start.elapsed(rt)?.as_nanos());
     }

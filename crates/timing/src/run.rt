@@ -64,7 +64,9 @@ fn logs_of<'p>(alloc: Global, input: &'p Input) -> Result<Vec<LegalLog<'p>>, Fau
     let mut logs = Vec::new(alloc);
     for text in &input.texts {
         let log = logs::read(alloc, &input.program, text.as_slice())?;
-        logs.push(log).map_err(|_| Fault::Memory)?;
+        if logs.push(log).is_err() {
+            return Err(Fault::Memory);
+        }
     }
     Ok(logs)
 }
@@ -156,7 +158,9 @@ fn measure_captures<'a, 'p, R: Clock + AllocGlobal, E: Write>(
     let program = logs[0].program();
     let count = logs[0].events().len();
     let mut capture = Vec::new(alloc);
-    encode_capture(logs, PERIOD, MODE, VERSION, &mut capture).map_err(|_| Fault::Log)?;
+    if encode_capture(logs, PERIOD, MODE, VERSION, &mut capture).is_err() {
+        return Err(Fault::Log);
+    }
     let writing = CaptureWriting {
         logs,
         capture: Vec::with_capacity(alloc, capture.len())?,

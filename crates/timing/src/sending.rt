@@ -6,7 +6,7 @@ use crossbeam_channel::bounded_with;
 use crossbeam_channel::protocol::{Lesson, Outcome, Protocol};
 use funnel::{Outlet, Port, open};
 use message::Message;
-use payload::Payload;
+use payload::{PackFault, Payload};
 use std::alloc::Global;
 use std::io::Write;
 use std::sync::Wait;
@@ -21,8 +21,8 @@ pub(crate) const IN_ONE_THREAD: u64 = 100_000;
 const ROOM: u32 = 1024;
 
 /// A payload of an address packet.
-fn payload() -> Result<Payload, Fault> {
-    Payload::new(&[0x06, 0x00, 0x10]).map_err(|_| Fault::Log)
+fn payload() -> Result<Payload, PackFault> {
+    Payload::new(&[0x06, 0x00, 0x10])
 }
 
 /// In one thread, each message is sent and then taken.
@@ -36,20 +36,29 @@ impl<R: Wait> Phase for OneThread<'_, R> {
     type Made = ();
 
     fn run(&mut self) -> Result<((), u64), Fault> {
-        let rt = self.rt;
         let Ok((mut ports, mut outlet)) = open(self.alloc, 1, ROOM) else {
             return Err(Fault::Memory);
         };
-        let mut port = ports.pop().ok_or(Fault::Memory)?;
-        let mut taken = 0u64;
-        for _ in 0..IN_ONE_THREAD {
-            if port.send(rt, payload()?).is_err() || outlet.take(rt).is_err() {
-                break;
-            }
-            taken = taken.wrapping_add(1);
+        match ports.pop() {
+            Some(mut port) => Ok(((), in_turn(self.rt, &mut port, &mut outlet))),
+            None => Err(Fault::Memory),
         }
-        Ok(((), taken))
     }
+}
+
+/// How many messages are sent and then taken, one after the other.
+fn in_turn<R: Wait>(rt: &R, port: &mut Port, outlet: &mut Outlet) -> u64 {
+    let mut taken = 0u64;
+    for _ in 0..IN_ONE_THREAD {
+        let Ok(payload) = payload() else {
+            break;
+        };
+        if port.send(rt, payload).is_err() || outlet.take(rt).is_err() {
+            break;
+        }
+        taken = taken.wrapping_add(1);
+    }
+    taken
 }
 
 /// A rule that holds of every channel.
@@ -92,10 +101,13 @@ fn through_a_channel<R: Wait>(rt: &R, alloc: Global) -> Result<u64, Fault> {
     )?;
     let mut taken = 0u64;
     for number in 0..IN_ONE_THREAD {
+        let Ok(payload) = payload() else {
+            break;
+        };
         let message = Message {
             hart: 0,
             number,
-            payload: payload()?,
+            payload,
         };
         if sender
             .send_as::<Anything, R>(rt, &mut pass, message)

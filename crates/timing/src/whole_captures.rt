@@ -21,8 +21,10 @@ impl Phase for CaptureWriting<'_, '_> {
     fn run(&mut self) -> Result<((), u64), Fault> {
         self.capture.clear();
         let logs = self.logs;
-        encode_capture(logs, PERIOD, MODE, VERSION, &mut self.capture).map_err(|_| Fault::Log)?;
-        Ok(((), self.capture.len() as u64))
+        match encode_capture(logs, PERIOD, MODE, VERSION, &mut self.capture) {
+            Ok(()) => Ok(((), self.capture.len() as u64)),
+            Err(_) => Err(Fault::Log),
+        }
     }
 }
 

@@ -13,11 +13,12 @@ pub carried_out : {O E : Type 0} (contents : O → Option (List ℕ)) (told : E 
     → WordsAsk words asked → now ≡ status → code ≡ code_of now → new ≡ mid → err_new ≡ err_mid
     → IsDone content asked status (contents out) (contents mid) told err err_mid
     → AreCarriedOut content words code (contents out) (contents new) told err err_new
-carried_out contents told content words asked status now code out mid new err err_mid err_new asks is coded out_is err_is done = record {
-  asked = asked;
-  status = status;
-  asks = asks;
-  coded = coded ∙ ap code_of is;
-  done = subst (λ e. IsDone content asked status (contents out) (contents new) told err e) (sym err_is)
-      (subst (λ o. IsDone content asked status (contents out) (contents o) told err err_mid) (sym out_is) done);
-}
+carried_out contents told content words asked status now code out mid new err err_mid err_new asks is coded out_is
+    err_is done = record {
+      asked = asked;
+      status = status;
+      asks = asks;
+      coded = coded ∙ ap code_of is;
+      done = subst (λ e. IsDone content asked status (contents out) (contents new) told err e) (sym err_is)
+          (subst (λ o. IsDone content asked status (contents out) (contents o) told err err_mid) (sym out_is) done);
+    }

@@ -19,8 +19,8 @@ abbrev pub Tells : {E : Type 0} → (E → Option (List ℕ)) → Result Status 
 Tells contents (Ok status) old new = new ≡ old
 Tells contents (Err why) old new = AppendsBeginning (error_line why) (contents old) (contents new)
 
--- What is asked was carried out, and ended so: a fault that is seen before any file is the end, the text is that of what
--- is asked, where memory was refused or the output failed a beginning of it, and a fault is told.
+-- What is asked was carried out, and ended so: a fault that is seen before any file is the end, the text is that of
+-- what is asked, where memory was refused or the output failed a beginning of it, and a fault is told.
 pub record IsDone {E : Type 0} (content : Content) (asked : Asked) (status : Status)
     (out_old out_new : Option (List ℕ)) (contents : E → Option (List ℕ)) (err_old err_new : E) : Type 0 where
   pub ended : Result Status Fault

@@ -61,7 +61,7 @@ jumps_back_to words (Trap priv interrupt cause epc tval) next = false
 abbrev pub rule_of_quiet : Bool → Bool → Rule
 rule_of_quiet true back = by.Explicit
 rule_of_quiet false true = by.Notify
-rule_of_quiet false false = by.Unreported
+rule_of_quiet false false = by.FullMap
 
 -- The rule of an event of which this is due, before the next one, of which that is due, and which is
 -- no handler.
@@ -95,7 +95,7 @@ packets_by by.Explicit held outcomes mode reported =
     packet.Address outcomes (delta mode reported (place held)) Plain ∷ []
 packets_by by.Notify held outcomes mode reported =
     packet.Address outcomes (delta mode reported (place held)) Notify ∷ []
-packets_by by.Unreported held outcomes mode reported = packet.Map outcomes ∷ []
+packets_by by.FullMap held outcomes mode reported = packet.Map outcomes ∷ []
 
 -- The packet of a trap and its handler.
 abbrev pub handler_packet : Event → Event → Packet
@@ -106,16 +106,16 @@ abbrev pub is_handler_due : Due → Bool
 is_handler_due due_of.Handler = true
 is_handler_due other = false
 
--- Nothing reports the event, unless it fills the branch map.
-abbrev pub is_unreported : Rule → Bool
-is_unreported by.Unreported = true
-is_unreported other = false
+-- Nothing reports the event but the branch map, where it fills it.
+abbrev pub is_full_map : Rule → Bool
+is_full_map by.FullMap = true
+is_full_map other = false
 
 -- The next event, of which this is due, leaves the held one without a packet.
 abbrev pub is_quiet : Words → Encoder → Option Event → Event → Due → Bool
 is_quiet words e None next after = false
 is_quiet words e (Some held) next after =
-    is_unreported (rule_before words held e.due next after) && nat_lt (length e.pending) 31
+    is_full_map (rule_before words held e.due next after) && nat_lt (length e.pending) 31
 
 -- The packets that the next event gives, of which this is due, where it does not leave the held one
 -- without a packet.

@@ -6,6 +6,7 @@ use retire::{Event, LogFault, WriteFault, read_log, write_log};
 use std::alloc::Global;
 use std::io;
 use std::io::{ErrorKind, Read, Write};
+use std::process::Abort;
 
 /// A reader of a text, so many bytes a call, that fails once its calls are used up.
 #[derive(Drop)]
@@ -97,6 +98,32 @@ fn write_failing(
     (end, sink.held)
 }
 
+/// Whether a log is written whole, so many bytes a call, to a writer that fails after so many calls, or that fails. The
+/// writer holds the text, or else a beginning of it.
+fn is_written<R: Abort + AllocGlobal>(
+    rt: &R,
+    events: &[Event],
+    want: &[u8],
+    most: usize,
+    calls: usize,
+) -> bool {
+    let (end, held) = write_failing(rt.alloc(), events, most, calls);
+    assert!(rt;
+        want.starts_with(held.as_slice()),
+        "call {calls} of {most} bytes"
+    );
+    match end {
+        Ok(()) => {
+            same_at(rt, (most, calls), held.len(), want.len());
+            true
+        }
+        Err(fault) => {
+            same_at(rt, (most, calls), fault, WriteFault::Write);
+            false
+        }
+    }
+}
+
 #[test]
 fn writer_fails_at_each_call(rt: HostRuntime) {
     // More text than is held at a time.
@@ -105,18 +132,9 @@ fn writer_fails_at_each_call(rt: HostRuntime) {
     for most in [10_007, 1_000_000] {
         let mut failed = 0;
         for calls in 0..20 {
-            let (end, held) = write_failing(rt.alloc(), events.as_slice(), most, calls);
-            assert!(rt;
-                want.as_slice().starts_with(held.as_slice()),
-                "call {calls} of {most} bytes"
-            );
-            match end {
-                Ok(()) => same_at(&rt, (most, calls), held.len(), want.len()),
-                Err(fault) => {
-                    same_at(&rt, (most, calls), fault, WriteFault::Write);
-                    assert!(rt; failed == calls, "call {calls} of {most} bytes");
-                    failed += 1;
-                }
+            if !is_written(&rt, events.as_slice(), want.as_slice(), most, calls) {
+                assert!(rt; failed == calls, "call {calls} of {most} bytes");
+                failed += 1;
             }
         }
         assert!(rt; 1 < failed && failed < 20, "{failed} of {most} bytes");

@@ -1,5 +1,6 @@
 //! Random texts, read from a reader and from memory.
 
+use crate::fixtures::add;
 use retire::{LogFault, read_log, read_log_from_slice};
 use std::alloc::Global;
 use std::process::Abort;
@@ -119,11 +120,6 @@ impl Draws {
             }
         }
     }
-}
-
-/// Appends the bytes.
-fn add<R: Abort>(rt: &R, text: &mut Vec<u8>, bytes: &[u8]) {
-    text.extend_from_slice(bytes).expect(rt, "memory");
 }
 
 /// Whether a text is read alike from a reader and from memory, and whether it is a log.

@@ -1,8 +1,8 @@
 //! Each payload of one and of two bytes, against a reading of the packet table bit by bit.
 ghost use Rattle.std.specs.Prelude.{◌+◌, ◌<◌, ◌≤◌, length};
 
-use crate::same::same_at;
-use payload::{Mode, Outcomes, PackFault, Packet, Report, Support, unpack};
+use super::packets::is_read;
+use payload::{Mode, Outcomes, PackFault, Packet, Report, Support};
 use std::process::Abort;
 
 /// Bit `i` of bytes that go on with copies of the last byte's top bit.
@@ -221,7 +221,7 @@ const PAYLOADS: [&[u8]; 8] = [
 /// Bytes that are a payload by their length are read alike.
 fn are_read_alike<R: Abort>(rt: &R, bytes: &[u8]) {
     if !bytes.is_empty() && bytes.len() <= 18 {
-        same_at(rt, bytes, unpack(bytes), read(bytes));
+        is_read(rt, bytes, read(bytes));
     }
 }
 

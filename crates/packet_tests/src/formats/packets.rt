@@ -1,6 +1,8 @@
 //! Packets for the tables.
 
-use payload::{Mode, Outcomes, Packet, Report, Support};
+use crate::same::same_at;
+use payload::{Mode, Outcomes, PackFault, Packet, Payload, Report, Support, pack, unpack};
+use std::process::Abort;
 
 pub(crate) const OPEN: Form = Form::Supports(Support::Open(Mode::Differential));
 
@@ -70,4 +72,15 @@ pub(crate) fn outcomes(taken: &[bool]) -> Outcomes {
         }
     }
     outcomes
+}
+
+/// The payload of a packet, which has to be of the profile. Where this is called, nothing of the contract is read again.
+pub(crate) fn payload_of<R: Abort>(rt: &R, packet: &Packet) -> Payload {
+    assert!(rt; packet.in_profile(), "{packet:?} is not of the profile");
+    pack(packet)
+}
+
+/// This is read of bytes.
+pub(crate) fn is_read<R: Abort>(rt: &R, bytes: &[u8], want: Result<Packet, PackFault>) {
+    same_at(rt, bytes, unpack(bytes), want);
 }

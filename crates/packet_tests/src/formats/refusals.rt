@@ -1,9 +1,9 @@
 //! What is refused, and why.
 
 use super::packets::Form::{Addresses, Excepts, Maps, Syncs};
-use super::packets::{Form, packet_of};
+use super::packets::{Form, is_read, packet_of};
 use crate::same::same_at;
-use payload::{PackFault, Packet, Report, unpack};
+use payload::{PackFault, Packet, Report};
 
 /// Bytes, and why they are no payload of a packet.
 const REFUSED: [(&[u8], PackFault); 19] = [
@@ -33,8 +33,8 @@ const REFUSED: [(&[u8], PackFault); 19] = [
 
 #[test]
 fn refuses(rt: HostRuntime) {
-    for (bytes, fault) in REFUSED {
-        same_at(&rt, bytes, unpack(bytes), Err(fault));
+    for (bytes, fault) in &REFUSED {
+        is_read(&rt, bytes, Err(*fault));
     }
 }
 

@@ -1,10 +1,9 @@
 //! Worked payloads.
 
 use super::packets::Form::{Addresses, Excepts, Interrupts, Maps, Syncs};
-use super::packets::{ENDED_NTR, ENDED_REP, Form, OPEN, OPEN_FULL, packet_of};
+use super::packets::{ENDED_NTR, ENDED_REP, Form, OPEN, OPEN_FULL, is_read, packet_of, payload_of};
 use crate::same::same_at;
 use payload::Report::{Notify, Plain, Updiscon};
-use payload::{pack, unpack};
 use std::process::Abort;
 
 /// Packets, and their payloads.
@@ -109,13 +108,18 @@ const PACKED: [(Form, &[u8]); 40] = [
     ),
 ];
 
+/// A packet has this payload, and is read of it.
+fn is_packed<R: Abort>(rt: &R, form: Form, bytes: &[u8]) {
+    let packet = packet_of(form);
+    let payload = payload_of(rt, &packet);
+    same_at(rt, packet, payload.bytes(), bytes);
+    is_read(rt, bytes, Ok(packet));
+}
+
 #[test]
 fn packs_and_unpacks(rt: HostRuntime) {
-    for (form, bytes) in PACKED {
-        let packet = packet_of(form);
-        assert!(rt; packet.in_profile(), "{bytes:?}");
-        same_at(&rt, packet, pack(&packet).bytes(), bytes);
-        same_at(&rt, bytes, unpack(bytes), Ok(packet));
+    for (form, bytes) in &PACKED {
+        is_packed(&rt, *form, bytes);
     }
 }
 
@@ -134,21 +138,19 @@ const LONGER: [(Form, u8); 8] = [
 /// A packet of the profile is read of its payload with any number of further bytes, up to 18.
 fn is_read_longer<R: Abort>(rt: &R, form: Form, fill: u8) {
     let packet = packet_of(form);
-    assert!(rt; packet.in_profile(), "{packet:?}");
-    let shortest = pack(&packet);
+    let shortest = payload_of(rt, &packet);
     let shortest = shortest.bytes();
     let mut longer = [fill; 18];
     longer[..shortest.len()].copy_from_slice(shortest);
     for count in shortest.len()..=18 {
-        let bytes = &longer[..count];
-        same_at(rt, bytes, unpack(bytes), Ok(packet));
+        is_read(rt, &longer[..count], Ok(packet));
     }
 }
 
 #[test]
 fn takes_longer_spellings(rt: HostRuntime) {
-    for (form, fill) in LONGER {
-        is_read_longer(&rt, form, fill);
+    for (form, fill) in &LONGER {
+        is_read_longer(&rt, *form, *fill);
     }
 }
 
@@ -168,7 +170,7 @@ const UNUSED: [(Form, &[u8]); 4] = [
 
 #[test]
 fn ignores_unused_map_bits(rt: HostRuntime) {
-    for (form, bytes) in UNUSED {
-        same_at(&rt, bytes, unpack(bytes), Ok(packet_of(form)));
+    for (form, bytes) in &UNUSED {
+        is_read(&rt, bytes, Ok(packet_of(*form)));
     }
 }

@@ -62,6 +62,7 @@ report_in top tail =
     if tail == 7 - 7 * top then Some report.Notify else
     None
 
+-- An address packet with these outcomes, whose field begins at this bit, where this is what its last bits report.
 abbrev pub reported : ℕ → List Bool → ℕ → Option Report → Result Packet PackFault
 reported n taken from None = Err BadReport
 reported n taken from (Some report) =
@@ -83,6 +84,7 @@ branches_reading n =
     if field_at n layout.branches_at == 0 then map_reading n else
     address_reading n (outcomes_from n (field_at n layout.branches_at)) (address_behind_map n)
 
+-- The packet of these bits, by their format.
 abbrev pub reading_of_bits : ℕ → Result Packet PackFault
 reading_of_bits n =
     if is_sync n then sync_reading n else

@@ -1,5 +1,6 @@
 -- What the bytes of a word tell, one by one, and what is left to tell of a text from the middle of a word on.
-use Rattle.std.specs.Prelude.{◌≡◌, ◌==◌, ◌+◌, ◌*◌, ◌++◌, ℕ, if◌then◌else◌, nat_lt, List, [], ◌∷◌, Option, Some, None, Result, Ok, Err}
+use Rattle.std.specs.Prelude.{◌≡◌, ◌==◌, ◌+◌, ◌*◌, ◌++◌, ℕ, if◌then◌else◌, nat_lt, List, [], ◌∷◌, Option, Some, None}
+use Rattle.std.specs.Prelude.{Result, Ok, Err}
 use Rattle.std.specs.Char.{digit_value, is_digit}
 use Rattle.std.specs.Option.{option_to_list}
 use Rattle.funnel.specs.declared.turn.Turn.{Turn}

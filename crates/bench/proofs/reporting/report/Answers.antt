@@ -51,7 +51,8 @@ returns-in-Err-write_stop-clause-begun g c =
     let mid = g.W.Write.contents c.write_harts.new.sink in
     let new = g.W.Write.contents c.write_stop.new.sink in
     begun_behind (hart_lines 0 gots logs) (stop_line why ++ result_line (is_whole why gots logs)) old mid new
-    (subst (λ harts. Appends old mid (hart_lines 0 (map got_of harts) logs)) c.as_slice.ensures.value c.in-Ok.ensures.text)
+    (subst (λ harts. Appends old mid (hart_lines 0 (map got_of harts) logs)) c.as_slice.ensures.value
+    c.in-Ok.ensures.text)
     (begun_in_front (stop_line why) (result_line (is_whole why gots logs)) mid new c.write_stop.ensures.begun)
 
 pub returns-clause-begun : goal.returns-clause-begun
@@ -68,6 +69,7 @@ returns-clause-begun g c =
     let whole = c.in-Ok.ensures.whole ∙ ap (λ harts. are_whole (map got_of harts) logs) c.as_slice.ensures.value in
     let both = ap (λ n. n && c.in-Ok.whole) none ∙ ap (λ w. is_none why && w) whole in
     begun_behind (hart_lines 0 gots logs) (stop_line why ++ result_line told) old mid new
-    (subst (λ harts. Appends old mid (hart_lines 0 (map got_of harts) logs)) c.as_slice.ensures.value c.in-Ok.ensures.text)
+    (subst (λ harts. Appends old mid (hart_lines 0 (map got_of harts) logs)) c.as_slice.ensures.value
+    c.in-Ok.ensures.text)
     (begun_behind (stop_line why) (result_line told) mid late new c.in-Ok-write_stop.ensures.text
     (subst (λ whole. AppendsBeginning (result_line whole) late new) both c.write_result.ensures.begun))

@@ -7,7 +7,8 @@ use Rattle.output.specs.Begun.{AppendsBeginning}
 use Rattle.output.proofs.Beginnings.{whole_begun}
 use Rattle.bench.specs.Got.{got_of}
 use Rattle.bench.specs.Report.{hart_line, hart_lines}
-use Rattle.bench.proofs.ReportLemmas.{are_whole-all, are_whole-next, got_at, hart_begun, hart_lines-all, hart_lines-next, length-gots}
+use Rattle.bench.proofs.ReportLemmas.{are_whole-all, are_whole-next, got_at, hart_begun, hart_lines-all}
+use Rattle.bench.proofs.ReportLemmas.{hart_lines-next, length-gots}
 use Rattle.bench.proofs.reporting.write_harts.Goals as goal
 
 pub loop-hart-preserved : goal.loop-hart-preserved
@@ -69,7 +70,8 @@ returns-in-Err-clause-begun g c =
     let log = slice_get_read logs (length logs) hart c.index-logs-hart.result refl
     (omega (arith, known, c.requires)) c.index-logs-hart.is in
     let place : 0 + hart ≡ hart = omega arith in
-    hart_begun (map got_of harts) logs hart one c.index-logs-hart.result (g.W.Write.contents c.args.sink.now) mid new got log
+    hart_begun (map got_of harts) logs hart one c.index-logs-hart.result (g.W.Write.contents c.args.sink.now) mid new
+    got log
     c.loop-hart.invariant.text
     (subst (λ h. AppendsBeginning (hart_line h one c.index-logs-hart.result) mid new) (sym place)
     c.write_hart.ensures.begun)

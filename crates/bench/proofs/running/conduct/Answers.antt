@@ -1,5 +1,5 @@
 -- What came of harts, by lemmas on collectors, which no tactic finds.
-use Rattle.std.proofs.Common.{◌≡◌, ◌∙◌, Some, true, length, slice_get, sym, ap, subst, arith}
+use Rattle.std.proofs.Common.{◌≡◌, ◌≤◌, ◌∙◌, Some, true, length, slice_get, sym, ap, subst, arith}
 use Rattle.std.proofs.lemmas.Grind.{common_steps}
 use Rattle.funnel.specs.Ends.{OutletView}
 use Rattle.bench.specs.Beginnings.{AreCarried, AreThoseTaken, LackSomeTaken}
@@ -31,11 +31,7 @@ module _ (g : _) (c : goal.After-drop-handed_back-2 g) where
       c.start_all-workers.new.collector) (sym c.requires.outlet.0) c.start_all-workers.ensures.gathered)
 
   flags : length c.start_all-workers.new.started ≡ length c.args.logs.now
-  flags =
-      let same = c.start_all-workers.ensures.flags in
-      let slice = c.as_mut_slice.ensures.len in
-      let all = c.in_ok-started.ensures.len in
-      omega (arith, same, slice, all)
+  flags = c.start_all-workers.ensures.flags
 
   -- And taken, now that the workers are settled.
   taken : AreTaken c.args.config.period c.args.config.mode c.args.logs.now c.collect.new.outlet.taken
@@ -62,8 +58,10 @@ stop_of-outcome-requires g c =
     let same = c.settle_all.ensures.count in
     let slice = c.as_mut_slice-2.ensures.len in
     let all = c.in_ok-handed_back.ensures.len in
-    let few = c.requires.count in
-    (omega (arith, harts, flags, count, own, same, slice, all), omega (arith, harts, count, own, few))
+    let few = c.requires.count in (
+      omega (arith, harts, flags, count, own, same, slice, all),
+      subst (λ n. n ≤ 64) (sym (ap length c.as_slice.ensures.value ∙ count ∙ own)) few,
+    )
 
 pub returns-clause-beginnings : goal.returns-clause-beginnings
 returns-clause-beginnings g c =

@@ -1,7 +1,7 @@
-use Rattle.std.proofs.Common.{◌≡◌, ◌<◌, ℕ, false, true, get_or}
-use Rattle.bench.specs.declared.outcome.HartOutcome.{HartOutcome}
+-- Of no hart so far the channel ended.
+use Rattle.std.proofs.Common.{◌<◌, ℕ}
+use Rattle.bench.specs.Stopping.{IsEndedHart}
 use Rattle.bench.proofs.stopping.first_ended.Given as goal
 
 abbrev pub invariant-loop-hart : goal.invariant-loop-hart
-invariant-loop-hart g l = (h : ℕ) (d : HartOutcome _) → h < l.hart → (get_or l.harts h d).refused ≡ false
-    → (get_or l.harts h d).closed ≡ true
+invariant-loop-hart g l = (before : ℕ) → before < l.hart → ¬ IsEndedHart l.harts before

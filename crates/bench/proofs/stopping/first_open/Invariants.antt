@@ -1,6 +1,7 @@
-use Rattle.std.proofs.Common.{◌≡◌, ◌<◌, ℕ, true, get_or}
-use Rattle.bench.specs.declared.outcome.HartOutcome.{HartOutcome}
+-- No hart so far is open.
+use Rattle.std.proofs.Common.{◌<◌, ℕ}
+use Rattle.bench.specs.Stopping.{IsOpenHart}
 use Rattle.bench.proofs.stopping.first_open.Given as goal
 
 abbrev pub invariant-loop-hart : goal.invariant-loop-hart
-invariant-loop-hart g l = (h : ℕ) (d : HartOutcome _) → h < l.hart → (get_or l.harts h d).closed ≡ true
+invariant-loop-hart g l = (before : ℕ) → before < l.hart → ¬ IsOpenHart l.harts before

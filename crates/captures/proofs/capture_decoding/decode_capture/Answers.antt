@@ -15,7 +15,8 @@ use Rattle.receiver.specs.Received.{events_in}
 
 pub returns-in-Ok-Some-clause-decoded : goal.returns-in-Ok-Some-clause-decoded
 returns-in-Ok-Some-clause-decoded g c =
-    let found : IsHeader c.in-Ok-Some.header × (c.new-messages.result ≡ header_bytes c.in-Ok-Some.header ++ c.header.new.self)
+    let found : IsHeader c.in-Ok-Some.header × (c.new-messages.result ≡ header_bytes c.in-Ok-Some.header
+    ++ c.header.new.self)
     = subst (λ o. IfSome o (λ (h : Header). IsHeader h × (c.new-messages.result ≡ header_bytes h ++ c.header.new.self)))
     c.in-Ok-Some.field-0-is c.in-Ok-Some.ensures.header in
     IfOk-weaker c.decode_messages.result _ _

@@ -6,7 +6,8 @@ use Rattle.payload.specs.declared.mode.Mode.TheVariants.{Differential}
 use Rattle.message.specs.Header.{HasBadHeader, IsCutHeader, IsHeader, IsMarked, header_bytes}
 use Rattle.message.specs.steps.Filling.{AreBytes}
 use Rattle.captures.proofs.Dumps.{AreBytes-behind}
-use Rattle.captures.proofs.HeaderDumps.{headed_begun, headed_dumped, line_begun, messages_begun, messages_dumped, no_header, none_dumped}
+use Rattle.captures.proofs.HeaderDumps.{headed_begun, headed_dumped, line_begun, messages_begun, messages_dumped}
+use Rattle.captures.proofs.HeaderDumps.{no_header, none_dumped}
 use Rattle.captures.specs.Dump.{AppendsDump, AreMessagesDumped, BeginsDump}
 use Rattle.captures.proofs.dumping.dump_capture.Goals.{After-write_header_line}
 use Rattle.captures.proofs.dumping.dump_capture.Goals as goal

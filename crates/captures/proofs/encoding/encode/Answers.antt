@@ -28,14 +28,17 @@ loop-hart-preserved g c =
 pub returns-in_err-encode_log-clause-begun : goal.returns-in_err-encode_log-clause-begun
 returns-in_err-encode_log-clause-begun g c =
     next_hart_begun g.F.Form.text (g.W.Write.contents c.args.sink.now) (g.W.Write.contents c.loop-hart.sink)
-    (g.W.Write.contents c.encode_log.new.sink) c.args.period c.args.mode c.loop-hart.hart c.args.logs.now c.index-logs-hart.result
+    (g.W.Write.contents c.encode_log.new.sink) c.args.period c.args.mode c.loop-hart.hart c.args.logs.now
+    c.index-logs-hart.result
     c.loop-hart-test.true c.index-logs-hart.is c.loop-hart.invariant c.encode_log.ensures.begun
 
 pub returns-clause-begun : goal.returns-clause-begun
 returns-clause-begun g c =
     let old = g.W.Write.contents c.args.sink.now in
     let new = g.W.Write.contents c.loop-hart.sink in
-    subst (λ logs. AppendsBeginning (flat_map g.F.Form.text (messages_of_harts c.args.period c.args.mode 0 logs)) old new)
+    subst (λ logs. AppendsBeginning (flat_map g.F.Form.text (messages_of_harts c.args.period c.args.mode 0 logs)) old
+    new)
     (take_all c.loop-hart.hart c.args.logs.now c.loop-hart-test.false) (whole_begun
-    (flat_map g.F.Form.text (messages_of_harts c.args.period c.args.mode 0 (take c.loop-hart.hart c.args.logs.now))) old new
+    (flat_map g.F.Form.text (messages_of_harts c.args.period c.args.mode 0 (take c.loop-hart.hart c.args.logs.now)))
+    old new
     c.loop-hart.invariant)

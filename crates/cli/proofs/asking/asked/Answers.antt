@@ -6,7 +6,8 @@ use Rattle.clap.specs.Words.{FailsBy, fault_of, found_of, kind_of, rows_of}
 use Rattle.clap.specs.declared.error.kind.ErrorKind.TheVariants.{OutOfMemory}
 use Rattle.cli.specs.Asking.{AreRefused}
 use Rattle.cli.specs.Grammar.{program_app}
-use Rattle.cli.proofs.SubcommandLemmas.{fails_own, faultless, is_ruled, matches_own, named, never_none, refused_by, words_ask}
+use Rattle.cli.proofs.SubcommandLemmas.{fails_own, faultless, is_ruled, matches_own, named, never_none, refused_by}
+use Rattle.cli.proofs.SubcommandLemmas.{words_ask}
 use Rattle.cli.proofs.asking.asked.Goals as goal
 
 pub unreachable-requires : goal.unreachable-requires

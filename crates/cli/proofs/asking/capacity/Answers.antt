@@ -1,3 +1,4 @@
+-- A number is read from what was found, and said of the rows; how clap reads one is no equation that a search finds.
 use Rattle.std.proofs.Common.{◌∙◌, codes, arith}
 use Rattle.std.specs.Str.Parse.{ExplainsUnsignedError, HasUnsignedDigitsIfOk}
 use Rattle.clap.proofs.WalkLemmas.{one_text-rows}

@@ -1,3 +1,4 @@
+-- The texts are read from what was found, and said of the rows, which are one by a lemma of clap's.
 use Rattle.std.proofs.Common.{◌∙◌, ap, refl, codes, unwrap_or, [], Option, List, ℕ}
 use Rattle.clap.proofs.WalkLemmas.{first_value-rows}
 use Rattle.clap.specs.Words.{found_of}

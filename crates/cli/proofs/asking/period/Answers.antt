@@ -1,3 +1,4 @@
+-- A number is read from what was found, and said of the rows; how clap reads one is no equation that a search finds.
 use Rattle.std.proofs.Common.{◌∙◌, codes, arith}
 use Rattle.std.specs.Str.Parse.{ExplainsUnsignedError, HasUnsignedDigitsIfOk}
 use Rattle.clap.proofs.WalkLemmas.{one_text-rows}
@@ -14,7 +15,8 @@ returns c =
       (λ text value tells.
           let reads = c.get_one.ensures.value text (one_text-rows given (codes "period") ∙ value) in
           let told = c.unwrap_or.ensures
-          ∙ read_as_told 16 (λ t r. ExplainsUnsignedError 10 t r) (λ t r. HasUnsignedDigitsIfOk t r) 65535 text c.get_one.result 1024
+          ∙ read_as_told 16 (λ t r. ExplainsUnsignedError 10 t r) (λ t r. HasUnsignedDigitsIfOk t r) 65535 text
+          c.get_one.result 1024
           (omega arith) reads tells in
           omega (arith, is, told, tells.1)),
     )

@@ -1,15 +1,12 @@
-use Rattle.std.proofs.Common.{◌∙◌, ap, codes}
-use Rattle.clap.specs.Simple.{app_of_fields}
+-- A command's grammar is too large to be searched in: the rules of its arguments are handed over.
+use Rattle.std.proofs.Common.{codes, [], ◌∷◌}
 use Rattle.clap.specs.Words.{new_app}
-use Rattle.cli.specs.Grammar.{HasGrammar}
-use Rattle.cli.proofs.GrammarLemmas.{adds_rule}
+use Rattle.arguments.specs.Rules.{base_rule, capacity_rule, full_rule, image_rule, logs_rule, period_rule}
+use Rattle.cli.proofs.GrammarLemmas.{with_these}
 use Rattle.cli.proofs.grammar.bench.Goals as goal
 
 pub returns : goal.returns
 returns c =
-    let bare : HasGrammar (new_app (codes "bench")) c.about.result =
-    (ap app_of_fields c.about.ensures ∙ c.new.ensures.app, ap (λ f. f.has_globals) c.about.ensures ∙ c.new.ensures.local) in
-    adds_rule _ _ _ _ _ (adds_rule _ _ _ _ _ (adds_rule _ _ _ _ _ (adds_rule _ _ _ _ _ (adds_rule _ _ _ _ _
-    (adds_rule _ _ _ _ _ bare c.base.ensures c.in_ok-arg.ensures) c.period.ensures c.in_ok-arg-2.ensures)
-    c.full.ensures c.in_ok-arg-3.ensures) c.capacity.ensures c.in_ok-arg-4.ensures)
-    c.image.ensures c.in_ok-arg-5.ensures) c.logs.ensures c.in_ok-command.ensures
+    with_these c.subcommand.result (new_app (codes "bench")) (base_rule ∷ period_rule ∷ full_rule ∷ capacity_rule ∷ image_rule ∷ logs_rule ∷ []) _ c.in_ok-args.args.items
+    c.in_ok-args.ensures.items c.subcommand.ensures
+    (c.base.ensures, (c.period.ensures, (c.full.ensures, (c.capacity.ensures, (c.image.ensures, (c.logs.ensures, tt))))))

@@ -1,12 +1,12 @@
-use Rattle.std.proofs.Common.{◌∙◌, ap, codes}
-use Rattle.clap.specs.Simple.{app_of_fields}
+-- A command's grammar is too large to be searched in: the rules of its arguments are handed over.
+use Rattle.std.proofs.Common.{codes, [], ◌∷◌}
 use Rattle.clap.specs.Words.{new_app}
-use Rattle.cli.specs.Grammar.{HasGrammar}
-use Rattle.cli.proofs.GrammarLemmas.{adds_rule}
+use Rattle.arguments.specs.Rules.{capture_rule}
+use Rattle.cli.proofs.GrammarLemmas.{with_these}
 use Rattle.cli.proofs.grammar.dump.Goals as goal
 
 pub returns : goal.returns
 returns c =
-    let bare : HasGrammar (new_app (codes "dump")) c.about.result =
-    (ap app_of_fields c.about.ensures ∙ c.new.ensures.app, ap (λ f. f.has_globals) c.about.ensures ∙ c.new.ensures.local) in
-    adds_rule _ _ _ _ _ bare c.capture.ensures c.in_ok-command.ensures
+    with_these c.subcommand.result (new_app (codes "dump")) (capture_rule ∷ []) _ c.in_ok-args.args.items
+    c.in_ok-args.ensures.items c.subcommand.ensures
+    (c.capture.ensures, tt)

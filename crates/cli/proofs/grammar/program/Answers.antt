@@ -1,3 +1,4 @@
+-- The program's grammar is too large to be searched in: what each call keeps of it is handed over.
 use Rattle.std.proofs.Common.{◌∙◌, ap, true}
 use Rattle.clap.specs.Simple.{Shape, app_of_fields, on_top}
 use Rattle.cli.specs.Grammar.{HasGrammar, bare_program}
@@ -8,8 +9,10 @@ pub returns : goal.returns
 returns c =
     let bare : HasGrammar bare_program c.subcommand_required.result = (
       ap app_of_fields c.subcommand_required.ensures
-          ∙ ap (on_top (λ (s : Shape). record s { subcommand_required = true })) (ap app_of_fields c.about.ensures ∙ c.new.ensures.app),
-      ap (λ f. f.has_globals) c.subcommand_required.ensures ∙ ap (λ f. f.has_globals) c.about.ensures ∙ c.new.ensures.local,
+          ∙ ap (on_top (λ (s : Shape). record s { subcommand_required = true })) (ap app_of_fields c.about.ensures
+          ∙ c.new.ensures.app),
+      ap (λ f. f.has_globals) c.subcommand_required.ensures ∙ ap (λ f. f.has_globals) c.about.ensures
+          ∙ c.new.ensures.local,
     ) in
     adds_subcommand _ _ _ _ _ (adds_subcommand _ _ _ _ _ (adds_subcommand _ _ _ _ _ (adds_subcommand _ _ _ _ _
     (adds_subcommand _ _ _ _ _ (adds_subcommand _ _ _ _ _ bare c.in_ok-check.ensures c.in_ok-subcommand.ensures)

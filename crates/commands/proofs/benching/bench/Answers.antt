@@ -64,7 +64,8 @@ returns-clause-printed g c =
     let old = g.O.Write.contents c.args.out.now in
     let new = g.O.Write.contents c.bench_logs.new.out in
     let there = there g (goal.at.returns-clause-printed g c).After-bench_logs in
-    leads_on (BenchesLogs asked logs) (Benches content asked) (CanBenchLogs asked logs) (CanBench content asked) ended old new
+    leads_on (BenchesLogs asked logs) (Benches content asked) (CanBenchLogs asked logs) (CanBench content asked) ended
+    old new
     (λ printed benches. (Ok logs, there, benches)) (λ can. (logs, there, can))
     (subst (λ logs. PrintsUnlessDenied (BenchesLogs asked logs) (CanBenchLogs asked logs) ended old new)
     c.as_slice.ensures.value c.bench_logs.ensures.printed)

@@ -41,7 +41,8 @@ there : (g : _) (c : After-judge_all-ended g) → IsAskedProgram (g.F.Files.cont
 there g c =
     let asked = c.args.asked.now in
     program_there (g.F.Files.content c.args.files.now) (most_harts Two) asked.base.now asked.image asked.logs.items
-    c.as_slice-paths.result.now c.as_slice-paths.ensures.value (Ok c.in_ok-program.program) c.in_ok-program.ensures.program
+    c.as_slice-paths.result.now c.as_slice-paths.ensures.value (Ok c.in_ok-program.program)
+    c.in_ok-program.ensures.program
 
 pub returns-clause-printed : goal.returns-clause-printed
 returns-clause-printed g c =
@@ -52,10 +53,13 @@ returns-clause-printed g c =
     let there = there g (goal.at.returns-clause-printed g c).After-judge_all-ended in
     let ended = c.judge_all-ended.result in
     let mid = contents c.judge_all-ended.new.out in
-    let lines = subst (λ logs. PrintsUnlessDenied (WritesLines content program logs) ⊤ ended (contents c.args.out.now) mid) c.as_slice-paths.ensures.value
-    (subst (λ told. PrintsUnlessDenied (WritesLines told program c.as_slice-paths.result.now) ⊤ ended (contents c.args.out.now) mid)
+    let lines = subst (λ logs. PrintsUnlessDenied (WritesLines content program logs) ⊤ ended (contents c.args.out.now)
+    mid) c.as_slice-paths.ensures.value
+    (subst (λ told. PrintsUnlessDenied (WritesLines told program c.as_slice-paths.result.now) ⊤ ended
+    (contents c.args.out.now) mid)
     c.in_ok-program.ensures.kept c.judge_all-ended.ensures.printed) in
-    goes_on (WritesLines content program asked.logs.items) (Checks content asked) ⊤ (CanCheck content asked) ended (contents c.args.out.now) mid (contents c.flush.new.self)
+    goes_on (WritesLines content program asked.logs.items) (Checks content asked) ⊤ (CanCheck content asked) ended
+    (contents c.args.out.now) mid (contents c.flush.new.self)
     (λ printed lines. (Ok program, there, lines)) (program, there, tt)
     lines c.flush.ensures.bytes
 
@@ -85,11 +89,13 @@ returns-in_err-map_err-clause-cut g c =
     let old = contents c.args.out.now in
     let mid = contents c.judge_all-ended.new.out in
     let new = contents c.flush.new.self in
-    let lines = subst (λ logs. BeginsPrinted (WritesFirstLines content program logs) old mid) c.as_slice-paths.ensures.value
+    let lines = subst (λ logs. BeginsPrinted (WritesFirstLines content program logs) old mid)
+    c.as_slice-paths.ensures.value
     (subst (λ told. BeginsPrinted (WritesFirstLines told program c.as_slice-paths.result.now) old mid)
     c.in_ok-program.ensures.kept c.judge_all-ended.ensures.cut) in
     inr (cut_kept (WritesFirstLines content program asked.logs.items) (ChecksFirst content asked) old mid new
-    (λ printed lines. (program, there g (goal.at.returns-in_err-map_err-clause-cut g c).After-judge_all-ended, lines)) lines c.flush.ensures.bytes)
+    (λ printed lines. (program, there g (goal.at.returns-in_err-map_err-clause-cut g c).After-judge_all-ended, lines))
+    lines c.flush.ensures.bytes)
 
 pub returns-clause-cut : goal.returns-clause-cut
 returns-clause-cut g c =
@@ -100,8 +106,10 @@ returns-clause-cut g c =
     let old = contents c.args.out.now in
     let mid = contents c.judge_all-ended.new.out in
     let new = contents c.flush.new.self in
-    let lines = subst (λ logs. BeginsPrinted (WritesFirstLines content program logs) old mid) c.as_slice-paths.ensures.value
+    let lines = subst (λ logs. BeginsPrinted (WritesFirstLines content program logs) old mid)
+    c.as_slice-paths.ensures.value
     (subst (λ told. BeginsPrinted (WritesFirstLines told program c.as_slice-paths.result.now) old mid)
     c.in_ok-program.ensures.kept c.judge_all-ended.ensures.cut) in
     inr (cut_kept (WritesFirstLines content program asked.logs.items) (ChecksFirst content asked) old mid new
-    (λ printed lines. (program, there g (goal.at.returns-clause-cut g c).After-judge_all-ended, lines)) lines c.flush.ensures.bytes)
+    (λ printed lines. (program, there g (goal.at.returns-clause-cut g c).After-judge_all-ended, lines)) lines
+    c.flush.ensures.bytes)

@@ -42,10 +42,19 @@ returns-in_err-bytes-clause-printed g c =
     let program = c.in_ok-program.program in
     let why = c.in_err-bytes.field-0.0 in
     let is : c.from_residual-in_err-bytes.result ≡ Err why = grind (arith, common_steps) in
-    let told = subst (λ told. (why ≡ fault.Memory) ⊎ IsRead told asked.capture (Err why)) c.in_ok-program.ensures.kept c.in_err-bytes.ensures.lacked in
+    let told = subst (λ told. (why ≡ fault.Memory) ⊎ IsRead told asked.capture (Err why)) c.in_ok-program.ensures.kept
+    c.in_err-bytes.ensures.lacked in
     subst (λ r. PrintsUnlessDenied run can r out out) (sym is)
     (ends_silently run can (IsRead content asked.capture (Err why)) why out told
-    (λ none. (Ok base, c.in_ok-base.ensures.found, (Ok program, c.in_ok-program.ensures.program, (Err why, none, refl)))))
+    (λ none. (
+      Ok base,
+      c.in_ok-base.ensures.found,
+      (
+        Ok program,
+        c.in_ok-program.ensures.program,
+        (Err why, none, refl),
+      ),
+    )))
 
 module _ (g : _) (c : In_ok-bytes g) (slice : List ℕ) (same : slice ≡ c.in_ok-bytes.bytes.items) (lossy : Bool)
     (is : c.args.asked.now.lossy ≡ lossy) where

@@ -17,7 +17,8 @@ pub loop-hart-preserved : goal.loop-hart-preserved
 loop-hart-preserved g c =
     let contents = g.O.Write.contents in
     let list = c.index-logs-hart.result in
-    let log = subst (λ events. Appends (contents c.write_text.new.out) (contents c.write_log.new.sink) (log_text events)) c.as_slice.ensures.value c.in_ok-write_log.ensures.written in
+    let log = subst (λ events. Appends (contents c.write_text.new.out) (contents c.write_log.new.sink)
+    (log_text events)) c.as_slice.ensures.value c.in_ok-write_log.ensures.written in
     hart_written log_text (λ (list : Vec Event Global). list.items) c.args.logs.now c.loop-hart.hart-counter list
     c.loop-hart-test.true c.index-logs-hart.is (contents c.args.out.now) (contents c.loop-hart.out)
     (contents c.write_text.new.out) (contents c.write_log.new.sink) c.loop-hart.invariant
@@ -25,7 +26,8 @@ loop-hart-preserved g c =
 
 pub returns-clause-text : goal.returns-clause-text
 returns-clause-text g c =
-    subst (λ lists. Appends (g.O.Write.contents c.args.out.now) (g.O.Write.contents c.loop-hart.out) (harts_text 0 (events_in lists)))
+    subst (λ lists. Appends (g.O.Write.contents c.args.out.now) (g.O.Write.contents c.loop-hart.out)
+    (harts_text 0 (events_in lists)))
     (take_all c.loop-hart.hart-counter c.args.logs.now c.loop-hart-test.false) c.loop-hart.invariant
 
 pub returns-in_err-map_err-clause-begun : goal.returns-in_err-map_err-clause-begun

@@ -6,4 +6,5 @@ use Rattle.commands.proofs.decoding.write_logs.Given as goal
 
 -- The texts of the harts so far are written.
 abbrev pub invariant-loop-hart : goal.invariant-loop-hart
-invariant-loop-hart g l = Appends (g.O.Write.contents l.fn.out) (g.O.Write.contents l.out) (harts_text 0 (events_in (take l.hart-counter l.logs)))
+invariant-loop-hart g l = Appends (g.O.Write.contents l.fn.out) (g.O.Write.contents l.out)
+    (harts_text 0 (events_in (take l.hart-counter l.logs)))

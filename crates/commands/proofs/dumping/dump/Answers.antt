@@ -31,7 +31,8 @@ returns-in_err-bytes-clause-printed g c =
     (λ none. (Err why, none, refl)))
 
 -- The capture was read, and a beginning of its dump was written.
-dump_cut : (content : Content) (asked : Dump) (bytes : List ℕ) (bad : Bool) (stop : Option (ℕ × MessageFault)) (text : List ℕ)
+dump_cut : (content : Content) (asked : Dump) (bytes : List ℕ) (bad : Bool) (stop : Option (ℕ × MessageFault))
+    (text : List ℕ)
     (old new : Option (List ℕ)) → IsRead content asked.capture (Ok bytes) → IsDump bytes bad stop text
     → AppendsBeginning text old new → IsCutOf (Dumps content asked) old new
 dump_cut content asked bytes bad stop text old new read dumped begun = inr (record {

@@ -24,7 +24,8 @@ returns-in_err-program-clause-early g c =
     let why = c.in_err-program.field-0.0 in
     let failed : c.asked_program.result ≡ Err why = grind (arith, common_steps) in
     let is : c.from_residual.result ≡ Err why = grind (arith, common_steps) in
-    early_ends (most_harts asked.version) asked.base.now asked.logs.items c.as_slice-paths.result.now c.asked_program.result why
+    early_ends (most_harts asked.version) asked.base.now asked.logs.items c.as_slice-paths.result.now
+    c.asked_program.result why
     c.from_residual.result c.as_slice-paths.ensures.value failed is
     (subst (λ most. IfSome (logs_fault most (number_of asked.base.now) (length c.as_slice-paths.result.now))
     (λ fault. c.asked_program.result ≡ Err fault)) c.most_harts-most.ensures c.asked_program.ensures.early)
@@ -39,7 +40,8 @@ returns-in_err-program-clause-printed g c =
     c.as_slice-paths.ensures.value (CanEncode content asked) (g.O.Write.contents c.args.out.now) why
     c.from_residual.result is (WritesMessages asked)
     (subst (λ most. (why ≡ fault.Memory)
-    ⊎ IsAskedProgram content most asked.base.now asked.image c.as_slice-paths.result.now (Err why)) c.most_harts-most.ensures
+    ⊎ IsAskedProgram content most asked.base.now asked.image c.as_slice-paths.result.now (Err why))
+    c.most_harts-most.ensures
     c.in_err-program.ensures.fault)
 
 pub returns-in_err-logs-clause-printed : goal.returns-in_err-logs-clause-printed
@@ -59,7 +61,8 @@ returns-in_err-logs-clause-printed g c =
 
 module _ (g : _) (c : After-encode_logs g) where
   -- The logs that were found.
-  there : AreAskedLogs (g.F.Files.content c.args.files.now) (most_harts c.args.asked.now.version) c.args.asked.now.base.now
+  there : AreAskedLogs (g.F.Files.content c.args.files.now) (most_harts c.args.asked.now.version)
+      c.args.asked.now.base.now
       c.args.asked.now.image c.args.asked.now.logs.items (Ok c.in_ok-logs.logs.items)
   there =
       let content = g.F.Files.content c.args.files.now in
@@ -80,7 +83,8 @@ returns-clause-printed g c =
     let old = g.O.Write.contents c.args.out.now in
     let new = g.O.Write.contents c.encode_logs.new.out in
     let there = there g (goal.at.returns-clause-printed g c).After-encode_logs in
-    runs.written (Encodes content asked) (CanEncode content asked) (written asked logs) Whole c.encode_logs.result old new
+    runs.written (Encodes content asked) (CanEncode content asked) (written asked logs) Whole c.encode_logs.result old
+    new
     (Ok logs, there, refl) (logs, there, tt) c.encode_logs.ensures.fault c.encode_logs.ensures.ended
     (subst (λ logs. OnOk c.encode_logs.result (Appends old new (written asked logs))) c.as_slice.ensures.value
     c.encode_logs.ensures.text)
@@ -94,4 +98,5 @@ returns-clause-cut g c =
     let new = g.O.Write.contents c.encode_logs.new.out in
     inr (printed_begun (Encodes content asked) (written asked logs) (Ok Whole) old new
     (Ok logs, there g (goal.at.returns-clause-cut g c).After-encode_logs, refl)
-    (subst (λ logs. AppendsBeginning (written asked logs) old new) c.as_slice.ensures.value c.encode_logs.ensures.begun))
+    (subst (λ logs. AppendsBeginning (written asked logs) old new) c.as_slice.ensures.value
+    c.encode_logs.ensures.begun))

@@ -10,5 +10,6 @@ pub returns-in_err-events-clause-fault : goal.returns-in_err-events-clause-fault
 returns-in_err-events-clause-fault g c =
     let content = g.F.Files.content c.args.files.now in
     let is : c.from_residual.result ≡ Err c.in_err-events.field-0.0 = grind (arith, common_steps) in
-    subst (λ r. IfErr r (λ why. (why ≡ fault.Memory) ⊎ IsLegalLogAt content c.args.program.now c.args.path (Err why))) (sym is)
+    subst (λ r. IfErr r (λ why. (why ≡ fault.Memory) ⊎ IsLegalLogAt content c.args.program.now c.args.path (Err why)))
+    (sym is)
     (legal_unread content c.args.program.now c.args.path c.in_err-events.field-0.0 c.in_err-events.ensures.fault)

@@ -68,7 +68,8 @@ returns-clause-printed g c =
     let there = there g (goal.at.returns-clause-printed g c).After-replay_logs in
     leads_on (ReplaysLogs content asked logs) (Replays content asked) (CanReplayLogs content asked logs)
     (CanReplay content asked) ended old new (λ printed replays. (Ok logs, there, replays)) (λ can. (logs, there, can))
-    (subst (λ logs. PrintsUnlessDenied (ReplaysLogs content asked logs) (CanReplayLogs content asked logs) ended old new)
+    (subst (λ logs. PrintsUnlessDenied (ReplaysLogs content asked logs) (CanReplayLogs content asked logs) ended old
+    new)
     c.as_slice.ensures.value
     (subst (λ told. PrintsUnlessDenied (ReplaysLogs told asked slice) (CanReplayLogs told asked slice) ended old new)
     (c.in_ok-logs.ensures.kept ∙ c.in_ok-program.ensures.kept) c.replay_logs.ensures.printed))
@@ -82,7 +83,9 @@ returns-clause-cut g c =
     let old = g.O.Write.contents c.args.out.now in
     let new = g.O.Write.contents c.replay_logs.new.out in
     let there = there g (goal.at.returns-clause-cut g c).After-replay_logs in
-    cut_leads (ReplaysLogs content asked logs) (Replays content asked) old new (λ printed replays. (Ok logs, there, replays))
+    cut_leads (ReplaysLogs content asked logs) (Replays content asked) old new
+    (λ printed replays. (Ok logs, there, replays))
     (subst (λ logs. IsCutOf (ReplaysLogs content asked logs) old new) c.as_slice.ensures.value
-    (subst (λ told. IsCutOf (ReplaysLogs told asked slice) old new) (c.in_ok-logs.ensures.kept ∙ c.in_ok-program.ensures.kept)
+    (subst (λ told. IsCutOf (ReplaysLogs told asked slice) old new) (c.in_ok-logs.ensures.kept
+    ∙ c.in_ok-program.ensures.kept)
     c.replay_logs.ensures.cut))

@@ -42,7 +42,8 @@ returns-in_err-outcome-clause-printed g c =
     let is : c.from_residual-in_err-outcome.result ≡ Err why = grind (arith, common_steps) in
     let config = config_at asked.period asked.mode asked.capacity in
     subst (λ r. PrintsUnlessDenied run can r out out) (sym is)
-    (ends_silently run can (IsSetting (most_harts Two) (length logs) config (Err why)) why out c.in_err-outcome.ensures.fault
+    (ends_silently run can (IsSetting (most_harts Two) (length logs) config (Err why)) why out
+    c.in_err-outcome.ensures.fault
     (λ none. (Ok c.in_ok-turns.turns.items, c.in_ok-turns.ensures.turns, (Err why, none, refl))))
 
 module _ (g : _) (c : After-end_with_report g) where

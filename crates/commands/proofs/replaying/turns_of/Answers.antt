@@ -17,15 +17,18 @@ returns-in_err-bytes-clause-fault g c =
 
 pub returns-in-Ok-clause-turns : goal.returns-in-Ok-clause-turns
 returns-in-Ok-clause-turns g c =
-    schedule_read (g.F.Files.content c.args.files.now) c.args.harts c.args.path c.in_ok-bytes.bytes.items c.in-Ok.turns.items
+    schedule_read (g.F.Files.content c.args.files.now) c.args.harts c.args.path c.in_ok-bytes.bytes.items
+    c.in-Ok.turns.items
     c.in_ok-bytes.ensures.held
-    (subst (λ text. schedule_of c.args.harts text ≡ Ok c.in-Ok.turns.items) c.as_slice.ensures.value c.in-Ok.ensures.turns)
+    (subst (λ text. schedule_of c.args.harts text ≡ Ok c.in-Ok.turns.items) c.as_slice.ensures.value
+    c.in-Ok.ensures.turns)
 
 pub returns-clause-fault : goal.returns-clause-fault
 returns-clause-fault g c =
     let content = g.F.Files.content c.args.files.now in
     let why = c.in-Err.why in
-    let faults = subst (λ text. (why ≡ schedule.Memory) ⊎ (schedule_of c.args.harts text ≡ Err why)) c.as_slice.ensures.value
+    let faults = subst (λ text. (why ≡ schedule.Memory) ⊎ (schedule_of c.args.harts text ≡ Err why))
+    c.as_slice.ensures.value
     c.in-Err.ensures.faults in
     subst (λ r. (r ≡ fault.Memory) ⊎ IsSchedule content c.args.harts c.args.path (Err r)) (sym c.of_schedule.ensures)
     (schedule_refused content c.args.harts c.args.path c.in_ok-bytes.bytes.items why c.in_ok-bytes.ensures.held faults)

@@ -25,4 +25,5 @@ returns-clause-text g c =
     let contents = g.O.Write.contents in
     let outcome = c.args.outcome.now in
     appends-keeps (contents c.args.out.now) (contents c.write_report.new.out) (contents c.flush.new.self)
-    (report_text outcome.stop (map got_of outcome.harts.items) c.args.logs.now) c.in_ok-write_report.ensures.text c.flush.ensures.bytes
+    (report_text outcome.stop (map got_of outcome.harts.items) c.args.logs.now) c.in_ok-write_report.ensures.text
+    c.flush.ensures.bytes

@@ -44,7 +44,8 @@ returns-clause-whole g c =
     on_ok_weaker c.write_bytes-3.result (λ back. subst (Appends old new) (sym line)
     (Appends-trans old first new (codes "tracebench: ") (path ++ rest) c.in_ok-write_bytes.ensures.whole
     (Appends-trans first second new path rest front
-    (subst (Appends second new) (c.as_bytes-2.ensures.value ∙ c.as_str.ensures.value) back)))) c.write_bytes-3.ensures.whole
+    (subst (Appends second new) (c.as_bytes-2.ensures.value ∙ c.as_str.ensures.value) back))))
+    c.write_bytes-3.ensures.whole
 
 pub returns-clause-begun : goal.returns-clause-begun
 returns-clause-begun g c =

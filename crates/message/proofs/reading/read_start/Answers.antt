@@ -5,7 +5,8 @@ use Rattle.message.proofs.reading.read_start.Goals as goal
 
 pub returns-clause-header_reads_back : goal.returns-clause-header_reads_back
 returns-clause-header_reads_back g c = λ header rest is from.
-    header_reads_back header rest c.first_part.result _ is (subst (λ old. Known old (g.R.Read.remaining c.first_part.new.r) c.first_part.result) from (record {
+    header_reads_back header rest c.first_part.result _ is
+    (subst (λ old. Known old (g.R.Read.remaining c.first_part.new.r) c.first_part.result) from (record {
       start = c.first_part.ensures.start;
       short = c.first_part.ensures.short;
       bad_length = c.first_part.ensures.bad_length;
@@ -15,7 +16,8 @@ returns-clause-header_reads_back g c = λ header rest is from.
 
 pub returns-clause-message_reads_back : goal.returns-clause-message_reads_back
 returns-clause-message_reads_back g c = λ message rest is from.
-    message_reads_back message rest c.first_part.result _ is (subst (λ old. Known old (g.R.Read.remaining c.first_part.new.r) c.first_part.result) from (record {
+    message_reads_back message rest c.first_part.result _ is
+    (subst (λ old. Known old (g.R.Read.remaining c.first_part.new.r) c.first_part.result) from (record {
       start = c.first_part.ensures.start;
       short = c.first_part.ensures.short;
       bad_length = c.first_part.ensures.bad_length;

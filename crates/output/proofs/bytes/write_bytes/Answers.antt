@@ -8,7 +8,8 @@ use Rattle.output.proofs.bytes.write_bytes.Goals as goal
 use Rattle.output.proofs.bytes.write_bytes.Goals.{in-Ok, in-Err+else-ne}
 
 -- So many bytes behind these are within the text.
-more_within : (text : List ℕ) (n more now : ℕ) → n ≤ length text → more ≤ length (take (length text - n) (drop n text)) → now ≡ n + more
+more_within : (text : List ℕ) (n more now : ℕ) → n ≤ length text → more ≤ length (take (length text - n) (drop n text))
+    → now ≡ n + more
     → now ≤ length text
 more_within text n more now within bound is =
     let size = ap length (take_rest text n) ∙ length-drop n text in omega (arith, within, bound, is, size)
@@ -21,7 +22,8 @@ returns-in-Ok-eq0-clause-begun g c =
     let old = contents c.args.out.now in
     let new = contents c.write.new.self in
     first_bytes text (c.loop.written + more) old new
-    (bytes_more text c.loop.written more old (contents c.loop.out) new c.loop.invariant.appended c.in-Ok-eq0.ensures.bytes)
+    (bytes_more text c.loop.written more old (contents c.loop.out) new c.loop.invariant.appended
+    c.in-Ok-eq0.ensures.bytes)
 
 pub returns-then-ne-clause-begun : goal.returns-then-ne-clause-begun
 returns-then-ne-clause-begun g c =
@@ -42,7 +44,8 @@ loop-preserved g c =
     let new = contents c.write.new.self in
     let before = c.loop.invariant in elim c.match-write.branch [
       | in-Ok w ↦ record {
-        within = more_within text n w.in-Ok.count c.match-write.written before.within w.in-Ok.ensures.bound w.written-is;
+        within = more_within text n w.in-Ok.count c.match-write.written before.within w.in-Ok.ensures.bound
+            w.written-is;
         appended = subst (λ n. Appends old new (take n text)) (sym w.written-is)
             (bytes_more text n w.in-Ok.count old mid new before.appended w.in-Ok.ensures.bytes);
       }
@@ -54,4 +57,5 @@ loop-preserved g c =
     ]
 
 pub returns-clause-begun : goal.returns-clause-begun
-returns-clause-begun g c = first_bytes c.args.bytes.now c.loop.written (g.W.Write.contents c.args.out.now) (g.W.Write.contents c.loop.out) c.loop.invariant.appended
+returns-clause-begun g c = first_bytes c.args.bytes.now c.loop.written (g.W.Write.contents c.args.out.now)
+    (g.W.Write.contents c.loop.out) c.loop.invariant.appended

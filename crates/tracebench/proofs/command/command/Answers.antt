@@ -5,7 +5,8 @@ use Rattle.commands.specs.declared.fault.Fault.TheVariants as fault
 use Rattle.tracebench.specs.Words.{Tells}
 use Rattle.tracebench.proofs.CarriedOut.{carried_out}
 use Rattle.tracebench.proofs.command.command.Goals as goal
-use Rattle.tracebench.proofs.command.command.Goals.{in-Ok+in-Check-1, in-Ok+in-Encode-1, in-Ok+in-Dump-1, in-Ok+in-Replay-1}
+use Rattle.tracebench.proofs.command.command.Goals.{in-Ok+in-Check-1, in-Ok+in-Encode-1, in-Ok+in-Dump-1}
+use Rattle.tracebench.proofs.command.command.Goals.{in-Ok+in-Replay-1}
 use Rattle.tracebench.proofs.command.command.Goals.{in-Ok+in-Bench-1, in-Err+in-Some-1, in-Err+in-None-1}
 
 pub returns-clause-printed : goal.returns-clause-printed
@@ -14,26 +15,37 @@ returns-clause-printed g c =
     let words = map string_bytes c.args.words.now in
     let told = g.E.Write.contents in
     let contents = g.O.Write.contents in elim c.match-asked.branch [
-      | in-Ok+in-Check-1 w ↦ inr (inr (carried_out contents told content words w.in-Ok.asked w.run-status.result c.match-asked.status
-          c.code.result c.args.out.now w.run-status.new.out c.match-asked.out c.args.err.now w.run-status.new.err c.match-asked.err
+      | in-Ok+in-Check-1 w ↦ inr
+          (inr (carried_out contents told content words w.in-Ok.asked w.run-status.result c.match-asked.status
+          c.code.result c.args.out.now w.run-status.new.out c.match-asked.out c.args.err.now w.run-status.new.err
+          c.match-asked.err
           w.in-Ok.ensures.found w.status-is c.code.ensures w.out-is w.err-is w.run-status.ensures.done))
-      | in-Ok+in-Encode-1 w ↦ inr (inr (carried_out contents told content words w.in-Ok.asked w.run-status.result c.match-asked.status
-          c.code.result c.args.out.now w.run-status.new.out c.match-asked.out c.args.err.now w.run-status.new.err c.match-asked.err
+      | in-Ok+in-Encode-1 w ↦ inr
+          (inr (carried_out contents told content words w.in-Ok.asked w.run-status.result c.match-asked.status
+          c.code.result c.args.out.now w.run-status.new.out c.match-asked.out c.args.err.now w.run-status.new.err
+          c.match-asked.err
           w.in-Ok.ensures.found w.status-is c.code.ensures w.out-is w.err-is w.run-status.ensures.done))
-      | in-Ok+in-Dump-1 w ↦ inr (inr (carried_out contents told content words w.in-Ok.asked w.run-status.result c.match-asked.status
-          c.code.result c.args.out.now w.run-status.new.out c.match-asked.out c.args.err.now w.run-status.new.err c.match-asked.err
+      | in-Ok+in-Dump-1 w ↦ inr
+          (inr (carried_out contents told content words w.in-Ok.asked w.run-status.result c.match-asked.status
+          c.code.result c.args.out.now w.run-status.new.out c.match-asked.out c.args.err.now w.run-status.new.err
+          c.match-asked.err
           w.in-Ok.ensures.found w.status-is c.code.ensures w.out-is w.err-is w.run-status.ensures.done))
-      | in-Ok+in-Replay-1 w ↦ inr (inr (carried_out contents told content words w.in-Ok.asked w.run-status.result c.match-asked.status
-          c.code.result c.args.out.now w.run-status.new.out c.match-asked.out c.args.err.now w.run-status.new.err c.match-asked.err
+      | in-Ok+in-Replay-1 w ↦ inr
+          (inr (carried_out contents told content words w.in-Ok.asked w.run-status.result c.match-asked.status
+          c.code.result c.args.out.now w.run-status.new.out c.match-asked.out c.args.err.now w.run-status.new.err
+          c.match-asked.err
           w.in-Ok.ensures.found w.status-is c.code.ensures w.out-is w.err-is w.run-status.ensures.done))
-      | in-Ok+in-Bench-1 w ↦ inr (inr (carried_out contents told content words w.in-Ok.asked w.run-status.result c.match-asked.status
-          c.code.result c.args.out.now w.run-status.new.out c.match-asked.out c.args.err.now w.run-status.new.err c.match-asked.err
+      | in-Ok+in-Bench-1 w ↦ inr
+          (inr (carried_out contents told content words w.in-Ok.asked w.run-status.result c.match-asked.status
+          c.code.result c.args.out.now w.run-status.new.out c.match-asked.out c.args.err.now w.run-status.new.err
+          c.match-asked.err
           w.in-Ok.ensures.found w.status-is c.code.ensures w.out-is w.err-is w.run-status.ensures.done))
       | in-Err+in-Some-1 w ↦ elim w.in-Err.ensures.fault [
         | inl memory ↦ inr (inl (
           c.code.ensures ∙ ap code_of (w.status-is ∙ w.tell_words-status.ensures.memory memory),
           w.out-is,
-          subst (λ e. Tells told (Err fault.Memory) c.args.err.now e) (sym w.err-is) (w.tell_words-status.ensures.line memory),
+          subst (λ e. Tells told (Err fault.Memory) c.args.err.now e) (sym w.err-is)
+              (w.tell_words-status.ensures.line memory),
         ))
         | inr refused ↦ inl refused
       ]
@@ -41,7 +53,8 @@ returns-clause-printed g c =
         | inl memory ↦ inr (inl (
           c.code.ensures ∙ ap code_of (w.status-is ∙ w.tell_words-status.ensures.memory memory),
           w.out-is,
-          subst (λ e. Tells told (Err fault.Memory) c.args.err.now e) (sym w.err-is) (w.tell_words-status.ensures.line memory),
+          subst (λ e. Tells told (Err fault.Memory) c.args.err.now e) (sym w.err-is)
+              (w.tell_words-status.ensures.line memory),
         ))
         | inr refused ↦ inl refused
       ]

@@ -1,11 +1,14 @@
 -- A collector sees outcomes as what came of harts, so what was written of one has to be said of all: by laws on lists,
 -- which no tactic finds.
 use Rattle.std.proofs.Common.{set, sym, ap, subst, ◌∙◌, arith}
-use Rattle.bench.proofs.TakesIn.{TakesIn, goes_on, not_refused, passes_over, stopped, takes_counts, takes_decoded, takes_expected, takes_in, takes_kept, takes_kept_received, takes_memory, takes_next, takes_none, takes_only_memory, takes_others, takes_reason, takes_undecoded}
+use Rattle.bench.proofs.TakesIn.{TakesIn, goes_on, not_refused, passes_over, stopped, takes_counts, takes_decoded}
+use Rattle.bench.proofs.TakesIn.{takes_expected, takes_in, takes_kept, takes_kept_received, takes_memory, takes_next}
+use Rattle.bench.proofs.TakesIn.{takes_none, takes_only_memory, takes_others, takes_reason, takes_undecoded}
 use Rattle.bench.specs.Collected.{Collected, IsRefusedHart}
 use Rattle.bench.specs.steps.Collecting.{IsCollected, taken_in}
 use Rattle.message.specs.Accepting.{accepting}
-use Rattle.bench.proofs.collecting.Collector.take_in.Goals.{else-hart-len-via-then-hart-len+else-index, else-hart-len-via-else-hart-len}
+use Rattle.bench.proofs.collecting.Collector.take_in.Goals.{else-hart-len-via-then-hart-len+else-index}
+use Rattle.bench.proofs.collecting.Collector.take_in.Goals.{else-hart-len-via-else-hart-len}
 use Rattle.bench.proofs.collecting.Collector.take_in.Goals as goal
 
 -- The hart is one whose memory was refused.

@@ -11,7 +11,7 @@ answered c =
     let read : reading c.args.message.now.payload ≡ Ok c.in-Ok.packet = ap reading (sym c.bytes.ensures.same)
     ∙ sym c.unpack.ensures.value ∙ c.in-Ok.is in
     answer_lossy-next c.args.self.now c.args.message.now c.in-Ok.packet (search rules) (search rules)
-    (omega (arith, c.if-message-ge-MOST.false)) read
+    (omega (arith, c.if-message-ge-END_OF_NUMBERS.false)) read
 
 pub returns-in-Ok-clause-result : goal.returns-in-Ok-clause-result
 returns-in-Ok-clause-result c =

@@ -3,7 +3,8 @@ use Rattle.std.proofs.Common.{◌≡◌, refl, sym, subst, ◌∙◌}
 use Rattle.rvclass.specs.Fetch.{words_of}
 use Rattle.decoder.specs.Describes.{Describes}
 use Rattle.message.specs.OfHart.{packets_of}
-use Rattle.receiver.proofs.AcceptLemmas.{accepted_answer, accepts_kept, agrees_by, going, not_decoded, same_fault, same_packet}
+use Rattle.receiver.proofs.AcceptLemmas.{accepted_answer, accepts_kept, agrees_by, going, not_decoded, same_fault}
+use Rattle.receiver.proofs.AcceptLemmas.{same_packet}
 use Rattle.receiver.proofs.HoldLemmas.{holds_kept, list_of, same_hart_twice}
 use Rattle.receiver.specs.Holds.{Holds, HoldsHart}
 use Rattle.receiver.specs.Refused.{IsNotDecoded}

@@ -1,0 +1,21 @@
+-- The forms that several arguments have.
+use Rattle.std.specs.Prelude.{[], ◌∷◌, Some, true}
+use Rattle.clap.specs.Words.{Rule, Text, new_rule}
+use Rattle.clap.specs.declared.builder.action.ArgAction.TheVariants.{Set, SetTrue}
+
+-- `--name`, which takes no value.
+abbrev pub flag_rule : Text → Rule
+flag_rule name = record (new_rule name) { long = Some name; action = Some SetTrue }
+
+-- A word of its own that has to be there.
+abbrev pub file_rule : Text → Rule
+file_rule name = record (new_rule name) { action = Some Set; required = true }
+
+-- `--name N`, which is `default` where it is not there.
+abbrev pub number_rule : Text → Text → Rule
+number_rule name default = record (new_rule name) {
+  long = Some name;
+  action = Some Set;
+  value_names = 1;
+  defaults = default ∷ [];
+}

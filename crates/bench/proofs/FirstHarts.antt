@@ -1,0 +1,100 @@
+-- The first of harts of which something holds.
+use Rattle.std.proofs.Common.{◌≡◌, ◌∙◌, ◌<◌, ◌≤◌, ℕ, Bool, true, false, List, Option, None, Some, get_or, length, slice_get, refl, sym, ap, subst, arith}
+use Rattle.std.specs.Prelude.{IsFalse, IsSomeAnd, IsTrue}
+use Rattle.std.proofs.lemmas.Option.{get_or_from_slice_get, same_Some, slice_get-get_or, slice_get_within}
+use Rattle.bench.specs.Stopping.{AreClosed, IsEndedHart, IsOpenHart, NoneEnded}
+use Rattle.bench.specs.declared.outcome.HartOutcome.{HartOutcome}
+use Rattle.bench.specs.steps.Stopping.{IsHandedBack, IsOfNone}
+
+is_on : (b : Bool) → (b ≡ false → ⊥) → b ≡ true
+is_on true off = refl
+is_on false off = absurd (off refl)
+
+apart : (b : Bool) → b ≡ true → b ≡ false → ⊥
+apart b on off = cc
+
+-- A flag at a place that is not set.
+pub flag_off : (flags : List Bool) (h : ℕ) (d : Bool) → h < length flags → get_or flags h d ≡ false
+    → ¬ (slice_get flags h ≡ Some true)
+flag_off flags h d within off = λ at.
+    apart (get_or flags h d)
+    (same_Some (get_or flags h d) true (sym (slice_get-get_or flags h d within) ∙ at)) off
+
+module _ {A : Type 0} (harts : List (HartOutcome A)) where
+  abbrev is_open : HartOutcome A → Type 0
+  is_open came = IsFalse came.closed
+
+  abbrev has_ended : HartOutcome A → Type 0
+  has_ended came = IsFalse came.closed × IsFalse came.refused
+
+  -- The hart at a place is open where its outcome is not closed.
+  pub open_here : (h : ℕ) (d : HartOutcome A) → h < length harts → (get_or harts h d).closed ≡ false
+      → IsOpenHart harts h
+  open_here h d within opened = subst (λ o. IsSomeAnd o is_open) (sym (slice_get-get_or harts h d within)) opened
+
+  -- It is not where it is closed.
+  pub shut_here : (h : ℕ) (d : HartOutcome A) → h < length harts → (get_or harts h d).closed ≡ true
+      → ¬ IsOpenHart harts h
+  shut_here h d within shut = λ given.
+      apart (get_or harts h d).closed shut
+      (subst (λ o. IsSomeAnd o is_open) (slice_get-get_or harts h d within) given)
+
+  -- Its channel ended where it is not closed and memory was not refused.
+  pub ended_here : (h : ℕ) (d e : HartOutcome A) → h < length harts → (get_or harts h d).closed ≡ false
+      → (get_or harts h e).refused ≡ false → IsEndedHart harts h
+  ended_here h d e within opened going =
+      let same = same_Some (get_or harts h d) (get_or harts h e)
+      (sym (slice_get-get_or harts h d within) ∙ slice_get-get_or harts h e within) in
+      subst (λ o. IsSomeAnd o has_ended) (sym (slice_get-get_or harts h d within))
+      (opened, ap (λ (came : HartOutcome A). came.refused) same ∙ going)
+
+  -- It did not where it is closed, or memory was refused.
+  pub shut_not_ended : (h : ℕ) (d : HartOutcome A) → h < length harts → (get_or harts h d).closed ≡ true
+      → ¬ IsEndedHart harts h
+  shut_not_ended h d within shut = λ given.
+      apart (get_or harts h d).closed shut
+      ((subst (λ o. IsSomeAnd o has_ended) (slice_get-get_or harts h d within) given).0)
+
+  pub refused_not_ended : (h : ℕ) (d : HartOutcome A) → h < length harts → (get_or harts h d).refused ≡ true
+      → ¬ IsEndedHart harts h
+  refused_not_ended h d within refused = λ given.
+      apart (get_or harts h d).refused refused
+      ((subst (λ o. IsSomeAnd o has_ended) (slice_get-get_or harts h d within) given).1)
+
+  -- None of all harts is open.
+  pub all_closed : (n : ℕ) → length harts ≤ n → ((before : ℕ) → before < n → ¬ IsOpenHart harts before)
+      → AreClosed harts
+  all_closed n over none = λ k d low.
+      is_on (get_or harts k d).closed (λ opened. none k (omega (arith, low, over)) (open_here k d low opened))
+
+  -- Of none of them the channel ended.
+  pub none_ended : (n : ℕ) → length harts ≤ n → ((before : ℕ) → before < n → ¬ IsEndedHart harts before)
+      → NoneEnded harts
+  none_ended n over none = λ k d low going.
+      is_on (get_or harts k d).closed
+      (λ opened. none k (omega (arith, low, over)) (ended_here k d d low opened going))
+
+  open_within : (h : ℕ) (o : Option (HartOutcome A)) → slice_get harts h ≡ o → IsSomeAnd o is_open
+      → h < length harts
+  open_within h None at opened = absurd opened
+  open_within h (Some came) at opened = slice_get_within harts h came at
+
+  -- An open hart was refused memory where the channel of none ended.
+  pub open_refused : (h : ℕ) → NoneEnded harts → IsOpenHart harts h
+      → IsSomeAnd (slice_get harts h) (λ (came : HartOutcome A). IsTrue came.refused)
+  open_refused h none given = by_found (slice_get harts h) refl given
+    where
+      by_found : (o : Option (HartOutcome A)) → slice_get harts h ≡ o → IsSomeAnd o is_open
+          → IsSomeAnd o (λ (came : HartOutcome A). IsTrue came.refused)
+      by_found None at opened = absurd opened
+      by_found (Some came) at opened =
+          is_on came.refused (λ going. apart came.closed
+          (subst (λ (came : HartOutcome A). came.refused ≡ false → came.closed ≡ true)
+          (get_or_from_slice_get harts h came came at) (none h came (slice_get_within harts h came at)) going) opened)
+
+  -- Of none of them a payload was handed back.
+  pub none_back : (flags : List Bool) (n : ℕ) → length harts ≤ n
+      → ((before : ℕ) → before < n → ¬ IsHandedBack harts flags before) → IsOfNone (IsHandedBack harts flags)
+  none_back flags n over none = λ hart both.
+      let within = open_within hart (slice_get harts hart) refl both.0 in
+      none hart (omega (arith, within, over)) both
