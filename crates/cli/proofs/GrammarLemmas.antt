@@ -23,18 +23,22 @@ adds_rules old new app [] [] has read adds = subst (HasGrammar app) adds has
 adds_rules old new app [] (a ∷ args) has read adds = absurd read
 adds_rules old new app (rule ∷ rules) [] has read adds = absurd read
 adds_rules old new app (rule ∷ rules) (a ∷ args) has read adds =
-    adds_rules adds.0 new (with_rule app rule) rules args (adds_rule old a adds.0 app rule has read.0 adds.1) read.1 adds.2
+    adds_rules adds.0 new (with_rule app rule) rules args (adds_rule old a adds.0 app rule has read.0 adds.1) read.1
+    adds.2
 
 -- The same of what adding them gives, where memory may be refused.
 pub adds_all : {E : Type 0} (made : Result Command E) (old : Command) (app : App) (args : List Arg) → HasGrammar app old
     → IfOk made (AddsInTurn AddsArg old args)
-    → IfOk made (λ command. (rules : List Rule) → AllZip IsReadBy rules args → HasGrammar (fold with_rule app rules) command)
+    → IfOk made (λ command. (rules : List Rule) → AllZip IsReadBy rules args
+    → HasGrammar (fold with_rule app rules) command)
 adds_all (Ok command) old app args has adds = λ rules read. adds_rules old command app rules args has read adds
 adds_all (Err e) old app args has adds = tt
 
 -- What holds of every list of rules holds of these.
-pub with_these : {E : Type 0} (made : Result Command E) (start : App) (rules : List Rule) (args held : List Arg) → held ≡ args
-    → IfOk made (λ command. (rules : List Rule) → AllZip IsReadBy rules held → HasGrammar (fold with_rule start rules) command)
+pub with_these : {E : Type 0} (made : Result Command E) (start : App) (rules : List Rule) (args held : List Arg)
+    → held ≡ args
+    → IfOk made (λ command. (rules : List Rule) → AllZip IsReadBy rules held
+    → HasGrammar (fold with_rule start rules) command)
     → AllZip IsReadBy rules args → IfOk made (HasGrammar (fold with_rule start rules))
 with_these (Ok command) start rules args held is has read = has rules (subst (AllZip IsReadBy rules) (sym is) read)
 with_these (Err e) start rules args held is has read = tt

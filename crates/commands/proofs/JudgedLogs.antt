@@ -68,8 +68,7 @@ module _ (content : Content) (program : Image) (paths : List Path) (i : ℕ) (d 
       let is : IsJudgedAt content program (get_or paths i d) log = record {
         named = refl;
         read = read;
-        verdict =
-            verdict;
+        verdict = verdict;
       } in
       record {
         logs = logs ++ log ∷ [];

@@ -7,6 +7,7 @@ use Rattle.cli.proofs.grammar.check.Goals as goal
 
 pub returns : goal.returns
 returns c =
-    with_these c.subcommand.result (new_app (codes "check")) (base_rule ∷ image_rule ∷ logs_rule ∷ []) _ c.in_ok-args.args.items
+    with_these c.subcommand.result (new_app (codes "check")) (base_rule ∷ image_rule ∷ logs_rule ∷ []) _
+    c.in_ok-args.args.items
     c.in_ok-args.ensures.items c.subcommand.ensures
     (c.base.ensures, (c.image.ensures, (c.logs.ensures, tt)))

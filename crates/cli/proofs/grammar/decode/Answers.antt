@@ -7,6 +7,7 @@ use Rattle.cli.proofs.grammar.decode.Goals as goal
 
 pub returns : goal.returns
 returns c =
-    with_these c.subcommand.result (new_app (codes "decode")) (base_rule ∷ harts_rule ∷ lossy_rule ∷ image_rule ∷ capture_rule ∷ []) _ c.in_ok-args.args.items
+    with_these c.subcommand.result (new_app (codes "decode")) (base_rule ∷ harts_rule ∷ lossy_rule ∷ image_rule ∷
+    capture_rule ∷ []) _ c.in_ok-args.args.items
     c.in_ok-args.ensures.items c.subcommand.ensures
     (c.base.ensures, (c.harts.ensures, (c.lossy.ensures, (c.image.ensures, (c.capture.ensures, tt)))))

@@ -7,6 +7,12 @@ use Rattle.cli.proofs.grammar.encode.Goals as goal
 
 pub returns : goal.returns
 returns c =
-    with_these c.subcommand.result (new_app (codes "encode")) (base_rule ∷ period_rule ∷ full_rule ∷ version_one_rule ∷ hex_rule ∷ image_rule ∷ logs_rule ∷ []) _ c.in_ok-args.args.items
-    c.in_ok-args.ensures.items c.subcommand.ensures
-    (c.base.ensures, (c.period.ensures, (c.full.ensures, (c.version_one.ensures, (c.hex.ensures, (c.image.ensures, (c.logs.ensures, tt)))))))
+    with_these c.subcommand.result (new_app (codes "encode")) (base_rule ∷ period_rule ∷ full_rule ∷ version_one_rule ∷
+    hex_rule ∷ image_rule ∷ logs_rule ∷ []) _ c.in_ok-args.args.items
+    c.in_ok-args.ensures.items c.subcommand.ensures (
+      c.base.ensures,
+      (
+        c.period.ensures,
+        (c.full.ensures, (c.version_one.ensures, (c.hex.ensures, (c.image.ensures, (c.logs.ensures, tt))))),
+      ),
+    )

@@ -14,5 +14,6 @@ returns-clause-fault g c =
     let paths = c.args.paths.now in
     IfErr-weaker c.program_of.result (λ why. (why ≡ fault.Memory) ⊎ IsProgram content base c.args.image (Err why))
     (λ why. (why ≡ fault.Memory) ⊎ IsAskedProgram content c.args.most text c.args.image paths (Err why))
-    (program_lacked content c.args.most text c.args.image paths base c.in_ok-check_count.field-0 c.in_ok-base.ensures.found
+    (program_lacked content c.args.most text c.args.image paths base c.in_ok-check_count.field-0
+    c.in_ok-base.ensures.found
     c.in_ok-check_count.ensures.found) c.program_of.ensures.fault
