@@ -1,5 +1,6 @@
 -- What a step along a measured walk reaches is where the step leads.
-use Rattle.std.proofs.Common.{◌≡◌, ℕ, Bool, true, false, cond, List, [], ◌∷◌, drop, Option, Some, None, refl, sym, subst}
+use Rattle.std.proofs.Common.{◌≡◌, ℕ, Bool, true, false, cond, List, [], ◌∷◌, drop, Option, Some, None, refl, sym}
+use Rattle.std.proofs.Common.{subst}
 use Rattle.std.proofs.Common.{◌∙◌}
 use Rattle.retire.specs.declared.event.Event.{Event}
 use Rattle.retire.specs.declared.event.Event.TheVariants.{Retire}

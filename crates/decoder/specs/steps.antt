@@ -1,6 +1,7 @@
 -- What only the private functions of this crate cite: how its code finds what the definitions beside say.
 pub mod Faults
 pub mod Leads
+pub mod Longest
 pub mod Walks
 pub mod WalkSteps
 pub mod Retracing

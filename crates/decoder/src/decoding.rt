@@ -13,6 +13,7 @@ ghost use Rattle.payload.specs.declared.packet.Packet.{Packet};
 ghost use Rattle.decoder.specs.Describes.{Describes};
 ghost use Rattle.decoder.specs.Order.{IsOpen, opening};
 ghost use Rattle.decoder.specs.Resuming.{IsSync, PassesOver, IsClosed, HasMode};
+ghost use Rattle.decoder.specs.steps.Longest.{IsLongest};
 ghost use Rattle.decoder.specs.steps.Stretches.{stretch_count, Suits, SuitsNone, AddsSoFar, AddsBoth};
 ghost use Rattle.decoder.specs.steps.Planning.{MayCome, FitsWaiting, Plans, PlansNone, admitted, decoder_after};
 ghost use Rattle.decoder.specs.steps.Planning.{passed_over};
@@ -23,7 +24,7 @@ use crate::fault::DecodeFault;
 use crate::remembering::{mode_past, phase_after, reported_past, told_past, waiting_after};
 use crate::settling::{Waiting, own, settle};
 use crate::stretch::Stretch;
-use crate::walking::{Progress, program_kept};
+use crate::walking::{Progress, longest};
 use payload::{Mode, Packet, Support};
 use retire::Event;
 use rvclass::Program;
@@ -237,11 +238,11 @@ impl Decoder {
         ensures words { IsProgram (words_of program.now) }
         ensures small { length program.now.bytes ≤ 2 ^ 24 }
     {
-        program_kept(program);
+        let longest = longest(program);
         if let Err(fault) = self.admit(packet) {
             return Err(fault);
         }
-        if let Err(fault) = self.settled(program, packet, first, log) {
+        if let Err(fault) = self.settled(program, longest, packet, first, log) {
             return Err(fault);
         }
         if !self.may_come(packet) {
@@ -251,6 +252,7 @@ impl Decoder {
         let reported = first.place(self.reported);
         own(
             program,
+            longest,
             self.mode,
             &last,
             reported,
@@ -297,10 +299,12 @@ impl Decoder {
     fn settled<A: Allocator>(
         &self,
         program: &Program,
+        longest: usize,
         packet: &Packet,
         stretch: &mut Stretch,
         log: &mut Vec<Event, A>,
     ) -> Result<(), DecodeFault>
+        requires { IsLongest program.now longest }
         ensures found { OnOk result (Suits (words_of program.now) self.now.last
             (FitsWaiting (words_of program.now) self.now.mode self.now.last self.now.reported self.now.waiting
             packet.now)
@@ -320,6 +324,7 @@ impl Decoder {
                 let addr = self.mode.aim(self.reported, waiting.delta);
                 settle(
                     program,
+                    longest,
                     &self.last,
                     &waiting.outcomes,
                     addr,

@@ -4,6 +4,7 @@ ghost use Rattle.std.specs.Prelude.{◌≡◌, ◌+◌, ◌*◌, ◌/◌, ◌≤
 ghost use Rattle.retire.specs.declared.event.Event.{Event as AnyEvent};
 ghost use Rattle.rvclass.specs.Fetch.{words_of};
 ghost use Rattle.decoder.specs.Fits.{Fits, FitsAddress, FitsSync};
+ghost use Rattle.decoder.specs.steps.Longest.{IsLongest};
 ghost use Rattle.decoder.specs.steps.Stretches.{AddsSoFar, Suits, SuitsNone, stretch_count, stretch_progress};
 ghost use Rattle.decoder.specs.Settling.{makes_explicit, settled, settled_by};
 ghost use Rattle.decoder.specs.Walk.{IsWalkFrom};
@@ -32,6 +33,7 @@ pub struct Waiting {
 #[inline(never)]
 fn walk<A: Allocator>(
     program: &Program,
+    longest: usize,
     before: &Option<Event>,
     outcomes: &Outcomes,
     goal: Goal,
@@ -39,6 +41,7 @@ fn walk<A: Allocator>(
     stretch: &mut Stretch,
     log: &mut Vec<Event, A>,
 ) -> Result<(), DecodeFault>
+    requires { IsLongest program.now longest }
     ensures found { OnOk result (Suits (words_of program.now) before.now
         (IsWalkFrom (words_of program.now) before.now outcomes.now (end_of goal)) stretch.new) }
     ensures none { IfErr result (λ fault. SuitsNone (words_of program.now) before.now
@@ -53,7 +56,7 @@ fn walk<A: Allocator>(
         Err(fault) => return Err(fault),
     };
     match ahead {
-        Progress::Written => match write_found(program, from, outcomes, goal, log) {
+        Progress::Written => match write_found(program, longest, from, outcomes, goal, log) {
             Ok(Some(walked)) => {
                 *stretch = Stretch::Walk(FoundWalk {
                     from,
@@ -68,7 +71,7 @@ fn walk<A: Allocator>(
         },
         Progress::Pending => {}
     }
-    match measure(program, from, outcomes, goal) {
+    match measure(program, longest, from, outcomes, goal) {
         Ok(walked) => {
             *stretch = Stretch::Walk(FoundWalk {
                 from,
@@ -96,6 +99,7 @@ fn makes_explicit(packet: &Packet) -> bool
 #[inline(always)]
 pub fn settle<A: Allocator>(
     program: &Program,
+    longest: usize,
     before: &Option<Event>,
     outcomes: &Outcomes,
     addr: u64,
@@ -103,6 +107,7 @@ pub fn settle<A: Allocator>(
     stretch: &mut Stretch,
     log: &mut Vec<Event, A>,
 ) -> Result<(), DecodeFault>
+    requires { IsLongest program.now longest }
     ensures found { OnOk result (Suits (words_of program.now) before.now
         (FitsAddress (words_of program.now) before.now outcomes.now addr (settled_by (Some packet.now)))
         stretch.new) }
@@ -121,6 +126,7 @@ pub fn settle<A: Allocator>(
     };
     walk(
         program,
+        longest,
         before,
         outcomes,
         goal,
@@ -134,6 +140,7 @@ pub fn settle<A: Allocator>(
 #[inline]
 fn address<A: Allocator>(
     program: &Program,
+    longest: usize,
     before: &Option<Event>,
     outcomes: &Outcomes,
     addr: u64,
@@ -142,6 +149,7 @@ fn address<A: Allocator>(
     stretch: &mut Stretch,
     log: &mut Vec<Event, A>,
 ) -> Result<(), DecodeFault>
+    requires { IsLongest program.now longest }
     ensures found { OnOk result (Suits (words_of program.now) before.now
         (FitsAddress (words_of program.now) before.now outcomes.now addr (settled report None)) stretch.new) }
     ensures none { IfErr result (λ fault. SuitsNone (words_of program.now) before.now
@@ -161,6 +169,7 @@ fn address<A: Allocator>(
         },
         Report::Updiscon => walk(
             program,
+            longest,
             before,
             outcomes,
             Goal::Target(addr),
@@ -170,6 +179,7 @@ fn address<A: Allocator>(
         ),
         Report::Notify => walk(
             program,
+            longest,
             before,
             outcomes,
             Goal::Address(addr),
@@ -207,6 +217,7 @@ fn sync(
 #[inline(always)]
 pub fn own<A: Allocator>(
     program: &Program,
+    longest: usize,
     mode: Mode,
     before: &Option<Event>,
     last_reported: u64,
@@ -215,6 +226,7 @@ pub fn own<A: Allocator>(
     stretch: &mut Stretch,
     log: &mut Vec<Event, A>,
 ) -> Result<(), DecodeFault>
+    requires { IsLongest program.now longest }
     ensures found { OnOk result (Suits (words_of program.now) before.now
         (Fits (words_of program.now) mode before.now last_reported packet.now None) stretch.new) }
     ensures none { IfErr result (λ fault. SuitsNone (words_of program.now) before.now
@@ -259,9 +271,18 @@ pub fn own<A: Allocator>(
         } => {
             let addr = mode.aim(last_reported, *delta);
             address(
-                program, before, outcomes, addr, *report, ahead, stretch, log,
+                program, longest, before, outcomes, addr, *report, ahead, stretch, log,
             )
         }
-        Packet::Map(outcomes) => walk(program, before, outcomes, Goal::Branch, ahead, stretch, log),
+        Packet::Map(outcomes) => walk(
+            program,
+            longest,
+            before,
+            outcomes,
+            Goal::Branch,
+            ahead,
+            stretch,
+            log,
+        ),
     }
 }

@@ -1,11 +1,12 @@
 //! Walks: written as they are found, where there is room, or else in two passes: the first measures, the second writes.
 
-ghost use Rattle.std.specs.Prelude.{◌≡◌, ◌+◌, ◌*◌, ◌/◌, ◌^◌, ◌≤◌, List, ◌++◌, length, vec_len, vec_capacity, IsOk};
+ghost use Rattle.std.specs.Prelude.{◌≡◌, ◌+◌, ◌*◌, ◌/◌, ◌≤◌, List, ◌++◌, length, vec_len, vec_capacity, IsOk};
 ghost use Rattle.std.specs.Prelude.{IfOk, IfErr};
 ghost use Rattle.retire.specs.declared.event.Event.{Event as AnyEvent};
 ghost use Rattle.rvclass.specs.Fetch.{words_of};
-ghost use Rattle.rvclass.specs.Words.{IsProgram, LiesIn};
+ghost use Rattle.rvclass.specs.Words.{IsProgram};
 ghost use Rattle.decoder.specs.steps.Faults.{IsOnTheWay};
+ghost use Rattle.decoder.specs.steps.Longest.{IsLongest};
 ghost use Rattle.decoder.specs.steps.Retracing.{HasRoomWithin, AddsWithin};
 ghost use Rattle.decoder.specs.steps.WalkSteps as steps;
 ghost use Rattle.decoder.specs.steps.WritingAsFound.{AddsTold, FindsTold, IsTold, NoneTold, ShortTold, KeptTold};
@@ -44,12 +45,14 @@ pub struct Walked {
 #[inline(always)]
 pub fn write_found<A: Allocator>(
     program: &Program,
+    longest: usize,
     from: Here,
     outcomes: &Outcomes,
     goal: Goal,
     log: &mut Vec<Event, A>,
 ) -> Result<Option<Walked>, DecodeFault>
-    requires { IsHere (words_of program.now) from }
+    requires longest { IsLongest program.now longest }
+    requires from { IsHere (words_of program.now) from }
     ensures found { FindsTold (words_of program.now) from outcomes.now (end_of goal) result }
     ensures adds { AddsTold (Adds (words_of program.now) from outcomes.now (end_of goal) log.old.items log.new.items)
         result }
@@ -61,18 +64,20 @@ pub fn write_found<A: Allocator>(
     ensures room { vec_capacity log.new ≡ vec_capacity log.old }
 {
     let course = Course::new(outcomes, goal);
-    write_found_within(program, longest(program), from, &course, log)
+    write_found_within(program, longest, from, &course, log)
 }
 
 /// The walk from a retirement, measured; or the first thing on the way that no walk has.
 #[inline(never)]
 pub fn measure(
     program: &Program,
+    longest: usize,
     from: Here,
     outcomes: &Outcomes,
     goal: Goal,
 ) -> Result<Walked, DecodeFault>
-    requires { IsHere (words_of program.now) from }
+    requires longest { IsLongest program.now longest }
+    requires from { IsHere (words_of program.now) from }
     ensures found { IfOk result
         (λ walked. Finds (words_of program.now) from outcomes.now (end_of goal) walked) }
     ensures short { IfOk result (λ walked. walked.count ≤ 32 * (length program.now.bytes / 2)) }
@@ -81,12 +86,7 @@ pub fn measure(
         (λ fault. FindsNone (words_of program.now) from outcomes.now (end_of goal)) }
     ensures named { IfErr result IsOnTheWay }
 {
-    measure_within(
-        program,
-        longest(program),
-        from,
-        &Course::new(outcomes, goal),
-    )
+    measure_within(program, longest, from, &Course::new(outcomes, goal))
 }
 
 /// Writes a walk of so many retirements, which was measured, into room that was reserved.
@@ -110,20 +110,11 @@ pub fn write<A: Allocator>(
 }
 
 /// How many retirements a walk has at most.
-fn longest(program: &Program) -> usize
-    ensures value { result ≡ 32 * (length program.now.bytes / 2) }
-    ensures program { IsProgram (words_of program.now) }
-    ensures within { LiesIn (words_of program.now) program.now.base (length program.now.bytes) }
+#[inline]
+pub fn longest(program: &Program) -> usize
+    ensures { IsLongest program.now result }
 {
     32 * (program.byte_count() / 2)
-}
-
-/// Does nothing. Its contract hands to a caller what every program keeps.
-pub fn program_kept(program: &Program)
-    ensures words { IsProgram (words_of program.now) }
-    ensures small { length program.now.bytes ≤ 2 ^ 24 }
-{
-    let _ = program.byte_count();
 }
 
 /// Measures a walk of at most so many steps.

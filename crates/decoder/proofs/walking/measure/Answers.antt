@@ -9,24 +9,24 @@ use Rattle.decoder.proofs.walking.measure.Goals as goal
 pub returns-clause-found : goal.returns-clause-found
 returns-clause-found c =
     let told = c.measure_within.ensures.told ∙ ap (summary (event_of c.args.from))
-    (same_walk (words_of c.args.program.now) (event_of c.args.from) _ _ _ _ _ _ c.longest.ensures.value
+    (same_walk (words_of c.args.program.now) (event_of c.args.from) _ _ _ _ _ _ c.requires.longest.value
     c.new.ensures.outcomes c.new.ensures.goal) in
-    measure_finds (words_of c.args.program.now) c.longest.ensures.program c.args.from c.requires c.args.outcomes.now
+    measure_finds (words_of c.args.program.now) c.requires.longest.words c.args.from c.requires.from c.args.outcomes.now
     (end_of c.args.goal) _ _ told
 
 pub returns-clause-short : goal.returns-clause-short
 returns-clause-short c =
     let few = subst (λ l. length l ≤ 31) c.new.ensures.outcomes
     (subst (λ n. n ≤ 31) c.new.ensures.course.0 c.new.ensures.course.1) in
-    measure_short (words_of c.args.program.now) c.longest.ensures.program c.args.from c.requires c.args.outcomes.now
-    (end_of c.args.goal) _ _ c.longest.ensures.within few _ (returns-clause-found c)
+    measure_short (words_of c.args.program.now) c.requires.longest.words c.args.from c.requires.from c.args.outcomes.now
+    (end_of c.args.goal) _ _ c.requires.longest.within few _ (returns-clause-found c)
 
 pub returns-clause-none : goal.returns-clause-none
 returns-clause-none c =
     let few = subst (λ l. length l ≤ 31) c.new.ensures.outcomes
     (subst (λ n. n ≤ 31) c.new.ensures.course.0 c.new.ensures.course.1) in
     let told = c.measure_within.ensures.told ∙ ap (summary (event_of c.args.from))
-    (same_walk (words_of c.args.program.now) (event_of c.args.from) _ _ _ _ _ _ c.longest.ensures.value
+    (same_walk (words_of c.args.program.now) (event_of c.args.from) _ _ _ _ _ _ c.requires.longest.value
     c.new.ensures.outcomes c.new.ensures.goal) in
-    measure_none (words_of c.args.program.now) c.longest.ensures.program c.args.from c.requires c.args.outcomes.now
-    (end_of c.args.goal) _ _ c.longest.ensures.within few _ told
+    measure_none (words_of c.args.program.now) c.requires.longest.words c.args.from c.requires.from c.args.outcomes.now
+    (end_of c.args.goal) _ _ c.requires.longest.within few _ told

@@ -1,5 +1,6 @@
 -- No search finds what the packets and the stretches stand for, from what the plan ensures.
-use Rattle.std.proofs.Common.{[], ◌∷◌, ◌++◌, ◌≡◌, arith, Result, true, is_err, Ok, Err, OnErr, vec_len, vec_capacity}
+use Rattle.std.proofs.Common.{ℕ, ◌+◌, ◌≤◌, ◌<◌, [], ◌∷◌, ◌++◌, ◌≡◌, arith, Result, true, is_err, Ok, Err, OnErr}
+use Rattle.std.proofs.Common.{vec_len, vec_capacity}
 use Rattle.std.proofs.Common.{inr, sym, OnOk, false, ap, subst, ◌∙◌, append-nil, length, length-append}
 use Rattle.rvclass.specs.Fetch.{words_of}
 use Rattle.std.proofs.lemmas.List.{append_cancel_left}
@@ -11,7 +12,7 @@ use Rattle.decoder.proofs.StretchEnds.{stretch_count-gives}
 use Rattle.decoder.proofs.UniqueLemmas.{one_log}
 use Rattle.decoder.specs.steps.Planning.{admitted, decoder_after, IsNamed}
 use Rattle.decoder.specs.Order.{opening}
-use Rattle.decoder.specs.steps.Stretches.{left_of, AddsStretch}
+use Rattle.decoder.specs.steps.Stretches.{left_of, stretch_count, AddsStretch}
 use Rattle.decoder.specs.Stands.{Stands}
 use Rattle.decoder.proofs.decoding.Decoder.feed.Goals as goal
 
@@ -29,6 +30,22 @@ returns-in-Err-clause-not_opened g c = λ packets s.
     c.in-Err.ensures.none.named in
     let one = named_not_opened packets c.args.packet.now c.in-Err.fault named in
     (λ is. one.0 cc, λ is. let told = one.1 is in cc)
+
+-- What the room lacked that was asked for, it lacks for all of the events.
+no_room : {cap cap' n' len' left left' a a' : ℕ} → (n both : ℕ) → cap' < len' + (left + left')
+    → n' + (a + a') ≡ n + both
+    → cap' ≡ cap → len' ≡ n' → left ≡ a → left' ≡ a' → cap < n + both
+no_room n both full all room len' is is' = omega (arith, full, all, room, len', is, is')
+
+-- The room that was asked for is there behind what was written first.
+has_room : {cap cap' n len len' left left' a a' : ℕ} → len' + (left + left') ≤ cap' → len' ≡ len → len ≡ n
+    → cap ≡ cap' → left ≡ a → left' ≡ a' → n + (a + a') ≤ cap
+has_room fits kept len room is is' = omega (arith, fits, kept, len, room, is, is')
+
+-- So many events are added at most as both stretches have.
+at_most : {len len' n n' one two both count count' : ℕ} → (most : ℕ) → count ≡ one → count' ≡ two → n' ≡ n + both
+    → both ≡ one + two → count + count' ≤ most + 2 → len ≡ n → len' ≡ n' → len' ≤ len + most + 2
+at_most most is is' all both short len len' = omega (arith, is, is', all, both, short, len, len')
 
 -- What is said of an error holds where there is one.
 where_err : {T E : Type 0} {P : Type 0} (result : Result T E) → true ≡ is_err result → OnErr result P → P
@@ -53,7 +70,7 @@ returns-then-is_err-clause-memory g c = λ packets s is.
     c.plan.new.log.items c.in_default.ensures.written in
     stands_longer w packets log.items c.args.self.now c.args.packet.now first second found.settled found.own
     (vec_capacity log) s found.gives_settled found.gives_own can
-    (omega (arith, full, all, c.plan.ensures.room, log.ok.0, c.plan.new.log.ok.0, c.left.ensures, c.left-2.ensures))
+    (no_room _ _ full all c.plan.ensures.room c.plan.new.log.ok.0 c.left.ensures c.left-2.ensures)
 
 pub returns-clause-stands : goal.returns-clause-stands
 returns-clause-stands g c = λ packets s.
@@ -85,7 +102,7 @@ returns-then-is_err-clause-goes_on g c =
     let log = c.args.log.now in
     let grown = c.reserve.ensures.items ∙ c.plan.ensures.behind.1 in
     let back = cut_back log.items c.reserve.new.self.items c.plan.ensures.behind.0 c.len-count.result
-    (omega (arith, c.len-count.ensures, log.ok.0)) grown in
+    (c.len-count.ensures ∙ log.ok.0) grown in
     ([], c.truncate-then-is_err.ensures.items ∙ back ∙ sym (append-nil log.items))
 
 pub write-requires-2-clause-room : goal.write-requires-2-clause-room
@@ -99,16 +116,8 @@ write-requires-2-clause-room g c =
     let fits = where_ok c.reserve.result c.if-is_err.ensures.value c.reserve.ensures.ok in
     room_second w first second found.settled found.own found.gives_settled found.gives_own c.args.log.now.items
     c.plan.new.log.items c.in_default.ensures.written c.write.new.log.items adds _ _
-    (omega (arith, c.write.new.log.ok.0))
-    (omega (
-      arith,
-      fits,
-      c.reserve.ensures.len,
-      c.plan.new.log.ok.0,
-      c.write.ensures.room,
-      c.left.ensures,
-      c.left-2.ensures,
-    ))
+    c.write.new.log.ok.0
+    (has_room fits c.reserve.ensures.len c.plan.new.log.ok.0 c.write.ensures.room c.left.ensures c.left-2.ensures)
 
 pub returns-clause-goes_on : goal.returns-clause-goes_on
 returns-clause-goes_on g c =
@@ -131,7 +140,7 @@ returns-clause-short g c =
     let two = stretch_count-gives w c.plan.new.second found.own found.gives_own in
     let all = ap length (returns-clause-goes_on g c).1 ∙ length-append log.items (found.settled ++ found.own) in
     let both = length-append found.settled found.own in
-    omega (arith, one, two, all, both, c.in_default.ensures.short, log.ok.0, c.write-2.new.log.ok.0)
+    at_most _ one two all both c.in_default.ensures.short log.ok.0 c.write-2.new.log.ok.0
 
 pub returns-then-is_err-clause-begins_memory : goal.returns-then-is_err-clause-begins_memory
 returns-then-is_err-clause-begins_memory g c = λ mode over sync is.
@@ -146,7 +155,8 @@ returns-then-is_err-clause-begins_memory g c = λ mode over sync is.
     c.plan.new.log.items c.in_default.ensures.written in
     begins_longer w mode c.args.self.now over c.args.packet.now first second found.settled found.own (vec_len log)
     (vec_capacity log) sync found.gives_settled found.gives_own can
-    (omega (arith, full, all, c.plan.ensures.room, log.ok.0, c.plan.new.log.ok.0, c.left.ensures, c.left-2.ensures))
+    (subst (λ n. vec_capacity log < n + (stretch_count first + stretch_count second)) (sym log.ok.0)
+    (no_room _ _ full all c.plan.ensures.room c.plan.new.log.ok.0 c.left.ensures c.left-2.ensures))
 
 pub returns-in-Err-clause-begins_none : goal.returns-in-Err-clause-begins_none
 returns-in-Err-clause-begins_none g c = λ mode over sync. inr (λ other all.
