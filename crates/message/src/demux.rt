@@ -67,11 +67,10 @@ impl<A: Allocator> Demux<A> {
         ensures value { result ≡ accepting self.old message.now }
         ensures state { self.new ≡ harts_after self.old message.now }
     {
-        let at = usize::from(message.hart);
-        if at >= self.harts.len() {
-            return Err(DemuxFault::Stranger);
+        match self.harts.get_mut(usize::from(message.hart)) {
+            Some(hart) => hart.accept(message),
+            None => Err(DemuxFault::Stranger),
         }
-        self.harts[at].accept(message)
     }
 
     /// The packet of the message, and how many messages of its hart were missed before it: the message may be the next
@@ -108,11 +107,10 @@ impl<A: Allocator> Demux<A> {
         ensures value { result ≡ accepting_lossy self.old message.now }
         ensures state { self.new ≡ harts_after_lossy self.old message.now }
     {
-        let at = usize::from(message.hart);
-        if at >= self.harts.len() {
-            return Err(DemuxFault::Stranger);
+        match self.harts.get_mut(usize::from(message.hart)) {
+            Some(hart) => hart.accept_lossy(message),
+            None => Err(DemuxFault::Stranger),
         }
-        self.harts[at].accept_lossy(message)
     }
 
     /// Whether the hart's closing packet was accepted. It is false for a hart that the demultiplexer does not know.
