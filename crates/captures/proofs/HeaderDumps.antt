@@ -1,24 +1,17 @@
 -- The dump of a capture, by what it begins with.
-use Rattle.std.proofs.Common.{◌≡◌, ◌⊎◌, ◌++◌, ℕ, Bool, false, List, [], Option, Some, None, inl, inr, refl, sym, subst}
-use Rattle.std.proofs.Common.{append-nil}
+use Rattle.std.proofs.Common.{◌≡◌, ◌++◌, ℕ, Bool, false, List, [], Option, Some, refl}
 use Rattle.std.specs.Io.KnownBytes.{Appends}
-use Rattle.std.proofs.KnownBytes.{Appends-trans}
+use Rattle.std.proofs.KnownBytes.{Appends-nil, Appends-trans}
 use Rattle.output.specs.Begun.{AppendsBeginning}
 use Rattle.output.proofs.Beginnings.{begun_behind, begun_in_front}
 use Rattle.payload.specs.declared.mode.Mode.TheVariants.{Differential}
-use Rattle.message.specs.Header.{HasBadHeader, IsCutHeader, IsHeader, IsMarked, header_bytes}
+use Rattle.message.specs.Header.{IsHeader, IsMarked, header_bytes}
 use Rattle.message.specs.declared.fault.MessageFault.{MessageFault}
-use Rattle.message.specs.declared.fault.MessageFault.TheVariants as fault
 use Rattle.message.specs.declared.header.Header.{Header}
 use Rattle.message.specs.steps.Filling.{AreBytes}
 use Rattle.captures.proofs.Dumps.{has_dump}
 use Rattle.captures.specs.Dump.{AppendsDump, AreMessagesDumped, BeginsDump, IsDump, header_line}
 use Rattle.captures.specs.NoMessage.{BeginsNoHeader}
-
--- What is left alone has nothing appended.
-nothing_appended : (old : Option (List ℕ)) → Appends old old []
-nothing_appended None = tt
-nothing_appended (Some bytes) = sym (append-nil bytes)
 
 -- There is no header, for this reason.
 pub none_dumped : (bytes : List ℕ) (why : MessageFault) (old : Option (List ℕ)) → BeginsNoHeader bytes why
@@ -26,7 +19,7 @@ pub none_dumped : (bytes : List ℕ) (why : MessageFault) (old : Option (List �
 none_dumped bytes why old begins = record {
   text = [];
   dumped = IsDump.NoHeader why begins refl refl refl;
-  appended = nothing_appended old;
+  appended = Appends-nil old;
 }
 
 module _ (bytes : List ℕ) (unmarked : ¬ IsMarked bytes) (old new : Option (List ℕ)) where
@@ -82,10 +75,3 @@ module _ (bytes : List ℕ) (header : Header) (rest : List ℕ) (is : IsHeader h
       dumped = IsDump.Version2 header rest some.text is whole some.dumped refl;
       begun = begun_behind (header_line header) some.text old mid new line some.begun;
     }
-
--- Why no header stands there, by what is known of the reason.
-pub no_header : (bytes : List ℕ) (why : MessageFault) → (why ≡ fault.Short) ⊎ (why ≡ fault.BadHeader)
-    → (why ≡ fault.Short → IsCutHeader bytes) → (why ≡ fault.BadHeader → HasBadHeader bytes)
-    → BeginsNoHeader bytes why
-no_header bytes why (inl short) cut bad = subst (BeginsNoHeader bytes) (sym short) (cut short)
-no_header bytes why (inr none) cut bad = subst (BeginsNoHeader bytes) (sym none) (bad none)

@@ -9,9 +9,7 @@ use Rattle.message.specs.declared.fault.MessageFault.TheVariants as fault
 abbrev pub BeginsNone : List ℕ → MessageFault → Type 0
 BeginsNone bytes fault.Short = IsCut bytes
 BeginsNone bytes fault.BadLength = HasBadLength bytes
-BeginsNone bytes fault.Read = ⊥
-BeginsNone bytes fault.Write = ⊥
-BeginsNone bytes fault.BadHeader = ⊥
+BeginsNone bytes other = ⊥
 
 -- Why these bytes, which begin as a capture of version 2 does, begin with no header.
 abbrev pub BeginsNoHeader : List ℕ → MessageFault → Type 0

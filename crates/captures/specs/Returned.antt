@@ -27,10 +27,8 @@ AreAskedFor Two harts logs = Unit {0}
 
 -- Decoding stopped for want of memory.
 abbrev pub IsMemory : CaptureFault → Type 0
-IsMemory (fault.Message why) = ⊥
-IsMemory (fault.Demux why) = ⊥
 IsMemory (fault.Decode why) = why ≡ Memory
-IsMemory fault.Mode = ⊥
+IsMemory other = ⊥
 
 -- Decoding stopped for want of memory, or the lists are the logs, and every hart is closed.
 abbrev pub AreReturned : List ProgramLog → List (List Event) → List Bool → Option (ℕ × CaptureFault) → Type 0

@@ -7,7 +7,8 @@ use Rattle.message.specs.Header.{HasBadHeader, IsCutHeader, IsHeader, IsMarked, 
 use Rattle.message.specs.steps.Filling.{AreBytes}
 use Rattle.captures.proofs.Dumps.{AreBytes-behind}
 use Rattle.captures.proofs.HeaderDumps.{headed_begun, headed_dumped, line_begun, messages_begun, messages_dumped}
-use Rattle.captures.proofs.HeaderDumps.{no_header, none_dumped}
+use Rattle.captures.proofs.HeaderDumps.{none_dumped}
+use Rattle.captures.proofs.HeaderFaults.{no_header}
 use Rattle.captures.specs.Dump.{AppendsDump, AreMessagesDumped, BeginsDump}
 use Rattle.captures.proofs.dumping.dump_capture.Goals.{After-write_header_line}
 use Rattle.captures.proofs.dumping.dump_capture.Goals as goal
