@@ -35,7 +35,8 @@ use Rattle.message.specs.declared.hart.Hart.{Hart}
 use Rattle.message.specs.declared.message.Message.{Message}
 use Rattle.receiver.specs.Holds.{HoldsHart}
 use Rattle.receiver.specs.Received.{IsReceived, Received}
-use Rattle.bench.specs.Collected.{Collected, HasCollected, IsMessageOf, Taken, packets_with, saturating_sum, with_packet}
+use Rattle.bench.specs.Collected.{Collected, HasCollected, IsMessageOf, Taken, packets_with, saturating_sum}
+use Rattle.bench.specs.Collected.{with_packet}
 use Rattle.bench.specs.Got.{Got, got_after, kept}
 use Rattle.bench.proofs.ClosingLast.{All_at, packet_at}
 use Rattle.bench.proofs.GotLemmas.{profile}
@@ -211,11 +212,13 @@ module _ (period : ℕ) (mode : Mode) (log : ProgramLog) (legal : IsLegalLog log
       let short = sum-lengths-few lists (count + 1) (short_payloads ps (profile period mode log legal)) in
       let room : sum (map length (take count lists)) + length message.payload < 2 ^ 64 =
       let few = few_all in omega (arith, few, sums, short, length-map ps payload_of) in
-      let one : saturating_sum count 1 ≡ count + 1 = saturating_sum-few count 1 (let few = few_all in omega (arith, few, within)) in
+      let one : saturating_sum count 1 ≡ count + 1 = saturating_sum-few count 1
+      (let few = few_all in omega (arith, few, within)) in
       let bytes : saturating_sum (sum (map length (take count lists))) (length message.payload)
       ≡ sum (map length (take (count + 1) lists)) =
       saturating_sum-few (sum (map length (take count lists))) (length message.payload) room ∙ sym sums in
-      ap (λ some. taken some (saturating_sum count 1) (saturating_sum (sum (map length (take count lists))) (length message.payload)))
+      ap (λ some. taken some (saturating_sum count 1)
+      (saturating_sum (sum (map length (take count lists))) (length message.payload)))
       some
       ∙ ap (λ number. taken (if keep then take (count + 1) ps else []) number
       (saturating_sum (sum (map length (take count lists))) (length message.payload))) one

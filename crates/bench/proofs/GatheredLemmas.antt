@@ -14,7 +14,8 @@ use Rattle.bench.specs.Working.{CarryFirst}
 use Rattle.bench.specs.declared.collecting.CollectFault.{CollectFault}
 use Rattle.bench.specs.steps.Gathering.{AreGathered}
 use Rattle.bench.specs.steps.Taking.{IsCutOff, IsTakenOf}
-use Rattle.bench.proofs.TakingIn.{TakesMessage, cut_off_stays, other_cut_off, other_taken, own_taken}
+use Rattle.bench.specs.steps.TakesMessage.{TakesMessage}
+use Rattle.bench.proofs.TakingIn.{cut_off_stays, other_cut_off, other_taken, own_taken}
 use Rattle.bench.proofs.WorkLemmas.{carry_front, carry_last}
 
 module _ (period : ℕ) (mode : Mode) (logs : List ProgramLog) (started : List Bool) (taken : List Message)

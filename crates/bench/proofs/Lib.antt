@@ -4,7 +4,11 @@ pub mod ClosingLast
 pub mod TakenPackets
 pub mod GotLemmas
 pub mod CollectedLemmas
+pub mod RefusedHarts
 pub mod TakesIn
+pub mod TakesPacket
+pub mod TakesNext
+pub mod MessageAnswers
 pub mod CollectorLemmas
 pub mod CollectedSame
 pub mod FrontMessage

@@ -21,7 +21,7 @@ use Rattle.bench.specs.Stopping.{NoRefusedIsClosed}
 use Rattle.bench.specs.steps.Taking.{AreTaken, IsTakenOf, LacksSome, NamesRefusedHart}
 use Rattle.bench.proofs.CollectedLemmas.{element, taken_by}
 use Rattle.bench.proofs.ListElements.{All-at, All-from_places}
-use Rattle.bench.proofs.TakingIn.{came_not_refused, came_refused}
+use Rattle.bench.proofs.RefusedHarts.{came_not_refused, came_refused}
 use Rattle.bench.proofs.WholeLog.{has_got}
 
 pub differ : true ≡ false → ⊥

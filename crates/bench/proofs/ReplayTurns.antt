@@ -25,7 +25,7 @@ use Rattle.bench.specs.steps.Sending.{AreNewSenders, AreSending, sender_at}
 use Rattle.bench.specs.steps.Taking.{AreTaken, IsFrontNext, IsReady, LacksSome, NamesRefusedHart}
 use Rattle.bench.proofs.FrontMessage.{front_next}
 use Rattle.bench.proofs.CollectedLemmas.{element, take-next}
-use Rattle.bench.proofs.TakingIn.{came_not_refused}
+use Rattle.bench.proofs.RefusedHarts.{came_not_refused}
 
 -- One turn more is a turn of the state before.
 after_turns-next : (capacity : ℕ) (payloads : List (List (List ℕ))) (turns : List Turn) (last : Turn) (state : Funnel)

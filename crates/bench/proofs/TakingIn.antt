@@ -1,7 +1,7 @@
 -- A collector that takes the next message of a hart in has the messages that were taken and this one.
-use Rattle.std.proofs.Common.{◌≡◌, ◌≢◌, ◌<◌, ◌+◌, ◌⊎◌, inl, inr, ℕ, Bool, true, false, List, [], ◌∷◌, ◌++◌, Some}
+use Rattle.std.proofs.Common.{◌≡◌, ◌≢◌, ◌<◌, ◌+◌, ◌⊎◌, inl, inr, ℕ, true, false, List, [], ◌∷◌, ◌++◌, Some}
 use Rattle.std.proofs.Common.{length, slice_get, refl, sym, ap, subst, ◌∙◌, arith}
-use Rattle.std.specs.Prelude.{IfErr, IsSomeAnd, IsTrue, OnOk, Option, None, Result, Ok, Err}
+use Rattle.std.specs.Prelude.{IfErr, OnOk, Option, None, Result, Ok, Err}
 use Rattle.std.proofs.lemmas.Bool.{cases_eq}
 use Rattle.std.proofs.lemmas.List.{length-map, length_push}
 use Rattle.std.proofs.lemmas.Option.{same_Some, slice_get_within}
@@ -14,54 +14,21 @@ use Rattle.encoder.specs.Payloads.{payloads}
 use Rattle.message.proofs.OfHartLemmas.{of_hart-next, of_hart-other}
 use Rattle.message.specs.OfHart.{of_hart}
 use Rattle.message.specs.declared.message.Message.{Message}
-use Rattle.bench.specs.Collected.{Came, Collected, HasCollected, IsMessageOf, IsRefusedHart, IsSameOf, Taken}
-use Rattle.bench.specs.Got.{Got, got_after, kept}
+use Rattle.bench.specs.Collected.{Came, Collected, HasCollected, IsMessageOf, IsRefusedHart, Taken}
+use Rattle.bench.specs.Got.{got_after, kept}
 use Rattle.bench.specs.declared.collecting.CollectFault.{CollectFault}
 use Rattle.bench.specs.declared.collecting.CollectFault.TheVariants as fault
 use Rattle.bench.specs.declared.stop.Stop.{Stop}
 use Rattle.bench.specs.declared.stop.Stop.TheVariants as stop
 use Rattle.bench.specs.steps.Taking.{AreTaken, IsCutOff, IsFrontNext, IsNext, IsTakenOf, LacksSome, NamesRefusedHart}
+use Rattle.bench.specs.steps.TakesMessage.{TakesMessage}
 use Rattle.bench.proofs.CollectedLemmas.{taken_by}
 use Rattle.bench.proofs.CollectedSame.{collected_same, cut_off_same}
-
--- What a collector promises of a message that it is given.
-pub record TakesMessage (message : Message) (result : Result (Unit {0}) CollectFault) (old new : Collected)
-    : Type 0 where
-  pub logs : (new.logs ≡ old.logs) × (new.keep ≡ old.keep)
-  pub next : (period : ℕ) (mode : Mode) (count : ℕ) (log : ProgramLog)
-      → HasCollected period mode log count message.hart old
-      → IsMessageOf period mode log count message
-      → OnOk result (HasCollected period mode log (count + 1) message.hart new)
-  pub only_memory : (period : ℕ) (mode : Mode) (count : ℕ) (log : ProgramLog)
-      → HasCollected period mode log count message.hart old
-      → IsMessageOf period mode log count message → IfErr result (λ why. why ≡ fault.Memory)
-  pub others : (hart : ℕ) → hart ≢ message.hart → IsSameOf hart old new
-  pub memory : (got : Got) (refused : Bool) → Came message.hart got refused old → result ≡ Err fault.Memory
-      → Came message.hart got true new
-  pub passed_over : IsRefusedHart message.hart old → (result ≡ Ok tt) × (new ≡ old)
-
--- What came of the hart, if there is such a one, was cut off.
-abbrev IsRefused : Option Taken → Type 0
-IsRefused at = IsSomeAnd at (λ (taken : Taken). IsTrue taken.refused)
-
-apart : false ≡ true → ⊥
-apart is = cc
+use Rattle.bench.proofs.RefusedHarts.{IsRefused, apart, came_not_refused, came_refused}
 
 -- An answer is no fault.
 no_fault : (result : Result (Unit {0}) CollectFault) → result ≡ Ok tt → result ≡ Err fault.Memory → ⊥
 no_fault result ok memory = cc
-
--- Memory was refused for a hart of which so much came.
-pub came_refused : (hart : ℕ) (got : Got) (collected : Collected) → Came hart got true collected
-    → IsRefusedHart hart collected
-came_refused hart got collected came =
-    subst IsRefused (sym came.taken) refl
-
--- It was not for one of which all came.
-pub came_not_refused : (hart : ℕ) (got : Got) (collected : Collected) → Came hart got false collected
-    → IsRefusedHart hart collected → ⊥
-came_not_refused hart got collected came refused =
-    apart (subst IsRefused came.taken refused)
 
 module _ (message : Message) (result : Result (Unit {0}) CollectFault) (old new : Collected)
     (takes : TakesMessage message result old new) (period : ℕ) (mode : Mode) where

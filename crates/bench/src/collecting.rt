@@ -1,6 +1,6 @@
 //! What is collected of messages that were taken.
 
-ghost use Rattle.std.specs.Prelude.{ℕ, ◌+◌, ◌≡◌, ◌≢◌, ◌<◌, ◌≤◌, ◌⊎◌, ◌↔◌, ◌++◌, All, Bool, true, List, [], ◌∷◌, None, Some, Ok, Err, IfErr, IfOk, IsSomeAnd, OnErr, OnOk, get_or, length, replicate, slice_get, vec_capacity, vec_len};
+ghost use Rattle.std.specs.Prelude.{ℕ, ◌+◌, ◌≡◌, ◌≢◌, ◌<◌, ◌≤◌, ◌⊎◌, ◌↔◌, ◌++◌, All, Bool, true, false, List, [], ◌∷◌, None, Some, Ok, Err, IfErr, IfOk, IsSomeAnd, IsTrue, OnErr, OnOk, get_or, length, replicate, slice_get, vec_capacity, vec_len};
 ghost use Rattle.retire.specs.declared.event.Event.{Event as AnyEvent};
 ghost use Rattle.rvclass.specs.Fetch.{words_of};
 ghost use Rattle.legalpath.specs.ProgramLog.{IsLegalLog, ProgramLog};
@@ -16,6 +16,7 @@ ghost use Rattle.receiver.specs.Refused.{IsNotDecoded};
 ghost use Rattle.bench.specs.Collected.{Accepts, Came, Collected, HasCollected, HasDecoded, IsMessageOf, IsRefusedHart, IsSameOf, Taken, with_packet};
 ghost use Rattle.bench.specs.Got.{Got, got_of};
 ghost use Rattle.bench.specs.steps.Collecting.{IsCollected, IsLeftBy, closed_in, decoded_in, nothing, taken_in, taken_of};
+ghost use Rattle.bench.specs.steps.TakesMessage.{TakesMessage};
 
 use crate::outcome::{HartOutcome, Outcome};
 use decoder::DecodeFault;
@@ -131,8 +132,15 @@ impl<'l, 'p, A: Allocator + Copy, B: Allocator> Collector<'l, 'p, A, B> {
             ≡ record self.old.received { expected = harts_after self.old.received.expected message }) }
         ensures one_memory { result ≢ Err (CollectFault.Decode DecodeFault.Memory) }
     {
+        self.take_message(message)
+    }
+
+    /// The same, whose contract says all of it in one record.
+    pub(crate) fn take_message(&mut self, message: Message) -> Result<(), CollectFault>
+        ensures { TakesMessage message result self.old self.new }
+    {
         let hart = usize::from(message.hart);
-        if hart < self.harts.len() && self.harts[hart].refused {
+        if is_refused(&self.harts, hart) {
             return Ok(());
         }
         let packet = match self.receiver.accept(&message) {
@@ -185,7 +193,8 @@ fn outcomes_of<A: Allocator + Copy, B: Allocator>(
 {
     let mut harts = Vec::with_capacity(alloc, logs.len())?;
     for hart in 0..logs.len() {
-        know(&logs[hart]);
+        // Its contract tells that the log is legal.
+        let _ = logs[hart].events();
         harts.push_reserved(HartOutcome {
             packets: Vec::new(alloc),
             taken: 0,
@@ -206,11 +215,13 @@ fn log_at<'l, 'p, B: Allocator>(logs: &'l [LegalLog<'p, B>], hart: usize) -> &'l
     &logs[hart]
 }
 
-/// The log is legal, as each is that was made.
-fn know<B: Allocator>(log: &LegalLog<'_, B>)
-    ensures { IsLegalLog log.now }
+/// Whether there is such a hart, and memory for it was refused.
+fn is_refused<A: Allocator>(harts: &Vec<HartOutcome<A>, A>, hart: usize) -> bool
+    ensures refused { result ≡ true → IsSomeAnd (slice_get (taken_in harts.now.items) hart) (λ taken. IsTrue taken.refused) }
+    ensures going { result ≡ false
+        → ¬ IsSomeAnd (slice_get (taken_in harts.now.items) hart) (λ taken. IsTrue taken.refused) }
 {
-    let _ = log.events();
+    hart < harts.len() && harts[hart].refused
 }
 
 /// Decodes the next packet of a hart, whose log has so many events, and counts it in the hart's outcome. Room for it is

@@ -24,7 +24,12 @@ loop-hart-preserved g c =
       count = omega (arith, count, len);
       room = omega (arith, room, capacity);
       legal = legal-next c.args.logs.now hart c.index-logs-hart.result c.loop-hart-test.true c.index-logs-hart.is
-          c.know.ensures c.loop-hart.invariant.legal;
+          (record {
+            legal = c.events.ensures.legal;
+            short = c.events.ensures.short;
+            numbers = c.events.ensures.numbers;
+            image = c.events.ensures.image;
+          }) c.loop-hart.invariant.legal;
     }
 
 pub returns-clause-harts : goal.returns-clause-harts

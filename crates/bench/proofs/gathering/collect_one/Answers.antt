@@ -3,22 +3,11 @@ use Rattle.std.proofs.Common.{sym, subst}
 use Rattle.funnel.specs.Ends.{OutletView}
 use Rattle.bench.specs.steps.Gathering.{AreGathered}
 use Rattle.bench.proofs.GatheredLemmas.{gathered_more}
-use Rattle.bench.proofs.TakingIn.{TakesMessage}
 use Rattle.bench.proofs.gathering.collect_one.Goals as goal
 
 pub returns-clause-gathered : goal.returns-clause-gathered
 returns-clause-gathered g c = λ period mode logs started before.
-    let e = c.take_in.ensures in
-    let takes : TakesMessage c.in-Ok.message c.take_in.result c.args.collector.now c.take_in.new.self =
-    record {
-      logs = e.logs;
-      next = e.next;
-      only_memory = e.only_memory;
-      others = e.others;
-      memory = e.memory;
-      passed_over = e.passed_over;
-    } in
-    subst (λ (o : OutletView). AreGathered period mode logs started o.taken c.take_in.new.self)
+    subst (λ (o : OutletView). AreGathered period mode logs started o.taken c.take_message.new.self)
     (sym c.in-Ok.ensures.taken)
-    (gathered_more period mode logs started c.args.outlet.now.taken c.in-Ok.message c.take_in.result
-    c.args.collector.now c.take_in.new.self takes before c.in-Ok.ensures.number)
+    (gathered_more period mode logs started c.args.outlet.now.taken c.in-Ok.message c.take_message.result
+    c.args.collector.now c.take_message.new.self c.take_message.ensures before c.in-Ok.ensures.number)

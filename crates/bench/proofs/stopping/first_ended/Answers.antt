@@ -1,7 +1,8 @@
 -- Of no hart so far the channel ended: by lemmas on lists, which no tactic finds.
 use Rattle.bench.specs.Stopping.{IsEndedHart}
 use Rattle.bench.proofs.FirstHarts.{refused_not_ended, shut_not_ended}
-use Rattle.bench.proofs.stopping.first_ended.Goals.{else-not-harts-hart-via-then-not-harts-hart+else-not-harts-hart-2, else-not-harts-hart-via-else-not-harts-hart}
+use Rattle.bench.proofs.stopping.first_ended.Goals.{else-not-harts-hart-via-then-not-harts-hart+else-not-harts-hart-2}
+use Rattle.bench.proofs.stopping.first_ended.Goals.{else-not-harts-hart-via-else-not-harts-hart}
 use borrow.Author.Count.{below_more, below_none}
 use Rattle.bench.proofs.stopping.first_ended.Goals as goal
 

@@ -1,7 +1,8 @@
 -- How many payloads went through the port: by lemmas on ports, which no tactic finds.
 use Rattle.std.proofs.Common.{◌∙◌, refl}
 use Rattle.bench.proofs.WorkLemmas.{all_gone, first_at, goes_on, none_gone, one_gone, some_gone}
-use Rattle.bench.proofs.worker.send_all.Goals.{else-loop-number-test, then-loop-number-test+in_default, then-loop-number-test+in-Some+then-not-send_one}
+use Rattle.bench.proofs.worker.send_all.Goals.{else-loop-number-test, then-loop-number-test+in_default}
+use Rattle.bench.proofs.worker.send_all.Goals.{then-loop-number-test+in-Some+then-not-send_one}
 use Rattle.bench.proofs.worker.send_all.Goals as goal
 
 pub loop-number-init : goal.loop-number-init
@@ -40,14 +41,14 @@ returns g c =
     let left = c.finish.ensures in
     elim c.loop-number-test.branch [
       | else-loop-number-test w ↦
-          all_gone at.period at.mode at.log c.args.port now.number now.port c.finish.result c.loop-number-test.handed_back
-          now.invariant.gone (left ∙ w.port-is) (w.handed_back-is ∙ now.invariant.going)
+          all_gone at.period at.mode at.log c.args.port now.number now.port c.finish.result
+          c.loop-number-test.handed_back now.invariant.gone (left ∙ w.port-is) (w.handed_back-is ∙ now.invariant.going)
       | then-loop-number-test+in_default w ↦
-          all_gone at.period at.mode at.log c.args.port now.number now.port c.finish.result c.loop-number-test.handed_back
-          now.invariant.gone (left ∙ w.port-is) (w.handed_back-is ∙ now.invariant.going)
+          all_gone at.period at.mode at.log c.args.port now.number now.port c.finish.result
+          c.loop-number-test.handed_back now.invariant.gone (left ∙ w.port-is) (w.handed_back-is ∙ now.invariant.going)
       | then-loop-number-test+in-Some+then-not-send_one w ↦
-          some_gone at.period at.mode at.log c.args.port now.number now.port c.finish.result c.loop-number-test.handed_back
-          w.in-Some.payload now.invariant.gone
+          some_gone at.period at.mode at.log c.args.port now.number now.port c.finish.result
+          c.loop-number-test.handed_back w.in-Some.payload now.invariant.gone
           (w.in-Some.ensures.given at.period now.number at.mode at.log now.invariant.source)
           (left ∙ w.port-is ∙ w.send_one.ensures.refused w.if-not-send_one.true)
     ]
