@@ -46,7 +46,7 @@ pub fn check<'a, F: Files, O: Write>(
     let paths = asked.logs.as_slice();
     let program = asked_program(files, MOST_HARTS, asked.base, asked.image, paths)?;
     let ended = judge_all(alloc, files, &program, paths, out);
-    out.flush().map_err(|_| Fault::Output)?;
+    out.flush()?;
     ended
 }
 

@@ -71,9 +71,9 @@ fn decode_whole<'a, O: Write>(
         (O.contents out.old) (O.contents out.new) }
     ensures cut { IsCutOf (WritesDecoded harts program.now bytes.now) (O.contents out.old) (O.contents out.new) }
 {
-    let outcome = decode_capture(alloc, program, harts, bytes).map_err(|_| Fault::Memory)?;
+    let outcome = decode_capture(alloc, program, harts, bytes)?;
     write_logs(alloc, outcome.harts.as_slice(), out)?;
-    out.flush().map_err(|_| Fault::Output)?;
+    out.flush()?;
     ended(&outcome)
 }
 
@@ -89,7 +89,7 @@ fn write_logs<'a, O: Write>(
     ensures begun { AppendsBeginning (harts_text 0 (events_in logs.now)) (O.contents out.old) (O.contents out.new) }
 {
     for (hart, log) in logs.iter().enumerate() {
-        write_text(out, format_args!("hart {hart}\n")).map_err(|_| Fault::Output)?;
+        write_text(out, format_args!("hart {hart}\n"))?;
         write_log(alloc, out, log.as_slice())?;
     }
     Ok(())

@@ -30,7 +30,7 @@ pub fn dump<'a, F: Files, O: Write>(
 {
     let bytes = content_of(files, asked.capture)?;
     let dumped = dump_capture(bytes.as_slice(), out)?;
-    out.flush().map_err(|_| Fault::Output)?;
+    out.flush()?;
     ended(&dumped)
 }
 

@@ -61,7 +61,7 @@ fn encode_logs<'a, O: Write>(
     ensures begun { AppendsBeginning (written asked.now logs.now) (O.contents out.old) (O.contents out.new) }
 {
     write_messages(asked, logs, out)?;
-    out.flush().map_err(|_| Fault::Output)?;
+    out.flush()?;
     Ok(Status::Whole)
 }
 

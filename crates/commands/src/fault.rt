@@ -18,9 +18,10 @@ use message::MessageFault;
 use retire::{LogFault, WriteFault};
 use rvclass::ProgramFault;
 use schedule::ScheduleFault;
+use std::alloc::AllocError;
 use std::error::Error;
-use std::fmt;
 use std::fmt::Write;
+use std::{fmt, io};
 
 /// Why a command stops. Its text is the line that is told, without the program's name.
 #[derive(Clone, Copy, Debug, PartialEq, Eq)]
@@ -228,6 +229,23 @@ impl From<ProgramFault> for Fault<'_> {
 
     fn from(why: ProgramFault) -> Self {
         Fault::Image(why)
+    }
+}
+
+impl From<AllocError> for Fault<'_> {
+    ghost from_gives = { λ _ told. told ≡ fault.Memory };
+
+    fn from(_: AllocError) -> Self {
+        Fault::Memory
+    }
+}
+
+/// The output alone has such errors: what is read has a fault of its own.
+impl From<io::Error> for Fault<'_> {
+    ghost from_gives = { λ _ told. told ≡ fault.Output };
+
+    fn from(_: io::Error) -> Self {
+        Fault::Output
     }
 }
 

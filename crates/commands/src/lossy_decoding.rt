@@ -116,7 +116,7 @@ fn write_pieces<'a, O: Write>(
         (O.contents out.new) }
 {
     for (hart, pieces) in harts.iter().enumerate() {
-        write_text(out, format_args!("hart {hart}\n")).map_err(|_| Fault::Output)?;
+        write_text(out, format_args!("hart {hart}\n"))?;
         write_parts(alloc, pieces.parts.as_slice(), out)?;
     }
     Ok(())
@@ -155,7 +155,8 @@ fn write_gap<'a, O: Write>(missing: u64, out: &mut O) -> Result<(), Fault<'a>>
     ensures text { OnOk result (Appends (O.contents out.old) (O.contents out.new) (part_text (Missing missing))) }
     ensures begun { AppendsBeginning (part_text (Missing missing)) (O.contents out.old) (O.contents out.new) }
 {
-    write_text(out, format_args!("gap: {missing} messages\n")).map_err(|_| Fault::Output)
+    write_text(out, format_args!("gap: {missing} messages\n"))?;
+    Ok(())
 }
 
 /// Writes how many events there are, and their log.
@@ -170,7 +171,7 @@ fn write_stretch<'a, O: Write>(
     ensures begun { AppendsBeginning (part_text (Events events.now)) (O.contents out.old) (O.contents out.new) }
 {
     let count = events.len();
-    write_text(out, format_args!("stretch: {count} events\n")).map_err(|_| Fault::Output)?;
+    write_text(out, format_args!("stretch: {count} events\n"))?;
     write_log(alloc, out, events)?;
     Ok(())
 }

@@ -28,25 +28,9 @@ pub(crate) fn end_with_report<'a, O: Write>(
     ensures begun { AppendsBeginning (report_text outcome.now.stop (map got_of outcome.now.harts.items) logs.now)
         (O.contents out.old) (O.contents out.new) }
 {
-    write_report(outcome, logs, out)?;
-    out.flush().map_err(|_| Fault::Output)?;
+    report(outcome, logs, out)?;
+    out.flush()?;
     Ok(status_of(outcome, logs))
-}
-
-/// Writes the report of what came of the logs.
-fn write_report<'a, O: Write>(
-    outcome: &Outcome,
-    logs: &[LegalLog<'_>],
-    out: &mut O,
-) -> Result<(), Fault<'a>>
-    requires { length logs.now ≡ length outcome.now.harts.items }
-    ensures fault { IfErr result (λ fault. fault ≡ Fault.Output) }
-    ensures text { OnOk result (Appends (O.contents out.old) (O.contents out.new)
-        (report_text outcome.now.stop (map got_of outcome.now.harts.items) logs.now)) }
-    ensures begun { AppendsBeginning (report_text outcome.now.stop (map got_of outcome.now.harts.items) logs.now)
-        (O.contents out.old) (O.contents out.new) }
-{
-    report(outcome, logs, out).map_err(|_| Fault::Output)
 }
 
 /// How a run of which this came ends.

@@ -80,8 +80,8 @@ returns-clause-begun g c = λ memory.
       lines_kept content program asked.logs.items old mid (contents c.flush.new.self) lines c.flush.ensures.bytes,
     )
 
-pub returns-in_err-map_err-clause-cut : goal.returns-in_err-map_err-clause-cut
-returns-in_err-map_err-clause-cut g c =
+pub returns-in_err-flush-clause-cut : goal.returns-in_err-flush-clause-cut
+returns-in_err-flush-clause-cut g c =
     let contents = g.O.Write.contents in
     let asked = c.args.asked.now in
     let content = g.F.Files.content c.args.files.now in
@@ -94,7 +94,7 @@ returns-in_err-map_err-clause-cut g c =
     (subst (λ told. BeginsPrinted (WritesFirstLines told program c.as_slice-paths.result.now) old mid)
     c.in_ok-program.ensures.kept c.judge_all-ended.ensures.cut) in
     inr (cut_kept (WritesFirstLines content program asked.logs.items) (ChecksFirst content asked) old mid new
-    (λ printed lines. (program, there g (goal.at.returns-in_err-map_err-clause-cut g c).After-judge_all-ended, lines))
+    (λ printed lines. (program, there g (goal.at.returns-in_err-flush-clause-cut g c).After-judge_all-ended, lines))
     lines c.flush.ensures.bytes)
 
 pub returns-clause-cut : goal.returns-clause-cut

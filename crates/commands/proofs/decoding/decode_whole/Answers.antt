@@ -1,5 +1,5 @@
 -- The prover tries no chain of steps by itself: what each step found is handed to it, in order.
-use Rattle.std.proofs.Common.{◌≡◌, inl, inr, refl, subst, sym, arith, ℕ, Bool, List, Option, Ok, Err, IfOk}
+use Rattle.std.proofs.Common.{◌≡◌, inl, inr, refl, subst, sym, arith, ℕ, Bool, List, Option, Ok, Err}
 use Rattle.std.specs.Prelude.{⊤}
 use Rattle.std.proofs.lemmas.Grind.{common_steps}
 use Rattle.std.specs.Io.KnownBytes.{Appends, Keeps}
@@ -35,10 +35,7 @@ module _ (g : _) (c : After-write_logs g) where
   -- The capture decodes to the outcome.
   decoded : IsDecoded (words_of c.args.program.now) c.args.harts c.args.bytes.now
       (events_in c.in_ok-outcome.outcome.harts.items) c.in_ok-outcome.outcome.closed.items c.in_ok-outcome.outcome.fault
-  decoded =
-      let was : c.decode_capture.result ≡ Ok c.in_ok-outcome.outcome = grind (arith, common_steps) in
-      subst (λ r. IfOk r (λ outcome. IsDecoded (words_of c.args.program.now) c.args.harts c.args.bytes.now
-      (events_in outcome.harts.items) outcome.closed.items outcome.fault)) was c.decode_capture.ensures.decoded
+  decoded = c.in_ok-outcome.ensures.decoded
 
   -- A beginning of the logs was written, and then nothing more.
   begun : (new : Option (List ℕ)) → Keeps (g.O.Write.contents c.write_logs.new.out) new
@@ -63,9 +60,9 @@ returns-in_err-write_logs-clause-cut g c =
     (subst (λ logs. AppendsBeginning (harts_text 0 (events_in logs)) old new) c.as_slice.ensures.value
     c.write_logs.ensures.begun)
 
-pub returns-in_err-map_err-clause-cut : goal.returns-in_err-map_err-clause-cut
-returns-in_err-map_err-clause-cut g c =
-    begun g (goal.at.returns-in_err-map_err-clause-cut g c).After-write_logs (g.O.Write.contents c.flush.new.self)
+pub returns-in_err-flush-clause-cut : goal.returns-in_err-flush-clause-cut
+returns-in_err-flush-clause-cut g c =
+    begun g (goal.at.returns-in_err-flush-clause-cut g c).After-write_logs (g.O.Write.contents c.flush.new.self)
     c.flush.ensures.bytes
 
 pub returns-clause-cut : goal.returns-clause-cut
@@ -93,8 +90,8 @@ returns-clause-printed g c =
       appended = appends-keeps old mid new (harts_text 0 lists) text c.flush.ensures.bytes;
     })
 
-pub returns-in_err-map_err-clause-printed : goal.returns-in_err-map_err-clause-printed
-returns-in_err-map_err-clause-printed g c =
-    let is : c.from_residual-in_err-map_err.result ≡ Err fault.Output = grind (arith, common_steps) in
+pub returns-in_err-flush-clause-printed : goal.returns-in_err-flush-clause-printed
+returns-in_err-flush-clause-printed g c =
+    let is : c.from_residual-in_err-flush.result ≡ Err fault.Output = grind (arith, common_steps) in
     subst (λ r. PrintsUnlessDenied (WritesDecoded c.args.harts c.args.program.now c.args.bytes.now) ⊤ r
     (g.O.Write.contents c.args.out.now) (g.O.Write.contents c.flush.new.self)) (sym is) (inl (inr (refl, tt)))

@@ -30,8 +30,8 @@ returns-clause-text g c =
     (harts_text 0 (events_in lists)))
     (take_all c.loop-hart.hart-counter c.args.logs.now c.loop-hart-test.false) c.loop-hart.invariant
 
-pub returns-in_err-map_err-clause-begun : goal.returns-in_err-map_err-clause-begun
-returns-in_err-map_err-clause-begun g c =
+pub returns-in_err-write_text-clause-begun : goal.returns-in_err-write_text-clause-begun
+returns-in_err-write_text-clause-begun g c =
     let contents = g.O.Write.contents in
     let list = c.index-logs-hart.result in
     let i = c.loop-hart.hart-counter in

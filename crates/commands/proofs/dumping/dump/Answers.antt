@@ -94,17 +94,17 @@ returns-in_err-dumped-clause-cut g c =
     dump_cut (g.F.Files.content c.args.files.now) c.args.asked.now bytes is.bad is.fault is.text old new
     c.in_ok-bytes.ensures.held is.dumped is.begun
 
-pub returns-in_err-map_err-clause-cut : goal.returns-in_err-map_err-clause-cut
-returns-in_err-map_err-clause-cut g c = cut g (goal.at.returns-in_err-map_err-clause-cut g c).After-flush
+pub returns-in_err-flush-clause-cut : goal.returns-in_err-flush-clause-cut
+returns-in_err-flush-clause-cut g c = cut g (goal.at.returns-in_err-flush-clause-cut g c).After-flush
 
 pub returns-clause-cut : goal.returns-clause-cut
 returns-clause-cut g c = cut g (goal.at.returns-clause-cut g c).After-flush
 
-pub returns-in_err-map_err-clause-printed : goal.returns-in_err-map_err-clause-printed
-returns-in_err-map_err-clause-printed g c =
+pub returns-in_err-flush-clause-printed : goal.returns-in_err-flush-clause-printed
+returns-in_err-flush-clause-printed g c =
     let content = g.F.Files.content c.args.files.now in
     let asked = c.args.asked.now in
-    let is : c.from_residual-in_err-map_err.result ≡ Err fault.Output = grind (arith, common_steps) in
+    let is : c.from_residual-in_err-flush.result ≡ Err fault.Output = grind (arith, common_steps) in
     subst (λ r. PrintsUnlessDenied (Dumps content asked) (CanDump content asked) r (g.O.Write.contents c.args.out.now)
     (g.O.Write.contents c.flush.new.self)) (sym is)
     (inl (inr (refl, (c.in_ok-bytes.bytes.items, c.in_ok-bytes.ensures.held, tt))))

@@ -4,8 +4,8 @@ use Rattle.commands.specs.Encoding.{written}
 use Rattle.commands.proofs.Runs.{appends-keeps}
 use Rattle.commands.proofs.encoding.encode_logs.Goals as goal
 
-pub returns-in_err-map_err-clause-begun : goal.returns-in_err-map_err-clause-begun
-returns-in_err-map_err-clause-begun g c =
+pub returns-in_err-flush-clause-begun : goal.returns-in_err-flush-clause-begun
+returns-in_err-flush-clause-begun g c =
     let contents = g.O.Write.contents in
     begun_kept (written c.args.asked.now c.args.logs.now) (contents c.args.out.now) (contents c.write_messages.new.out)
     (contents c.flush.new.self) c.write_messages.ensures.begun c.flush.ensures.bytes

@@ -16,8 +16,8 @@ use Rattle.commands.proofs.lossy_decoding.write_pieces.Goals as goal
 abbrev own_parts : HartPieces Global → List LogPart
 own_parts own = parts_in own.parts.items
 
-pub returns-in_err-map_err-clause-begun : goal.returns-in_err-map_err-clause-begun
-returns-in_err-map_err-clause-begun g c =
+pub returns-in_err-write_text-clause-begun : goal.returns-in_err-write_text-clause-begun
+returns-in_err-write_text-clause-begun g c =
     let contents = g.O.Write.contents in
     let own = c.index-harts-hart.result in
     let i = c.loop-hart.hart-counter in

@@ -14,8 +14,8 @@ use Rattle.commands.proofs.lossy_decoding.write_stretch.Goals as goal
 abbrev count_line : ℕ → List ℕ
 count_line count = codes "stretch: " ++ (decimal count ++ codes " events\n")
 
-pub returns-in_err-map_err-clause-begun : goal.returns-in_err-map_err-clause-begun
-returns-in_err-map_err-clause-begun g c =
+pub returns-in_err-write_text-clause-begun : goal.returns-in_err-write_text-clause-begun
+returns-in_err-write_text-clause-begun g c =
     let old = g.O.Write.contents c.args.out.now in
     let new = g.O.Write.contents c.write_text.new.out in
     let events = c.args.events.now in
