@@ -7,72 +7,90 @@ use linked_list_allocator::LocalHeap;
 use schedule::{ScheduleFault, read_schedule};
 use std::process::Abort;
 
-/// A count of harts, a text, and what it tells.
-type Case = (u16, &'static str, Result<&'static [Turn], ScheduleFault>);
-
-/// Texts whose turns and faults are plain.
-const CASES: [Case; 30] = [
-    (2, "", Ok(&[])),
-    (2, " \r\n ", Ok(&[])),
-    (2, "0 0 1 c", Ok(&[Hart(0), Hart(0), Hart(1), Collect])),
+/// A count of harts, a text, and the turns that it tells, with none behind them.
+const TURNS: [(u16, &str, [Option<Turn>; 4]); 8] = [
+    (2, "", [None; 4]),
+    (2, " \r\n ", [None; 4]),
+    (
+        2,
+        "0 0 1 c",
+        [Some(Hart(0)), Some(Hart(0)), Some(Hart(1)), Some(Collect)],
+    ),
     (
         2,
         "\n\n1  c\r\n0\rc \n",
-        Ok(&[Hart(1), Collect, Hart(0), Collect]),
+        [Some(Hart(1)), Some(Collect), Some(Hart(0)), Some(Collect)],
     ),
-    (64, "63 9 10", Ok(&[Hart(63), Hart(9), Hart(10)])),
-    (2, "00 01 000", Ok(&[Hart(0), Hart(1), Hart(0)])),
+    (
+        64,
+        "63 9 10",
+        [Some(Hart(63)), Some(Hart(9)), Some(Hart(10)), None],
+    ),
+    (
+        2,
+        "00 01 000",
+        [Some(Hart(0)), Some(Hart(1)), Some(Hart(0)), None],
+    ),
     (
         2,
         "0000000000000000000000000000000000000001",
-        Ok(&[Hart(1)]),
+        [Some(Hart(1)), None, None, None],
     ),
-    (65535, "65534", Ok(&[Hart(65534)])),
-    (2, "0 2", Err(ScheduleFault::Word(2))),
-    (2, "0 c 1 02 x", Err(ScheduleFault::Word(4))),
-    (64, "64", Err(ScheduleFault::Word(1))),
-    (64, "640", Err(ScheduleFault::Word(1))),
-    (0, "c 0", Err(ScheduleFault::Word(2))),
-    (65535, "65535", Err(ScheduleFault::Word(1))),
-    (65535, "65536", Err(ScheduleFault::Word(1))),
-    (2, "4294967296", Err(ScheduleFault::Word(1))),
-    (2, "18446744073709551616", Err(ScheduleFault::Word(1))),
-    (
-        2,
-        "100000000000000000000000000000000000000000",
-        Err(ScheduleFault::Word(1)),
-    ),
-    (2, "C", Err(ScheduleFault::Word(1))),
-    (2, "cc", Err(ScheduleFault::Word(1))),
-    (2, "c0", Err(ScheduleFault::Word(1))),
-    (2, "0c", Err(ScheduleFault::Word(1))),
-    (2, "0x1", Err(ScheduleFault::Word(1))),
-    (2, "+1", Err(ScheduleFault::Word(1))),
-    (2, "-0", Err(ScheduleFault::Word(1))),
-    (2, "0,1", Err(ScheduleFault::Word(1))),
-    (2, "c 0\t1", Err(ScheduleFault::Word(2))),
-    (2, "0 1 /", Err(ScheduleFault::Word(3))),
-    (2, "0 1 :", Err(ScheduleFault::Word(3))),
-    (2, "0 \u{661}", Err(ScheduleFault::Word(2))),
+    (65535, "65534", [Some(Hart(65534)), None, None, None]),
 ];
 
-/// A text tells this where there are so many harts.
-fn tells<R: Abort + AllocGlobal>(
-    rt: &R,
-    harts: u16,
-    text: &str,
-    told: Result<&[Turn], ScheduleFault>,
-) {
-    match read_schedule(rt.alloc(), harts, text.as_bytes()) {
-        Ok(turns) => same_at(rt, (harts, text), Ok(turns.as_slice()), told),
-        Err(why) => same_at(rt, (harts, text), Err(why), told),
+/// A text tells these turns where there are so many harts.
+fn tells<R: Abort + AllocGlobal>(rt: &R, harts: u16, text: &str, told: &[Option<Turn>; 4]) {
+    let turns = read_schedule(rt.alloc(), harts, text.as_bytes()).expect(rt, "turns");
+    for (place, turn) in told.iter().enumerate() {
+        same_at(rt, (text, place), turns.get(place).copied(), *turn);
     }
+    same_at(rt, text, turns.get(4).copied(), None);
 }
 
 #[test]
 fn tells_turns(rt: HostRuntime) {
-    for (harts, text, told) in &CASES {
-        tells(&rt, *harts, text, *told);
+    for (harts, text, told) in &TURNS {
+        tells(&rt, *harts, text, told);
+    }
+}
+
+/// A count of harts, a text, and which of its words is no turn.
+const FAULTS: [(u16, &str, u32); 22] = [
+    (2, "0 2", 2),
+    (2, "0 c 1 02 x", 4),
+    (64, "64", 1),
+    (64, "640", 1),
+    (0, "c 0", 2),
+    (65535, "65535", 1),
+    (65535, "65536", 1),
+    (2, "4294967296", 1),
+    (2, "18446744073709551616", 1),
+    (2, "100000000000000000000000000000000000000000", 1),
+    (2, "C", 1),
+    (2, "cc", 1),
+    (2, "c0", 1),
+    (2, "0c", 1),
+    (2, "0x1", 1),
+    (2, "+1", 1),
+    (2, "-0", 1),
+    (2, "0,1", 1),
+    (2, "c 0\t1", 2),
+    (2, "0 1 /", 3),
+    (2, "0 1 :", 3),
+    (2, "0 \u{661}", 2),
+];
+
+/// A text is refused at this word where there are so many harts.
+fn refuses<R: Abort + AllocGlobal>(rt: &R, harts: u16, text: &str, word: u32) {
+    let fault = read_schedule(rt.alloc(), harts, text.as_bytes()).err();
+    same_at(rt, (harts, text), fault, Some(ScheduleFault::Word(word)));
+}
+
+#[test]
+fn refuses_words(rt: HostRuntime) {
+    for (harts, text, word) in &FAULTS {
+        refuses(&rt, *harts, text, *word);
     }
 }
 

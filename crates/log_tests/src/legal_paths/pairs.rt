@@ -14,39 +14,90 @@ enum Act {
 }
 
 /// A row of the table: a kind's name; what it does; how far on from it the next event stands; the
-/// privileges that it may have; and those of the next event, where it has privilege 0, 1 and 3.
+/// privileges that it may have; and those of the next event, where it has privilege 0, 1 and 3. The digits
+/// of a text are the distances or the privileges.
 struct Kind(
     &'static str,
     Act,
-    &'static [u64],
     &'static [u8],
-    [&'static [u8]; 3],
+    &'static [u8],
+    &'static [u8],
+    &'static [u8],
+    &'static [u8],
 );
 
-/// The places that are tried.
-const BOTH: &[u64] = &[4, 8];
-
-const ALL: &[u8] = &[0, 1, 3];
-
-const LOW: &[u8] = &[0, 1];
-
-const HIGH: &[u8] = &[1, 3];
-
-const SAME: [&[u8]; 3] = [&[0], &[1], &[3]];
-
-const RISEN: [&[u8]; 3] = [&[1, 3], &[1, 3], &[3]];
-
 const KINDS: [Kind; 9] = [
-    Kind("plain", Act::Retires(NOP, 0), &[4], ALL, SAME),
-    Kind("jump", Act::Retires(JAL, 0), &[8], ALL, SAME),
-    Kind("not taken", Act::Retires(BEQ, 4), &[4], ALL, SAME),
-    Kind("taken", Act::Retires(BEQ, 5), &[8], ALL, SAME),
-    Kind("uninferable", Act::Retires(RET, 6), BOTH, ALL, SAME),
-    Kind("MRET", Act::Retires(MRET, 3), BOTH, &[3], [&[], &[], ALL]),
-    Kind("SRET", Act::Retires(SRET, 3), BOTH, HIGH, [&[], LOW, LOW]),
-    Kind("exception", Act::Traps(false), BOTH, ALL, RISEN),
-    Kind("interrupt", Act::Traps(true), BOTH, ALL, RISEN),
+    Kind(
+        "plain",
+        Act::Retires(NOP, 0),
+        b"4",
+        b"013",
+        b"0",
+        b"1",
+        b"3",
+    ),
+    Kind("jump", Act::Retires(JAL, 0), b"8", b"013", b"0", b"1", b"3"),
+    Kind(
+        "not taken",
+        Act::Retires(BEQ, 4),
+        b"4",
+        b"013",
+        b"0",
+        b"1",
+        b"3",
+    ),
+    Kind(
+        "taken",
+        Act::Retires(BEQ, 5),
+        b"8",
+        b"013",
+        b"0",
+        b"1",
+        b"3",
+    ),
+    Kind(
+        "uninferable",
+        Act::Retires(RET, 6),
+        b"48",
+        b"013",
+        b"0",
+        b"1",
+        b"3",
+    ),
+    Kind("MRET", Act::Retires(MRET, 3), b"48", b"3", b"", b"", b"013"),
+    Kind(
+        "SRET",
+        Act::Retires(SRET, 3),
+        b"48",
+        b"13",
+        b"",
+        b"01",
+        b"01",
+    ),
+    Kind(
+        "exception",
+        Act::Traps(false),
+        b"48",
+        b"013",
+        b"13",
+        b"13",
+        b"3",
+    ),
+    Kind(
+        "interrupt",
+        Act::Traps(true),
+        b"48",
+        b"013",
+        b"13",
+        b"13",
+        b"3",
+    ),
 ];
+
+/// Whether a number below ten is one of the digits.
+fn has(digits: &[u8], number: u8) -> bool {
+    digits.contains(&b'0'.wrapping_add(number))
+}
 
 /// The word that an event stands on; a trap may stand on any.
 fn word_of(act: Act) -> u32 {
@@ -69,12 +120,12 @@ fn expected(
     first: &Kind,
     privilege: u8,
     second: &Kind,
-    offset: u64,
+    offset: u8,
     after: u8,
 ) -> Result<(), PathFault> {
-    let Kind(_, _, leads, at, [user, supervisor, machine]) = first;
-    let Kind(_, act, _, next_at, _) = second;
-    if !at.contains(&privilege) {
+    let Kind(_, _, leads, at, user, supervisor, machine) = first;
+    let Kind(_, act, _, next_at, ..) = second;
+    if !has(at, privilege) {
         return Err(PathFault {
             row: 1,
             why: Why::WrongPrivilege,
@@ -85,8 +136,8 @@ fn expected(
         1 => supervisor,
         _ => machine,
     };
-    let stands = leads.contains(&offset);
-    let kept = left.contains(&after) && next_at.contains(&after);
+    let stands = has(leads, offset);
+    let kept = has(left, after) && has(next_at, after);
     let why = match act {
         Act::Retires(..) if !stands => Why::WrongNext,
         _ if !kept => Why::WrongPrivilege,
@@ -107,7 +158,7 @@ fn tells_of_pair<R: Abort + AllocGlobal>(rt: &R, first: &Kind, second: &Kind) {
             for offset in [4, 8] {
                 let log = [
                     event_of(*act, 0, privilege),
-                    event_of(*next_act, offset, after),
+                    event_of(*next_act, u64::from(offset), after),
                 ];
                 let place = (*name, privilege, *next_name, after, offset);
                 let want = expected(first, privilege, second, offset, after);
