@@ -4,7 +4,7 @@
 //! thread. Here a port that found no room sleeps until the outlet drained the funnel to its low-water mark, half of what
 //! it holds, and then sends many messages before it sleeps again.
 //!
-//! No contract speaks of this, and the tests, in `funnel_tests`, show only that ports are woken: each ends long before
+//! No contract speaks of this, and the tests, in `channel_tests`, show only that ports are woken: each ends long before
 //! all waits could have lasted their longest. That one port is called at the mark and none before it, that all are where
 //! no message waits, but not where one was called since the last message, and that a dropped outlet calls all, changes
 //! when a port goes on and not what is sent: a matter of speed, which no test asks for.
@@ -16,7 +16,7 @@ use std::sync::{Arc, Wait};
 use std::time::Duration;
 
 /// How many milliseconds a port sleeps at most. Mostly it is called before: one port at each mark, and all of them where
-/// no message waits. `waking.rt` of `funnel_tests` counts on at least so many.
+/// no message waits. `funnels/waking.rt` of `channel_tests` counts on at least so many.
 const LONGEST: u64 = 10;
 
 /// How often a port looks for room before it waits, longer each time, where each message that is taken reaches the mark:

@@ -1,5 +1,5 @@
 //! A new funnel.
-ghost use Rattle.std.specs.Prelude.{◌≡◌, ◌+◌, ◌<◌, [], Some, None, Err, IfOk, IfErr, All};
+ghost use Rattle.std.specs.Prelude.{◌≡◌, ◌+◌, ◌<◌, [], Some, None, Err, IfOk, IfErr, OnOk, All};
 ghost use Rattle.crossbeam_channel.specs.Claims.{IsSeatAt};
 ghost use Rattle.crossbeam_channel.specs.Ends.{sends_on};
 ghost use Rattle.funnel.specs.Limits.{limit_fault, most_ports};
@@ -52,17 +52,13 @@ fn opened<A: Allocator + Clone>(
     ensures room { IfOk result (λ opened. opened.1.room ≡ capacity) }
     ensures nothing_taken { IfOk result (λ opened. opened.1.taken ≡ []) }
 {
+    let counts = Vec::from_elem(alloc.clone()?, 0u64, usize::from(harts))?;
+    let low = Arc::new(alloc.clone()?, LowWater::new(capacity as usize))?;
     let (sender, receiver, mut pass) = bounded_with::<Message, View, Law, A>(
         alloc.clone()?,
         capacity as usize,
     )?;
-    let counts = Vec::from_elem(alloc.clone()?, 0u64, usize::from(harts))?;
-    let low = Arc::new(alloc.clone()?, LowWater::new(capacity as usize))?;
-    let mut ports = Vec::with_capacity(alloc, usize::from(harts))?;
-    for hart in 0..harts {
-        let port = port_of(sender.try_clone()?, Arc::try_clone(&low)?, &mut pass, hart);
-        ports.push_reserved(port);
-    }
+    let ports = ports_of(alloc, &sender, &low, &mut pass, harts)?;
     let outlet = Outlet {
         receiver,
         pass,
@@ -70,6 +66,29 @@ fn opened<A: Allocator + Clone>(
         drain: Drain::new(low, capacity as usize),
     };
     Ok((ports, outlet))
+}
+
+/// Hands out a port for each hart of a new channel, all of which send by this end and wait for room there.
+fn ports_of<A: Allocator>(
+    alloc: A,
+    sender: &Sender<A>,
+    low: &Arc<LowWater, A>,
+    pass: &mut Ticket,
+    harts: u16,
+) -> Result<Vec<Port<A>, A>, AllocError>
+    requires seat { IsSeatAt (sends_on sender.now) pass.old }
+    requires next { IsOutlet 0 (knows pass.old) }
+    ensures seat { OnOk result (IsSeatAt (sends_on sender.now) pass.new × (id_of pass.new ≡ id_of pass.old)) }
+    ensures next { OnOk result
+        (IsOutlet harts (knows pass.new) × (taken_of (knows pass.new) ≡ taken_of (knows pass.old))) }
+    ensures ports { IfOk result (λ ports. AreNewPorts (id_of pass.old) harts ports.items) }
+{
+    let mut ports = Vec::with_capacity(alloc, usize::from(harts))?;
+    for hart in 0..harts {
+        let port = port_of(sender.try_clone()?, Arc::try_clone(low)?, pass, hart);
+        ports.push_reserved(port);
+    }
+    Ok(ports)
 }
 
 /// Hands out the next port, which sends by this end and waits for room there.

@@ -1,0 +1,12 @@
+//! Queues and channels, in one thread and in several.
+
+mod dropped;
+mod limits;
+mod made;
+mod memory;
+mod one_thread;
+mod plain;
+mod port_memory;
+mod room;
+mod waking;
+mod workers;

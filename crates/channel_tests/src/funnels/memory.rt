@@ -1,0 +1,67 @@
+//! Memory that is refused.
+
+ghost use Rattle.std.specs.Prelude.{◌≡◌};
+
+use super::made::OPEN;
+use crate::fixtures::message;
+use crate::same::same_at;
+use funnel::{Core, OpenFault};
+use linked_list_allocator::LocalHeap;
+use std::alloc::Allocator;
+use std::process::Abort;
+
+/// How many messages the funnel has room for.
+const CAPACITY: u32 = 100;
+
+/// A new queue of 64 harts takes so many messages, gives one more back, gives them in turn, and then none.
+fn fills_and_empties<A: Allocator, R: Abort>(rt: &R, core: &mut Core<A>)
+    requires { core.old.harts ≡ 64 }
+{
+    for number in 0..u64::from(CAPACITY) {
+        let answer = core.offer(message(rt, 63, number, &[OPEN]));
+        same_at(rt, number, answer, Ok(()));
+    }
+    let back = message(rt, 0, 0, &[OPEN]);
+    same_at(
+        rt,
+        "full",
+        core.offer(message(rt, 0, 0, &[OPEN])),
+        Err(back),
+    );
+    for number in 0..u64::from(CAPACITY) {
+        let wanted = message(rt, 63, number, &[OPEN]);
+        same_at(rt, number, core.take(), Some(wanted));
+    }
+    same_at(rt, "empty", core.take(), None);
+}
+
+/// Whether so much memory is enough for a queue, which takes no more then and gives none back. It is all free afterwards.
+fn is_made<R: Abort + AllocGlobal>(rt: &R, size: usize) -> bool {
+    let heap = LocalHeap::new(rt.alloc(), size).expect(rt, "memory");
+    let enough = match Core::new(&heap, 64, CAPACITY) {
+        Ok(mut core) => {
+            let made = heap.used();
+            fills_and_empties(rt, &mut core);
+            same_at(rt, size, heap.used(), made);
+            true
+        }
+        Err(fault) => {
+            same_at(rt, size, fault, OpenFault::Memory);
+            false
+        }
+    };
+    same_at(rt, size, heap.used(), 0);
+    enough
+}
+
+#[test]
+fn room_is_refused_at_making_alone(rt: HostRuntime) {
+    let mut refused = 0usize;
+    for step in 0..128usize {
+        if !is_made(&rt, step * 64) {
+            same_at(&rt, step, refused, step);
+            refused = refused.saturating_add(1);
+        }
+    }
+    assert!(rt; 32 <= refused && refused < 128, "refused {refused}");
+}

@@ -1,0 +1,158 @@
+//! Readers and writers that fail, or move one byte a call.
+
+use crate::fixtures::message;
+use crate::same::same_at;
+use message::{
+    Header, Message, MessageFault, Start, read_message, read_start, write_header, write_message,
+};
+use payload::Mode;
+use std::io;
+use std::io::{ErrorKind, Read, Write};
+use std::process::Abort;
+
+/// The bytes of a message.
+const WHOLE: [u8; 16] = [7, 0, 9, 0, 0, 0, 0, 0, 0, 0, 5, 0x73, 0, 0, 0, 0x20];
+
+/// A header, and what it tells.
+const HEADER: [u8; 16] = [
+    0xff, 0xff, 0x72, 0x76, 0x74, 0x72, 0x61, 0x63, 0x65, 0x32, 0, 1, 0x34, 0x12, 0x21, 0x03,
+];
+
+const TOLD: Header = Header {
+    mode: Mode::Full,
+    period: 0x1234,
+    harts: 0x0321,
+};
+
+/// A reader of some bytes, one a call, that answers an error at one call.
+#[derive(Drop)]
+struct FailingReader<'a> {
+    rest: &'a [u8],
+    calls: usize,
+    kind: ErrorKind,
+}
+
+impl Read for FailingReader<'_> {
+    fn read(&mut self, buf: &mut [u8]) -> io::Result<usize> {
+        if self.calls == 0 {
+            self.calls = usize::MAX;
+            return Err(io::Error::from(self.kind));
+        }
+        self.calls -= 1;
+        let most = buf.len().min(1);
+        (&mut self.rest).read(&mut buf[..most])
+    }
+}
+
+/// What is read of bytes, one a call, as the start of a capture.
+fn start_of(rest: &[u8], calls: usize, kind: ErrorKind) -> Result<Start, MessageFault> {
+    read_start(&mut FailingReader { rest, calls, kind })
+}
+
+/// Ends the test unless so many bytes of the message, and of the header, are read with this fault.
+fn are_refused(rt: &impl Abort, length: usize, calls: usize, kind: ErrorKind, fault: MessageFault) {
+    let length = length.min(16);
+    let mut reader = FailingReader {
+        rest: &WHOLE[..length],
+        calls,
+        kind,
+    };
+    let place = (kind, length, calls);
+    same_at(rt, place, read_message(&mut reader), Err(fault));
+    let start = start_of(&HEADER[..length], calls, kind);
+    same_at(rt, place, start, Err(fault));
+}
+
+/// Ends the test unless the message and the header are read by readers that fail at one call, and this is answered
+/// behind the message.
+fn are_read(
+    rt: &impl Abort,
+    calls: usize,
+    kind: ErrorKind,
+    behind: Result<Option<Message>, MessageFault>,
+) {
+    let mut reader = FailingReader {
+        rest: WHOLE.as_slice(),
+        calls,
+        kind,
+    };
+    let sent = message(rt, 7, 9, &[0x73, 0, 0, 0, 0x20]);
+    same_at(rt, (kind, calls), read_message(&mut reader), Ok(Some(sent)));
+    same_at(rt, (kind, calls), read_message(&mut reader), behind);
+    let start = start_of(&HEADER, calls, kind);
+    same_at(rt, (kind, calls), start, Ok(Start::Version2(TOLD)));
+}
+
+#[test]
+fn reader_fails_at_each_call(rt: HostRuntime) {
+    for kind in [ErrorKind::UnexpectedEof, ErrorKind::TimedOut] {
+        for calls in 0..16usize {
+            are_refused(&rt, 16, calls, kind, MessageFault::Read);
+        }
+        are_read(&rt, 16, kind, Err(MessageFault::Read));
+    }
+}
+
+#[test]
+fn interrupted_reader_is_asked_again(rt: HostRuntime) {
+    for calls in 0..20usize {
+        are_read(&rt, calls, ErrorKind::Interrupted, Ok(None));
+    }
+}
+
+#[test]
+fn cut_is_short_one_byte_a_call(rt: HostRuntime) {
+    for length in 1..16usize {
+        are_refused(&rt, length, 100, ErrorKind::TimedOut, MessageFault::Short);
+    }
+}
+
+/// A writer that keeps what it takes, one byte a call, and fails once its calls are used up.
+#[derive(Drop)]
+struct FailingWriter {
+    held: Vec<u8>,
+    calls: usize,
+}
+
+impl Write for FailingWriter {
+    fn write(&mut self, buf: &[u8]) -> io::Result<usize> {
+        if self.calls == 0 {
+            return Err(io::Error::from(ErrorKind::StorageFull));
+        }
+        self.calls -= 1;
+        let most = buf.len().min(1);
+        self.held.extend_from_slice(&buf[..most])?;
+        Ok(most)
+    }
+
+    fn flush(&mut self) -> io::Result<()> {
+        Ok(())
+    }
+}
+
+/// Ends the test unless a message, and a header, are written so by writers that fail after so many calls, of which each
+/// then holds that many bytes of it.
+fn are_written<R: Abort + AllocGlobal>(rt: &R, calls: usize, end: Result<(), MessageFault>) {
+    let length = calls.min(16);
+    let sent = message(rt, 7, 9, &[0x73, 0, 0, 0, 0x20]);
+    let mut writer = FailingWriter {
+        held: Vec::new(rt.alloc()),
+        calls,
+    };
+    same_at(rt, calls, write_message(&mut writer, &sent), end);
+    same_at(rt, calls, writer.held.as_slice(), &WHOLE[..length]);
+    let mut writer = FailingWriter {
+        held: Vec::new(rt.alloc()),
+        calls,
+    };
+    same_at(rt, calls, write_header(&mut writer, &TOLD), end);
+    same_at(rt, calls, writer.held.as_slice(), &HEADER[..length]);
+}
+
+#[test]
+fn writer_fails_at_each_call(rt: HostRuntime) {
+    for calls in 0..16usize {
+        are_written(&rt, calls, Err(MessageFault::Write));
+    }
+    are_written(&rt, 16, Ok(()));
+}
