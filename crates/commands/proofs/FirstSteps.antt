@@ -35,6 +35,13 @@ same_end (Some fault) result why ended failed is early =
     is ∙ ap Err (IfErr-at_err (λ fault. why ≡ fault) early (subst (λ r. IfErr r (λ fault. why ≡ fault)) (sym failed)
     refl))
 
+-- Where the program was found, nothing was told before.
+none_told : {A B : Type 0} (told : Option Fault) (result : Result A Fault) (value : A) (ended : Result B Fault)
+    → result ≡ Ok value → IfSome told (λ fault. result ≡ Err fault) → IfSome told (λ fault. ended ≡ Err fault)
+none_told None result value ended found early = tt
+none_told (Some fault) result value ended found early =
+    let never : Ok value ≡ Err fault = sym found ∙ early in cc
+
 -- And so does what is found before any file is read.
 pub early_ends : {A : Type 0} (most : ℕ) (text : List ℕ) (items paths : List Path) (result : Result A Fault)
     (why : Fault)
@@ -43,6 +50,15 @@ pub early_ends : {A : Type 0} (most : ℕ) (text : List ℕ) (items paths : List
     → IfSome (logs_fault most (number_of text) (length items)) (λ fault. ended ≡ Err fault)
 early_ends most text items paths result why ended same failed is early =
     same_end (logs_fault most (number_of text) (length items)) result why ended failed is
+    (subst (λ paths. IfSome (logs_fault most (number_of text) (length paths)) (λ fault. result ≡ Err fault)) same early)
+
+-- Where the program was found, nothing is told before any file is read.
+pub passes : {A B : Type 0} (most : ℕ) (text : List ℕ) (items paths : List Path) (result : Result A Fault) (value : A)
+    (ended : Result B Fault) → paths ≡ items → result ≡ Ok value
+    → IfSome (logs_fault most (number_of text) (length paths)) (λ fault. result ≡ Err fault)
+    → IfSome (logs_fault most (number_of text) (length items)) (λ fault. ended ≡ Err fault)
+passes most text items paths result value ended same found early =
+    none_told (logs_fault most (number_of text) (length items)) result value ended found
     (subst (λ paths. IfSome (logs_fault most (number_of text) (length paths)) (λ fault. result ≡ Err fault)) same early)
 
 module _ (content : Content) (most : ℕ) (text : List ℕ) (image : Path) (items paths : List Path)

@@ -46,9 +46,14 @@ pub fn bench<'a, F: Files, O: Write, R: Threads + Wait + Sync>(
     ensures cut { IsCutOf (Benches (F.content files.old) asked.now) (O.contents out.old) (O.contents out.new) }
 {
     let paths = asked.logs.as_slice();
-    let program = asked_program(files, MOST_PORTS, asked.base, asked.image, paths)?;
-    let logs = legal_logs_of(alloc, files, &program, paths)?;
-    bench_logs(alloc, rt, asked, logs.as_slice(), out)
+    let program = match asked_program(files, MOST_PORTS, asked.base, asked.image, paths) {
+        Ok(program) => program,
+        Err(why) => return Err(why),
+    };
+    match legal_logs_of(alloc, files, &program, paths) {
+        Ok(logs) => bench_logs(alloc, rt, asked, logs.as_slice(), out),
+        Err(why) => Err(why),
+    }
 }
 
 /// Sends each legal log through the funnel from a thread of its own, and writes the report of what comes of them.

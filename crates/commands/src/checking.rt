@@ -44,9 +44,14 @@ pub fn check<'a, F: Files, O: Write>(
     ensures cut { IsCutOf (ChecksFirst (F.content files.old) asked.now) (O.contents out.old) (O.contents out.new) }
 {
     let paths = asked.logs.as_slice();
-    let program = asked_program(files, MOST_HARTS, asked.base, asked.image, paths)?;
+    let program = match asked_program(files, MOST_HARTS, asked.base, asked.image, paths) {
+        Ok(program) => program,
+        Err(why) => return Err(why),
+    };
     let ended = judge_all(alloc, files, &program, paths, out);
-    out.flush()?;
+    if out.flush().is_err() {
+        return Err(Fault::Output);
+    }
     ended
 }
 

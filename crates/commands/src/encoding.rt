@@ -41,9 +41,14 @@ pub fn encode<'a, F: Files, O: Write>(
 {
     let paths = asked.logs.as_slice();
     let most = asked.version.most_harts();
-    let program = asked_program(files, most, asked.base, asked.image, paths)?;
-    let logs = legal_logs_of(alloc, files, &program, paths)?;
-    encode_logs(asked, logs.as_slice(), out)
+    let program = match asked_program(files, most, asked.base, asked.image, paths) {
+        Ok(program) => program,
+        Err(why) => return Err(why),
+    };
+    match legal_logs_of(alloc, files, &program, paths) {
+        Ok(logs) => encode_logs(asked, logs.as_slice(), out),
+        Err(why) => Err(why),
+    }
 }
 
 /// Writes the messages of legal logs to the end, and answers that all is done.

@@ -49,9 +49,10 @@ pub(crate) fn content_of<'a, F: Files>(files: &mut F, path: &'a str) -> Result<V
     ensures lacked { IfErr result (λ why. (why ≡ Fault.Memory) ⊎ IsRead (F.content files.old) path.entry (Err why)) }
     ensures kept { F.content files.new ≡ F.content files.old }
 {
-    files
-        .read(path)
-        .map_err(|fault| Fault::of_file(path, fault))
+    match files.read(path) {
+        Ok(bytes) => Ok(bytes),
+        Err(why) => Err(Fault::of_file(path, why)),
+    }
 }
 
 /// The program of an image at a base.

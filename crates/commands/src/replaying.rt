@@ -46,9 +46,14 @@ pub fn replay<'a, F: Files, O: Write>(
     ensures cut { IsCutOf (Replays (F.content files.old) asked.now) (O.contents out.old) (O.contents out.new) }
 {
     let paths = asked.logs.as_slice();
-    let program = asked_program(files, MOST_HARTS, asked.base, asked.image, paths)?;
-    let logs = legal_logs_of(alloc, files, &program, paths)?;
-    replay_logs(alloc, files, asked, logs.as_slice(), out)
+    let program = match asked_program(files, MOST_HARTS, asked.base, asked.image, paths) {
+        Ok(program) => program,
+        Err(why) => return Err(why),
+    };
+    match legal_logs_of(alloc, files, &program, paths) {
+        Ok(logs) => replay_logs(alloc, files, asked, logs.as_slice(), out),
+        Err(why) => Err(why),
+    }
 }
 
 /// Sends legal logs through the funnel as the schedule says, and writes the report of what comes of them.

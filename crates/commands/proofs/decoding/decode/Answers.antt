@@ -1,7 +1,6 @@
 -- The prover tries no chain of steps by itself: what each step found is handed to it, in order.
-use Rattle.std.proofs.Common.{◌≡◌, ◌⊎◌, refl, sym, subst, arith, ℕ, List, Bool, Option, Result, true, false}
+use Rattle.std.proofs.Common.{◌≡◌, ◌⊎◌, refl, subst, ℕ, List, Bool, Option, Result, true, false}
 use Rattle.std.proofs.Common.{Ok, Err}
-use Rattle.std.proofs.lemmas.Grind.{common_steps}
 use Rattle.commands.specs.Begun.{IsCutOf}
 use Rattle.commands.specs.Decoded.{Decodes, WritesTold}
 use Rattle.commands.specs.Found.{IsProgram, IsRead}
@@ -14,49 +13,41 @@ use Rattle.commands.specs.declared.status.Status.{Status}
 use Rattle.subcommands.specs.declared.words.Decode.{Decode}
 use Rattle.commands.proofs.DecodedRuns.{told_cut, told_printed}
 use Rattle.commands.proofs.Runs.{ends_silently}
-use Rattle.commands.proofs.decoding.decode.Goals.{In_ok-bytes}
+use Rattle.commands.proofs.decoding.decode.Goals.{In-Ok-content_of}
 use Rattle.commands.proofs.decoding.decode.Goals as goal
 
-pub returns-in_err-program-clause-printed : goal.returns-in_err-program-clause-printed
-returns-in_err-program-clause-printed g c =
-    let out = g.O.Write.contents c.args.out.now in
+pub returns-in-Err-program_of-clause-printed : goal.returns-in-Err-program_of-clause-printed
+returns-in-Err-program_of-clause-printed g c =
     let asked = c.args.asked.now in
     let content = g.F.Files.content c.args.files.now in
-    let run = Decodes content asked in
-    let can = CanDecode content asked in
-    let base = c.in_ok-base.base in
-    let why = c.in_err-program.field-0.0 in
-    let is : c.from_residual-in_err-program.result ≡ Err why = grind (arith, common_steps) in
-    subst (λ r. PrintsUnlessDenied run can r out out) (sym is)
-    (ends_silently run can (IsProgram content base asked.image (Err why)) why out c.in_err-program.ensures.fault
-    (λ none. (Ok base, c.in_ok-base.ensures.found, (Err why, none, refl))))
+    let base = c.in-Ok.base in
+    let why = c.in-Err-program_of.why in
+    ends_silently (Decodes content asked) (CanDecode content asked) (IsProgram content base asked.image (Err why)) why
+    (g.O.Write.contents c.args.out.now) c.in-Err-program_of.ensures.fault
+    (λ none. (Ok base, c.in-Ok.ensures.found, (Err why, none, refl)))
 
-pub returns-in_err-bytes-clause-printed : goal.returns-in_err-bytes-clause-printed
-returns-in_err-bytes-clause-printed g c =
-    let out = g.O.Write.contents c.args.out.now in
+pub returns-in-Err-content_of-clause-printed : goal.returns-in-Err-content_of-clause-printed
+returns-in-Err-content_of-clause-printed g c =
     let asked = c.args.asked.now in
     let content = g.F.Files.content c.args.files.now in
-    let run = Decodes content asked in
-    let can = CanDecode content asked in
-    let base = c.in_ok-base.base in
-    let program = c.in_ok-program.program in
-    let why = c.in_err-bytes.field-0.0 in
-    let is : c.from_residual-in_err-bytes.result ≡ Err why = grind (arith, common_steps) in
-    let told = subst (λ told. (why ≡ fault.Memory) ⊎ IsRead told asked.capture (Err why)) c.in_ok-program.ensures.kept
-    c.in_err-bytes.ensures.lacked in
-    subst (λ r. PrintsUnlessDenied run can r out out) (sym is)
-    (ends_silently run can (IsRead content asked.capture (Err why)) why out told
+    let base = c.in-Ok.base in
+    let program = c.in-Ok-program_of.program in
+    let why = c.in-Err-content_of.why in
+    let told = subst (λ told. (why ≡ fault.Memory) ⊎ IsRead told asked.capture (Err why))
+    c.in-Ok-program_of.ensures.kept c.in-Err-content_of.ensures.lacked in
+    ends_silently (Decodes content asked) (CanDecode content asked) (IsRead content asked.capture (Err why)) why
+    (g.O.Write.contents c.args.out.now) told
     (λ none. (
       Ok base,
-      c.in_ok-base.ensures.found,
+      c.in-Ok.ensures.found,
       (
         Ok program,
-        c.in_ok-program.ensures.program,
+        c.in-Ok-program_of.ensures.program,
         (Err why, none, refl),
       ),
-    )))
+    ))
 
-module _ (g : _) (c : In_ok-bytes g) (slice : List ℕ) (same : slice ≡ c.in_ok-bytes.bytes.items) (lossy : Bool)
+module _ (g : _) (c : In-Ok-content_of g) (slice : List ℕ) (same : slice ≡ c.in-Ok-content_of.bytes.items) (lossy : Bool)
     (is : c.args.asked.now.lossy ≡ lossy) where
   abbrev content : Content
   content = g.F.Files.content c.args.files.now
@@ -68,41 +59,41 @@ module _ (g : _) (c : In_ok-bytes g) (slice : List ℕ) (same : slice ≡ c.in_o
   old = g.O.Write.contents c.args.out.now
 
   -- The file that was read is the capture.
-  read : IsRead content asked.capture (Ok c.in_ok-bytes.bytes.items)
+  read : IsRead content asked.capture (Ok c.in-Ok-content_of.bytes.items)
   read =
-      subst (λ told. IsRead told asked.capture (Ok c.in_ok-bytes.bytes.items)) c.in_ok-program.ensures.kept
-      c.in_ok-bytes.ensures.held
+      subst (λ told. IsRead told asked.capture (Ok c.in-Ok-content_of.bytes.items)) c.in-Ok-program_of.ensures.kept
+      c.in-Ok-content_of.ensures.held
 
   -- What is printed of what the capture tells is what is printed.
   printed : (ended : Result Status Fault) (new : Option (List ℕ))
-      → PrintsUnlessDenied (WritesTold lossy asked.harts c.in_ok-program.program slice)
-      (CanTell lossy asked.harts c.in_ok-program.program slice) ended old new
+      → PrintsUnlessDenied (WritesTold lossy asked.harts c.in-Ok-program_of.program slice)
+      (CanTell lossy asked.harts c.in-Ok-program_of.program slice) ended old new
       → PrintsUnlessDenied (Decodes content asked) (CanDecode content asked) ended old new
   printed ended new told =
-      told_printed content asked c.in_ok-base.base c.in_ok-program.program c.in_ok-bytes.bytes.items
-      c.in_ok-base.ensures.found c.in_ok-program.ensures.program read lossy ended old new is
-      (subst (λ bytes. PrintsUnlessDenied (WritesTold lossy asked.harts c.in_ok-program.program bytes)
-      (CanTell lossy asked.harts c.in_ok-program.program bytes) ended old new) same told)
+      told_printed content asked c.in-Ok.base c.in-Ok-program_of.program c.in-Ok-content_of.bytes.items
+      c.in-Ok.ensures.found c.in-Ok-program_of.ensures.program read lossy ended old new is
+      (subst (λ bytes. PrintsUnlessDenied (WritesTold lossy asked.harts c.in-Ok-program_of.program bytes)
+      (CanTell lossy asked.harts c.in-Ok-program_of.program bytes) ended old new) same told)
 
   -- And so is a cut of it.
   cut : (new : Option (List ℕ))
-      → IsCutOf (WritesTold lossy asked.harts c.in_ok-program.program slice) old new
+      → IsCutOf (WritesTold lossy asked.harts c.in-Ok-program_of.program slice) old new
       → IsCutOf (Decodes content asked) old new
   cut new told =
-      told_cut content asked c.in_ok-base.base c.in_ok-program.program c.in_ok-bytes.bytes.items
-      c.in_ok-base.ensures.found c.in_ok-program.ensures.program read lossy old new is
-      (subst (λ bytes. IsCutOf (WritesTold lossy asked.harts c.in_ok-program.program bytes) old new)
+      told_cut content asked c.in-Ok.base c.in-Ok-program_of.program c.in-Ok-content_of.bytes.items
+      c.in-Ok.ensures.found c.in-Ok-program_of.ensures.program read lossy old new is
+      (subst (λ bytes. IsCutOf (WritesTold lossy asked.harts c.in-Ok-program_of.program bytes) old new)
       same told)
 
 pub returns-then-asked-clause-printed : goal.returns-then-asked-clause-printed
 returns-then-asked-clause-printed g c =
-    printed g (goal.at.returns-then-asked-clause-printed g c).In_ok-bytes c.as_slice-capture.result.now
+    printed g (goal.at.returns-then-asked-clause-printed g c).In-Ok-content_of c.as_slice-capture.result.now
     c.as_slice-capture.ensures.value true c.if-asked.true c.decode_lossy.result
     (g.O.Write.contents c.decode_lossy.new.out) c.decode_lossy.ensures.printed
 
 pub returns-then-asked-clause-cut : goal.returns-then-asked-clause-cut
 returns-then-asked-clause-cut g c =
-    cut g (goal.at.returns-then-asked-clause-cut g c).In_ok-bytes c.as_slice-capture.result.now
+    cut g (goal.at.returns-then-asked-clause-cut g c).In-Ok-content_of c.as_slice-capture.result.now
     c.as_slice-capture.ensures.value true c.if-asked.true
     (g.O.Write.contents c.decode_lossy.new.out) c.decode_lossy.ensures.cut
 
@@ -111,13 +102,13 @@ returns-then-asked-clause-begun g c = λ memory. returns-then-asked-clause-cut g
 
 pub returns-clause-printed : goal.returns-clause-printed
 returns-clause-printed g c =
-    printed g (goal.at.returns-clause-printed g c).In_ok-bytes c.as_slice-capture.result.now
+    printed g (goal.at.returns-clause-printed g c).In-Ok-content_of c.as_slice-capture.result.now
     c.as_slice-capture.ensures.value false c.if-asked.false
     c.decode_whole.result (g.O.Write.contents c.decode_whole.new.out) c.decode_whole.ensures.printed
 
 pub returns-clause-cut : goal.returns-clause-cut
 returns-clause-cut g c =
-    cut g (goal.at.returns-clause-cut g c).In_ok-bytes c.as_slice-capture.result.now
+    cut g (goal.at.returns-clause-cut g c).In-Ok-content_of c.as_slice-capture.result.now
     c.as_slice-capture.ensures.value false c.if-asked.false
     (g.O.Write.contents c.decode_whole.new.out) c.decode_whole.ensures.cut
 
