@@ -1,0 +1,9 @@
+//! What is decoded of packets (`decoder`): worked traces, walks, each fault, what is known after which packet, decoders
+//! that go on after a loss.
+
+mod faults;
+mod order;
+mod resuming;
+mod rows;
+mod traces;
+mod walks;

@@ -1,0 +1,121 @@
+//! Small programs, logs of them, and outcomes of branches.
+
+use payload::Outcomes;
+use retire::Event;
+use rvclass::Program;
+use std::process::Abort;
+
+/// Where programs begin.
+pub(crate) const BASE: u64 = 0x8000_0000;
+
+// Words, as the RISC-V Unprivileged ISA and the Privileged Architecture encode them. The jump and the branch are to 8
+// bytes on, the loops are to themselves.
+pub(crate) const NOP: u32 = 0x0000_0013;
+
+pub(crate) const JAL: u32 = 0x0080_006f;
+
+pub(crate) const JUMP_LOOP: u32 = 0x0000_006f;
+
+/// To 4 bytes before.
+pub(crate) const BACK_JUMP: u32 = 0xffdf_f06f;
+
+/// To 8 bytes before.
+pub(crate) const BACK_JUMP_TWICE: u32 = 0xff9f_f06f;
+
+pub(crate) const BEQ: u32 = 0x0000_0463;
+
+pub(crate) const BRANCH_LOOP: u32 = 0x0000_0063;
+
+/// A return to the address in ra.
+pub(crate) const RET: u32 = 0x0000_8067;
+
+pub(crate) const MRET: u32 = 0x3020_0073;
+
+pub(crate) const SRET: u32 = 0x1020_0073;
+
+pub(crate) const ECALL: u32 = 0x0000_0073;
+
+/// An ECALL, and its handler 256 bytes behind the base.
+pub(crate) const FAR: [u32; 65] = [
+    NOP, ECALL, 0, 0, 0, 0, 0, 0, 0, 0, 0, 0, 0, 0, 0, 0, 0, 0, 0, 0, 0, 0, 0, 0, 0, 0, 0, 0, 0, 0,
+    0, 0, 0, 0, 0, 0, 0, 0, 0, 0, 0, 0, 0, 0, 0, 0, 0, 0, 0, 0, 0, 0, 0, 0, 0, 0, 0, 0, 0, 0, 0, 0,
+    0, 0, NOP,
+];
+
+/// Appends the bytes.
+pub(crate) fn add<R: Abort>(rt: &R, text: &mut Vec<u8>, bytes: &[u8]) {
+    text.extend_from_slice(bytes).expect(rt, "memory");
+}
+
+/// The program of these words and of the bytes behind them, from the base on.
+pub(crate) fn program_with<R: Abort + AllocGlobal>(rt: &R, words: &[u32], bytes: &[u8]) -> Program {
+    let mut image = Vec::new(rt.alloc());
+    for word in words {
+        add(rt, &mut image, &word.to_le_bytes());
+    }
+    add(rt, &mut image, bytes);
+    Program::new(BASE, image).expect(rt, "a program")
+}
+
+/// The program of these words, from the base on.
+pub(crate) fn program_of<R: Abort + AllocGlobal>(rt: &R, words: &[u32]) -> Program {
+    program_with(rt, words, &[])
+}
+
+/// A retirement so far from the base.
+pub(crate) fn retired(offset: u64, itype: u8, privilege: u8) -> Event {
+    Event::Retire {
+        addr: BASE.wrapping_add(offset),
+        itype,
+        privilege,
+    }
+}
+
+/// A trap taken at this address, an interrupt or an exception.
+pub(crate) fn trap(epc: u64, privilege: u8, interrupt: bool, cause: u8, tval: u64) -> Event {
+    Event::Trap {
+        epc,
+        privilege,
+        interrupt,
+        cause,
+        tval,
+    }
+}
+
+/// An event: a retirement so far from the base, with its type and privilege; or a trap at an address, with its
+/// privilege, whether it is an interrupt, its cause and its value.
+#[derive(Clone, Copy)]
+pub(crate) enum Step {
+    Retires(u64, u8, u8),
+    Traps(u64, u8, bool, u8, u64),
+}
+
+/// The event that a step is.
+pub(crate) fn event_of(step: Step) -> Event {
+    match step {
+        Step::Retires(offset, itype, privilege) => retired(offset, itype, privilege),
+        Step::Traps(epc, privilege, interrupt, cause, tval) => {
+            trap(epc, privilege, interrupt, cause, tval)
+        }
+    }
+}
+
+/// The log of these events.
+pub(crate) fn log_of<R: Abort + AllocGlobal>(rt: &R, steps: &[Step]) -> Vec<Event> {
+    let mut log = Vec::new(rt.alloc());
+    for step in steps {
+        log.push(event_of(*step)).expect(rt, "memory");
+    }
+    log
+}
+
+/// The first 31 of these outcomes, the oldest first.
+pub(crate) fn outcomes_of(taken: &[bool]) -> Outcomes {
+    let mut outcomes = Outcomes::new();
+    for outcome in taken {
+        if outcomes.len() < 31 {
+            outcomes.push(*outcome);
+        }
+    }
+    outcomes
+}

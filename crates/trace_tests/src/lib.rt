@@ -1,0 +1,17 @@
+//! Tests of logs, of their packets and of what is decoded of them, also after losses.
+//!
+//! They stand in a crate of their own: the gate proves a crate that has tests once more with them.
+#![tactic(auto)]
+
+#[cfg(test)]
+mod decoding;
+#[cfg(test)]
+mod fixtures;
+#[cfg(test)]
+mod logs;
+#[cfg(test)]
+mod lossy;
+#[cfg(test)]
+mod packets;
+#[cfg(test)]
+mod same;

@@ -1,0 +1,7 @@
+//! What stands below the packets: the words of programs (`rvclass`), logs read and written (`retire`), which logs are
+//! legal (`legalpath`), and schedules (`schedule`).
+
+mod legal_paths;
+mod programs;
+mod schedules;
+mod texts;

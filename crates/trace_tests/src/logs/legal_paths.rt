@@ -1,0 +1,5 @@
+//! Small programs, and logs of them.
+
+mod faults;
+mod legal_logs;
+mod successors;

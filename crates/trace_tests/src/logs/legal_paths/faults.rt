@@ -1,0 +1,101 @@
+//! What `check` tells of logs.
+
+use crate::fixtures::Step::{self, Retires, Traps};
+use crate::fixtures::{
+    BASE, BEQ, ECALL, JAL, MRET, NOP, RET, SRET, event_of, log_of, program_of, retired,
+};
+use crate::same::same_at;
+use legalpath::check;
+use retire::Event;
+use rvclass::Program;
+use std::process::Abort;
+
+/// `check` tells this of a log, as the program prints it.
+fn tells<R: Abort + AllocGlobal>(rt: &R, program: &Program, log: &[Event], want: &str) {
+    assert!(rt; log.len() <= 100, "a log is too long");
+    let told = match check(program, log) {
+        Ok(()) => format!(in rt.alloc(); "legal, {} events", log.len()),
+        Err(fault) => format!(in rt.alloc(); "{fault}"),
+    };
+    same_at(rt, log, told.expect(rt, "memory").as_str(), want);
+}
+
+/// The words of a program, a log, and what is told of it.
+const LOGS: [(&[u32], &[Step], &str); 10] = [
+    (&[], &[], "legal, 0 events"),
+    (
+        &[NOP],
+        &[Retires(0, 0, 3), Retires(4, 0, 3)],
+        "row 2: OffProgram",
+    ),
+    (&[ECALL], &[Retires(0, 0, 3)], "row 1: NotRetirable"),
+    (&[NOP], &[Retires(0, 3, 3)], "row 1: WrongType"),
+    (
+        &[BEQ, NOP, NOP],
+        &[Retires(0, 4, 3), Retires(8, 0, 3)],
+        "row 2: WrongNext",
+    ),
+    (
+        &[NOP, NOP],
+        &[Retires(0, 0, 3), Traps(BASE + 8, 3, false, 2, 0)],
+        "row 2: WrongEpc",
+    ),
+    (
+        &[NOP, NOP],
+        &[Retires(0, 0, 3), Retires(4, 0, 1)],
+        "row 2: WrongPrivilege",
+    ),
+    (&[MRET], &[Retires(0, 3, 1)], "row 1: WrongPrivilege"),
+    (
+        &[SRET, NOP],
+        &[Retires(0, 3, 3), Retires(4, 0, 3)],
+        "row 2: WrongPrivilege",
+    ),
+    (
+        &[RET],
+        &[Retires(0, 6, 3), Traps(0x4000, 3, false, 1, 0x4000)],
+        "legal, 2 events",
+    ),
+];
+
+/// `check` tells this of a log of the program of these words.
+fn tells_of_steps<R: Abort + AllocGlobal>(rt: &R, words: &[u32], steps: &[Step], want: &str) {
+    let program = program_of(rt, words);
+    let log = log_of(rt, steps);
+    tells(rt, &program, log.as_slice(), want);
+}
+
+#[test]
+fn first_fault_of_each_log(rt: HostRuntime) {
+    for (words, steps, want) in &LOGS {
+        tells_of_steps(&rt, words, steps, want);
+    }
+}
+
+/// The second of three events, and what is told of them.
+const ROWS: [(Step, &str); 15] = [
+    (Retires(0x100, 3, 2), "row 2: OffProgram"),
+    (Retires(1, 3, 2), "row 2: OffProgram"),
+    (Retires(12, 9, 2), "row 2: NotRetirable"),
+    (Retires(4, 3, 2), "row 2: WrongType"),
+    (Retires(4, 0, 2), "row 2: WrongNext"),
+    (Retires(8, 0, 2), "row 2: WrongPrivilege"),
+    (Retires(8, 0, 1), "row 2: WrongPrivilege"),
+    (Retires(8, 0, 3), "row 3: OffProgram"),
+    (Traps(BASE + 5, 2, false, 64, 0), "row 2: WrongType"),
+    (Traps(BASE + 5, 2, true, 7, 1), "row 2: WrongType"),
+    (Traps(BASE + 5, 2, true, 63, 0), "row 2: WrongPrivilege"),
+    (Traps(BASE + 9, 3, true, 63, 0), "row 2: WrongEpc"),
+    (Traps(BASE + 4, 3, false, 63, 1), "row 2: WrongEpc"),
+    (Traps(BASE + 8, 3, false, 63, 1), "row 3: OffProgram"),
+    (Traps(BASE + 8, 3, true, 63, 0), "row 3: OffProgram"),
+];
+
+#[test]
+fn lowest_reason_of_a_row(rt: HostRuntime) {
+    let program = program_of(&rt, &[JAL, NOP, NOP, ECALL]);
+    for (step, want) in &ROWS {
+        let log = [retired(0, 0, 3), event_of(*step), retired(0x200, 0, 3)];
+        tells(&rt, &program, &log, want);
+    }
+}

@@ -1,0 +1,6 @@
+//! What is left of logs of whose messages some are lost (`losses`).
+
+mod collected;
+mod faults;
+mod small_logs;
+mod worked_logs;

@@ -1,0 +1,88 @@
+//! Packets: their bits (`payload`), and which packets a log has (`encoder`).
+
+mod forms;
+mod outcomes;
+mod payloads;
+mod refusals;
+mod rows;
+mod vectors;
+
+use self::forms::payload_of;
+use encoder::{Encoder, Source};
+use legalpath::LegalLog;
+use payload::{Mode, Packet, Payload};
+use retire::Event;
+use rvclass::Program;
+use std::process::Abort;
+
+/// The packets of a log.
+fn packets_of<R: Abort + AllocGlobal>(
+    rt: &R,
+    program: &Program,
+    period: u16,
+    mode: Mode,
+    log: &[Event],
+) -> Vec<Packet> {
+    assert!(rt; period != 0, "a period is 0");
+    let mut encoder = Encoder::new(period, mode);
+    let mut packets = Vec::new(rt.alloc());
+    packets.push(encoder.open()).expect(rt, "memory");
+    for event in log {
+        let pushed = encoder.push(program, *event);
+        packets
+            .extend_from_slice(pushed.as_slice())
+            .expect(rt, "memory");
+    }
+    let last = encoder.finish(program);
+    packets
+        .extend_from_slice(last.as_slice())
+        .expect(rt, "memory");
+    packets
+}
+
+/// The payloads of packets, all of which are of the profile.
+fn payloads_of<R: Abort + AllocGlobal>(rt: &R, packets: &[Packet]) -> Vec<Payload> {
+    let mut payloads = Vec::new(rt.alloc());
+    for packet in packets {
+        payloads.push(payload_of(rt, packet)).expect(rt, "memory");
+    }
+    payloads
+}
+
+/// The legal log of these events.
+pub(crate) fn legal_log<'p, R: Abort + AllocGlobal>(
+    rt: &R,
+    program: &'p Program,
+    events: &[Event],
+) -> LegalLog<'p> {
+    assert!(rt; events.len() <= 1 << 24, "a log is too long");
+    let events = events.to_vec(rt.alloc()).expect(rt, "memory");
+    LegalLog::new(program, events)
+        .ok()
+        .expect(rt, "a legal log")
+}
+
+/// The payloads that a source gives, which gives none behind them.
+pub(crate) fn sourced<R: Abort + AllocGlobal>(
+    rt: &R,
+    log: &LegalLog<'_>,
+    period: u16,
+    mode: Mode,
+) -> Vec<Payload> {
+    assert!(rt; period != 0, "a period is 0");
+    let mut source = Source::new(log, period, mode);
+    let mut payloads = Vec::new(rt.alloc());
+    for _ in 0..log.events().len() + 2 {
+        if let Some(payload) = next_of(&mut source) {
+            payloads.push(payload).expect(rt, "memory");
+        }
+    }
+    assert!(rt; next_of(&mut source).is_none(), "a source goes on");
+    assert!(rt; next_of(&mut source).is_none(), "a source goes on");
+    payloads
+}
+
+/// The payload that a source gives next.
+fn next_of(source: &mut Source<'_, '_>) -> Option<Payload> {
+    source.next()
+}
