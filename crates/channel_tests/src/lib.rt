@@ -1,17 +1,23 @@
-//! Tests of what carries payloads: messages and captures (`message`), against worked captures, devices that fail and
-//! memory that is refused; and the queue between threads (`funnel`), in one thread against a plain list; its ports,
-//! outlet and receipts at work, in one thread, in several, and where ends are dropped; that ports which wait are woken;
-//! the limits of both; refused memory.
+//! Tests of the channel that all harts share: messages, the funnel, and runs of the bench over it.
 //!
-//! They stand in a crate of their own: the gate proves a crate that has tests once more with them.
+//! Messages and captures (`message`) against worked captures, devices that fail and memory that is refused; the queue
+//! and the channel (`funnel`), in one thread and between threads, their limits and their ends that are dropped; what
+//! the bench (`bench`) makes of messages that are taken in by hand, of replays and of runs, and the reports of it.
+//!
+//! They stand in a crate of their own: the gate proves a crate that has tests once more with them. What draws inputs,
+//! goes through each size, length or call, or is of scale stands in `tools/long-tests/path`.
 #![tactic(auto)]
 
+#[cfg(test)]
+mod failing_writer;
 #[cfg(test)]
 mod fixtures;
 #[cfg(test)]
 mod funnels;
 #[cfg(test)]
 mod messages;
+#[cfg(test)]
+mod running;
 #[cfg(test)]
 mod same;
 #[cfg(test)]

@@ -5,7 +5,7 @@ ghost use Rattle.std.specs.Prelude.{◌≡◌};
 use super::made::OPEN;
 use crate::fixtures::message;
 use crate::same::same_at;
-use funnel::{Core, OpenFault};
+use funnel::{Core, OpenFault, open};
 use linked_list_allocator::LocalHeap;
 use std::alloc::Allocator;
 use std::process::Abort;
@@ -56,12 +56,14 @@ fn is_made<R: Abort + AllocGlobal>(rt: &R, size: usize) -> bool {
 
 #[test]
 fn room_is_refused_at_making_alone(rt: HostRuntime) {
-    let mut refused = 0usize;
-    for step in 0..128usize {
-        if !is_made(&rt, step * 64) {
-            same_at(&rt, step, refused, step);
-            refused = refused.saturating_add(1);
-        }
-    }
-    assert!(rt; 32 <= refused && refused < 128, "refused {refused}");
+    same_at(&rt, "little memory", is_made(&rt, 64), false);
+    same_at(&rt, "ample memory", is_made(&rt, 8192), true);
+}
+
+#[test]
+fn room_is_refused_to_a_channel(rt: HostRuntime) {
+    let heap = LocalHeap::new(rt.alloc(), 64).expect(&rt, "memory");
+    let fault = open(&heap, 2, 4).err();
+    same_at(&rt, "the fault", fault, Some(OpenFault::Memory));
+    same_at(&rt, "the heap", heap.used(), 0);
 }

@@ -12,9 +12,3 @@ fn a_sender_is_woken(rt: HostRuntime) {
     is_whole(&rt, 1, 8, 60_000);
     is_whole(&rt, 1, 1, 10_000);
 }
-
-// Senders sleep side by side, so each sends as many as one alone would.
-#[test]
-fn each_of_several_senders_is_woken(rt: HostRuntime) {
-    is_whole(&rt, 2, 8, 70_000);
-}

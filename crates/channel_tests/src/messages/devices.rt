@@ -1,5 +1,6 @@
 //! Readers and writers that fail, or move one byte a call.
 
+use crate::failing_writer::FailingWriter;
 use crate::fixtures::message;
 use crate::same::same_at;
 use message::{
@@ -7,7 +8,7 @@ use message::{
 };
 use payload::Mode;
 use std::io;
-use std::io::{ErrorKind, Read, Write};
+use std::io::{ErrorKind, Read};
 use std::process::Abort;
 
 /// The bytes of a message.
@@ -84,50 +85,12 @@ fn are_read(
 }
 
 #[test]
-fn reader_fails_at_each_call(rt: HostRuntime) {
-    for kind in [ErrorKind::UnexpectedEof, ErrorKind::TimedOut] {
-        for calls in 0..16usize {
-            are_refused(&rt, 16, calls, kind, MessageFault::Read);
-        }
-        are_read(&rt, 16, kind, Err(MessageFault::Read));
-    }
-}
-
-#[test]
-fn interrupted_reader_is_asked_again(rt: HostRuntime) {
-    for calls in 0..20usize {
-        are_read(&rt, calls, ErrorKind::Interrupted, Ok(None));
-    }
-}
-
-#[test]
-fn cut_is_short_one_byte_a_call(rt: HostRuntime) {
-    for length in 1..16usize {
-        are_refused(&rt, length, 100, ErrorKind::TimedOut, MessageFault::Short);
-    }
-}
-
-/// A writer that keeps what it takes, one byte a call, and fails once its calls are used up.
-#[derive(Drop)]
-struct FailingWriter {
-    held: Vec<u8>,
-    calls: usize,
-}
-
-impl Write for FailingWriter {
-    fn write(&mut self, buf: &[u8]) -> io::Result<usize> {
-        if self.calls == 0 {
-            return Err(io::Error::from(ErrorKind::StorageFull));
-        }
-        self.calls -= 1;
-        let most = buf.len().min(1);
-        self.held.extend_from_slice(&buf[..most])?;
-        Ok(most)
-    }
-
-    fn flush(&mut self) -> io::Result<()> {
-        Ok(())
-    }
+fn readers_of_one_byte_a_call(rt: HostRuntime) {
+    let (eof, timeout) = (ErrorKind::UnexpectedEof, ErrorKind::TimedOut);
+    are_refused(&rt, 16, 3, eof, MessageFault::Read);
+    are_refused(&rt, 7, 100, timeout, MessageFault::Short);
+    are_read(&rt, 16, timeout, Err(MessageFault::Read));
+    are_read(&rt, 5, ErrorKind::Interrupted, Ok(None));
 }
 
 /// Ends the test unless a message, and a header, are written so by writers that fail after so many calls, of which each
@@ -150,9 +113,7 @@ fn are_written<R: Abort + AllocGlobal>(rt: &R, calls: usize, end: Result<(), Mes
 }
 
 #[test]
-fn writer_fails_at_each_call(rt: HostRuntime) {
-    for calls in 0..16usize {
-        are_written(&rt, calls, Err(MessageFault::Write));
-    }
+fn writers_of_one_byte_a_call(rt: HostRuntime) {
+    are_written(&rt, 5, Err(MessageFault::Write));
     are_written(&rt, 16, Ok(()));
 }

@@ -102,7 +102,7 @@ fn what_bears_no_mark_is_version_1(rt: HostRuntime) {
     bear_no_mark(&rt, "no byte", &[], Ok(Start::Version1(None)));
     let first = Start::Version1(Some(message(&rt, 0, 0, &[0x1f])));
     bear_no_mark(&rt, "a message", &WHOLE[16..], Ok(first));
-    for place in 0..10usize {
+    for place in [0usize, 9] {
         let mut bytes = WHOLE;
         bytes[place] = !bytes[place];
         bear_no_mark(&rt, place, &bytes, Err(MessageFault::BadLength));
@@ -126,43 +126,28 @@ fn are_short(rt: &impl Abort, bytes: &[u8]) {
 
 #[test]
 fn cut_headers_are_short(rt: HostRuntime) {
-    for length in 1..16usize {
-        are_short(&rt, &WHOLE[..length]);
-    }
+    are_short(&rt, &WHOLE[..5]);
+    are_short(&rt, &WHOLE[..10]);
+    are_short(&rt, &WHOLE[..15]);
     // A bad mode that stands there already changes nothing.
     let bytes = with_settings([2, 0, 0, 0, 0]);
     are_short(&rt, &bytes[..12]);
 }
 
-/// The header that settings tell by their bytes, or the fault where they tell none.
-fn by_bytes(settings: [u8; 5]) -> Result<Header, MessageFault> {
-    let period = usize::from(settings[1]) + 256 * usize::from(settings[2]);
-    let harts = usize::from(settings[3]) + 256 * usize::from(settings[4]);
-    if settings[0] > 1 || period == 0 || harts == 0 || harts > 1024 {
-        return Err(MessageFault::BadHeader);
-    }
-    Ok(Header {
-        mode: if settings[0] == 1 {
-            Mode::Full
-        } else {
-            Mode::Differential
-        },
-        period: period as u16,
-        harts: harts as u16,
-    })
-}
+/// Settings that tell no header: another mode, a period of 0, no harts, and more harts than there may be.
+const BAD_SETTINGS: [[u8; 5]; 5] = [
+    [2, 0x00, 0x04, 0x01, 0x00],
+    [255, 0x00, 0x04, 0x01, 0x00],
+    [0, 0x00, 0x00, 0x01, 0x00],
+    [1, 0x00, 0x04, 0x00, 0x00],
+    [0, 0x00, 0x04, 0x01, 0x04],
+];
 
 #[test]
-fn each_setting_takes_each_value(rt: HostRuntime) {
+fn bad_settings_are_refused(rt: HostRuntime) {
     same_at(&rt, "the most harts", MOST_HARTS, 1024);
-    for place in 0..5usize {
-        for other in [0u8, 4] {
-            for value in 0..=255u8 {
-                let mut settings = [0, 0, other, 1, 0];
-                settings[place] = value;
-                let bytes = with_settings(settings);
-                reads(&rt, &bytes, settings, by_bytes(settings));
-            }
-        }
+    for settings in BAD_SETTINGS {
+        let bytes = with_settings(settings);
+        reads(&rt, &bytes, settings, Err(MessageFault::BadHeader));
     }
 }

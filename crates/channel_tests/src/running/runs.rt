@@ -1,12 +1,10 @@
 //! Logs through the funnel over threads.
 
-use crate::came::end_of;
-use crate::made::{TURNS, WHOLE, came_back, kinds, logs, program, reports_at};
+use super::came::end_of;
+use super::made::{TURNS, WHOLE, kinds, logs, program, reports_at};
 use crate::same::same_at;
-use bench::{Config, Gate, HartOutcome, Open, Outcome, Setup, Stop, replay, run};
-use linked_list_allocator::LocalHeap;
+use bench::{Config, Gate, HartOutcome, Open, Setup, replay, run};
 use payload::Mode;
-use std::alloc::Allocator;
 use std::process::Abort;
 use std::sync::Wait;
 use std::sync::atomic::{AtomicBool, AtomicU64, Ordering};
@@ -157,74 +155,9 @@ fn gate_crosses(rt: HostRuntime) {
 }
 
 #[test]
-fn sixty_four_harts(rt: HostRuntime) {
-    let program = program(&rt);
-    let logs = kinds(&rt, &program, 64);
-    for mode in [Mode::Differential, Mode::Full] {
-        for capacity in [1, 16, 65_536] {
-            let config = Config {
-                period: 2,
-                mode,
-                capacity,
-                keep: false,
-            };
-            let outcome = run(rt.alloc(), rt.alloc(), &logs, config, &Open, &rt);
-            let outcome = outcome.expect(&rt, "a run");
-            assert!(rt; came_back(&outcome, &logs), "{config:?}");
-        }
-    }
-}
-
-#[test]
 fn sixty_five_harts(rt: HostRuntime) {
     let program = program(&rt);
     let logs = kinds(&rt, &program, 65);
     let fault = run(rt.alloc(), rt.alloc(), &logs, CONFIG, &Open, &rt).err();
     same_at(&rt, "65", fault, Some(Setup::TooManyHarts));
-}
-
-/// Whether a run is whole, where its stop goes by what came of two harts.
-fn came_whole<A: Allocator>(rt: &impl Abort, step: usize, outcome: &Outcome<A>) -> bool {
-    let stop = outcome.stop;
-    let (Some(zero), Some(one)) = (outcome.harts.get(0), outcome.harts.get(1)) else {
-        panic!(rt; "{step}: another number of harts");
-    };
-    same_at(rt, (step, 0), zero.closed, !zero.refused);
-    same_at(rt, (step, 1), one.closed, !one.refused);
-    match stop {
-        None if zero.closed && one.closed => true,
-        Some(Stop::Memory(0)) if zero.refused => false,
-        Some(Stop::Memory(1)) if zero.closed && one.refused => false,
-        _ => panic!(rt; "{step}: another stop, {stop:?}"),
-    }
-}
-
-#[test]
-fn memory_is_refused(rt: HostRuntime) {
-    let program = program(&rt);
-    let logs = logs(&rt, &program);
-    let mut setups = 0u32;
-    let mut stops = 0u32;
-    let mut whole = 0u32;
-    for step in 0..200usize {
-        let heap = LocalHeap::new(rt.alloc(), step * 32).expect(&rt, "memory");
-        match run(&heap, rt.alloc(), &logs, CONFIG, &Open, &rt) {
-            Ok(outcome) => {
-                if came_whole(&rt, step, &outcome) {
-                    whole = whole.saturating_add(1);
-                } else {
-                    stops = stops.saturating_add(1);
-                }
-            }
-            Err(fault) => {
-                same_at(&rt, step, fault, Setup::Memory);
-                setups = setups.saturating_add(1);
-            }
-        }
-        same_at(&rt, step, heap.used(), 0);
-    }
-    assert!(rt;
-        0 < setups && 0 < stops && 0 < whole,
-        "{setups}, {stops}, {whole}"
-    );
 }

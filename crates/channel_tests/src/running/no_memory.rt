@@ -1,6 +1,6 @@
 //! Calls that take no memory, over a heap that has none left.
 
-use crate::made::{logs, program, retired};
+use super::made::{logs, program, retired};
 use crate::same::same_at;
 use bench::Collector;
 use legalpath::LegalLog;

@@ -1,6 +1,6 @@
 //! Logs through the funnel by schedules of turns.
 
-use crate::made::{TURNS, WHOLE, came_back, kinds, logs, program, reports_at};
+use super::made::{TURNS, WHOLE, kinds, logs, program, reports_at};
 use crate::same::same_at;
 use bench::{Config, Setup, Turn, replay};
 use payload::Mode;
@@ -39,30 +39,7 @@ fn full_funnel(rt: HostRuntime) {
     reports_at(&rt, "the report", &outcome, &logs, want);
 }
 
-/// Turns by which each of five messages of each hart is taken at once, a message of each hart before the next.
-fn rounds<R: Abort + AllocGlobal>(rt: &R, harts: u16) -> Vec<Turn> {
-    let mut turns = Vec::new(rt.alloc());
-    for _ in 0..5u32 {
-        for hart in 0..harts {
-            turns.push(Turn::Hart(hart)).expect(rt, "memory");
-            turns.push(Turn::Collect).expect(rt, "memory");
-        }
-    }
-    turns
-}
-
 // There are up to 1,024 harts.
-#[test]
-fn most_harts(rt: HostRuntime) {
-    let program = program(&rt);
-    let logs = kinds(&rt, &program, 1024);
-    let turns = rounds(&rt, 1024);
-    for mode in [Mode::Differential, Mode::Full] {
-        let outcome = replay(rt.alloc(), &logs, config(mode), &turns).expect(&rt, "a replay");
-        assert!(rt; came_back(&outcome, &logs), "{mode:?}");
-    }
-}
-
 #[test]
 fn too_many_harts(rt: HostRuntime) {
     let program = program(&rt);

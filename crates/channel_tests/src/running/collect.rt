@@ -1,25 +1,22 @@
 //! Messages that are taken in by hand.
 
-use crate::came::{End, came_at};
-use crate::made::{logs, program};
+use super::came::{End, came_at};
+use super::made::{logs, program};
 use crate::same::same_at;
 use bench::{CollectFault, Collector};
 use decoder::DecodeFault;
 use encoder::Source;
 use legalpath::LegalLog;
-use linked_list_allocator::LocalHeap;
 use message::{DemuxFault, Message};
 use payload::{Mode, Payload};
 use std::alloc::Allocator;
 use std::process::Abort;
 
-/// How many messages of a log were taken in, how many bytes their payloads have, and how many messages were refused for
-/// want of memory.
+/// How many messages of a log were taken in, and how many bytes their payloads have.
 #[derive(Clone, Copy)]
 struct Sent {
     taken: u64,
     bytes: u64,
-    refused: u64,
 }
 
 /// Takes the first messages of a log in, this many.
@@ -30,25 +27,18 @@ fn send<A: Allocator + Copy>(
     count: u64,
 ) -> Sent {
     let mut source = Source::new(log, 1024, Mode::Differential);
-    let mut sent = Sent {
-        taken: 0,
-        bytes: 0,
-        refused: 0,
-    };
+    let mut sent = Sent { taken: 0, bytes: 0 };
     for number in 0..count {
         if let Some(payload) = source.next() {
             let bytes = payload.bytes().len() as u64;
-            match collector.take_in(Message {
+            let answer = collector.take_in(Message {
                 hart,
                 number,
                 payload,
-            }) {
-                Ok(()) => {
-                    sent.taken = sent.taken.saturating_add(1);
-                    sent.bytes = sent.bytes.saturating_add(bytes);
-                }
-                Err(CollectFault::Memory) => sent.refused = sent.refused.saturating_add(1),
-                Err(_) => {}
+            });
+            if answer.is_ok() {
+                sent.taken = sent.taken.saturating_add(1);
+                sent.bytes = sent.bytes.saturating_add(bytes);
             }
         }
     }
@@ -192,52 +182,4 @@ fn a_refused_hart_is_passed_over(rt: HostRuntime) {
     let outcome = collector.finish();
     came_at(&rt, "refused", &outcome, 0, nothing, &[]);
     came_at(&rt, "whole", &outcome, 1, whole, logs[1].events());
-}
-
-/// Takes the messages of the first log in over this heap, and tells whether memory for its hart was refused, where it
-/// was not for the collector: each of five messages was taken in or was refused, and what came is a beginning of the
-/// events, and all of them where no message was refused.
-fn is_refused(
-    rt: &impl Abort,
-    step: usize,
-    heap: &LocalHeap,
-    logs: &[LegalLog<'_>; 2],
-) -> Option<bool> {
-    let Ok(mut collector) = Collector::new(heap, logs, true) else {
-        return None;
-    };
-    let sent = send(&mut collector, &logs[0], 0, 5);
-    same_at(rt, step, sent.taken.saturating_add(sent.refused), 5);
-    let outcome = collector.finish();
-    let came = outcome.harts.first().expect(rt, "an outcome");
-    let end = End {
-        taken: if sent.refused == 0 { 5 } else { came.taken },
-        bytes: if sent.refused == 0 { 9 } else { came.bytes },
-        kept: came.taken as usize,
-        closed: sent.refused == 0,
-        refused: sent.refused == 1,
-    };
-    came_at(rt, step, &outcome, 0, end, logs[0].events());
-    Some(end.refused)
-}
-
-#[test]
-fn memory_is_refused_for_one_hart(rt: HostRuntime) {
-    let program = program(&rt);
-    let logs = logs(&rt, &program);
-    let mut refused = 0u32;
-    let mut whole = 0u32;
-    for step in 0..300usize {
-        let heap = LocalHeap::new(rt.alloc(), step * 16).expect(&rt, "memory");
-        match is_refused(&rt, step, &heap, &logs) {
-            None => {}
-            Some(true) => refused = refused.saturating_add(1),
-            Some(false) => whole = whole.saturating_add(1),
-        }
-        same_at(&rt, step, heap.used(), 0);
-    }
-    assert!(rt;
-        0 < refused && 0 < whole,
-        "{refused} refused, {whole} whole"
-    );
 }

@@ -1,0 +1,10 @@
+//! What the bench makes of messages, of replays and of runs.
+
+mod came;
+mod collect;
+mod made;
+mod memory;
+mod no_memory;
+mod replays;
+mod report;
+mod runs;
