@@ -1,0 +1,76 @@
+//! Runs of each subcommand for outputs that fail.
+
+/// Each is run with an output that fails at each of its calls in turn.
+pub(crate) const TEXT: &str = r"
+# Two words `nop` and logs of them; captures of only the message that opens a trace, of a trace whose third message is lost, and of one whose first is.
+file image.bin
+|= 13000000 13000000
+file log.csv
+| addr,itype,priv,cause,tval
+| 80000000,0,3,,
+| 80000004,0,3,,
+file far.csv
+| addr,itype,priv,cause,tval
+| 90000000,0,3,,
+file empty.txt
+file open.capture
+|~ 0 0 1f
+file gap.capture
+|~ 0 0 1f
+|~ 0 1 7300000020
+|~ 0 3 4f
+file late.capture
+|~ 0 1 7300000020
+
+# Runs of each subcommand, with and without a fault.
+$ tracebench check --base 80000000 image.bin log.csv
+> log.csv: legal, 2 events
+$ tracebench check --base 80000000 image.bin log.csv no.csv
+> log.csv: legal, 2 events
+! tracebench: no.csv: cannot be read
+? 3
+$ tracebench check --base 80000000 image.bin far.csv
+> far.csv: row 1: OffProgram
+? 2
+$ tracebench encode --base 80000000 --hex image.bin log.csv
+> 0 0 1f
+> 0 1 7300000020
+> 0 2 0a
+> 0 3 4f
+$ tracebench encode --base 80000000 image.bin log.csv
+>= ffff727674726163653200 00 0004 0100
+>~ 0 0 1f
+>~ 0 1 7300000020
+>~ 0 2 0a
+>~ 0 3 4f
+$ tracebench dump gap.capture
+> 0 0 open
+> 0 1 sync addr=80000000 priv=3 branch=1
+> 0 3 close ended_rep
+$ tracebench decode --base 80000000 image.bin open.capture
+> hart 0
+> addr,itype,priv,cause,tval
+! tracebench: hart 0: no closing packet
+? 1
+$ tracebench decode --base 80000000 image.bin gap.capture
+> hart 0
+> addr,itype,priv,cause,tval
+> 80000000,0,3,,
+! tracebench: message 2: gap, expected number 2
+? 1
+$ tracebench decode --base 80000000 --lossy image.bin late.capture
+> hart 0
+> gap: 1 messages
+> stretch: 1 events
+> addr,itype,priv,cause,tval
+> 80000000,0,3,,
+! tracebench: hart 0: no closing packet
+? 1
+$ tracebench replay --base 80000000 image.bin empty.txt log.csv
+> hart 0: 2 events, 0 packets, 0 payload bytes, decoded 0, beginning
+> result: not whole
+? 1
+$ tracebench bench --base 80000000 --capacity 1 image.bin log.csv
+> hart 0: 2 events, 4 packets, 8 payload bytes, decoded 2, whole
+> result: whole
+";

@@ -1,0 +1,260 @@
+//! Runs of a transcript, and what has to come of them.
+
+use super::files::Shelf;
+use super::parts::{number_of, push};
+use crate::command;
+use cli::asked;
+use std::alloc::Global;
+use std::io;
+use std::io::{ErrorKind, Write};
+use std::process::Abort;
+use std::sync::Wait;
+use std::thread::Threads;
+
+/// How the runs of a transcript are played.
+#[derive(Clone, Copy)]
+pub(crate) enum Way {
+    /// Over outputs that take all.
+    Whole,
+    /// Over outputs that fail at each of their calls in turn.
+    Failing,
+}
+
+/// A run, and what it has to write and tell.
+#[derive(Drop)]
+pub(crate) struct Run {
+    /// `$` or `%`, and words; nothing where no run is meant.
+    line: &'static str,
+    pub(crate) status: u64,
+    pub(crate) written: Vec<u8>,
+    pub(crate) told: Vec<u8>,
+}
+
+impl Run {
+    pub(crate) fn new(alloc: Global, line: &'static str) -> Run {
+        Run {
+            line,
+            status: 0,
+            written: Vec::new(alloc),
+            told: Vec::new(alloc),
+        }
+    }
+}
+
+/// A writer that takes a byte at each call, and fails so at one of them, which may be that of a flush.
+#[derive(Drop)]
+struct FailsAt {
+    kind: ErrorKind,
+    call: usize,
+    calls: usize,
+    bytes: Vec<u8>,
+}
+
+impl FailsAt {
+    fn new(alloc: Global, kind: ErrorKind, call: usize) -> FailsAt {
+        FailsAt {
+            kind,
+            call,
+            calls: 0,
+            bytes: Vec::new(alloc),
+        }
+    }
+
+    fn step(&mut self) -> io::Result<()> {
+        self.calls = self.calls.saturating_add(1);
+        if self.calls == self.call {
+            return Err(io::Error::from(self.kind));
+        }
+        Ok(())
+    }
+}
+
+impl Write for FailsAt {
+    fn write(&mut self, bytes: &[u8]) -> io::Result<usize> {
+        self.step()?;
+        match bytes.first() {
+            Some(byte) => {
+                self.bytes.push(*byte)?;
+                Ok(1)
+            }
+            None => Ok(0),
+        }
+    }
+
+    fn flush(&mut self) -> io::Result<()> {
+        self.step()
+    }
+}
+
+/// Ends the test where this did not come of a run: a status, what is written and what is told.
+fn ends(
+    rt: &impl Abort,
+    (line, call): (&str, usize),
+    found: (u8, &[u8], &[u8]),
+    wanted: (u64, &[u8], &[u8]),
+) {
+    let (status, written, told) = found;
+    assert!(rt;
+        (u64::from(status), written, told) == wanted,
+        "{line}, call {call}: status {status}, {:?}, {:?}",
+        str::from_utf8(written),
+        str::from_utf8(told)
+    );
+}
+
+/// Adds a word, with this number for a range in braces.
+fn add_word<R: Abort + AllocGlobal>(rt: &R, words: &mut Vec<String>, word: &str, number: u64) {
+    let mut text = String::new(rt.alloc());
+    match word.split_once('{') {
+        Some((name, _)) => {
+            push(rt, &mut text, name);
+            push(rt, &mut text, number);
+        }
+        None => push(rt, &mut text, word),
+    }
+    words.push(text).expect(rt, "memory");
+}
+
+/// The words of a line, with this number for a range in braces; `COUNT*WORD` is a word so often.
+fn words_of<R: Abort + AllocGlobal>(rt: &R, line: &str, number: u64) -> Vec<String> {
+    let mut words = Vec::new(rt.alloc());
+    for word in line.split_whitespace() {
+        let (times, word) = match word.split_once('*') {
+            Some((count, word)) => (number_of(rt, count), word),
+            None => (1, word),
+        };
+        for _ in 0..times {
+            add_word(rt, &mut words, word, number);
+        }
+    }
+    words
+}
+
+/// The numbers of the range in braces of a line, such as `{1..11}`, both ends among them; or one number where it has none.
+fn range_of(rt: &impl Abort, line: &str) -> (u64, u64) {
+    match line.split_once('{') {
+        Some((_, rest)) => {
+            let (first, rest) = rest.split_once("..").expect(rt, "a range");
+            let (last, _) = rest.split_once('}').expect(rt, "a range");
+            (number_of(rt, first), number_of(rt, last))
+        }
+        None => (0, 0),
+    }
+}
+
+/// The run comes to what has to come of it.
+pub(crate) fn is_played<R: Abort + AllocGlobal + Threads + Wait + Sync>(
+    rt: &R,
+    shelf: &mut Shelf,
+    run: &Run,
+    way: Way,
+) {
+    let (first, last) = range_of(rt, run.line);
+    for number in first..last.saturating_add(1) {
+        if let Some(line) = run.line.strip_prefix('%') {
+            let words = words_of(rt, line, number);
+            is_asked(rt, words.as_slice(), run);
+        } else if let Some(line) = run.line.strip_prefix('$') {
+            let words = words_of(rt, line, number);
+            match way {
+                Way::Whole => is_run(rt, shelf, words.as_slice(), run),
+                Way::Failing => fails_at_each_call(rt, shelf, words.as_slice(), run),
+            }
+        }
+    }
+}
+
+/// The words ask for what is written, or what is told refuses them.
+fn is_asked<R: Abort + AllocGlobal>(rt: &R, words: &[String], run: &Run) {
+    let mut out = String::new(rt.alloc());
+    let mut err = String::new(rt.alloc());
+    match asked(rt.alloc(), words) {
+        Ok(request) => writeln!(out, "{request:?}").expect(rt, "memory"),
+        Err(error) => push(rt, &mut err, error),
+    }
+    let found = (0, out.as_bytes(), err.as_bytes());
+    let wanted = (run.status, run.written.as_slice(), run.told.as_slice());
+    ends(rt, (run.line, 0), found, wanted);
+}
+
+/// The run comes to what has to come of it, and to the same where what it tells is not taken.
+fn is_run<R: Abort + AllocGlobal + Threads + Wait + Sync>(
+    rt: &R,
+    shelf: &mut Shelf,
+    words: &[String],
+    run: &Run,
+) {
+    let mut out = Vec::new(rt.alloc());
+    let mut err = Vec::new(rt.alloc());
+    let status = command(rt.alloc(), rt, shelf, words, &mut out, &mut err);
+    let found = (status, out.as_slice(), err.as_slice());
+    let wanted = (run.status, run.written.as_slice(), run.told.as_slice());
+    ends(rt, (run.line, 0), found, wanted);
+    line_fails_at(rt, shelf, words, run, (ErrorKind::TimedOut, 1), &[]);
+}
+
+/// The output fails at this of its calls, so the run ends with this status, having written and told this.
+fn output_fails_at<R: Abort + AllocGlobal + Threads + Wait + Sync>(
+    rt: &R,
+    shelf: &mut Shelf,
+    words: &[String],
+    (line, call): (&str, usize),
+    wanted: (u64, &[u8], &[u8]),
+) {
+    let mut out = FailsAt::new(rt.alloc(), ErrorKind::TimedOut, call);
+    let mut err = Vec::new(rt.alloc());
+    let status = command(rt.alloc(), rt, shelf, words, &mut out, &mut err);
+    let found = (status, out.bytes.as_slice(), err.as_slice());
+    ends(rt, (line, call), found, wanted);
+}
+
+/// What is told fails at this of its calls and in this way, so that this much of it is taken; nothing else changes.
+fn line_fails_at<R: Abort + AllocGlobal + Threads + Wait + Sync>(
+    rt: &R,
+    shelf: &mut Shelf,
+    words: &[String],
+    run: &Run,
+    (kind, call): (ErrorKind, usize),
+    told: &[u8],
+) {
+    let mut out = Vec::new(rt.alloc());
+    let mut err = FailsAt::new(rt.alloc(), kind, call);
+    let status = command(rt.alloc(), rt, shelf, words, &mut out, &mut err);
+    let found = (status, out.as_slice(), err.bytes.as_slice());
+    let wanted = (run.status, run.written.as_slice(), told);
+    ends(rt, (run.line, call), found, wanted);
+}
+
+/// What is told where the output fails.
+const FAILED: &[u8] = b"tracebench: output cannot be written\n";
+
+/// The output fails at each of its calls in turn, at each byte's and at that of the flush, which comes behind them: what
+/// was written is the beginning of the text. What is told fails at each of its calls; an interrupted write is made again.
+fn fails_at_each_call<R: Abort + AllocGlobal + Threads + Wait + Sync>(
+    rt: &R,
+    shelf: &mut Shelf,
+    words: &[String],
+    run: &Run,
+) {
+    let wanted = (run.status, run.written.as_slice(), run.told.as_slice());
+    for taken in 0..run.written.len().saturating_add(1) {
+        let begun = (3, run.written.get(..taken).unwrap_or(&[]), FAILED);
+        let call = taken.saturating_add(1);
+        output_fails_at(rt, shelf, words, (run.line, call), begun);
+    }
+    let behind = run.written.len().saturating_add(2);
+    output_fails_at(rt, shelf, words, (run.line, behind), wanted);
+    for taken in 0..run.told.len() {
+        let call = taken.saturating_add(1);
+        let begun = run.told.get(..taken).unwrap_or(&[]);
+        line_fails_at(rt, shelf, words, run, (ErrorKind::TimedOut, call), begun);
+        line_fails_at(
+            rt,
+            shelf,
+            words,
+            run,
+            (ErrorKind::Interrupted, call),
+            run.told.as_slice(),
+        );
+    }
+}

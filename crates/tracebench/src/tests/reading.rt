@@ -1,0 +1,57 @@
+//! Transcripts: files, runs of the program over them, and what each writes and tells.
+//!
+//! A line of a transcript begins with
+//!
+//! - `#`: a remark; so is a line with nothing in it;
+//! - `file NAME`: a file, of what the lines that begin with `|` add to it;
+//! - `$`: a run of the program with these words, or `%`: the request that they are, as it is displayed for debugging;
+//! - `>`: what is written, `!`: what is told, and `?`: the exit status where it is not 0.
+//!
+//! Behind `|`, `>` and `!` stands a text; or `=` and bytes in hexadecimal; or `~` and a message, as its hart, its number
+//! and its payload; or `+` and a text without an end of line. A `*` and a count before these stand for so many of them,
+//! each with its number for each `@`.
+
+use super::files::Shelf;
+use super::parts::{add_line, number_of};
+use super::playing::{Run, Way, is_played};
+use std::process::Abort;
+use std::sync::Wait;
+use std::thread::Threads;
+
+/// Plays a transcript.
+pub(crate) fn play<R: Abort + AllocGlobal + Threads + Wait + Sync>(
+    rt: &R,
+    transcript: &'static str,
+    way: Way,
+) {
+    let mut shelf = Shelf::new(rt.alloc());
+    let mut run = Run::new(rt.alloc(), "");
+    for line in transcript.lines() {
+        if let Some(name) = line.strip_prefix("file ") {
+            is_played(rt, &mut shelf, &run, way);
+            run = Run::new(rt.alloc(), "");
+            shelf.begin(rt, name);
+        } else if line.starts_with(['$', '%']) {
+            is_played(rt, &mut shelf, &run, way);
+            run = Run::new(rt.alloc(), line);
+        } else if let Some(content) = line.strip_prefix('|') {
+            add_line(rt, shelf.last(rt), content);
+        } else {
+            expect(rt, &mut run, line);
+        }
+    }
+    is_played(rt, &mut shelf, &run, way);
+}
+
+/// Adds to what is expected of a run.
+fn expect<R: Abort + AllocGlobal>(rt: &R, run: &mut Run, line: &str) {
+    if let Some(text) = line.strip_prefix('>') {
+        add_line(rt, &mut run.written, text);
+    } else if let Some(text) = line.strip_prefix('!') {
+        add_line(rt, &mut run.told, text);
+    } else if let Some(status) = line.strip_prefix("? ") {
+        run.status = number_of(rt, status);
+    } else {
+        assert!(rt; line.is_empty() || line.starts_with('#'), "{line}");
+    }
+}

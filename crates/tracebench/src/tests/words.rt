@@ -1,0 +1,208 @@
+//! What words ask for, and what is told of words that ask for nothing.
+
+/// Each line of words with the request, or with `clap`'s text.
+pub(crate) const TEXT: &str = r#"
+% tracebench encode --base 80000000 --hex image.bin log.csv
+> Encode(Encode { base: "80000000", period: 1024, mode: Differential, version: Two, hex: true, image: "image.bin", logs: ["log.csv"] })
+% tracebench encode --v1 --base 0 image.bin a.csv b.csv
+> Encode(Encode { base: "0", period: 1024, mode: Differential, version: One, hex: false, image: "image.bin", logs: ["a.csv", "b.csv"] })
+% tracebench encode --base 0 --hex --full image.bin log.csv --v1
+> Encode(Encode { base: "0", period: 1024, mode: Full, version: One, hex: true, image: "image.bin", logs: ["log.csv"] })
+% tracebench encode --v1 --base 0 --v1 image.bin log.csv
+! error: the argument '--v1' cannot be used multiple times
+!
+! Usage: tracebench encode [OPTIONS] --base <B> <IMAGE> <LOG>...
+!
+! For more information, try '--help'.
+% tracebench replay --base 0 --v1 image.bin turns.txt log.csv
+! error: unexpected argument '--v1' found
+!
+!   tip: to pass '--v1' as a value, use '-- --v1'
+!
+! Usage: tracebench replay --base <B> <IMAGE> <SCHEDULE> <LOG>...
+!
+! For more information, try '--help'.
+% tracebench encode image.bin --base=-1 --period 65535 a.csv b.csv
+> Encode(Encode { base: "-1", period: 65535, mode: Differential, version: Two, hex: false, image: "image.bin", logs: ["a.csv", "b.csv"] })
+% tracebench encode --base 0 --period 1 image.bin log.csv
+> Encode(Encode { base: "0", period: 1, mode: Differential, version: Two, hex: false, image: "image.bin", logs: ["log.csv"] })
+% tracebench encode --base 0 --full image.bin log.csv
+> Encode(Encode { base: "0", period: 1024, mode: Full, version: Two, hex: false, image: "image.bin", logs: ["log.csv"] })
+% tracebench encode --hex --full image.bin --base 0 log.csv
+> Encode(Encode { base: "0", period: 1024, mode: Full, version: Two, hex: true, image: "image.bin", logs: ["log.csv"] })
+% tracebench encode --full --base 0 --full image.bin log.csv
+! error: the argument '--full' cannot be used multiple times
+!
+! Usage: tracebench encode [OPTIONS] --base <B> <IMAGE> <LOG>...
+!
+! For more information, try '--help'.
+% tracebench encode --base 0 --period 0 image.bin log.csv
+! error: invalid value '0' for '--period <N>': 0 is not in 1..=65535
+!
+! For more information, try '--help'.
+% tracebench encode --base 0 --period 65536 image.bin log.csv
+! error: invalid value '65536' for '--period <N>': 65536 is not in 1..=65535
+!
+! For more information, try '--help'.
+% tracebench check --base 80000000 image.bin a.csv b.csv
+> Check(Check { base: "80000000", image: "image.bin", logs: ["a.csv", "b.csv"] })
+% tracebench check --base 80000000 --full image.bin log.csv
+! error: unexpected argument '--full' found
+!
+!   tip: to pass '--full' as a value, use '-- --full'
+!
+! Usage: tracebench check --base <B> <IMAGE> <LOG>...
+!
+! For more information, try '--help'.
+% tracebench check --base 80000000 image.bin
+! error: the following required arguments were not provided:
+!   <LOG>...
+!
+! Usage: tracebench check --base <B> <IMAGE> <LOG>...
+!
+! For more information, try '--help'.
+% tracebench
+! error: 'tracebench' requires a subcommand but one was not provided
+!   [subcommands: check, encode, dump, decode, replay, bench, help]
+!
+! Usage: tracebench <COMMAND>
+!
+! For more information, try '--help'.
+% tracebench frob
+! error: unrecognized subcommand 'frob'
+!
+! Usage: tracebench <COMMAND>
+!
+! For more information, try '--help'.
+% tracebench encode --base 80000000 image.bin
+! error: the following required arguments were not provided:
+!   <LOG>...
+!
+! Usage: tracebench encode --base <B> <IMAGE> <LOG>...
+!
+! For more information, try '--help'.
+% tracebench encode --help
+! Write the trace messages of logs
+!
+! Usage: tracebench encode [OPTIONS] --base <B> <IMAGE> <LOG>...
+!
+! Arguments:
+!   <IMAGE>   File of the program's bytes
+!   <LOG>...  Logs, each of one hart, as CSV
+!
+! Options:
+!       --base <B>    Address of the image's first byte, in hexadecimal
+!       --period <N>  Retirements from one periodic synchronisation to the next, 1 to 65535 [default: 1024]
+!       --full        Name addresses in full, not by differences
+!       --v1          Write a capture of version 1, which has no header, of at most 64 logs
+!       --hex         Write a line of hexadecimal for each message
+!   -h, --help        Print help
+% tracebench dump run.capture
+> Dump(Dump { capture: "run.capture" })
+% tracebench dump --full run.capture
+! error: unexpected argument '--full' found
+!
+!   tip: to pass '--full' as a value, use '-- --full'
+!
+! Usage: tracebench dump <CAPTURE>
+!
+! For more information, try '--help'.
+% tracebench dump
+! error: the following required arguments were not provided:
+!   <CAPTURE>
+!
+! Usage: tracebench dump <CAPTURE>
+!
+! For more information, try '--help'.
+% tracebench dump a.capture b.capture
+! error: unexpected argument 'b.capture' found
+!
+! Usage: tracebench dump <CAPTURE>
+!
+! For more information, try '--help'.
+% tracebench decode --base 80000000 image.bin run.capture
+> Decode(Decode { base: "80000000", harts: 1, lossy: false, image: "image.bin", capture: "run.capture" })
+% tracebench decode image.bin --harts 1 run.capture --base 0
+> Decode(Decode { base: "0", harts: 1, lossy: false, image: "image.bin", capture: "run.capture" })
+% tracebench decode --lossy --base 0 image.bin run.capture
+> Decode(Decode { base: "0", harts: 1, lossy: true, image: "image.bin", capture: "run.capture" })
+% tracebench decode --base 0 --lossy --lossy image.bin run.capture
+! error: the argument '--lossy' cannot be used multiple times
+!
+! Usage: tracebench decode [OPTIONS] --base <B> <IMAGE> <CAPTURE>
+!
+! For more information, try '--help'.
+% tracebench decode --base 0 --harts=1024 image.bin run.capture
+> Decode(Decode { base: "0", harts: 1024, lossy: false, image: "image.bin", capture: "run.capture" })
+% tracebench decode --base 0 --harts 0 image.bin run.capture
+! error: invalid value '0' for '--harts <N>': 0 is not in 1..=1024
+!
+! For more information, try '--help'.
+% tracebench decode --base 0 --harts 1025 image.bin run.capture
+! error: invalid value '1025' for '--harts <N>': 1025 is not in 1..=1024
+!
+! For more information, try '--help'.
+% tracebench decode --base 0 --full image.bin run.capture
+! error: unexpected argument '--full' found
+!
+!   tip: to pass '--full' as a value, use '-- --full'
+!
+! Usage: tracebench decode --base <B> <IMAGE> <CAPTURE>
+!
+! For more information, try '--help'.
+% tracebench decode --base 80000000 image.bin
+! error: the following required arguments were not provided:
+!   <CAPTURE>
+!
+! Usage: tracebench decode --base <B> <IMAGE> <CAPTURE>
+!
+! For more information, try '--help'.
+% tracebench replay --base 80000000 image.bin turns.txt a.csv b.csv
+> Replay(Replay { base: "80000000", period: 1024, mode: Differential, capacity: 16, image: "image.bin", schedule: "turns.txt", logs: ["a.csv", "b.csv"] })
+% tracebench replay --capacity 65536 --base 0 --full --period 7 image.bin turns.txt log.csv
+> Replay(Replay { base: "0", period: 7, mode: Full, capacity: 65536, image: "image.bin", schedule: "turns.txt", logs: ["log.csv"] })
+% tracebench replay --base 0 --capacity 0 image.bin turns.txt log.csv
+! error: invalid value '0' for '--capacity <N>': 0 is not in 1..=65536
+!
+! For more information, try '--help'.
+% tracebench replay --base 0 --capacity=65537 image.bin turns.txt log.csv
+! error: invalid value '65537' for '--capacity <N>': 65537 is not in 1..=65536
+!
+! For more information, try '--help'.
+% tracebench replay --base 0 image.bin turns.txt
+! error: the following required arguments were not provided:
+!   <LOG>...
+!
+! Usage: tracebench replay --base <B> <IMAGE> <SCHEDULE> <LOG>...
+!
+! For more information, try '--help'.
+% tracebench bench --base 80000000 image.bin a.csv b.csv
+> Bench(Bench { base: "80000000", period: 1024, mode: Differential, capacity: 16, image: "image.bin", logs: ["a.csv", "b.csv"] })
+% tracebench bench --base 0 --capacity 1 --period 65535 image.bin log.csv --full
+> Bench(Bench { base: "0", period: 65535, mode: Full, capacity: 1, image: "image.bin", logs: ["log.csv"] })
+% tracebench bench --base 0 --capacity 65537 image.bin log.csv
+! error: invalid value '65537' for '--capacity <N>': 65537 is not in 1..=65536
+!
+! For more information, try '--help'.
+% tracebench bench --base 0 image.bin
+! error: the following required arguments were not provided:
+!   <LOG>...
+!
+! Usage: tracebench bench --base <B> <IMAGE> <LOG>...
+!
+! For more information, try '--help'.
+% tracebench decode --help
+! Write the logs that the messages of a capture describe
+!
+! Usage: tracebench decode [OPTIONS] --base <B> <IMAGE> <CAPTURE>
+!
+! Arguments:
+!   <IMAGE>    File of the program's bytes
+!   <CAPTURE>  File of trace messages
+!
+! Options:
+!       --base <B>   Address of the image's first byte, in hexadecimal
+!       --harts <N>  How many harts a capture of version 1 may have, 1 to 1024 [default: 1]
+!       --lossy      Go on where messages are missing, and tell how many are
+!   -h, --help       Print help
+"#;
