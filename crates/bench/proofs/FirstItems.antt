@@ -25,11 +25,3 @@ module _ {X : Type 0} where
   take-last (x ∷ front) item (y ∷ items) (suc n) first =
       let tail : front ++ item ∷ [] ≡ take n items = cc in
       take-last front item items n tail
-
-  -- One of the first items stands in the whole list at its place.
-  pub take-at : (items : List X) (count n : ℕ) (item : X) → slice_get (take count items) n ≡ Some item
-      → slice_get items n ≡ Some item
-  take-at items zero n item at = cc
-  take-at [] (suc count) n item at = at
-  take-at (x ∷ items) (suc count) zero item at = at
-  take-at (x ∷ items) (suc count) (suc n) item at = take-at items count n item at

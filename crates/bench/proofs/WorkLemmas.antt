@@ -1,30 +1,24 @@
 -- Messages that carry the first payloads of a log.
-use Rattle.std.proofs.Common.{◌≡◌, ◌⊎◌, ◌<◌, ◌≤◌, ◌+◌, ◌^◌, ℕ, zero, suc, Bool, true, false, List, [], ◌∷◌, ◌++◌, Some}
-use Rattle.std.proofs.Common.{length, set, take, slice_get, nat_le, refl, sym, ap, subst, inl, inr, ⊎_elim, ◌∙◌, arith}
-use Rattle.std.specs.Option.{option_map}
-use Rattle.std.proofs.lemmas.Bool.{cases_eq, or_cases}
-use Rattle.std.proofs.lemmas.Bool.Decides.{nat_tests}
+use Rattle.std.proofs.Common.{◌≡◌, ◌⊎◌, ◌+◌, ℕ, Bool, true, false, List, [], ◌∷◌, ◌++◌, Some}
+use Rattle.std.proofs.Common.{length, set, take, slice_get, refl, sym, ap, subst, inl, inr, ◌∙◌, arith}
+use Rattle.std.proofs.lemmas.Bool.{cases_eq}
 use Rattle.std.proofs.lemmas.List.{length-append, length-map, length-set, length_push, map-append}
-use Rattle.std.proofs.lemmas.List.Elements.{All-cons, All-head, All-nil}
-use Rattle.std.proofs.lemmas.Option.{same_Some, slice_get-map, slice_get_within}
-use Rattle.legalpath.specs.ProgramLog.{IsLegalLog, ProgramLog}
-use Rattle.payload.specs.Closing.{is_closing}
+use Rattle.std.proofs.lemmas.Option.{same_Some, slice_get_within}
+use Rattle.legalpath.specs.ProgramLog.{ProgramLog}
 use Rattle.payload.specs.declared.mode.Mode.{Mode}
 use Rattle.encoder.specs.Payloads.{payloads}
 use Rattle.encoder.specs.SourceAt.{IsAt, SourceAt}
 use Rattle.message.specs.OfHart.{of_hart}
 use Rattle.message.specs.declared.message.Message.{Message}
-use Rattle.funnel.specs.Ends.{IsBeginning, PortView, after_sending, has_closing, is_finished}
-use Rattle.funnel.specs.Limits.{most_messages}
+use Rattle.funnel.specs.Ends.{IsBeginning, PortView, after_sending}
 use Rattle.funnel.specs.Order.{next_message}
-use Rattle.funnel.specs.Payloads.{ClosesOnlyLast, payloads_in}
+use Rattle.funnel.specs.Payloads.{payloads_in}
 use Rattle.bench.specs.Stopping.{LacksPayloads}
 use Rattle.bench.specs.Working.{AreNotAll, CarryFirst, IsWork}
 use Rattle.bench.specs.steps.Gathering.{Among}
 use Rattle.bench.proofs.AmongLemmas.{among-fewer}
 use Rattle.bench.proofs.CollectedLemmas.{set-at, take-next}
-use Rattle.bench.proofs.FirstItems.{take-at, take-front, take-last}
-use Rattle.bench.proofs.GotLemmas.{close_last}
+use Rattle.bench.proofs.FirstItems.{take-front, take-last}
 use Rattle.bench.proofs.ListElements.{slice_get-unwritten}
 
 payloads_joined : (front rest : List Message) → payloads_in (front ++ rest) ≡ payloads_in front ++ payloads_in rest
@@ -32,16 +26,6 @@ payloads_joined front rest = map-append (λ (message : Message). message.payload
 
 count_payloads : (messages : List Message) → length (payloads_in messages) ≡ length messages
 count_payloads messages = length-map messages (λ (message : Message). message.payload)
-
--- A message with a closing payload, where there is one.
-closing_among : (messages : List Message) → has_closing messages ≡ true
-    → (n : ℕ) × (message : Message) × (slice_get messages n ≡ Some message) × (is_closing message.payload ≡ true)
-closing_among [] closing = cc
-closing_among (m ∷ messages) closing =
-    ⊎_elim (λ (closes : is_closing m.payload ≡ true). (zero, m, refl, closes))
-    (λ (behind : has_closing messages ≡ true).
-    let found = closing_among messages behind in (suc found.0, found.1, found.2, found.3))
-    (or_cases (is_closing m.payload) (has_closing messages) closing)
 
 module _ (period : ℕ) (mode : Mode) (log : ProgramLog) where
   abbrev all : List (List ℕ)
@@ -72,34 +56,6 @@ module _ (period : ℕ) (mode : Mode) (log : ProgramLog) where
       ap (slice_get all) (sym (count_payloads front))
       ∙ take-last (payloads_in front) message.payload all (length (front ++ message ∷ []))
       (sym (payloads_joined front (message ∷ [])) ∙ first)
-
-  -- A port that sent them and has another to send is not finished.
-  pub not_finished : (sent : List Message) (payload : List ℕ) → IsLegalLog log → CarryFirst period mode log sent
-      → slice_get (payloads period mode log) (length sent) ≡ Some payload → length sent ≤ 2 ^ 24 + 2
-      → is_finished sent ≡ true → ⊥
-  not_finished sent payload legal first at few finished =
-      ⊎_elim closed many (or_cases (has_closing sent) (nat_le most_messages (length sent)) finished)
-    where
-      closes_last : ClosesOnlyLast all
-      closes_last =
-          All-head ClosesOnlyLast all []
-          (close_last period mode (log ∷ []) (All-cons IsLegalLog log [] legal (All-nil IsLegalLog)))
-
-      closed : has_closing sent ≡ true → ⊥
-      closed closing =
-          let found = closing_among sent closing in
-          let among : slice_get (payloads_in sent) found.0 ≡ Some found.1.payload =
-          slice_get-map (λ (m : Message). m.payload) sent found.0
-          ∙ ap (option_map (λ (m : Message). m.payload)) found.2 in
-          let of_log : slice_get all found.0 ≡ Some found.1.payload =
-          take-at all (length sent) found.0 found.1.payload (ap (λ some. slice_get some found.0) (sym first) ∙ among) in
-          let last : length all ≡ found.0 + 1 = closes_last found.0 found.1.payload of_log found.3 in
-          let within = slice_get_within sent found.0 found.1 found.2 in
-          let more = slice_get_within all (length sent) payload at in
-          omega (arith, last, within, more)
-
-      many : nat_le most_messages (length sent) ≡ true → ⊥
-      many most = let over : most_messages ≤ length sent = grind (arith, nat_tests) in omega (arith, over, few)
 
 -- A source that gave nothing stands before the first payload.
 pub first_at : (at : SourceAt) → at.number ≡ 0 → IsAt at.period at.mode at.log 0 at
@@ -136,15 +92,6 @@ module _ (period : ℕ) (mode : Mode) (log : ProgramLog) (port : PortView) where
         sent = carry_more period mode log old.sent message gone.sent
             (ap (slice_get (payloads period mode log)) gone.count ∙ sym next);
       })
-
-  -- The port is not finished before the next one.
-  pub goes_on : (number most : ℕ) (now : PortView) (payload : List ℕ) → HaveGone period mode log port number now
-      → Some payload ≡ slice_get (payloads period mode log) number → IsLegalLog log → number < most
-      → most ≤ 2 ^ 24 + 2 → is_finished now.sent ≡ true → ⊥
-  goes_on number most now payload gone next legal within few =
-      let count = gone.count in
-      not_finished period mode log now.sent payload legal gone.sent
-      (ap (slice_get (payloads period mode log)) gone.count ∙ sym next) (omega (arith, count, within, few))
 
   -- What a worker leaves that was not refused.
   pub all_gone : (number : ℕ) (now left : PortView) (flag : Bool) → HaveGone period mode log port number now

@@ -1,17 +1,16 @@
 //! The worker of a hart, which sends its log's payloads.
 
-ghost use Rattle.std.specs.Prelude.{ℕ, ◌≡◌, ◌≤◌, ◌+◌, [], IfSome, false, slice_get, true};
-ghost use Rattle.retire.specs.Log.{most_rows};
-ghost use Rattle.legalpath.specs.ProgramLog.{IsLegalLog, ProgramLog};
+ghost use Rattle.std.specs.Prelude.{ℕ, ◌≡◌, [], IfSome, false, slice_get, true};
+ghost use Rattle.legalpath.specs.ProgramLog.{ProgramLog};
 ghost use Rattle.payload.specs.declared.mode.Mode.{Mode};
 ghost use Rattle.encoder.specs.Payloads.{payloads};
 ghost use Rattle.encoder.specs.SourceAt.{IsAt, SourceAt, number_behind};
-ghost use Rattle.funnel.specs.Ends.{after_sending, is_finished};
+ghost use Rattle.funnel.specs.Ends.{after_sending};
 ghost use Rattle.bench.specs.Working.{IsWork};
 
 use crate::gate::Gate;
 use encoder::Source;
-use funnel::{Port, Receipt, SendFault};
+use funnel::{Port, Receipt};
 use payload::Payload;
 use std::snapshot::Snapshot;
 use std::sync::Wait;
@@ -22,7 +21,7 @@ use std::thread::{Promise, PromisedHandle, Scope};
 pub(crate) struct Work {
     /// What its port leaves.
     pub(crate) receipt: Receipt,
-    /// Whether the channel handed a payload back.
+    /// Whether the port gave a payload back: the channel did so, since no source gives one behind its closing payload.
     pub(crate) handed_back: bool,
 }
 
@@ -78,7 +77,7 @@ pub(crate) fn start<'s, E, S: Payloads + 's, G: Gate, R: Wait + Sync>(
     source: S,
     most: usize,
 ) -> Option<Worker<S>>
-    requires { ((S.at source).number ≡ 0) × (port.sent ≡ []) × IsLegalLog (S.at source).log × (most ≤ most_rows + 2) }
+    requires { ((S.at source).number ≡ 0) × (port.sent ≡ []) }
     ensures { IfSome result (λ w. (w.promise.port.value ≡ port) × (w.promise.source.value ≡ source)) }
 {
     let promise = Sending {
@@ -89,8 +88,7 @@ pub(crate) fn start<'s, E, S: Payloads + 's, G: Gate, R: Wait + Sync>(
         .spawn_with(
             promise,
             move || -> Work
-                requires { ((S.at source).number ≡ 0) × (port.sent ≡ []) × IsLegalLog (S.at source).log
-                    × (most ≤ most_rows + 2) }
+                requires { ((S.at source).number ≡ 0) × (port.sent ≡ []) }
                 ensures { IsWork (S.at source).period (S.at source).mode port (S.at source).log result.receipt
                     result.handed_back }
             { send_all(rt, gate, hart, port, source, most) },
@@ -107,7 +105,7 @@ fn send_all<S: Payloads, G: Gate, R: Wait>(
     source: S,
     most: usize,
 ) -> Work
-    requires { ((S.at source).number ≡ 0) × (port.sent ≡ []) × IsLegalLog (S.at source).log × (most ≤ most_rows + 2) }
+    requires { ((S.at source).number ≡ 0) × (port.sent ≡ []) }
     ensures { IsWork (S.at source).period (S.at source).mode port (S.at source).log result.receipt result.handed_back }
 {
     let mut port = port;
@@ -137,15 +135,12 @@ fn send_one<G: Gate, R: Wait>(
     port: &mut Port,
     payload: Payload,
 ) -> bool
-    requires { ¬ (is_finished port.old.sent ≡ true) }
     ensures sent { result ≡ true → port.new ≡ after_sending port.old payload }
     ensures refused { result ≡ false → port.new ≡ port.old }
 {
     gate.before_send(rt, hart, number);
-    match port.send(rt, payload) {
-        Ok(()) => {}
-        Err(SendFault::HandedBack(_)) => return false,
-        Err(SendFault::Closed(_)) => unreachable!(),
+    if port.send(rt, payload).is_err() {
+        return false;
     }
     gate.after_send(rt, hart, number);
     true

@@ -2,7 +2,6 @@
 use Rattle.std.proofs.Common.{◌≡◌, ◌∙◌, Some, length, slice_get, refl, sym, ap, subst, arith}
 use Rattle.std.proofs.lemmas.List.{length-set}
 use Rattle.std.proofs.lemmas.Option.{slice_get_read}
-use Rattle.legalpath.specs.ProgramLog.{IsLegalLog}
 use Rattle.funnel.specs.Ends.{AreNewPorts}
 use Rattle.bench.proofs.LastPort.{last_port}
 use Rattle.bench.proofs.ListElements.{All-pushed}
@@ -33,16 +32,7 @@ pub start-requires-after_bounds : goal.start-requires-after_bounds
 start-requires-after_bounds g c κs within =
     let popped =
     last_port _ _ _ _ _ c.in-Some.port c.loop-port.invariant.ports c.in-Some.ensures.items c.pop.new.self.ok.0 in
-    let told = c.events.ensures in
-    let legal : IsLegalLog c.index-logs-hart.result =
-    record { legal = told.legal; short = told.short; numbers = told.numbers; image = told.image } in
-    let short = told.short in
-    let events = ap length told.events in (
-      ap (λ at. at.number) c.new.ensures,
-      ap (λ port. port.sent) popped.1,
-      subst (λ at. IsLegalLog at.log) (sym c.new.ensures) legal,
-      omega (arith, short, events),
-    )
+    (ap (λ at. at.number) c.new.ensures, ap (λ port. port.sent) popped.1)
 
 pub loop-port-preserved-in-Some-start : goal.loop-port-preserved-in-Some-start
 loop-port-preserved-in-Some-start g c =

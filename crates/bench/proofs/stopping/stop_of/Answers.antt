@@ -28,3 +28,6 @@ returns-in-Some-first_open-clause-names g c = (
       c.in-Some-first_open.ensures.some.0,
   c.in_default-first_ended.ensures.none,
 )
+
+pub returns-in-Some-first_ended-clause-back : goal.returns-in-Some-first_ended-clause-back
+returns-in-Some-first_ended-clause-back g c = record {}

@@ -1,6 +1,6 @@
 -- How many payloads went through the port: by lemmas on ports, which no tactic finds.
 use Rattle.std.proofs.Common.{◌∙◌, refl}
-use Rattle.bench.proofs.WorkLemmas.{all_gone, first_at, goes_on, none_gone, one_gone, some_gone}
+use Rattle.bench.proofs.WorkLemmas.{all_gone, first_at, none_gone, one_gone, some_gone}
 use Rattle.bench.proofs.worker.send_all.Goals.{else-loop-number-test, then-loop-number-test+in_default}
 use Rattle.bench.proofs.worker.send_all.Goals.{then-loop-number-test+in-Some+then-not-send_one}
 use Rattle.bench.proofs.worker.send_all.Goals as goal
@@ -13,14 +13,6 @@ loop-number-init g c =
       going = refl;
       gone = none_gone at.period at.mode at.log c.args.port c.requires.1;
     }
-
-pub send_one-requires-after_bounds : goal.send_one-requires-after_bounds
-send_one-requires-after_bounds g c κs within =
-    let at = g.S.Payloads.at c.args.source in
-    let now = c.loop-number in
-    goes_on at.period at.mode at.log c.args.port now.number c.args.most now.port c.in-Some.payload now.invariant.gone
-    (c.in-Some.ensures.given at.period now.number at.mode at.log now.invariant.source) c.requires.2
-    c.loop-number-test.true c.requires.3
 
 pub loop-number-preserved : goal.loop-number-preserved
 loop-number-preserved g c =
