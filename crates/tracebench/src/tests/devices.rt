@@ -2,7 +2,8 @@
 
 /// Each is run with an output that fails at each of its calls in turn.
 pub(crate) const TEXT: &str = r"
-# Two words `nop` and logs of them; captures of only the message that opens a trace, of a trace whose third message is lost, and of one whose first is.
+# Two words `nop` and logs of them; captures of only the message that opens a trace, of a trace whose third message is
+# lost, and of one whose first is.
 file image.bin
 |= 13000000 13000000
 file log.csv

@@ -1,9 +1,10 @@
-//! Captures as text.
+//! Captures to text.
 
-/// The text of each packet, whole captures, captures that end inside a message.
+/// The text of each packet, of whole captures and of headers; messages in any order.
 pub(crate) const TEXT: &str = r"
-# The text of each packet, without a header and behind one of differences and one of full addresses, whatever the packets open.
-file log.capture
+# The text of each packet, without a header and behind one of differences and one of full addresses, whatever the
+# packets open.
+file packets.capture
 |~ 65535 18446744073709551615 1f
 |~ 65535 18446744073709551615 1f01
 |~ 65535 18446744073709551615 4f
@@ -32,132 +33,53 @@ file log.capture
 |~ 65535 18446744073709551615 0b
 |~ 65535 18446744073709551615 53
 |~ 65535 18446744073709551615 020000000000000002
-$ tracebench dump log.capture
-> 65535 18446744073709551615 open
-> 65535 18446744073709551615 open full
-> 65535 18446744073709551615 close ended_rep
-> 65535 18446744073709551615 close ended_ntr
-> 65535 18446744073709551615 sync addr=80000000 priv=3 branch=1
-> 65535 18446744073709551615 sync addr=8000000c priv=3 branch=0
-> 65535 18446744073709551615 trap interrupt cause=7 epc=80000008 priv=3 branch=1
-> 65535 18446744073709551615 trap interrupt cause=0 handler=fffffffffffffffe priv=0 branch=0
-> 65535 18446744073709551615 trap exception cause=b tval=0 handler=80000100 priv=3 branch=1
-> 65535 18446744073709551615 trap exception cause=3f tval=ffffffffffffffff handler=fffffffffffffffe priv=3 branch=1
-> 65535 18446744073709551615 trap exception cause=3f tval=deadbeef epc=80000004 priv=1 branch=0
-> 65535 18446744073709551615 address diff=4 map=- updiscon
-> 65535 18446744073709551615 address diff=0 map=- notify
-> 65535 18446744073709551615 address diff=8 map=1 plain
-> 65535 18446744073709551615 address diff=80000004 map=- plain
-> 65535 18446744073709551615 address diff=80000000 map=- notify
-> 65535 18446744073709551615 address diff=80000008 map=1 plain
-> 65535 18446744073709551615 address diff=fffffffffffffffc map=010 plain
-> 65535 18446744073709551615 map 0000000000000000000000000000000
-> 65535 18446744073709551615 map 1000000000000000000000000000000
-> 65535 18446744073709551615 bad BadPad
->*5 65535 18446744073709551615 bad Unsupported
-> 65535 18446744073709551615 bad BadPrivilege
-> 65535 18446744073709551615 bad BadReport
+file before-addresses.txt
+| 65535 18446744073709551615 open
+| 65535 18446744073709551615 open full
+| 65535 18446744073709551615 close ended_rep
+| 65535 18446744073709551615 close ended_ntr
+| 65535 18446744073709551615 sync addr=80000000 priv=3 branch=1
+| 65535 18446744073709551615 sync addr=8000000c priv=3 branch=0
+| 65535 18446744073709551615 trap interrupt cause=7 epc=80000008 priv=3 branch=1
+| 65535 18446744073709551615 trap interrupt cause=0 handler=fffffffffffffffe priv=0 branch=0
+| 65535 18446744073709551615 trap exception cause=b tval=0 handler=80000100 priv=3 branch=1
+| 65535 18446744073709551615 trap exception cause=3f tval=ffffffffffffffff handler=fffffffffffffffe priv=3 branch=1
+| 65535 18446744073709551615 trap exception cause=3f tval=deadbeef epc=80000004 priv=1 branch=0
+file addresses.txt
+| 65535 18446744073709551615 address diff=4 map=- updiscon
+| 65535 18446744073709551615 address diff=0 map=- notify
+| 65535 18446744073709551615 address diff=8 map=1 plain
+| 65535 18446744073709551615 address diff=80000004 map=- plain
+| 65535 18446744073709551615 address diff=80000000 map=- notify
+| 65535 18446744073709551615 address diff=80000008 map=1 plain
+| 65535 18446744073709551615 address diff=fffffffffffffffc map=010 plain
+file behind-addresses.txt
+| 65535 18446744073709551615 map 0000000000000000000000000000000
+| 65535 18446744073709551615 map 1000000000000000000000000000000
+| 65535 18446744073709551615 bad BadPad
+|*5 65535 18446744073709551615 bad Unsupported
+| 65535 18446744073709551615 bad BadPrivilege
+| 65535 18446744073709551615 bad BadReport
+$ tracebench dump packets.capture
+>< before-addresses.txt
+>< addresses.txt
+>< behind-addresses.txt
 ? 1
 file log.capture
 |= ffff727674726163653200 00 0004 0100
-|~ 65535 18446744073709551615 1f
-|~ 65535 18446744073709551615 1f01
-|~ 65535 18446744073709551615 4f
-|~ 65535 18446744073709551615 cf00
-|~ 65535 18446744073709551615 7300000020
-|~ 65535 18446744073709551615 6303000020
-|~ 65535 18446744073709551615 f72302000020
-|~ 65535 18446744073709551615 07e0
-|~ 65535 18446744073709551615 f74540000020
-|~ 65535 18446744073709551615 f7df
-|~ 65535 18446744073709551615 a71f01000020000000c0bb6fab37
-|~ 65535 18446744073709551615 0a00000000000000fc
-|~ 65535 18446744073709551615 0200000000000000fe
-|~ 65535 18446744073709551615 8504
-|~ 65535 18446744073709551615 0a00000001
-|~ 65535 18446744073709551615 0200000001000000fe
-|~ 65535 18446744073709551615 8504000040
-|~ 65535 18446744073709551615 0df9
-|~ 65535 18446744073709551615 01
-|~ 65535 18446744073709551615 8100
-|~ 65535 18446744073709551615 1f80
-|~ 65535 18446744073709551615 cf
-|~ 65535 18446744073709551615 1f02
-|~ 65535 18446744073709551615 4f01
-|~ 65535 18446744073709551615 00
-|~ 65535 18446744073709551615 0b
-|~ 65535 18446744073709551615 53
-|~ 65535 18446744073709551615 020000000000000002
+|< packets.capture
 $ tracebench dump log.capture
 > capture 2 mode=diff period=1024 harts=1
-> 65535 18446744073709551615 open
-> 65535 18446744073709551615 open full
-> 65535 18446744073709551615 close ended_rep
-> 65535 18446744073709551615 close ended_ntr
-> 65535 18446744073709551615 sync addr=80000000 priv=3 branch=1
-> 65535 18446744073709551615 sync addr=8000000c priv=3 branch=0
-> 65535 18446744073709551615 trap interrupt cause=7 epc=80000008 priv=3 branch=1
-> 65535 18446744073709551615 trap interrupt cause=0 handler=fffffffffffffffe priv=0 branch=0
-> 65535 18446744073709551615 trap exception cause=b tval=0 handler=80000100 priv=3 branch=1
-> 65535 18446744073709551615 trap exception cause=3f tval=ffffffffffffffff handler=fffffffffffffffe priv=3 branch=1
-> 65535 18446744073709551615 trap exception cause=3f tval=deadbeef epc=80000004 priv=1 branch=0
-> 65535 18446744073709551615 address diff=4 map=- updiscon
-> 65535 18446744073709551615 address diff=0 map=- notify
-> 65535 18446744073709551615 address diff=8 map=1 plain
-> 65535 18446744073709551615 address diff=80000004 map=- plain
-> 65535 18446744073709551615 address diff=80000000 map=- notify
-> 65535 18446744073709551615 address diff=80000008 map=1 plain
-> 65535 18446744073709551615 address diff=fffffffffffffffc map=010 plain
-> 65535 18446744073709551615 map 0000000000000000000000000000000
-> 65535 18446744073709551615 map 1000000000000000000000000000000
-> 65535 18446744073709551615 bad BadPad
->*5 65535 18446744073709551615 bad Unsupported
-> 65535 18446744073709551615 bad BadPrivilege
-> 65535 18446744073709551615 bad BadReport
+>< before-addresses.txt
+>< addresses.txt
+>< behind-addresses.txt
 ? 1
 file log.capture
 |= ffff727674726163653200 01 0004 0100
-|~ 65535 18446744073709551615 1f
-|~ 65535 18446744073709551615 1f01
-|~ 65535 18446744073709551615 4f
-|~ 65535 18446744073709551615 cf00
-|~ 65535 18446744073709551615 7300000020
-|~ 65535 18446744073709551615 6303000020
-|~ 65535 18446744073709551615 f72302000020
-|~ 65535 18446744073709551615 07e0
-|~ 65535 18446744073709551615 f74540000020
-|~ 65535 18446744073709551615 f7df
-|~ 65535 18446744073709551615 a71f01000020000000c0bb6fab37
-|~ 65535 18446744073709551615 0a00000000000000fc
-|~ 65535 18446744073709551615 0200000000000000fe
-|~ 65535 18446744073709551615 8504
-|~ 65535 18446744073709551615 0a00000001
-|~ 65535 18446744073709551615 0200000001000000fe
-|~ 65535 18446744073709551615 8504000040
-|~ 65535 18446744073709551615 0df9
-|~ 65535 18446744073709551615 01
-|~ 65535 18446744073709551615 8100
-|~ 65535 18446744073709551615 1f80
-|~ 65535 18446744073709551615 cf
-|~ 65535 18446744073709551615 1f02
-|~ 65535 18446744073709551615 4f01
-|~ 65535 18446744073709551615 00
-|~ 65535 18446744073709551615 0b
-|~ 65535 18446744073709551615 53
-|~ 65535 18446744073709551615 020000000000000002
+|< packets.capture
 $ tracebench dump log.capture
 > capture 2 mode=full period=1024 harts=1
-> 65535 18446744073709551615 open
-> 65535 18446744073709551615 open full
-> 65535 18446744073709551615 close ended_rep
-> 65535 18446744073709551615 close ended_ntr
-> 65535 18446744073709551615 sync addr=80000000 priv=3 branch=1
-> 65535 18446744073709551615 sync addr=8000000c priv=3 branch=0
-> 65535 18446744073709551615 trap interrupt cause=7 epc=80000008 priv=3 branch=1
-> 65535 18446744073709551615 trap interrupt cause=0 handler=fffffffffffffffe priv=0 branch=0
-> 65535 18446744073709551615 trap exception cause=b tval=0 handler=80000100 priv=3 branch=1
-> 65535 18446744073709551615 trap exception cause=3f tval=ffffffffffffffff handler=fffffffffffffffe priv=3 branch=1
-> 65535 18446744073709551615 trap exception cause=3f tval=deadbeef epc=80000004 priv=1 branch=0
+>< before-addresses.txt
 > 65535 18446744073709551615 address addr=4 map=- updiscon
 > 65535 18446744073709551615 address addr=0 map=- notify
 > 65535 18446744073709551615 address addr=8 map=1 plain
@@ -165,15 +87,10 @@ $ tracebench dump log.capture
 > 65535 18446744073709551615 address addr=80000000 map=- notify
 > 65535 18446744073709551615 address addr=80000008 map=1 plain
 > 65535 18446744073709551615 address addr=fffffffffffffffc map=010 plain
-> 65535 18446744073709551615 map 0000000000000000000000000000000
-> 65535 18446744073709551615 map 1000000000000000000000000000000
-> 65535 18446744073709551615 bad BadPad
->*5 65535 18446744073709551615 bad Unsupported
-> 65535 18446744073709551615 bad BadPrivilege
-> 65535 18446744073709551615 bad BadReport
+>< behind-addresses.txt
 ? 1
 
-# Whole captures.
+# A capture of no message, and one of five.
 file log.capture
 $ tracebench dump log.capture
 file log.capture
@@ -188,6 +105,8 @@ $ tracebench dump log.capture
 > 0 2 address diff=4 map=- updiscon
 > 0 3 trap interrupt cause=7 epc=80000008 priv=3 branch=1
 > 0 4 close ended_ntr
+
+# Headers with no message behind them.
 file log.capture
 |= ffff727674726163653200 00 0004 0100
 $ tracebench dump log.capture
@@ -208,15 +127,6 @@ file log.capture
 |= ffff727674726163653200 00 3412 2103
 $ tracebench dump log.capture
 > capture 2 mode=diff period=4660 harts=801
-file log.capture
-|~ 1 0 1f
-|~ 0 7 53
-|~ 1 9 4f
-$ tracebench dump log.capture
-> 1 0 open
-> 0 7 bad BadPrivilege
-> 1 9 close ended_rep
-? 1
 
 # A message whose length is not 1 to 18 is told behind those before it.
 file log.capture
@@ -250,92 +160,6 @@ $ tracebench dump log.capture
 ! tracebench: message 2: payload length is not 1 to 18
 ? 1
 
-# A capture of five messages, cut to each length.
-file log.capture
-|~ 0 0 1f
-|~ 0 1 7300000020
-|~ 0 2 0a00000000000000fc
-|~ 0 3 f72302000020
-|~ 0 4 cf00
-$ tracebench dump log.capture:0
-$ tracebench dump log.capture:{1..11}
-! tracebench: message 0: the capture ends inside a message
-? 1
-$ tracebench dump log.capture:12
-> 0 0 open
-$ tracebench dump log.capture:{13..27}
-> 0 0 open
-! tracebench: message 1: the capture ends inside a message
-? 1
-$ tracebench dump log.capture:28
-> 0 0 open
-> 0 1 sync addr=80000000 priv=3 branch=1
-$ tracebench dump log.capture:{29..47}
-> 0 0 open
-> 0 1 sync addr=80000000 priv=3 branch=1
-! tracebench: message 2: the capture ends inside a message
-? 1
-$ tracebench dump log.capture:48
-> 0 0 open
-> 0 1 sync addr=80000000 priv=3 branch=1
-> 0 2 address diff=4 map=- updiscon
-$ tracebench dump log.capture:{49..64}
-> 0 0 open
-> 0 1 sync addr=80000000 priv=3 branch=1
-> 0 2 address diff=4 map=- updiscon
-! tracebench: message 3: the capture ends inside a message
-? 1
-$ tracebench dump log.capture:65
-> 0 0 open
-> 0 1 sync addr=80000000 priv=3 branch=1
-> 0 2 address diff=4 map=- updiscon
-> 0 3 trap interrupt cause=7 epc=80000008 priv=3 branch=1
-$ tracebench dump log.capture:{66..77}
-> 0 0 open
-> 0 1 sync addr=80000000 priv=3 branch=1
-> 0 2 address diff=4 map=- updiscon
-> 0 3 trap interrupt cause=7 epc=80000008 priv=3 branch=1
-! tracebench: message 4: the capture ends inside a message
-? 1
-$ tracebench dump log.capture:78
-> 0 0 open
-> 0 1 sync addr=80000000 priv=3 branch=1
-> 0 2 address diff=4 map=- updiscon
-> 0 3 trap interrupt cause=7 epc=80000008 priv=3 branch=1
-> 0 4 close ended_ntr
-
-# A header, cut to each length, and with settings that are none.
-file log.capture
-|= ffff727674726163653200 00 0004 0100
-$ tracebench dump log.capture:{1..15}
-! tracebench: message 0: the capture ends inside a message
-? 1
-file log.capture
-|= ffff727674726163653200 02 0004 0100
-$ tracebench dump log.capture
-! tracebench: capture header is not valid
-? 1
-file log.capture
-|= ffff727674726163653200 ff 0004 0100
-$ tracebench dump log.capture
-! tracebench: capture header is not valid
-? 1
-file log.capture
-|= ffff727674726163653200 00 0000 0100
-$ tracebench dump log.capture
-! tracebench: capture header is not valid
-? 1
-file log.capture
-|= ffff727674726163653200 00 0004 0000
-$ tracebench dump log.capture
-! tracebench: capture header is not valid
-? 1
-file log.capture
-|= ffff727674726163653200 00 0004 0105
-$ tracebench dump log.capture
-! tracebench: capture header is not valid
-? 1
-
 # Messages are dumped as they stand, whatever their harts and numbers; a payload that is no packet has its line too.
 file log.capture
 |~ 65535 18446744073709551615 4f
@@ -364,34 +188,13 @@ $ tracebench dump log.capture
 > 0 3 bad BadReport
 > 0 4 open
 ? 1
-
-# The line of the header comes first, and its mode names the address field, whatever the messages tell.
 file log.capture
-|= ffff727674726163653200 00 0004 0100
-|~ 0 0 1f01
-|~ 0 1 0a00000000000000fc
-|~ 9 7 1f
+|~ 1 0 1f
+|~ 0 7 53
+|~ 1 9 4f
 $ tracebench dump log.capture
-> capture 2 mode=diff period=1024 harts=1
-> 0 0 open full
-> 0 1 address diff=4 map=- updiscon
-> 9 7 open
-file log.capture
-|= ffff727674726163653200 01 ffff 0004
-|~ 0 0 1f01
-|~ 0 1 0a00000000000000fc
-|~ 9 7 1f
-$ tracebench dump log.capture
-> capture 2 mode=full period=65535 harts=1024
-> 0 0 open full
-> 0 1 address addr=4 map=- updiscon
-> 9 7 open
-
-# A file that is not there, and one too large for memory.
-$ tracebench dump no.capture
-! tracebench: no.capture: cannot be read
-? 3
-$ tracebench dump full
-! tracebench: out of memory
-? 3
+> 1 0 open
+> 0 7 bad BadPrivilege
+> 1 9 close ended_rep
+? 1
 ";

@@ -13,6 +13,7 @@ pub(crate) struct Shelf {
 }
 
 impl Shelf {
+    /// No file.
     pub(crate) fn new(alloc: Global) -> Shelf {
         Shelf {
             alloc,
@@ -29,13 +30,14 @@ impl Shelf {
             .expect(rt, "memory");
     }
 
-    /// The content of the file that was added last.
-    pub(crate) fn last(&mut self, rt: &impl Abort) -> &mut Vec<u8> {
-        self.contents.last_mut().expect(rt, "a file")
+    /// Appends to the file that was added last.
+    pub(crate) fn append(&mut self, rt: &impl Abort, bytes: &[u8]) {
+        let content = self.contents.last_mut().expect(rt, "a file");
+        content.extend_from_slice(bytes).expect(rt, "memory");
     }
 
     /// The content of the file of this name.
-    fn content(&self, name: &str) -> Option<&[u8]> {
+    pub(crate) fn content(&self, name: &str) -> Option<&[u8]> {
         let mut found = None;
         for (one, content) in self.names.iter().zip(&self.contents) {
             if *one == name {

@@ -2,7 +2,7 @@
 
 /// Over a few images, logs and captures, in either mode and of either version.
 pub(crate) const TEXT: &str = r"
-# The files.
+# Files of all sections below.
 file image.bin
 |= 13000000 13000000
 file log.csv
@@ -55,7 +55,7 @@ file strange.txt
 |+ 0 2
 file empty.txt
 
-# The runs.
+# Words that `clap` refuses.
 $
 ! error: 'tracebench' requires a subcommand but one was not provided
 !   [subcommands: check, encode, dump, decode, replay, bench, help]
@@ -82,6 +82,22 @@ $ tracebench decode --base 80000000 --harts 1025 no.bin no.capture
 !
 ! For more information, try '--help'.
 ? 2
+$ tracebench decode --full --base 80000000 no.bin no.capture
+! error: unexpected argument '--full' found
+!
+!   tip: to pass '--full' as a value, use '-- --full'
+!
+! Usage: tracebench decode [OPTIONS] --base <B> <IMAGE> <CAPTURE>
+!
+! For more information, try '--help'.
+? 2
+$ tracebench replay --base 80000000 --capacity 0 no.bin no.txt no.csv
+! error: invalid value '0' for '--capacity <N>': 0 is not in 1..=65536
+!
+! For more information, try '--help'.
+? 2
+
+# Logs are judged, and encoded.
 $ tracebench encode --base=-1 --hex image.bin log.csv
 ! tracebench: base is not a number
 ? 2
@@ -93,11 +109,6 @@ $ tracebench encode --base 80000000 --period 1 --hex image.bin log.csv
 > 0 1 7300000020
 > 0 2 7301000020
 > 0 3 cf00
-$ tracebench encode --base 80000000 --full --hex image.bin log.csv
-> 0 0 1f01
-> 0 1 7300000020
-> 0 2 0a00000001
-> 0 3 4f
 $ tracebench encode --base 80000000 --full --hex jump.bin jump.csv
 > 0 0 1f01
 > 0 1 7300000020
@@ -109,11 +120,8 @@ $ tracebench encode --base 80000000 --full --hex branch.bin branch.csv
 > 0 1 7300000020
 > 0 2 8504000040
 > 0 3 4f
-$ tracebench encode --base 80000000 --full --v1 image.bin log.csv
->~ 0 0 1f01
->~ 0 1 7300000020
->~ 0 2 0a00000001
->~ 0 3 4f
+
+# Captures as text, and as logs.
 $ tracebench dump log.capture
 > 0 0 open
 $ tracebench dump full.capture
@@ -141,15 +149,6 @@ $ tracebench decode --base 80000000 image.bin full.capture
 > addr,itype,priv,cause,tval
 > 80000000,0,3,,
 > 80000004,0,3,,
-$ tracebench decode --full --base 80000000 no.bin no.capture
-! error: unexpected argument '--full' found
-!
-!   tip: to pass '--full' as a value, use '-- --full'
-!
-! Usage: tracebench decode [OPTIONS] --base <B> <IMAGE> <CAPTURE>
-!
-! For more information, try '--help'.
-? 2
 $ tracebench decode --base 80000000 --harts 2 image.bin log.capture
 > hart 0
 > addr,itype,priv,cause,tval
@@ -157,11 +156,8 @@ $ tracebench decode --base 80000000 --harts 2 image.bin log.capture
 > addr,itype,priv,cause,tval
 ! tracebench: hart 0: no closing packet
 ? 1
-$ tracebench replay --base 80000000 --capacity 0 no.bin no.txt no.csv
-! error: invalid value '0' for '--capacity <N>': 0 is not in 1..=65536
-!
-! For more information, try '--help'.
-? 2
+
+# Turns are replayed.
 $ tracebench replay --base 80000000 four.bin strange.txt branches.csv return.csv
 ! tracebench: schedule: word 2 is not a turn
 ? 2
@@ -183,6 +179,8 @@ $ tracebench replay --base 80000000 --full --capacity 1 four.bin whole.txt branc
 > hart 0: 33 events, 5 packets, 14 payload bytes, decoded 33, whole
 > hart 1: 4 events, 4 packets, 14 payload bytes, decoded 4, whole
 > result: whole
+
+# Logs are sent over threads.
 $ tracebench bench --base 80000000 --full --capacity 1 four.bin branches.csv return.csv
 > hart 0: 33 events, 5 packets, 14 payload bytes, decoded 33, whole
 > hart 1: 4 events, 4 packets, 14 payload bytes, decoded 4, whole
@@ -193,8 +191,5 @@ $ tracebench bench --base 80000000 --capacity 1 four.bin branches.csv return.csv
 > result: whole
 $ tracebench bench --base 80000000 four.bin branches.csv no.csv
 ! tracebench: no.csv: cannot be read
-? 3
-$ tracebench dump no.capture
-! tracebench: no.capture: cannot be read
 ? 3
 ";

@@ -148,7 +148,8 @@ $ tracebench decode --base 80000000 --lossy image.bin log.capture
 ! tracebench: hart 1: no closing packet
 ? 1
 
-# Where the message that opens the trace is lost, the header tells what the address fields hold; where it came, it tells so itself.
+# Where the message that opens the trace is lost, the header tells what the address fields hold; where it came, it tells
+# so itself.
 file log.capture
 |= ffff727674726163653200 01 0004 0100
 |~ 0 1 7300000020

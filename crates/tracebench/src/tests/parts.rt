@@ -1,5 +1,6 @@
 //! What the lines of a transcript add to a content.
 
+use super::files::Shelf;
 use std::fmt::Display;
 use std::process::Abort;
 
@@ -37,11 +38,13 @@ fn add_message(rt: &impl Abort, content: &mut Vec<u8>, text: &str) {
     add_bytes(rt, content, payload);
 }
 
-/// Appends what a text stands for, by its form: `=` bytes, `~` a message, `+` the text itself, and else a line.
-fn add_form(rt: &impl Abort, content: &mut Vec<u8>, form: char, text: &str) {
+/// Appends what a text stands for, by its form: `=` bytes, `~` a message, `<` a file, `+` the text itself, and else a
+/// line.
+fn add_form(rt: &impl Abort, shelf: &Shelf, content: &mut Vec<u8>, form: char, text: &str) {
     match form {
         '=' => add_bytes(rt, content, text),
         '~' => add_message(rt, content, text),
+        '<' => add(rt, content, shelf.content(text).expect(rt, "a file")),
         '+' => add(rt, content, text.as_bytes()),
         _ => {
             add(rt, content, text.as_bytes());
@@ -70,6 +73,7 @@ pub(crate) fn push<D: Display + Drop>(rt: &impl Abort, text: &mut String, value:
 /// Appends what a text stands for so often, in lines that `\n` parts, with the number of the time for each `@`.
 fn add_times<R: Abort + AllocGlobal>(
     rt: &R,
+    shelf: &Shelf,
     content: &mut Vec<u8>,
     times: u64,
     form: char,
@@ -78,7 +82,7 @@ fn add_times<R: Abort + AllocGlobal>(
     for time in 0..times {
         for line in text.split("\\n") {
             let line = numbered(rt, line, time);
-            add_form(rt, content, form, line.as_str());
+            add_form(rt, shelf, content, form, line.as_str());
         }
     }
 }
@@ -89,7 +93,12 @@ fn behind(text: &str) -> &str {
 }
 
 /// Appends what a line stands for: a form and a text, or `*`, how often they are meant, and both.
-pub(crate) fn add_line<R: Abort + AllocGlobal>(rt: &R, content: &mut Vec<u8>, line: &str) {
+pub(crate) fn add_line<R: Abort + AllocGlobal>(
+    rt: &R,
+    shelf: &Shelf,
+    content: &mut Vec<u8>,
+    line: &str,
+) {
     let (times, rest) = match line.strip_prefix('*') {
         Some(counted) => {
             let digits = counted
@@ -101,9 +110,9 @@ pub(crate) fn add_line<R: Abort + AllocGlobal>(rt: &R, content: &mut Vec<u8>, li
         None => (None, line),
     };
     let form = rest.chars().next().unwrap_or(' ');
-    let text = behind(rest.strip_prefix(['=', '~', '+']).unwrap_or(rest));
+    let text = behind(rest.strip_prefix(['=', '~', '<', '+']).unwrap_or(rest));
     match times {
-        Some(times) => add_times(rt, content, times, form, text),
-        None => add_form(rt, content, form, text),
+        Some(times) => add_times(rt, shelf, content, times, form, text),
+        None => add_form(rt, shelf, content, form, text),
     }
 }

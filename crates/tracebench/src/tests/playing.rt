@@ -31,6 +31,7 @@ pub(crate) struct Run {
 }
 
 impl Run {
+    /// A run of this line, of which nothing is expected yet.
     pub(crate) fn new(alloc: Global, line: &'static str) -> Run {
         Run {
             line,
@@ -38,6 +39,11 @@ impl Run {
             written: Vec::new(alloc),
             told: Vec::new(alloc),
         }
+    }
+
+    /// Whether a run is meant.
+    pub(crate) fn is_meant(&self) -> bool {
+        !self.line.is_empty()
     }
 }
 
@@ -51,6 +57,7 @@ struct FailsAt {
 }
 
 impl FailsAt {
+    /// A writer that fails so at this of its calls, counted from 1.
     fn new(alloc: Global, kind: ErrorKind, call: usize) -> FailsAt {
         FailsAt {
             kind,
@@ -60,6 +67,7 @@ impl FailsAt {
         }
     }
 
+    /// Counts a call, and fails at the one that is to.
     fn step(&mut self) -> io::Result<()> {
         self.calls = self.calls.saturating_add(1);
         if self.calls == self.call {
@@ -130,7 +138,7 @@ fn words_of<R: Abort + AllocGlobal>(rt: &R, line: &str, number: u64) -> Vec<Stri
     words
 }
 
-/// The numbers of the range in braces of a line, such as `{1..11}`, both ends among them; or one number where it has none.
+/// The first and last number of the range in braces of a line, such as `{1..11}`; 0 and 0 where it has none.
 fn range_of(rt: &impl Abort, line: &str) -> (u64, u64) {
     match line.split_once('{') {
         Some((_, rest)) => {
@@ -228,8 +236,8 @@ fn line_fails_at<R: Abort + AllocGlobal + Threads + Wait + Sync>(
 /// What is told where the output fails.
 const FAILED: &[u8] = b"tracebench: output cannot be written\n";
 
-/// The output fails at each of its calls in turn, at each byte's and at that of the flush, which comes behind them: what
-/// was written is the beginning of the text. What is told fails at each of its calls; an interrupted write is made again.
+/// The output fails at each of its calls in turn, at each byte's and at that of the flush behind them: what was written
+/// is the beginning of the text. What is told fails at each of its calls; an interrupted write is made again.
 fn fails_at_each_call<R: Abort + AllocGlobal + Threads + Wait + Sync>(
     rt: &R,
     shelf: &mut Shelf,

@@ -7,9 +7,15 @@
 //! - `$`: a run of the program with these words, or `%`: the request that they are, as it is displayed for debugging;
 //! - `>`: what is written, `!`: what is told, and `?`: the exit status where it is not 0.
 //!
-//! Behind `|`, `>` and `!` stands a text; or `=` and bytes in hexadecimal; or `~` and a message, as its hart, its number
-//! and its payload; or `+` and a text without an end of line. A `*` and a count before these stand for so many of them,
-//! each with its number for each `@`.
+//! Behind `|`, `>` and `!` stands a text; or `=` and bytes in hexadecimal; or `~` and a message, as its hart, its
+//! number and its payload; or `<` and a file's name, for what stands in it; or `+` and a text without an end of line.
+//! A `*` and a count before these stand for so many of them, each with its number, from 0, for each `@`, in lines that
+//! `\n` parts.
+//!
+//! Of the words of a run, `COUNT*WORD` is a word so often, `{A..B}` stands for a run with each number from A to B,
+//! `NAME:COUNT` for a file's first bytes, and `full` for a file that memory is refused for. A file takes the place of
+//! one that had its name before. Each run is played once more with a standard error that fails. A request has no
+//! status.
 
 use super::files::Shelf;
 use super::parts::{add_line, number_of};
@@ -35,23 +41,27 @@ pub(crate) fn play<R: Abort + AllocGlobal + Threads + Wait + Sync>(
             is_played(rt, &mut shelf, &run, way);
             run = Run::new(rt.alloc(), line);
         } else if let Some(content) = line.strip_prefix('|') {
-            add_line(rt, shelf.last(rt), content);
+            let mut bytes = Vec::new(rt.alloc());
+            add_line(rt, &shelf, &mut bytes, content);
+            shelf.append(rt, bytes.as_slice());
         } else {
-            expect(rt, &mut run, line);
+            expect(rt, &shelf, &mut run, line);
         }
     }
     is_played(rt, &mut shelf, &run, way);
 }
 
 /// Adds to what is expected of a run.
-fn expect<R: Abort + AllocGlobal>(rt: &R, run: &mut Run, line: &str) {
+fn expect<R: Abort + AllocGlobal>(rt: &R, shelf: &Shelf, run: &mut Run, line: &str) {
+    if line.is_empty() || line.starts_with('#') {
+        return;
+    }
+    assert!(rt; run.is_meant(), "no run: {line}");
     if let Some(text) = line.strip_prefix('>') {
-        add_line(rt, &mut run.written, text);
+        add_line(rt, shelf, &mut run.written, text);
     } else if let Some(text) = line.strip_prefix('!') {
-        add_line(rt, &mut run.told, text);
-    } else if let Some(status) = line.strip_prefix("? ") {
-        run.status = number_of(rt, status);
+        add_line(rt, shelf, &mut run.told, text);
     } else {
-        assert!(rt; line.is_empty() || line.starts_with('#'), "{line}");
+        run.status = number_of(rt, line.strip_prefix("? ").expect(rt, "a status"));
     }
 }

@@ -2,6 +2,41 @@
 
 /// Each line of words with the request, or with `clap`'s text.
 pub(crate) const TEXT: &str = r#"
+# No subcommand, and one that there is not.
+% tracebench
+! error: 'tracebench' requires a subcommand but one was not provided
+!   [subcommands: check, encode, dump, decode, replay, bench, help]
+!
+! Usage: tracebench <COMMAND>
+!
+! For more information, try '--help'.
+% tracebench frob
+! error: unrecognized subcommand 'frob'
+!
+! Usage: tracebench <COMMAND>
+!
+! For more information, try '--help'.
+
+# `check`.
+% tracebench check --base 80000000 image.bin a.csv b.csv
+> Check(Check { base: "80000000", image: "image.bin", logs: ["a.csv", "b.csv"] })
+% tracebench check --base 80000000 --full image.bin log.csv
+! error: unexpected argument '--full' found
+!
+!   tip: to pass '--full' as a value, use '-- --full'
+!
+! Usage: tracebench check --base <B> <IMAGE> <LOG>...
+!
+! For more information, try '--help'.
+% tracebench check --base 80000000 image.bin
+! error: the following required arguments were not provided:
+!   <LOG>...
+!
+! Usage: tracebench check --base <B> <IMAGE> <LOG>...
+!
+! For more information, try '--help'.
+
+# `encode`: its period, mode, version and lines.
 % tracebench encode --base 80000000 --hex image.bin log.csv
 > Encode(Encode { base: "80000000", period: 1024, mode: Differential, version: Two, hex: true, image: "image.bin", logs: ["log.csv"] })
 % tracebench encode --v1 --base 0 image.bin a.csv b.csv
@@ -12,14 +47,6 @@ pub(crate) const TEXT: &str = r#"
 ! error: the argument '--v1' cannot be used multiple times
 !
 ! Usage: tracebench encode [OPTIONS] --base <B> <IMAGE> <LOG>...
-!
-! For more information, try '--help'.
-% tracebench replay --base 0 --v1 image.bin turns.txt log.csv
-! error: unexpected argument '--v1' found
-!
-!   tip: to pass '--v1' as a value, use '-- --v1'
-!
-! Usage: tracebench replay --base <B> <IMAGE> <SCHEDULE> <LOG>...
 !
 ! For more information, try '--help'.
 % tracebench encode image.bin --base=-1 --period 65535 a.csv b.csv
@@ -42,36 +69,6 @@ pub(crate) const TEXT: &str = r#"
 ! For more information, try '--help'.
 % tracebench encode --base 0 --period 65536 image.bin log.csv
 ! error: invalid value '65536' for '--period <N>': 65536 is not in 1..=65535
-!
-! For more information, try '--help'.
-% tracebench check --base 80000000 image.bin a.csv b.csv
-> Check(Check { base: "80000000", image: "image.bin", logs: ["a.csv", "b.csv"] })
-% tracebench check --base 80000000 --full image.bin log.csv
-! error: unexpected argument '--full' found
-!
-!   tip: to pass '--full' as a value, use '-- --full'
-!
-! Usage: tracebench check --base <B> <IMAGE> <LOG>...
-!
-! For more information, try '--help'.
-% tracebench check --base 80000000 image.bin
-! error: the following required arguments were not provided:
-!   <LOG>...
-!
-! Usage: tracebench check --base <B> <IMAGE> <LOG>...
-!
-! For more information, try '--help'.
-% tracebench
-! error: 'tracebench' requires a subcommand but one was not provided
-!   [subcommands: check, encode, dump, decode, replay, bench, help]
-!
-! Usage: tracebench <COMMAND>
-!
-! For more information, try '--help'.
-% tracebench frob
-! error: unrecognized subcommand 'frob'
-!
-! Usage: tracebench <COMMAND>
 !
 ! For more information, try '--help'.
 % tracebench encode --base 80000000 image.bin
@@ -97,6 +94,8 @@ pub(crate) const TEXT: &str = r#"
 !       --v1          Write a capture of version 1, which has no header, of at most 64 logs
 !       --hex         Write a line of hexadecimal for each message
 !   -h, --help        Print help
+
+# `dump`.
 % tracebench dump run.capture
 > Dump(Dump { capture: "run.capture" })
 % tracebench dump --full run.capture
@@ -120,6 +119,8 @@ pub(crate) const TEXT: &str = r#"
 ! Usage: tracebench dump <CAPTURE>
 !
 ! For more information, try '--help'.
+
+# `decode`: its count of harts, and lost messages.
 % tracebench decode --base 80000000 image.bin run.capture
 > Decode(Decode { base: "80000000", harts: 1, lossy: false, image: "image.bin", capture: "run.capture" })
 % tracebench decode image.bin --harts 1 run.capture --base 0
@@ -157,6 +158,30 @@ pub(crate) const TEXT: &str = r#"
 ! Usage: tracebench decode --base <B> <IMAGE> <CAPTURE>
 !
 ! For more information, try '--help'.
+% tracebench decode --help
+! Write the logs that the messages of a capture describe
+!
+! Usage: tracebench decode [OPTIONS] --base <B> <IMAGE> <CAPTURE>
+!
+! Arguments:
+!   <IMAGE>    File of the program's bytes
+!   <CAPTURE>  File of trace messages
+!
+! Options:
+!       --base <B>   Address of the image's first byte, in hexadecimal
+!       --harts <N>  How many harts a capture of version 1 may have, 1 to 1024 [default: 1]
+!       --lossy      Go on where messages are missing, and tell how many are
+!   -h, --help       Print help
+
+# `replay`: its capacity.
+% tracebench replay --base 0 --v1 image.bin turns.txt log.csv
+! error: unexpected argument '--v1' found
+!
+!   tip: to pass '--v1' as a value, use '-- --v1'
+!
+! Usage: tracebench replay --base <B> <IMAGE> <SCHEDULE> <LOG>...
+!
+! For more information, try '--help'.
 % tracebench replay --base 80000000 image.bin turns.txt a.csv b.csv
 > Replay(Replay { base: "80000000", period: 1024, mode: Differential, capacity: 16, image: "image.bin", schedule: "turns.txt", logs: ["a.csv", "b.csv"] })
 % tracebench replay --capacity 65536 --base 0 --full --period 7 image.bin turns.txt log.csv
@@ -176,6 +201,8 @@ pub(crate) const TEXT: &str = r#"
 ! Usage: tracebench replay --base <B> <IMAGE> <SCHEDULE> <LOG>...
 !
 ! For more information, try '--help'.
+
+# `bench`: its capacity.
 % tracebench bench --base 80000000 image.bin a.csv b.csv
 > Bench(Bench { base: "80000000", period: 1024, mode: Differential, capacity: 16, image: "image.bin", logs: ["a.csv", "b.csv"] })
 % tracebench bench --base 0 --capacity 1 --period 65535 image.bin log.csv --full
@@ -191,18 +218,4 @@ pub(crate) const TEXT: &str = r#"
 ! Usage: tracebench bench --base <B> <IMAGE> <LOG>...
 !
 ! For more information, try '--help'.
-% tracebench decode --help
-! Write the logs that the messages of a capture describe
-!
-! Usage: tracebench decode [OPTIONS] --base <B> <IMAGE> <CAPTURE>
-!
-! Arguments:
-!   <IMAGE>    File of the program's bytes
-!   <CAPTURE>  File of trace messages
-!
-! Options:
-!       --base <B>   Address of the image's first byte, in hexadecimal
-!       --harts <N>  How many harts a capture of version 1 may have, 1 to 1024 [default: 1]
-!       --lossy      Go on where messages are missing, and tell how many are
-!   -h, --help       Print help
 "#;
