@@ -16,7 +16,7 @@ use rvclass::Program;
 use std::process::Abort;
 
 /// The packets of a log.
-fn packets_of<R: Abort + AllocGlobal>(
+pub(crate) fn packets_of<R: Abort + AllocGlobal>(
     rt: &R,
     program: &Program,
     period: u16,
@@ -41,7 +41,7 @@ fn packets_of<R: Abort + AllocGlobal>(
 }
 
 /// The payloads of packets, all of which are of the profile.
-fn payloads_of<R: Abort + AllocGlobal>(rt: &R, packets: &[Packet]) -> Vec<Payload> {
+pub(crate) fn payloads_of<R: Abort + AllocGlobal>(rt: &R, packets: &[Packet]) -> Vec<Payload> {
     let mut payloads = Vec::new(rt.alloc());
     for packet in packets {
         payloads.push(payload_of(rt, packet)).expect(rt, "memory");

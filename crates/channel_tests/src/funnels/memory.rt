@@ -35,8 +35,9 @@ fn fills_and_empties<A: Allocator, R: Abort>(rt: &R, core: &mut Core<A>)
     same_at(rt, "empty", core.take(), None);
 }
 
-/// Whether so much memory is enough for a queue, which takes no more then and gives none back. It is all free afterwards.
-fn is_made<R: Abort + AllocGlobal>(rt: &R, size: usize) -> bool {
+/// Whether so much memory is enough for a queue, which takes no more then and gives none back. It is all free
+/// afterwards.
+pub(crate) fn is_made<R: Abort + AllocGlobal>(rt: &R, size: usize) -> bool {
     let heap = LocalHeap::new(rt.alloc(), size).expect(rt, "memory");
     let enough = match Core::new(&heap, 64, CAPACITY) {
         Ok(mut core) => {

@@ -8,11 +8,17 @@ use funnel::Core;
 use std::process::Abort;
 
 /// A message that waits: its hart, its number and its payload's byte.
-type Waiting = (u16, u64, u8);
+pub(crate) type Waiting = (u16, u64, u8);
 
 /// A queue of this capacity, in which so many messages wait, takes this message where it has room, and gives it back
 /// where it has none.
-fn answers<R: Abort>(rt: &R, core: &mut Core, capacity: u32, waiting: usize, offered: Waiting)
+pub(crate) fn answers<R: Abort>(
+    rt: &R,
+    core: &mut Core,
+    capacity: u32,
+    waiting: usize,
+    offered: Waiting,
+)
     requires { offered.0 < core.old.harts }
     ensures { core.new.harts ≡ core.old.harts }
 {
@@ -27,7 +33,7 @@ fn answers<R: Abort>(rt: &R, core: &mut Core, capacity: u32, waiting: usize, off
 }
 
 /// The front message of a queue is this one, which is taken, or there is none. Where it is not, the place is told.
-fn gives<R: Abort>(rt: &R, core: &mut Core, place: (u32, u64), front: Option<Waiting>)
+pub(crate) fn gives<R: Abort>(rt: &R, core: &mut Core, place: (u32, u64), front: Option<Waiting>)
     ensures { core.new.harts ≡ core.old.harts }
 {
     let wanted = match front {

@@ -23,7 +23,7 @@ impl Promise<Receipt> for Sending {
 type Worker = PromisedHandle<Receipt, Sending>;
 
 // Sends so many payloads, none of which is closing.
-fn send_open<R: Abort + Wait>(rt: &R, port: &mut Port, count: u64)
+pub(crate) fn send_open<R: Abort + Wait>(rt: &R, port: &mut Port, count: u64)
     ensures { port.new.funnel ≡ port.old.funnel }
 {
     for _ in 0..count {
@@ -98,7 +98,7 @@ fn is_next<R: Abort>(rt: &R, message: &Message, next: &mut [u64; 64], capacity: 
 }
 
 // Whether a message comes, the next of its hart, before the channel ends.
-fn take_next<R: Abort + Wait>(
+pub(crate) fn take_next<R: Abort + Wait>(
     rt: &R,
     outlet: &mut Outlet,
     next: &mut [u64; 64],

@@ -51,7 +51,13 @@ fn start_of(rest: &[u8], calls: usize, kind: ErrorKind) -> Result<Start, Message
 }
 
 /// Ends the test unless so many bytes of the message, and of the header, are read with this fault.
-fn are_refused(rt: &impl Abort, length: usize, calls: usize, kind: ErrorKind, fault: MessageFault) {
+pub(crate) fn are_refused(
+    rt: &impl Abort,
+    length: usize,
+    calls: usize,
+    kind: ErrorKind,
+    fault: MessageFault,
+) {
     let length = length.min(16);
     let mut reader = FailingReader {
         rest: &WHOLE[..length],
@@ -66,7 +72,7 @@ fn are_refused(rt: &impl Abort, length: usize, calls: usize, kind: ErrorKind, fa
 
 /// Ends the test unless the message and the header are read by readers that fail at one call, and this is answered
 /// behind the message.
-fn are_read(
+pub(crate) fn are_read(
     rt: &impl Abort,
     calls: usize,
     kind: ErrorKind,
@@ -95,7 +101,11 @@ fn readers_of_one_byte_a_call(rt: HostRuntime) {
 
 /// Ends the test unless a message, and a header, are written so by writers that fail after so many calls, of which each
 /// then holds that many bytes of it.
-fn are_written<R: Abort + AllocGlobal>(rt: &R, calls: usize, end: Result<(), MessageFault>) {
+pub(crate) fn are_written<R: Abort + AllocGlobal>(
+    rt: &R,
+    calls: usize,
+    end: Result<(), MessageFault>,
+) {
     let length = calls.min(16);
     let sent = message(rt, 7, 9, &[0x73, 0, 0, 0, 0x20]);
     let mut writer = FailingWriter {

@@ -8,7 +8,7 @@ use std::fmt::Debug;
 use std::process::Abort;
 
 /// A header of differences, a period of 1,024 and one hart, and the first message behind it.
-const WHOLE: [u8; 28] = [
+pub(crate) const WHOLE: [u8; 28] = [
     0xff, 0xff, 0x72, 0x76, 0x74, 0x72, 0x61, 0x63, 0x65, 0x32, 0x00, 0x00, 0x00, 0x04, 0x01, 0x00,
     0x00, 0x00, 0x00, 0x00, 0x00, 0x00, 0x00, 0x00, 0x00, 0x00, 0x01, 0x1f,
 ];
@@ -39,14 +39,19 @@ const HEADERS: [(Mode, u16, u16, [u8; 5]); 5] = [
 ];
 
 /// The header with other settings, and the first message behind it.
-fn with_settings(settings: [u8; 5]) -> [u8; 28] {
+pub(crate) fn with_settings(settings: [u8; 5]) -> [u8; 28] {
     let mut bytes = WHOLE;
     bytes[11..16].copy_from_slice(&settings);
     bytes
 }
 
 /// Ends the test unless bytes that begin with the mark and these settings are read so as a header, both ways.
-fn reads(rt: &impl Abort, bytes: &[u8], settings: [u8; 5], header: Result<Header, MessageFault>) {
+pub(crate) fn reads(
+    rt: &impl Abort,
+    bytes: &[u8],
+    settings: [u8; 5],
+    header: Result<Header, MessageFault>,
+) {
     let (told, start) = match header {
         Ok(header) => (Ok(Some(header)), Ok(Start::Version2(header))),
         Err(fault) => (Err(fault), Err(fault)),
@@ -87,7 +92,7 @@ fn messages_follow_a_header(rt: HostRuntime) {
 }
 
 /// Ends the test unless bytes are no header, and what is read of them is so.
-fn bear_no_mark<P: Copy + Debug + Drop>(
+pub(crate) fn bear_no_mark<P: Copy + Debug + Drop>(
     rt: &impl Abort,
     place: P,
     bytes: &[u8],
@@ -111,7 +116,7 @@ fn what_bears_no_mark_is_version_1(rt: HostRuntime) {
 
 /// Ends the test unless bytes that begin as a header does are short: as messages where the mark is cut, and as a header
 /// behind it.
-fn are_short(rt: &impl Abort, bytes: &[u8]) {
+pub(crate) fn are_short(rt: &impl Abort, bytes: &[u8]) {
     let length = bytes.len();
     let mut messages = Messages::new(bytes);
     if length < 11 {

@@ -6,7 +6,7 @@ use message::{Message, MessageFault, Messages, read_message, write_message};
 use std::process::Abort;
 
 /// A capture with a gap: messages 0, 1 and 3 of hart 0, of 12, 16 and 12 bytes.
-const GAP: [u8; 40] = [
+pub(crate) const GAP: [u8; 40] = [
     0x00, 0x00, 0x00, 0x00, 0x00, 0x00, 0x00, 0x00, 0x00, 0x00, 0x01, 0x1f, //
     0x00, 0x00, 0x01, 0x00, 0x00, 0x00, 0x00, 0x00, 0x00, 0x00, 0x05, 0x73, 0x00, 0x00, 0x00, 0x20,
     0x00, 0x00, 0x03, 0x00, 0x00, 0x00, 0x00, 0x00, 0x00, 0x00, 0x01, 0x4f,
@@ -27,7 +27,7 @@ fn capture_is_written(rt: HostRuntime) {
 
 /// Ends the test unless so many messages of the capture are read from its beginning, both ways, and this is answered
 /// behind them.
-fn are_read(rt: &impl Abort, bytes: &[u8], count: usize, end: Result<(), MessageFault>) {
+pub(crate) fn are_read(rt: &impl Abort, bytes: &[u8], count: usize, end: Result<(), MessageFault>) {
     let length = bytes.len();
     let mut rest = bytes;
     let mut messages = Messages::new(bytes);
@@ -112,7 +112,7 @@ fn refuses_length(rt: &impl Abort, length: u8, mut bytes: &[u8]) {
 
 /// Ends the test unless a length of a payload is taken where it is 1 to 18, and else is refused, also where no byte of
 /// the payload stands.
-fn is_taken(rt: &impl Abort, length: u8) {
+pub(crate) fn is_taken(rt: &impl Abort, length: u8) {
     let mut bytes = [7; 29];
     bytes[10] = length;
     if (1..=18).contains(&length) {

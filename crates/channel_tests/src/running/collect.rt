@@ -45,8 +45,8 @@ fn send<A: Allocator + Copy>(
     sent
 }
 
-/// What comes of all messages of the first log, five packets of nine bytes, and of three of the second, of as many bytes
-/// as were sent; of each, so many packets are kept.
+/// What comes of all messages of the first log, five packets of nine bytes, and of three of the second, of as many
+/// bytes as were sent; of each, so many packets are kept.
 fn ends(bytes: u64, kept: [usize; 2]) -> [End; 2] {
     let whole = End {
         taken: 5,

@@ -11,7 +11,7 @@ use payload::Mode;
 use std::process::Abort;
 
 /// One message at a time.
-const CONFIG: Config = Config {
+pub(crate) const CONFIG: Config = Config {
     period: 1024,
     mode: Mode::Differential,
     capacity: 1,
@@ -19,7 +19,8 @@ const CONFIG: Config = Config {
 };
 
 /// The report where memory is refused for the first hart: its 33 events want more room than the four of the second.
-const FIRST_REFUSED: &str = "hart 0: 33 events, 1 packets, 1 payload bytes, decoded 0, beginning\n\
+pub(crate) const FIRST_REFUSED: &str =
+    "hart 0: 33 events, 1 packets, 1 payload bytes, decoded 0, beginning\n\
     hart 1: 4 events, 4 packets, 9 payload bytes, decoded 4, whole\n\
     stop: memory at hart 0\n\
     result: not whole\n";

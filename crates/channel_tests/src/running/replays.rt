@@ -7,7 +7,7 @@ use payload::Mode;
 use std::process::Abort;
 
 /// One message at a time, in this mode.
-fn config(mode: Mode) -> Config {
+pub(crate) fn config(mode: Mode) -> Config {
     Config {
         period: 1024,
         mode,

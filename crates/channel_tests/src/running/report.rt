@@ -40,7 +40,7 @@ fn outcome_of<R: Abort + AllocGlobal>(
 }
 
 /// What came of both harts where all of their events came back, and their run ended so.
-fn whole_with<R: Abort + AllocGlobal>(rt: &R, stop: Stop) -> Outcome {
+pub(crate) fn whole_with<R: Abort + AllocGlobal>(rt: &R, stop: Stop) -> Outcome {
     let first = hart(rt, branches(rt), 5, 9, true);
     let second = hart(rt, returns(rt), 4, 9, true);
     outcome_of(rt, first, second, Some(stop))
@@ -147,7 +147,7 @@ fn stops(rt: HostRuntime) {
 
 /// Ends the test unless a writer that fails behind so many calls takes as many bytes of this report, and its fault is
 /// told.
-fn cut_at<R: Abort + AllocGlobal>(
+pub(crate) fn cut_at<R: Abort + AllocGlobal>(
     rt: &R,
     calls: usize,
     outcome: &Outcome,
@@ -183,7 +183,7 @@ fn writer_fails(rt: HostRuntime) {
     let logs = logs(&rt, &program);
     let outcome = whole_with(&rt, Stop::Memory(1));
     let want = text_of(&rt, &outcome, &logs);
-    for calls in [0usize, 70] {
+    for calls in [0usize, 70, want.len()] {
         cut_at(&rt, calls, &outcome, &logs, want.as_slice());
     }
 }

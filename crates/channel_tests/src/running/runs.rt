@@ -12,7 +12,7 @@ use std::thread;
 use std::time::Duration;
 
 /// One message at a time.
-const CONFIG: Config = Config {
+pub(crate) const CONFIG: Config = Config {
     period: 1024,
     mode: Mode::Differential,
     capacity: 1,

@@ -13,16 +13,16 @@ use std::process::Abort;
 const HEADER: &str = "addr,itype,priv,cause,tval\n";
 
 /// A row, and its event.
-const ROW: &str = "80000000,0,3,,";
+pub(crate) const ROW: &str = "80000000,0,3,,";
 
-const RETIRED: Event = Event::Retire {
+pub(crate) const RETIRED: Event = Event::Retire {
     addr: 0x8000_0000,
     itype: 0,
     privilege: 3,
 };
 
 /// The text of a log of a row so many times.
-fn text_of_rows<R: Abort + AllocGlobal>(rt: &R, row: &str, count: usize) -> Vec<u8> {
+pub(crate) fn text_of_rows<R: Abort + AllocGlobal>(rt: &R, row: &str, count: usize) -> Vec<u8> {
     let mut text = Vec::new(rt.alloc());
     add(rt, &mut text, HEADER.as_bytes());
     for _row in 0..count {

@@ -13,7 +13,7 @@ use rvclass::Program;
 use std::process::Abort;
 
 /// The words of a program.
-const WORDS: [u32; 6] = [
+pub(crate) const WORDS: [u32; 6] = [
     0x0000_0013, // 0: nop
     0x0000_0463, // 4: branch two words on
     0x0000_8067, // 8: jump to the address in ra, which is the first word

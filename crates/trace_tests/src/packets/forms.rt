@@ -64,7 +64,8 @@ pub(crate) fn packet_of(form: Form) -> Packet {
     }
 }
 
-/// The payload of a packet, which has to be of the profile. Where this is called, nothing of the contract is read again.
+/// The payload of a packet, which has to be of the profile. Where this is called, nothing of the contract is read
+/// again.
 pub(crate) fn payload_of<R: Abort>(rt: &R, packet: &Packet) -> Payload {
     assert!(rt; packet.in_profile(), "{packet:?} is not of the profile");
     pack(packet)
