@@ -1,6 +1,8 @@
 //! What is collected of messages that were taken.
 
-ghost use Rattle.std.specs.Prelude.{ℕ, ◌+◌, ◌≡◌, ◌≢◌, ◌<◌, ◌≤◌, ◌⊎◌, ◌↔◌, ◌++◌, All, Bool, true, false, List, [], ◌∷◌, None, Some, Ok, Err, IfErr, IfOk, IsSomeAnd, IsTrue, OnErr, OnOk, get_or, length, replicate, slice_get, vec_capacity, vec_len};
+ghost use Rattle.std.specs.Prelude.{ℕ, ◌+◌, ◌≡◌, ◌≢◌, ◌<◌, ◌≤◌, ◌⊎◌, ◌↔◌, ◌++◌, All, Bool, true, false, List, [], ◌∷◌};
+ghost use Rattle.std.specs.Prelude.{None, Some, Ok, Err, IfErr, IfOk, IsSomeAnd, IsTrue, OnErr, OnOk, get_or, length};
+ghost use Rattle.std.specs.Prelude.{replicate, slice_get, vec_capacity, vec_len};
 ghost use Rattle.retire.specs.declared.event.Event.{Event as AnyEvent};
 ghost use Rattle.rvclass.specs.Fetch.{words_of};
 ghost use Rattle.legalpath.specs.ProgramLog.{IsLegalLog, ProgramLog};
@@ -13,9 +15,11 @@ ghost use Rattle.message.specs.declared.fault.DemuxFault.{DemuxFault as AnyDemux
 ghost use Rattle.receiver.specs.Holds.{HoldsHart};
 ghost use Rattle.receiver.specs.Received.{IsReceived, IsSameHart, events_in};
 ghost use Rattle.receiver.specs.Refused.{IsNotDecoded};
-ghost use Rattle.bench.specs.Collected.{Accepts, Came, Collected, HasCollected, HasDecoded, IsMessageOf, IsRefusedHart, IsSameOf, Taken, with_packet};
+ghost use Rattle.bench.specs.Collected.{Accepts, Came, Collected, HasCollected, HasDecoded, IsMessageOf, IsRefusedHart};
+ghost use Rattle.bench.specs.Collected.{IsSameOf, Taken, with_packet};
 ghost use Rattle.bench.specs.Got.{Got, got_of};
-ghost use Rattle.bench.specs.steps.Collecting.{IsCollected, IsLeftBy, closed_in, decoded_in, nothing, taken_in, taken_of};
+ghost use Rattle.bench.specs.steps.Collecting.{IsCollected, IsLeftBy, closed_in, decoded_in, nothing, taken_in};
+ghost use Rattle.bench.specs.steps.Collecting.{taken_of};
 ghost use Rattle.bench.specs.steps.TakesMessage.{TakesMessage};
 
 use crate::outcome::{HartOutcome, Outcome};
@@ -112,8 +116,8 @@ impl<'l, 'p, A: Allocator + Copy, B: Allocator> Collector<'l, 'p, A, B> {
             → (result ≡ Err (CollectFault.Demux why)) ↔ (accepting self.old.received.expected message ≡ Err why) }
         ensures passed_over { IsRefusedHart message.hart self.old → (result ≡ Ok tt) × (self.new ≡ self.old) }
 
-        // Of a hart that is not refused, whatever its messages were: the packet of a message that is accepted is decoded
-        // behind those that were, and counted, unless no log is described with it or memory is refused.
+        // Of a hart that is not refused, whatever its messages were: the packet of a message that is accepted is
+        // decoded behind those that were, and counted, unless no log is described with it or memory is refused.
         ensures decoded { (packet : AnyPacket) (log : ProgramLog) (packets : List AnyPacket) → Accepts message packet self.old
             → HasDecoded log message.hart packets self.old
             → OnOk result (HasDecoded log message.hart (packets ++ packet ∷ []) self.new) }

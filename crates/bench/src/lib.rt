@@ -1,8 +1,9 @@
 //! The bench: logs of harts through the funnel, what was decoded of them again, and the report that compares both.
 //!
-//! [`Config`] says how harts send and what is kept; [`Outcome`] is what came of each hart. [`replay`] sends logs through
-//! the funnel by turns in one thread; [`run`] and [`run_on`] send each log from a thread of its own, with a [`Gate`] round
-//! each send. A [`Collector`] takes messages in behind the funnel, and [`report`] writes the outcome as text.
+//! [`Config`] says how harts send and what is kept; [`Outcome`] is what came of each hart. [`replay`] sends logs
+//! through the funnel by turns in one thread; [`run`] and [`run_on`] send each log from a thread of its own, with a
+//! [`Gate`] round each send. A [`Collector`] takes messages in behind the funnel, and [`report`] writes the outcome as
+//! text.
 #![tactic(auto)]
 
 mod collecting;

@@ -30,8 +30,8 @@ use std::alloc::Allocator;
 /// Sends the messages of logs through a funnel and decodes what is taken of it, in the order of the turns.
 ///
 /// A turn that cannot act changes nothing: a hart's where the funnel is full or the hart has no message left, and one
-/// of a strange hart; a collecting one where the funnel is empty. The turns may end before all messages are taken. The one
-/// stop is want of memory for a hart, of which nothing more is decoded then, while the others go on.
+/// of a strange hart; a collecting one where the funnel is empty. The turns may end before all messages are taken. The
+/// one stop is want of memory for a hart, of which nothing more is decoded then, while the others go on.
 pub fn replay<A: Allocator + Copy, B: Allocator>(
     alloc: A,
     logs: &[LegalLog<'_, B>],

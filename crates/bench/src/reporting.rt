@@ -5,7 +5,8 @@ ghost use Rattle.std.specs.Io.KnownBytes.{Appends};
 ghost use Rattle.output.specs.Begun.{AppendsBeginning};
 ghost use Rattle.legalpath.specs.ProgramLog.{ProgramLog};
 ghost use Rattle.bench.specs.Got.{got_of};
-ghost use Rattle.bench.specs.Report.{are_whole, hart_line, hart_lines, is_whole, is_whole_verdict, report_text, result_line, stop_line};
+ghost use Rattle.bench.specs.Report.{are_whole, hart_line, hart_lines, is_whole, is_whole_verdict, report_text};
+ghost use Rattle.bench.specs.Report.{result_line, stop_line};
 ghost use Rattle.bench.specs.Verdict.{verdict};
 
 use crate::hart_line::HartLine;

@@ -24,17 +24,17 @@ use std::sync::Wait;
 use std::thread;
 use std::thread::{Scope, Threads};
 
-/// Sends the payloads of logs through a funnel, each log's in a thread of its own, and decodes what is taken of it in the
-/// caller's thread.
+/// Sends the payloads of logs through a funnel, each log's in a thread of its own, and decodes what is taken of it in
+/// the caller's thread.
 ///
-/// Each send waits for the gate, and for room in the funnel. The caller's thread takes until the closing message of every
-/// hart came whose thread was started, or the channel ended. A hart whose thread was not started is refused, as is one
-/// for which memory is refused; the others go on. The stop tells of a payload that was handed back before it tells of a
-/// channel that ended, and of that before memory; of each kind it names the first hart.
+/// Each send waits for the gate, and for room in the funnel. The caller's thread takes until the closing message of
+/// every hart came whose thread was started, or the channel ended. A hart whose thread was not started is refused, as
+/// is one for which memory is refused; the others go on. The stop tells of a payload that was handed back before it
+/// tells of a channel that ended, and of that before memory; of each kind it names the first hart.
 ///
-/// The funnel takes its memory of `global`, and all else is of `alloc`. A fault says why nothing is sent at all: the count
-/// of logs, the capacity or the period, in this order and before memory is taken, or want of memory that is for no single
-/// hart.
+/// The funnel takes its memory of `global`, and all else is of `alloc`. A fault says why nothing is sent at all: the
+/// count of logs, the capacity or the period, in this order and before memory is taken, or want of memory that is for
+/// no single hart.
 pub fn run<A: Allocator + Copy, G: Gate, R: Threads + Wait + Sync>(
     alloc: A,
     global: Global,
@@ -63,8 +63,8 @@ pub fn run<A: Allocator + Copy, G: Gate, R: Threads + Wait + Sync>(
     }
 }
 
-/// The same over the ends of a funnel that was opened for as many harts, through which nothing was sent. The period is 1 or
-/// more; the configuration's capacity is not looked at.
+/// The same over the ends of a funnel that was opened for as many harts, through which nothing was sent. The period is
+/// 1 or more; the configuration's capacity is not looked at.
 ///
 /// Where memory is refused that is for no single hart nothing is taken, and the ports are dropped.
 pub fn run_on<A: Allocator + Copy, G: Gate, R: Threads + Wait + Sync>(

@@ -20,8 +20,8 @@ use std::alloc::{AllocError, Allocator};
 
 /// Reads the messages of a capture, parts them by hart, and decodes each hart's, up to the first fault.
 ///
-/// The harts are those below the count that the header of a capture of version 2 tells, and else those below `harts`. No
-/// packet of version 2 opens a trace in another mode than its header tells. After a fault the outcome holds what was
+/// The harts are those below the count that the header of a capture of version 2 tells, and else those below `harts`.
+/// No packet of version 2 opens a trace in another mode than its header tells. After a fault the outcome holds what was
 /// decoded before, of every hart, which is nothing where the header is cut short or bad; a packet for whose events room
 /// was refused is such a fault too. An error comes only where room for the outcome itself was refused.
 pub fn decode_capture<A: Allocator + Copy>(
@@ -34,7 +34,8 @@ pub fn decode_capture<A: Allocator + Copy>(
         IsDecoded (words_of program.now) harts bytes.now (events_in outcome.harts.items) outcome.closed.items
         outcome.fault) }
 
-    // The capture of all messages of legal logs, in either version and mode, gives the logs back, unless room was refused.
+    // The capture of all messages of legal logs, in either version and mode, gives the logs back, unless room was
+    // refused.
     ensures whole { (version : Version) (period : ℕ) (mode : AnyMode) (logs : List ProgramLog)
         → IsCaptureOf program.now version period mode logs bytes.now
         → AreAskedFor version harts logs

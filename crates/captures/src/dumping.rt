@@ -24,10 +24,10 @@ pub struct Dumped {
 }
 
 /// Writes a capture as text. A capture of version 2 begins with a line that tells its header, the numbers decimal:
-/// `capture 2 mode=diff period=N harts=N`, or `mode=full`. Then comes a line for each message: the hart's number and the
-/// message's, both decimal, and the text of its packet, whose numbers are in lower-case hexadecimal, or `bad` and the
-/// reason where the payload is no packet. An address field is named `addr` where the header tells full addresses, and
-/// else `diff`.
+/// `capture 2 mode=diff period=N harts=N`, or `mode=full`. Then comes a line for each message: the hart's number and
+/// the message's, both decimal, and the text of its packet, whose numbers are in lower-case hexadecimal, or `bad` and
+/// the reason where the payload is no packet. An address field is named `addr` where the header tells full addresses,
+/// and else `diff`.
 ///
 /// The lines stand in the order of the capture, and go on behind a bad payload. They end at the first place where no
 /// message stands; there are none where the header is cut short or bad. The only fault is [`WriteFault::Write`], where

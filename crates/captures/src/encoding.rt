@@ -18,8 +18,8 @@ use payload::Mode;
 use std::alloc::Allocator;
 use std::io::Write;
 
-/// Writes the capture of the messages of each hart's log, hart 0 first, numbered from 0 on. A capture of version 2 begins
-/// with a header, which tells the mode, the period and the count of logs.
+/// Writes the capture of the messages of each hart's log, hart 0 first, numbered from 0 on. A capture of version 2
+/// begins with a header, which tells the mode, the period and the count of logs.
 ///
 /// The payloads are the shortest of the packets of the log, with a synchronisation at each retirement whose number the
 /// period divides. What their address fields hold, the mode says, which each hart's first message tells. The only fault

@@ -3,7 +3,8 @@
 ghost use Rattle.std.specs.Prelude.{◌≡◌, ◌⊎◌, IfErr, IfOk, [], codes, map, string_bytes, unwrap_or};
 ghost use Rattle.clap.specs.Words.{FailsBy, fault_of, first_value, found_of, kind_of, one_of, rows_of};
 ghost use Rattle.clap.specs.declared.error.kind.ErrorKind.TheVariants as kind;
-ghost use Rattle.cli.specs.Asking.{AreRefused, Asks, IsCapacity, IsFlag, IsHarts, IsMode, IsPeriod, IsVersion, WordsAsk, texts_of};
+ghost use Rattle.cli.specs.Asking.{AreRefused, Asks, IsCapacity, IsFlag, IsHarts, IsMode, IsPeriod, IsVersion};
+ghost use Rattle.cli.specs.Asking.{WordsAsk, texts_of};
 ghost use Rattle.cli.specs.Grammar.{IsSubcommand, program_app};
 ghost use Rattle.subcommands.specs.Limits.{IsWithinLimits};
 

@@ -4,7 +4,8 @@ ghost use Rattle.std.specs.Prelude.{IfOk, List};
 ghost use Rattle.std.specs.List.{AllZip, fold};
 ghost use Rattle.arguments.specs.Rules.{IsReadBy};
 ghost use Rattle.clap.specs.Words.{Rule, new_app, with_rule};
-ghost use Rattle.cli.specs.Grammar.{HasGrammar, bench_app, check_app, decode_app, dump_app, encode_app, program_app, replay_app};
+ghost use Rattle.cli.specs.Grammar.{HasGrammar, bench_app, check_app, decode_app, dump_app, encode_app, program_app};
+ghost use Rattle.cli.specs.Grammar.{replay_app};
 
 use arguments::{
     base, capacity, capture, full, harts, hex, image, logs, lossy, period, schedule, version_one,

@@ -31,8 +31,8 @@ use subcommands::Decode;
 ///
 /// Where messages may be missing, what is left of each hart's log is written instead: a line for each gap, and one
 /// before each stretch with its log. All is done then where no message is missing before one that came and each hart's
-/// closing packet came; a gap alone is no fault. Where the capture is not read whole, a message is refused or its packet
-/// not decoded, nothing is written.
+/// closing packet came; a gap alone is no fault. Where the capture is not read whole, a message is refused or its
+/// packet not decoded, nothing is written.
 pub fn decode<'a, F: Files, O: Write>(
     alloc: Global,
     files: &mut F,

@@ -22,8 +22,8 @@ use std::alloc::Global;
 use std::io::Write;
 use subcommands::Encode;
 
-/// Writes the messages of each hart's log, once all logs are found legal: as a capture of the version that is asked for,
-/// which limits the count of logs, or as lines.
+/// Writes the messages of each hart's log, once all logs are found legal: as a capture of the version that is asked
+/// for, which limits the count of logs, or as lines.
 pub fn encode<'a, F: Files, O: Write>(
     alloc: Global,
     files: &mut F,

@@ -3,7 +3,8 @@
 ghost use Rattle.std.specs.Prelude.{◌≡◌, ◌⊎◌, ◌≤◌, ◌<◌, IfErr, IfOk, IfSome, Err, Ok, length, vec_len};
 ghost use Rattle.commands.specs.Faults.{status_of};
 ghost use Rattle.commands.specs.declared.fault.Fault.TheVariants as fault;
-ghost use Rattle.commands.specs.Found.{AreFew, AreLegalLogs, IsAskedProgram, IsBase, IsLegalLogAt, IsLog, IsProgram, IsRead};
+ghost use Rattle.commands.specs.Found.{AreFew, AreLegalLogs, IsAskedProgram, IsBase, IsLegalLogAt, IsLog, IsProgram};
+ghost use Rattle.commands.specs.Found.{IsRead};
 ghost use Rattle.commands.specs.Order.{logs_fault};
 ghost use Rattle.retire.specs.Log.{most_rows};
 ghost use Rattle.retire.specs.Number.{number_of};

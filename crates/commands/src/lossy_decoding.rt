@@ -27,8 +27,8 @@ use std::alloc::Global;
 use std::io::Write;
 
 /// Writes what is left of the log of each hart, and answers that all is done where each hart's closing packet came and
-/// no messages are missing before one that came. Where the capture is not read whole, a message is refused or its packet
-/// not decoded, nothing is written.
+/// no messages are missing before one that came. Where the capture is not read whole, a message is refused or its
+/// packet not decoded, nothing is written.
 pub(crate) fn decode_lossy<'a, O: Write>(
     alloc: Global,
     program: &Program,

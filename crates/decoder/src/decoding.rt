@@ -130,8 +130,8 @@ impl Decoder {
     /// Takes the next packet, and adds to the log the events that are known by it. The program is the one of the
     /// packets before, and the log the one that they gave.
     ///
-    /// A fault leaves the decoder and the log as they were: the packet may be fed again where memory was refused. What was
-    /// written by then is cut off again, and the log grows only where it lacks the room.
+    /// A fault leaves the decoder and the log as they were: the packet may be fed again where memory was refused. What
+    /// was written by then is cut off again, and the log grows only where it lacks the room.
     pub fn feed<A: Allocator>(
         &mut self,
         program: &Program,

@@ -4,8 +4,8 @@
 //! front one. A list of [`Turn`]s says in which order harts send and messages are taken;
 //! [`every_state_is_lawful`] tells what each hart's messages keep, whatever the turns are.
 //!
-//! [`open`] makes a channel with a [`Port`] for each hart, which sends, and an [`Outlet`], which takes; each may be in a
-//! thread of its own. A finished port leaves a [`Receipt`], which the outlet settles.
+//! [`open`] makes a channel with a [`Port`] for each hart, which sends, and an [`Outlet`], which takes; each may be in
+//! a thread of its own. A finished port leaves a [`Receipt`], which the outlet settles.
 #![tactic(auto)]
 
 mod fault;

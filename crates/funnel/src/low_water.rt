@@ -1,13 +1,13 @@
 //! How ports wait for room in a full funnel, and when they are woken.
 //!
-//! The channel by itself wakes a port for each message that is taken, at the cost of a call of the kernel in the outlet's
-//! thread. Here a port that found no room sleeps until the outlet drained the funnel to its low-water mark, half of what
-//! it holds, and then sends many messages before it sleeps again.
+//! The channel by itself wakes a port for each message that is taken, at the cost of a call of the kernel in the
+//! outlet's thread. Here a port that found no room sleeps until the outlet drained the funnel to its low-water mark,
+//! half of what it holds, and then sends many messages before it sleeps again.
 //!
 //! No contract speaks of this, and the tests, in `channel_tests`, show only that ports are woken: each ends long before
-//! all waits could have lasted their longest. That one port is called at the mark and none before it, that all are where
-//! no message waits, but not where one was called since the last message, and that a dropped outlet calls all, changes
-//! when a port goes on and not what is sent: a matter of speed, which no test asks for.
+//! all waits could have lasted their longest. That one port is called at the mark and none before it, that all are
+//! where no message waits, but not where one was called since the last message, and that a dropped outlet calls all,
+//! changes when a port goes on and not what is sent: a matter of speed, which no test asks for.
 
 use std::alloc::Allocator;
 use std::hint;
@@ -15,12 +15,12 @@ use std::sync::atomic::{AtomicU64, AtomicUsize, Ordering};
 use std::sync::{Arc, Wait};
 use std::time::Duration;
 
-/// How many milliseconds a port sleeps at most. Mostly it is called before: one port at each mark, and all of them where
-/// no message waits. `funnels/waking.rt` of `channel_tests` counts on at least so many.
+/// How many milliseconds a port sleeps at most. Mostly it is called before: one port at each mark, and all of them
+/// where no message waits. `funnels/waking.rt` of `channel_tests` counts on at least so many.
 const LONGEST: u64 = 10;
 
-/// How often a port looks for room before it waits, longer each time, where each message that is taken reaches the mark:
-/// then room comes sooner than a thread is woken.
+/// How often a port looks for room before it waits, longer each time, where each message that is taken reaches the
+/// mark: then room comes sooner than a thread is woken.
 const MANY_LOOKS: u32 = 7;
 
 /// Rests between two looks, longer each time.

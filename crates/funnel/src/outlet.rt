@@ -20,8 +20,8 @@ use std::sync::Wait;
 
 /// The end that takes the messages of all harts.
 ///
-/// Contracts see its funnel, how many messages the channel holds at most, how many ports there are, and the messages that
-/// it took.
+/// Contracts see its funnel, how many messages the channel holds at most, how many ports there are, and the messages
+/// that it took.
 #[derive(Drop)]
 pub struct Outlet<A: Allocator = Global> {
     pub(crate) receiver: Receiver<A>,

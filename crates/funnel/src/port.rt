@@ -49,8 +49,8 @@ impl<A: Allocator> Model for Port<A> {
 impl<A: Allocator> Port<A> {
     /// Sends a payload, which is numbered by how many were sent before. It waits while the channel is full.
     ///
-    /// A fault gives the payload back and changes nothing. HandedBack comes where the channel hands the message back, as
-    /// it does once the outlet was dropped.
+    /// A fault gives the payload back and changes nothing. HandedBack comes where the channel hands the message back,
+    /// as it does once the outlet was dropped.
     pub fn send<R: Wait>(&mut self, rt: &R, payload: Payload) -> Result<(), SendFault>
         ensures sent { OnOk result (self.new ≡ after_sending self.old payload) }
         ensures refused { OnErr result (self.new ≡ self.old) }
@@ -113,8 +113,8 @@ fn closes(payload: &Payload) -> bool
     payload.bytes()[0] % 16 == 15 && payload.is_closing()
 }
 
-/// Sends a message by a pass that knows all that its hart sent, and tells whether its payload is closing. It waits while
-/// the channel is full.
+/// Sends a message by a pass that knows all that its hart sent, and tells whether its payload is closing. It waits
+/// while the channel is full.
 fn pass_on<A: Allocator, R: Wait>(
     rt: &R,
     sender: &Sender<A>,

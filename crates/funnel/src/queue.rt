@@ -1,6 +1,7 @@
 //! The funnel in one thread.
 
-ghost use Rattle.std.specs.Prelude.{◌≡◌, ◌++◌, ◌<◌, nat_lt, not, if◌then◌else◌, [], ◌∷◌, IfErr, IfOk, IfSome, OnErr, Some, None, Ok, Err, length, slice_get};
+ghost use Rattle.std.specs.Prelude.{◌≡◌, ◌++◌, ◌<◌, nat_lt, not, if◌then◌else◌, [], ◌∷◌, IfErr, IfOk, IfSome, OnErr};
+ghost use Rattle.std.specs.Prelude.{Some, None, Ok, Err, length, slice_get};
 ghost use Rattle.std.specs.Option.{option_to_list};
 ghost use Rattle.std.specs.VecDeque.{deque_capacity};
 ghost use Rattle.funnel.specs.Held.{Held, IsHeld};
@@ -35,8 +36,8 @@ impl<A: Allocator> Model for Core<A> {
 }
 
 impl<A: Allocator> Core<A> {
-    /// An empty queue of messages of the harts below `harts`, which is 1 to 1,024, with room for `capacity` messages, 1 to
-    /// 65,536. A fault leaves nothing taken.
+    /// An empty queue of messages of the harts below `harts`, which is 1 to 1,024, with room for `capacity` messages, 1
+    /// to 65,536. A fault leaves nothing taken.
     pub fn new(alloc: A, harts: u16, capacity: u32) -> Result<Core<A>, OpenFault>
         ensures made { IfOk result (λ core. core ≡ record { harts = harts; capacity = capacity; queue = [] }) }
         ensures refused { (fault : AnyFault) → limit_fault (most_harts Two) harts capacity ≡ Some fault → result ≡ Err fault }

@@ -39,8 +39,8 @@ impl<'a> Messages<'a> {
     /// The header that the bytes begin with, or `None` where they do not begin as a capture of version 2 does. Only a
     /// header is passed over.
     ///
-    /// [`MessageFault::Short`] comes where the bytes end inside the header, [`MessageFault::BadHeader`] where its mode, its
-    /// period or its count of harts is out of range, and no other fault. No memory is taken.
+    /// [`MessageFault::Short`] comes where the bytes end inside the header, [`MessageFault::BadHeader`] where its mode,
+    /// its period or its count of harts is out of range, and no other fault. No memory is taken.
     pub fn header(&mut self) -> Result<Option<Header>, MessageFault>
         ensures header { IfOk result
             (λ found. IfSome found (λ header. IsHeader header × (self.old ≡ header_bytes header ++ self.new))) }

@@ -38,8 +38,8 @@ pub enum Packet {
     Address {
         /// The outcomes of the branches since the last packet that told of them, the oldest first.
         outcomes: Outcomes,
-        /// What names the address, even: its difference from the last reported one, modulo 2^64, or in full-address mode
-        /// the address itself.
+        /// What names the address, even: its difference from the last reported one, modulo 2^64, or in full-address
+        /// mode the address itself.
         delta: u64,
         /// Why the address is reported.
         report: Report,

@@ -1,5 +1,6 @@
 //! The bytes of one packet.
-ghost use Rattle.std.specs.Prelude.{◌≡◌, ◌+◌, ◌-◌, ◌*◌, ◌^◌, ◌++◌, ◌<◌, ◌≤◌, ◌↔◌, ℕ, List, length, take, replicate, IsOk, IfOk};
+ghost use Rattle.std.specs.Prelude.{◌≡◌, ◌+◌, ◌-◌, ◌*◌, ◌^◌, ◌++◌, ◌<◌, ◌≤◌, ◌↔◌, ℕ, List, length, take, replicate};
+ghost use Rattle.std.specs.Prelude.{IsOk, IfOk};
 ghost use Rattle.payload.specs.Bytes.{low_bytes};
 ghost use Rattle.payload.specs.Held.{IsHeld, held_bytes};
 

@@ -5,7 +5,8 @@ ghost use Rattle.payload.specs.Faults.{first_fault};
 ghost use Rattle.payload.specs.Profile.{InProfile};
 ghost use Rattle.payload.specs.Reading.{outcomes_from, reading};
 ghost use Rattle.payload.specs.steps.ReadingByKind.{sync_reading, trap_reading, support_reading, report_in};
-ghost use Rattle.payload.specs.steps.ReadingByKind.{address_reading, map_reading, address_place, reading_with_no_place, reading_by_place};
+ghost use Rattle.payload.specs.steps.ReadingByKind.{address_reading, map_reading, address_place, reading_with_no_place};
+ghost use Rattle.payload.specs.steps.ReadingByKind.{reading_by_place};
 ghost use Rattle.payload.specs.Spelling.{Spelt};
 ghost use Rattle.payload.specs.declared.packet.Packet.{Packet as AnyPacket};
 

@@ -144,8 +144,8 @@ impl<A: Allocator + Copy> Receiver<A> {
     }
 
     /// Accepts the message and decodes its packet, where the program is that of its hart. Where a mode was told before,
-    /// by the header of a capture, no packet opens a trace in another one. A fault leaves the lists and the flags as they
-    /// were; of the hart whose packet is not decoded the next message is accepted then.
+    /// by the header of a capture, no packet opens a trace in another one. A fault leaves the lists and the flags as
+    /// they were; of the hart whose packet is not decoded the next message is accepted then.
     pub fn receive(
         &mut self,
         program: &Program,
@@ -176,7 +176,8 @@ impl<A: Allocator + Copy> Receiver<A> {
             (why : AnyDecodeFault) → programs message.now.hart ≡ words_of program.now → Holds programs harts messages self.old
             → accepting self.old.expected message.now ≡ Ok packet → result ≡ Err (ReceiveFault.Decode why)
             → IsNotDecoded (words_of program.now) (packets_of message.now.hart messages) packet why }
-        // Whatever was received before: the demultiplexer's part, that a fault leaves all else as it was, and the others.
+        // Whatever was received before: the demultiplexer's part, that a fault leaves all else as it was, and the
+        // others.
         ensures expected { self.new.expected ≡ harts_after self.old.expected message.now }
         ensures kept { OnErr result
             (self.new ≡ record self.old { expected = harts_after self.old.expected message.now }) }

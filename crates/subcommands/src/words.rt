@@ -55,8 +55,8 @@ pub struct Decode<'a> {
     pub capture: &'a str,
 }
 
-/// `replay --base B [--period N] [--full] [--capacity N] IMAGE SCHEDULE LOG...`: what comes of the log of each hart that
-/// is sent through the funnel.
+/// `replay --base B [--period N] [--full] [--capacity N] IMAGE SCHEDULE LOG...`: what comes of the log of each hart
+/// that is sent through the funnel.
 #[derive(Debug, Drop)]
 pub struct Replay<'a> {
     /// The address of the image's first byte, not yet read as a number.

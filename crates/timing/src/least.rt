@@ -16,7 +16,8 @@ pub(crate) trait Phase: Drop {
     fn run(&mut self) -> Result<(Self::Made, u64), Fault>;
 }
 
-/// Runs a phase several times, and writes its name, its least time for each of so many items and the number that it gives.
+/// Runs a phase several times, and writes its name, its least time for each of so many items and the number that it
+/// gives.
 pub(crate) fn measure<R: Clock, E: Write, P: Phase>(
     rt: &R,
     err: &mut E,

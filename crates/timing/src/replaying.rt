@@ -88,8 +88,8 @@ pub(crate) fn measure_replay<R: Clock + AllocGlobal, E: Write>(
     measure(rt, err, "replay", event_count(logs), replaying)
 }
 
-/// Runs logs through the funnel over threads several times, and writes a name, the least time for each event and how many
-/// were decoded.
+/// Runs logs through the funnel over threads several times, and writes a name, the least time for each event and how
+/// many were decoded.
 pub(crate) fn measure_runs<R: Clock + AllocGlobal + Threads + Wait + Sync, E: Write>(
     rt: &R,
     err: &mut E,

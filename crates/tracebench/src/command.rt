@@ -40,7 +40,8 @@ pub fn command<F: Files, O: Write, E: Write, R: Threads + Wait + Sync>(
     ensures refused { AskNoCheck (map string_bytes words.now) → result ≡ 2 → out.new ≡ out.old }
     // Where all is done, nothing is told.
     ensures quiet { result ≡ 0 → err.new ≡ err.old }
-    // Else what the words ask for is carried out, of what files tell, unless memory for the words themselves is refused.
+    // Else what the words ask for is carried out, of what files tell, unless memory for the words themselves is
+    // refused.
     ensures printed { AreRefused (map string_bytes words.now)
         ⊎ (((result ≡ 3) × (out.new ≡ out.old) × Tells E.contents (Err Fault.Memory) err.old err.new)
         ⊎ AreCarriedOut (F.content files.old) (map string_bytes words.now) result (O.contents out.old) (O.contents out.new)
