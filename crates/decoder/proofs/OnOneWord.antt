@@ -3,6 +3,7 @@ use Rattle.std.proofs.Common.{◌≡◌, ℕ, Bool, true, false, ◌||◌, ◌==
 use Rattle.std.proofs.Common.{Option, Some, None, refl, sym, ap, subst, ◌∙◌, inl, inr, arith}
 use Rattle.std.specs.Prelude.{nat_le}
 use Rattle.std.proofs.lemmas.Bool.Decides.{nat_tests}
+use Rattle.isa.specs.Privilege.{IsPrivilege}
 use Rattle.retire.proofs.OutcomesLemmas.{outcomes-branch, outcomes-other}
 use Rattle.retire.specs.Events.{is_branch, is_taken, outcomes}
 use Rattle.retire.specs.declared.event.Event.{Event}
@@ -11,7 +12,6 @@ use Rattle.rvclass.specs.Words.{Word}
 use Rattle.rvclass.specs.declared.class.Class.TheVariants.{Plain, Jump, Branch, Uninferable, TrapReturn, NotRetirable}
 use Rattle.rvclass.specs.declared.class.Return.TheVariants.{Mret, Sret}
 use Rattle.legalpath.specs.Discontinuity.{hides_its_target}
-use Rattle.retire.specs.Privilege.{IsPrivilege}
 use Rattle.legalpath.specs.Right.{RetiresOn}
 use Rattle.legalpath.specs.Step.{MayStandAt, LeadsToPrivilege}
 use Rattle.legalpath.specs.Successor.{leads_from}

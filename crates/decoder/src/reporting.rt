@@ -16,9 +16,10 @@ use crate::fault::DecodeFault;
 use crate::stepping::{Course, Goal, Here, may_stay, type_of};
 use crate::stretch::Stretch;
 use crate::walking::Progress;
+use isa::is_privilege;
 use legalpath::{Next, Why, check, leads, may_stand_at, successor};
 use payload::Outcomes;
-use retire::{Event, is_privilege};
+use retire::Event;
 use rvclass::Program;
 
 /// What a reason why an event is illegal says of the decoding.

@@ -6,6 +6,8 @@ use Rattle.std.proofs.lemmas.List.Elements.{All-from_recursion, All-nil, All-con
 use Rattle.std.specs.Prelude.{All}
 use Rattle.std.specs.List.{AllByRecursion}
 use Rattle.std.proofs.lemmas.Bool.{and_parts}
+use Rattle.isa.specs.Address.{IsAddress}
+use Rattle.isa.specs.Privilege.{IsPrivilege}
 use Rattle.retire.specs.Events.{place, privilege, is_branch, is_taken, outcomes}
 use Rattle.retire.specs.Is64Bit.{Is64Bit}
 use Rattle.retire.specs.declared.event.Event.{Event}
@@ -14,7 +16,7 @@ use Rattle.rvclass.specs.Words.{Words, Word}
 use Rattle.legalpath.specs.Legal.{FollowOn, Legal}
 use Rattle.legalpath.specs.Right.{RetiresOn, Right}
 use Rattle.payload.specs.AddressField.{delta}
-use Rattle.payload.specs.Profile.{IsAddress, IsPrivilege, IsTrapValue, InProfile}
+use Rattle.payload.specs.Profile.{IsTrapValue, InProfile}
 use Rattle.payload.specs.declared.mode.Mode.{Mode}
 use Rattle.payload.specs.declared.mode.Mode.TheVariants.{Differential, Full}
 use Rattle.payload.specs.declared.packet.Packet.{Packet}
@@ -53,8 +55,8 @@ module _ (words : Words) (even : IsEven words) where
   place-IsAddress (Trap priv interrupt cause epc tval) good = (good.1.0, good.0.0)
 
   privilege-IsPrivilege : (event : Event) → IsGood event → IsPrivilege (privilege event)
-  privilege-IsPrivilege (Retire addr itype priv) good = let p = good.0.1 in (omega (arith, p.0), p.1)
-  privilege-IsPrivilege (Trap priv interrupt cause epc tval) good = let p = good.0.1 in (omega (arith, p.0), p.1)
+  privilege-IsPrivilege (Retire addr itype priv) good = good.0.1
+  privilege-IsPrivilege (Trap priv interrupt cause epc tval) good = good.0.1
 
   value_of_trap : (interrupt : Bool) (tval : ℕ) → (interrupt ≡ true → tval ≡ 0) → tval < 2 ^ 64
       → IsTrapValue interrupt tval

@@ -1,6 +1,7 @@
 -- What judging an event finds.
 use Rattle.std.proofs.Common.{◌≡◌, ◌⊎◌, ◌≤◌, ◌<◌, ◌≢◌, ℕ, ◌%◌, Bool, true, false, not, ◌&&◌, ◌||◌, ◌==◌, nat_le, Option}
 use Rattle.std.proofs.Common.{Some, None, Result, Ok, Err, if◌then◌else◌, refl, inl, inr, arith}
+use Rattle.isa.specs.Privilege.{IsPrivilege, is_privilege}
 use Rattle.retire.specs.Events.{place, privilege}
 use Rattle.retire.specs.declared.event.Event.{Event}
 use Rattle.retire.specs.declared.event.Event.TheVariants.{Retire, Trap}
@@ -15,7 +16,6 @@ use Rattle.legalpath.specs.Allowed.{may_retire_at, may_stand_at}
 use Rattle.legalpath.specs.steps.Judging.{is_type_of, was_left, left_at_start, left_by_retirement}
 use Rattle.legalpath.specs.steps.Judging.{left_by_trap, is_never, judge_retirement, judge_trap, judge}
 use Rattle.legalpath.specs.Reason.{IsNotRetirable, AppliesToRetirement, AppliesToTrap, IsReason, earlier}
-use Rattle.retire.specs.Privilege.{IsPrivilege, is_privilege}
 use Rattle.legalpath.specs.Right.{IsTypeOf, MayRetireAt, RetiresOn, Right}
 use Rattle.legalpath.specs.Successor.{leads, leads_from}
 use Rattle.legalpath.specs.Step.{MayStandAt, MayStandAfter, LeadsToPrivilege, MayHavePrivilegeAfter, StepFrom}

@@ -1,6 +1,7 @@
 -- Which events have a reason to be refused.
 use Rattle.std.proofs.Common.{◌≡◌, ℕ, Option, Some, None, Result, Ok, Err, refl}
 use Rattle.std.specs.List.{AllByRecursion}
+use Rattle.isa.specs.Privilege.{IsPrivilege}
 use Rattle.retire.specs.declared.event.Event.{Event}
 use Rattle.retire.specs.declared.event.Event.TheVariants.{Retire, Trap}
 use Rattle.rvclass.specs.Words.{Word, Words}
@@ -8,7 +9,6 @@ use Rattle.rvclass.specs.declared.class.Class.TheVariants.{Plain, Jump, Branch, 
 use Rattle.rvclass.specs.declared.class.Class.TheVariants.{NotRetirable as NeverRetires}
 use Rattle.legalpath.proofs.JudgingLemmas.{step_parts, Outcome, judged}
 use Rattle.legalpath.specs.Reason.{IsNotRetirable, AppliesToRetirement, Applies, IsReason, earlier}
-use Rattle.retire.specs.Privilege.{IsPrivilege}
 use Rattle.legalpath.specs.Right.{RetiresOn, Right}
 use Rattle.legalpath.specs.Step.{MayStandAfter, MayHavePrivilegeAfter, StepFrom}
 use Rattle.legalpath.specs.declared.fault.Why.{Why}

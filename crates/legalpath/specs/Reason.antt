@@ -1,11 +1,11 @@
 -- Why an event is refused.
 use Rattle.std.specs.Prelude.{ℕ, ◌≡◌, ◌<◌, ◌%◌, Bool, true, List, [], ◌∷◌, Option, Some, None}
 use Rattle.std.specs.List.{AllByRecursion}
+use Rattle.isa.specs.Privilege.{IsPrivilege}
 use Rattle.retire.specs.declared.event.Event.{Event}
 use Rattle.retire.specs.declared.event.Event.TheVariants.{Retire, Trap}
 use Rattle.rvclass.specs.Words.{Word, Words}
 use Rattle.rvclass.specs.declared.class.Class.TheVariants.{NotRetirable as NeverRetires}
-use Rattle.retire.specs.Privilege.{IsPrivilege}
 use Rattle.legalpath.specs.Right.{IsTypeOf, MayRetireAt}
 use Rattle.legalpath.specs.Step.{MayStandAfter, MayHavePrivilegeAfter}
 use Rattle.legalpath.specs.declared.fault.Why.{Why}

@@ -1,7 +1,7 @@
 -- Which events are right by themselves.
 use Rattle.std.specs.Prelude.{ℕ, ◌≡◌, ◌≤◌, ◌<◌, ◌%◌, ◌⊎◌, true, Option, Some, None}
+use Rattle.isa.specs.Privilege.{IsPrivilege}
 use Rattle.retire.specs.Itype as types
-use Rattle.retire.specs.Privilege.{IsPrivilege}
 use Rattle.retire.specs.declared.event.Event.{Event}
 use Rattle.retire.specs.declared.event.Event.TheVariants.{Retire, Trap}
 use Rattle.rvclass.specs.Words.{Word, Words}

@@ -2,10 +2,10 @@
 use Rattle.std.proofs.Common.{◌≡◌, ℕ, zero, suc, ◌+◌, ◌-◌, ◌*◌, ◌/◌, ◌%◌, ◌^◌, ◌<◌, inl, inr, ◌==◌, Bool, List, Option}
 use Rattle.std.proofs.Common.{Some, None, Ok, refl, sym, ap, ◌∙◌, subst, arith, eqb-true}
 use Rattle.std.proofs.lemmas.Nat.{shr-shr}
+use Rattle.isa.specs.Address.{IsAddress}
 use Rattle.payload.specs.Extension.{magnitude}
 use Rattle.payload.specs.Faults.{part}
 use Rattle.payload.specs.PacketFields.{address_fields, report_fields}
-use Rattle.payload.specs.Profile.{IsAddress}
 use Rattle.payload.specs.steps.ReadingByKind.{report_in, reported, address_reading}
 use Rattle.payload.specs.declared.packet.Packet.{Packet}
 use Rattle.payload.specs.declared.packet.Packet.TheVariants as packet

@@ -1,11 +1,12 @@
 -- The fields of each packet of the profile fit their widths.
 use Rattle.std.proofs.Common.{◌≡◌, ℕ, ◌-◌, ◌/◌, ◌^◌, ◌<◌, ◌≤◌, Bool, true, false, List, [], ◌∷◌, length, refl, subst}
 use Rattle.std.proofs.Common.{arith}
+use Rattle.isa.specs.Address.{IsAddress}
 use Rattle.payload.specs.Fields.{Field, field, total}
 use Rattle.payload.specs.Outcomes.{map_width, map_of}
 use Rattle.payload.specs.PacketFields.{branch_of, flag_of, trap_fields, unused_bits, branches_fields, fields_with}
 use Rattle.payload.specs.PacketFields.{address_fields, report_fields}
-use Rattle.payload.specs.Profile.{IsAddress, AreOutcomes, InProfile}
+use Rattle.payload.specs.Profile.{AreOutcomes, InProfile}
 use Rattle.payload.specs.declared.mode.Mode.TheVariants as mode
 use Rattle.payload.specs.declared.packet.Packet.{Packet}
 use Rattle.payload.specs.declared.packet.Packet.TheVariants as packet
@@ -54,7 +55,7 @@ branches_fit spare os delta r few unused h = (
 )
 
 trap_fit : (taken : Bool) (privilege cause : ℕ) (interrupt handler : Bool) (address : ℕ) (behind : List Field)
-    → privilege < 4 → cause < 64 → IsAddress address → Fit behind
+    → privilege ≤ 3 → cause < 64 → IsAddress address → Fit behind
     → Fit (trap_fields taken privilege cause interrupt handler address behind)
 trap_fit taken privilege cause interrupt handler address behind level some h fit = (
   omega arith,
@@ -63,7 +64,7 @@ trap_fit taken privilege cause interrupt handler address behind level some h fit
     (
       branch-lt taken,
       (
-        level,
+        omega (arith, level),
         (some, (flag-lt interrupt, (flag-lt handler, (omega (arith, h.0), fit)))),
       ),
     ),

@@ -1,15 +1,9 @@
 -- The packets of this project's profile.
-use Rattle.std.specs.Prelude.{ℕ, ◌≡◌, ◌≢◌, ◌%◌, ◌^◌, ◌<◌, ◌≤◌, Bool, true, false, List, length}
+use Rattle.std.specs.Prelude.{ℕ, ◌≡◌, ◌^◌, ◌<◌, ◌≤◌, Bool, true, false, List, length}
+use Rattle.isa.specs.Address.{IsAddress}
+use Rattle.isa.specs.Privilege.{IsPrivilege}
 use Rattle.payload.specs.declared.packet.Packet.{Packet}
 use Rattle.payload.specs.declared.packet.Packet.TheVariants as packet
-
--- A privilege level: 0 user, 1 supervisor or 3 machine.
-abbrev pub IsPrivilege : ℕ → Type 0
-IsPrivilege p = (p < 4) × (p ≢ 2)
-
--- An address of an instruction, or what the address field of an address packet holds: even.
-abbrev pub IsAddress : ℕ → Type 0
-IsAddress a = (a < 2 ^ 64) × (a % 2 ≡ 0)
 
 -- Outcomes that an address packet may carry: none to 31.
 abbrev pub AreOutcomes : List Bool → Type 0

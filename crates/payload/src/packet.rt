@@ -2,6 +2,7 @@
 ghost use Rattle.std.specs.Prelude.{◌≡◌, ◌↔◌, IsTrue, false};
 
 use crate::{Mode, Outcomes};
+use isa::is_privilege;
 
 /// A packet of an instruction trace: of the E-Trace specification's packet formats, those of this project's profile.
 #[derive(Clone, Copy, Debug, PartialEq, Eq)]
@@ -84,7 +85,7 @@ impl Packet {
                 privilege,
                 address,
                 ..
-            } => privilege < 4 && privilege != 2 && address % 2 == 0,
+            } => is_privilege(u64::from(privilege)) && address % 2 == 0,
             Packet::Trap {
                 privilege,
                 cause,
@@ -93,8 +94,7 @@ impl Packet {
                 tval,
                 ..
             } => {
-                privilege < 4
-                    && privilege != 2
+                is_privilege(u64::from(privilege))
                     && cause < 64
                     && address % 2 == 0
                     && (!interrupt || tval == 0)

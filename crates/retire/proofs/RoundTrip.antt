@@ -6,6 +6,8 @@ use Rattle.std.proofs.lemmas.Bool.{ne_eqb}
 use Rattle.std.proofs.lemmas.List.Elements.{All-head, All-tail}
 use Rattle.std.specs.List.{flat_map, join_with_byte, list_any}
 use Rattle.std.proofs.Math.Bool.{and-false}
+use Rattle.isa.specs.Address.{IsAddress}
+use Rattle.isa.specs.Privilege.{IsPrivilege, is_privilege}
 use Rattle.csv.proofs.RoundTrip.{read-write}
 use Rattle.csv.specs.Machine.{next_record}
 use Rattle.csv.specs.Quoting.{needs_byte}
@@ -15,8 +17,7 @@ use Rattle.csv.specs.declared.parser.State.TheVariants.{StartRecord}
 use Rattle.retire.specs.Log.{events_from, most_rows}
 use Rattle.retire.specs.LogText.{event_fields, event_line, hex, line_of}
 use Rattle.retire.specs.Number.{number_of}
-use Rattle.retire.specs.InRange.{IsAddress, IsInRange, IsRetirementType}
-use Rattle.retire.specs.Privilege.{IsPrivilege, is_privilege}
+use Rattle.retire.specs.InRange.{IsInRange, IsRetirementType}
 use Rattle.retire.specs.ReadBack.{ReadsBack}
 use Rattle.retire.specs.Row.{is_garbled, numbers_event, row_event}
 use Rattle.retire.specs.steps.RowsLeft.{records_left}

@@ -1,5 +1,4 @@
 pub mod Itype
-pub mod Privilege
 pub mod Events
 pub mod Is64Bit
 pub mod Number

@@ -1,7 +1,7 @@
 -- The walks that this crate's code looks for, and what it says of them.
 use Rattle.std.specs.Prelude.{ℕ, ◌≡◌, ◌+◌, ◌≤◌, Bool, List, ◌++◌, length, Some}
 use Rattle.std.specs.List.{last_or}
-use Rattle.retire.specs.Privilege.{IsPrivilege}
+use Rattle.isa.specs.Privilege.{IsPrivilege}
 use Rattle.retire.specs.declared.event.Event.{Event}
 use Rattle.retire.specs.declared.event.Event.TheVariants.{Retire}
 use Rattle.rvclass.specs.Words.{Words}

@@ -1,7 +1,7 @@
 //! The privilege levels.
 
 ghost use Rattle.std.specs.Prelude.{◌≡◌, ◌↔◌, IsTrue};
-ghost use Rattle.retire.specs.Privilege.{IsPrivilege, is_privilege};
+ghost use Rattle.isa.specs.Privilege.{IsPrivilege, is_privilege};
 
 /// Whether a number is a privilege level of this project's profile: 0 for user, 1 for supervisor, 3 for machine.
 #[inline]
