@@ -1,8 +1,7 @@
 //! Packets for the tables.
 
-use crate::fixtures::outcomes_of;
 use crate::same::same_at;
-use payload::{Mode, PackFault, Packet, Payload, Report, Support, pack, unpack};
+use payload::{Mode, Outcomes, PackFault, Packet, Payload, Report, Support, pack, unpack};
 use std::process::Abort;
 
 pub(crate) const OPEN: Form = Form::Supports(Support::Open(Mode::Differential));
@@ -24,8 +23,31 @@ pub(crate) enum Form {
     /// At privilege 3, of a cause, at an address.
     Interrupts(u8, u64),
     /// Outcomes, a difference or an address, and what it reports.
-    Addresses(&'static [bool], u64, Report),
-    Maps(&'static [bool]),
+    Addresses(&'static str, u64, Report),
+    /// Outcomes: the oldest first, a taken branch as `1`, another as `0`.
+    Maps(&'static str),
+}
+
+/// The outcomes that digits tell, the first 31 of them.
+fn outcomes_in(digits: &str) -> Outcomes {
+    let mut outcomes = Outcomes::new();
+    for digit in digits.bytes() {
+        if outcomes.len() < 31 {
+            outcomes.push(digit == b'1');
+        }
+    }
+    outcomes
+}
+
+/// The bytes that pairs of hexadecimal digits are.
+pub(crate) fn bytes_of<R: Abort + AllocGlobal>(rt: &R, digits: &str) -> Vec<u8> {
+    let mut bytes = Vec::new(rt.alloc());
+    for pair in digits.as_bytes().chunks(2) {
+        let pair = str::from_utf8(pair).expect(rt, "digits");
+        let byte = u8::from_str_radix(pair, 16).expect(rt, "a byte");
+        bytes.push(byte).expect(rt, "memory");
+    }
+    bytes
 }
 
 /// The packet of a row.
@@ -55,12 +77,12 @@ pub(crate) fn packet_of(form: Form) -> Packet {
             address,
             tval: 0,
         },
-        Form::Addresses(taken, delta, report) => Packet::Address {
-            outcomes: outcomes_of(taken),
+        Form::Addresses(digits, delta, report) => Packet::Address {
+            outcomes: outcomes_in(digits),
             delta,
             report,
         },
-        Form::Maps(taken) => Packet::Map(outcomes_of(taken)),
+        Form::Maps(digits) => Packet::Map(outcomes_in(digits)),
     }
 }
 

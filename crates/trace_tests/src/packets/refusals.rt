@@ -45,8 +45,8 @@ const OUTSIDE: [Form; 7] = [
     Syncs(false, 3, 0x8000_0001),
     Excepts(64, false, 0x8000_0000, 0),
     Excepts(2, false, 0x8000_0001, 0),
-    Addresses(&[], 1, Report::Plain),
-    Maps(&[true; 30]),
+    Addresses("", 1, Report::Plain),
+    Maps("111111111111111111111111111111"),
 ];
 
 /// An interrupt with a value.

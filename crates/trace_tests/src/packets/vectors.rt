@@ -1,110 +1,82 @@
 //! Worked payloads.
 
 use super::forms::Form::{Addresses, Excepts, Interrupts, Maps, Syncs};
-use super::forms::{ENDED_NTR, ENDED_REP, Form, OPEN, OPEN_FULL, is_read, packet_of, payload_of};
+use super::forms::{
+    ENDED_NTR, ENDED_REP, Form, OPEN, OPEN_FULL, bytes_of, is_read, packet_of, payload_of,
+};
 use crate::same::same_at;
 use payload::Report::{Notify, Plain, Updiscon};
 use std::process::Abort;
 
-/// Packets, and their payloads.
-const PACKED: [(Form, &[u8]); 40] = [
-    (OPEN, &[0x1f]),
-    (OPEN_FULL, &[0x1f, 0x01]),
-    (ENDED_REP, &[0x4f]),
-    (ENDED_NTR, &[0xcf, 0]),
-    (Syncs(false, 3, 0x8000_0000), &[0x73, 0, 0, 0, 0x20]),
-    (Syncs(true, 3, 0x8000_0000), &[0x63, 0, 0, 0, 0x20]),
-    (Syncs(true, 3, 0x8000_000c), &[0x63, 0x03, 0, 0, 0x20]),
-    (Syncs(false, 3, 0x8000_0008), &[0x73, 0x02, 0, 0, 0x20]),
-    (Syncs(false, 0, 0x8000_0008), &[0x13, 0x02, 0, 0, 0x20]),
-    (Addresses(&[], 0, Plain), &[0x02]),
-    (Addresses(&[], 4, Plain), &[0x0a]),
-    (Addresses(&[], 8, Plain), &[0x12]),
-    (Addresses(&[], 0xffff_ffff_ffff_fffc, Plain), &[0xfa]),
-    (
-        Addresses(&[], 0, Notify),
-        &[0x02, 0, 0, 0, 0, 0, 0, 0, 0xfe],
-    ),
-    (
-        Addresses(&[], 4, Updiscon),
-        &[0x0a, 0, 0, 0, 0, 0, 0, 0, 0xfc],
-    ),
+/// Packets, and their payloads in hexadecimal.
+const PACKED: [(Form, &str); 40] = [
+    (OPEN, "1f"),
+    (OPEN_FULL, "1f01"),
+    (ENDED_REP, "4f"),
+    (ENDED_NTR, "cf00"),
+    (Syncs(false, 3, 0x8000_0000), "7300000020"),
+    (Syncs(true, 3, 0x8000_0000), "6300000020"),
+    (Syncs(true, 3, 0x8000_000c), "6303000020"),
+    (Syncs(false, 3, 0x8000_0008), "7302000020"),
+    (Syncs(false, 0, 0x8000_0008), "1302000020"),
+    (Addresses("", 0, Plain), "02"),
+    (Addresses("", 4, Plain), "0a"),
+    (Addresses("", 8, Plain), "12"),
+    (Addresses("", 0xffff_ffff_ffff_fffc, Plain), "fa"),
+    (Addresses("", 0, Notify), "0200000000000000fe"),
+    (Addresses("", 4, Updiscon), "0a00000000000000fc"),
     // The address itself, in full-address mode.
-    (Addresses(&[], 0x8000_0004, Plain), &[0x0a, 0, 0, 0, 0x01]),
-    (Addresses(&[], 0x8000_0000, Plain), &[0x02, 0, 0, 0, 0x01]),
+    (Addresses("", 0x8000_0004, Plain), "0a00000001"),
+    (Addresses("", 0x8000_0000, Plain), "0200000001"),
+    (Addresses("", 0x8000_0000, Notify), "0200000001000000fe"),
+    (Addresses("", 0xffff_ffff_8000_0004, Plain), "0a000000ff"),
     (
-        Addresses(&[], 0x8000_0000, Notify),
-        &[0x02, 0, 0, 0, 0x01, 0, 0, 0, 0xfe],
+        Addresses("", 0xffff_ffff_8000_0000, Notify),
+        "02000000ffffffff01",
     ),
+    (Addresses("0", 0x8000_0008, Plain), "8504000040"),
+    (Addresses("1", 0, Plain), "05"),
+    (Addresses("0", 8, Plain), "8504"),
+    (Addresses("11", 0, Plain), "09"),
+    (Addresses("00", 0xffff_ffff_ffff_fffe, Plain), "89fd"),
+    (Addresses("101", 0, Plain), "0d01"),
+    (Addresses("0111", 2, Plain), "9140"),
     (
-        Addresses(&[], 0xffff_ffff_8000_0004, Plain),
-        &[0x0a, 0, 0, 0, 0xff],
+        Addresses("11111111", 0xffff_ffff_ffff_fffe, Plain),
+        "2100c0",
     ),
-    (
-        Addresses(&[], 0xffff_ffff_8000_0000, Notify),
-        &[0x02, 0, 0, 0, 0xff, 0xff, 0xff, 0xff, 0x01],
-    ),
-    (
-        Addresses(&[false], 0x8000_0008, Plain),
-        &[0x85, 0x04, 0, 0, 0x40],
-    ),
-    (Addresses(&[true], 0, Plain), &[0x05]),
-    (Addresses(&[false], 8, Plain), &[0x85, 0x04]),
-    (Addresses(&[true; 2], 0, Plain), &[0x09]),
-    (
-        Addresses(&[false; 2], 0xffff_ffff_ffff_fffe, Plain),
-        &[0x89, 0xfd],
-    ),
-    (Addresses(&[true, false, true], 0, Plain), &[0x0d, 0x01]),
-    (
-        Addresses(&[false, true, true, true], 2, Plain),
-        &[0x91, 0x40],
-    ),
-    (
-        Addresses(&[true; 8], 0xffff_ffff_ffff_fffe, Plain),
-        &[0x21, 0, 0xc0],
-    ),
-    (Addresses(&[true; 31], 0, Plain), &[0x7d]),
-    (Maps(&[true; 31]), &[0x01]),
-    (Maps(&[false; 31]), &[0x81]),
-    (Interrupts(7, 0x8000_0008), &[0xf7, 0x23, 0x02, 0, 0, 0x20]),
-    (
-        Excepts(0xb, true, 0x8000_0100, 0),
-        &[0xf7, 0x45, 0x40, 0, 0, 0x20],
-    ),
+    (Addresses("1111111111111111111111111111111", 0, Plain), "7d"),
+    (Maps("1111111111111111111111111111111"), "01"),
+    (Maps("0000000000000000000000000000000"), "81"),
+    (Interrupts(7, 0x8000_0008), "f72302000020"),
+    (Excepts(0xb, true, 0x8000_0100, 0), "f74540000020"),
     (
         Excepts(1, false, 0x4000, 1 << 48),
-        &[0xf7, 0, 0, 0x10, 0, 0, 0, 0, 0, 0, 0, 0, 0, 0, 0, 0x40],
+        "f7000010000000000000000000000040",
     ),
     (
         Excepts(1, false, 0x4000, 1 << 49),
-        &[0xf7, 0, 0, 0x10, 0, 0, 0, 0, 0, 0, 0, 0, 0, 0, 0, 0x80, 0],
+        "f700001000000000000000000000008000",
     ),
     (
         Excepts(1, false, 0x4000, 1 << 57),
-        &[
-            0xf7, 0, 0, 0x10, 0, 0, 0, 0, 0, 0, 0, 0, 0, 0, 0, 0, 0x80, 0,
-        ],
+        "f70000100000000000000000000000008000",
     ),
     (
         Excepts(1, false, 0x4000, 0x8000_0000_0000_4000),
-        &[
-            0xf7, 0, 0, 0x10, 0, 0, 0, 0, 0, 0, 0, 0x10, 0, 0, 0, 0, 0, 0xe0,
-        ],
+        "f700001000000000000000100000000000e0",
     ),
     (
         Excepts(1, false, 0x4000, 0xfffb_ffff_ffff_ffff),
-        &[
-            0xf7, 0, 0, 0x10, 0, 0, 0, 0, 0, 0xc0, 0xff, 0xff, 0xff, 0xff, 0xff, 0xff, 0xfe,
-        ],
+        "f70000100000000000c0fffffffffffffe",
     ),
     (
         Excepts(1, true, 0xffff_ffff_ffff_fffe, 0xffff_ffff_ffff_ffff),
-        &[0xf7, 0xc0],
+        "f7c0",
     ),
     (
         Excepts(1, false, 0xffff_ffff_ffff_fffe, 0xffff_ffff_ffff_ffff),
-        &[0xf7, 0x80],
+        "f780",
     ),
 ];
 
@@ -118,8 +90,9 @@ fn is_packed<R: Abort>(rt: &R, form: Form, bytes: &[u8]) {
 
 #[test]
 fn packs_and_unpacks(rt: HostRuntime) {
-    for (form, bytes) in &PACKED {
-        is_packed(&rt, *form, bytes);
+    for (form, digits) in &PACKED {
+        let bytes = bytes_of(&rt, digits);
+        is_packed(&rt, *form, bytes.as_slice());
     }
 }
 
@@ -131,8 +104,8 @@ const LONGER: [(Form, u8); 8] = [
     (Syncs(false, 3, 0x8000_0000), 0x00),
     (Interrupts(7, 0x8000_0008), 0x00),
     (Excepts(0xb, true, 0x8000_0100, 0), 0x00),
-    (Addresses(&[], 0xffff_ffff_ffff_fffc, Plain), 0xff),
-    (Maps(&[false; 31]), 0xff),
+    (Addresses("", 0xffff_ffff_ffff_fffc, Plain), 0xff),
+    (Maps("0000000000000000000000000000000"), 0xff),
 ];
 
 /// A packet of the profile is read of its payload with any number of further bytes, up to 18.
@@ -154,23 +127,18 @@ fn takes_longer_spellings(rt: HostRuntime) {
     }
 }
 
-/// Payloads whose branch maps differ in bits that no branch has.
-const UNUSED: [(Form, &[u8]); 4] = [
-    (Addresses(&[true; 2], 0, Plain), &[0x09]),
-    (Addresses(&[true; 2], 0, Plain), &[0x09, 0x02]),
-    (
-        Addresses(&[false; 2], 0xffff_ffff_ffff_fffe, Plain),
-        &[0x89, 0xfd],
-    ),
-    (
-        Addresses(&[false; 2], 0xffff_ffff_ffff_fffe, Plain),
-        &[0x89],
-    ),
+/// Payloads in hexadecimal whose branch maps differ in bits that no branch has.
+const UNUSED: [(Form, &str); 4] = [
+    (Addresses("11", 0, Plain), "09"),
+    (Addresses("11", 0, Plain), "0902"),
+    (Addresses("00", 0xffff_ffff_ffff_fffe, Plain), "89fd"),
+    (Addresses("00", 0xffff_ffff_ffff_fffe, Plain), "89"),
 ];
 
 #[test]
 fn ignores_unused_map_bits(rt: HostRuntime) {
-    for (form, bytes) in &UNUSED {
-        is_read(&rt, bytes, Ok(packet_of(*form)));
+    for (form, digits) in &UNUSED {
+        let bytes = bytes_of(&rt, digits);
+        is_read(&rt, bytes.as_slice(), Ok(packet_of(*form)));
     }
 }
