@@ -1,9 +1,8 @@
 -- Of the packets of a log only the last closes a trace, and so does only the last of its payloads.
 use Rattle.std.proofs.Common.{◌≡◌, ℕ, zero, suc, true, All, List, [], ◌∷◌, ◌++◌, Some, length, map, slice_get, refl}
-use Rattle.std.proofs.Common.{sym, ap, subst, ◌∙◌, arith}
+use Rattle.std.proofs.Common.{sym, ap, ◌∙◌, arith}
 use Rattle.std.proofs.lemmas.List.{length-map}
-use Rattle.std.proofs.lemmas.List.Elements.{All-get_or}
-use Rattle.std.proofs.lemmas.Option.{same_Some, slice_get_within, get_or_from_slice_get}
+use Rattle.std.proofs.lemmas.Option.{same_Some}
 use Rattle.retire.specs.declared.event.Event.{Event}
 use Rattle.rvclass.specs.Words.{Words}
 use Rattle.payload.proofs.ReadingLaws.{reading-payload_of}
@@ -16,6 +15,7 @@ use Rattle.payload.specs.declared.packet.Packet.TheVariants as packet
 use Rattle.payload.specs.declared.packet.Support.TheVariants.{Open}
 use Rattle.encoder.specs.Packets.{closing_packet, packets, reports, reported_by, packet_by}
 use Rattle.encoder.specs.Piece.{Piece, pieces_of}
+use Rattle.message.proofs.Elements.{All-slice_get}
 use Rattle.roundtrip.proofs.PacketOrder.{not_closing}
 use Rattle.funnel.specs.Payloads.{ClosesOnlyLast}
 
@@ -41,12 +41,6 @@ packets_close_last words period mode log zero one is closing =
 packets_close_last words period mode log (suc n) one is closing =
     ap suc (reports_close_last mode 0 (pieces_of words period log) (closing_packet words period log) n one is closing)
 
--- What holds of each element holds of the one at a place.
-pub All_at : {X : Type 0} (P : X → Type 0) (ps : List X) (n : ℕ) (one : X) → slice_get ps n ≡ Some one → All P ps
-    → P one
-All_at P ps n one is all =
-    subst P (get_or_from_slice_get ps n one one is) (All-get_or P ps n one (slice_get_within ps n one is) all)
-
 -- A payload closes where its packet does.
 closing_payload : (one : Packet) → InProfile one → is_closing (payload_of one) ≡ is_closing_packet one
 closing_payload one profile = ap is_closing_reading (reading-payload_of one profile)
@@ -64,7 +58,7 @@ pub payloads_close_last : (words : Words) (period : ℕ) (mode : Mode) (log : Li
 payloads_close_last words period mode log profile n payload is closing =
     let ps = packets words period mode log in
     let found = packet_at ps n payload is in
-    let closes = sym (closing_payload found.0 (All_at InProfile ps n found.0 found.1 profile))
+    let closes = sym (closing_payload found.0 (All-slice_get InProfile ps n found.0 found.1 profile))
     ∙ ap is_closing found.2 ∙ closing in
     let all = packets_close_last words period mode log n found.0 found.1 closes in
     omega (arith, all, length-map ps payload_of)

@@ -28,6 +28,7 @@ use Rattle.decoder.specs.Describes.{Describes}
 use Rattle.roundtrip.proofs.FirstPackets.{first_packets_describe}
 use Rattle.roundtrip.specs.Reach.{reach}
 use Rattle.message.proofs.Answering.{answer-next}
+use Rattle.message.proofs.Elements.{All-slice_get}
 use Rattle.message.proofs.HartMessages.{has_ended-next}
 use Rattle.message.proofs.Moving.{harts_after-ok}
 use Rattle.message.specs.Accepting.{accepting, answer_of, harts_after, next_of}
@@ -38,7 +39,7 @@ use Rattle.receiver.specs.Received.{IsReceived, Received}
 use Rattle.bench.specs.Collected.{Collected, HasCollected, IsMessageOf, Taken, packets_with, saturating_sum}
 use Rattle.bench.specs.Collected.{with_packet}
 use Rattle.bench.specs.Got.{Got, got_after, kept}
-use Rattle.bench.proofs.ClosingLast.{All_at, packet_at}
+use Rattle.bench.proofs.ClosingLast.{packet_at}
 use Rattle.bench.proofs.GotLemmas.{profile}
 use Rattle.bench.proofs.TakenPackets.{first_ended}
 
@@ -146,7 +147,8 @@ module _ (period : ℕ) (mode : Mode) (log : ProgramLog) (legal : IsLegalLog log
         packet = found.0;
         at = found.1;
         read = ap reading (sym found.2)
-            ∙ reading-payload_of found.0 (All_at InProfile ps count found.0 found.1 (profile period mode log legal));
+            ∙ reading-payload_of found.0
+            (All-slice_get InProfile ps count found.0 found.1 (profile period mode log legal));
       }
 
   -- It is accepted.

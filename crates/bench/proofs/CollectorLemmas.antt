@@ -19,6 +19,7 @@ use Rattle.legalpath.specs.ProgramLog.{IsLegalLog, ProgramLog}
 use Rattle.payload.specs.declared.mode.Mode.{Mode}
 use Rattle.payload.specs.declared.packet.Packet.{Packet}
 use Rattle.encoder.specs.Packets.{packets}
+use Rattle.message.proofs.Elements.{All-slice_get}
 use Rattle.message.specs.Harts.{newcomer}
 use Rattle.receiver.proofs.HoldLemmas.{same_hart, set-other}
 use Rattle.receiver.specs.Holds.{HasReceived}
@@ -27,7 +28,6 @@ use Rattle.bench.specs.Collected.{Came, Collected, HasCollected, IsSameOf, Taken
 use Rattle.bench.specs.Got.{Got, got_of}
 use Rattle.bench.specs.declared.outcome.HartOutcome.{HartOutcome}
 use Rattle.bench.specs.steps.Collecting.{IsCollected, closed_in, decoded_in, nothing, taken_in, taken_of}
-use Rattle.bench.proofs.ClosingLast.{All_at}
 use Rattle.bench.proofs.CollectedLemmas.{element, held_first, set-at, taken_by}
 
 -- A list of one value repeated, at a place.
@@ -139,7 +139,7 @@ module _ (logs : List ProgramLog) (keep : Bool) (received : Received) (taken : L
   pub opened_begun : (period : ℕ) (mode : Mode) (hart : ℕ) (log : ProgramLog) → slice_get logs hart ≡ Some log
       → HasCollected period mode log 0 hart opened
   opened_begun period mode hart log known =
-      let own = All_at IsLegalLog logs hart log known legal in
+      let own = All-slice_get IsLegalLog logs hart log known legal in
       let within = slice_get_within logs hart log known in
       let ps = packets (words_of log.program) period mode log.events in
       let holds = (begins (λ hart. words_of log.program)).holds.each hart in

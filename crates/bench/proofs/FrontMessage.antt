@@ -3,13 +3,13 @@ use Rattle.std.proofs.Common.{◌≡◌, ℕ, List, [], ◌∷◌, ◌++◌, Som
 use Rattle.legalpath.specs.ProgramLog.{ProgramLog}
 use Rattle.payload.specs.declared.mode.Mode.{Mode}
 use Rattle.encoder.specs.Payloads.{payloads}
+use Rattle.message.proofs.Elements.{slice_get-behind}
 use Rattle.message.proofs.OfHartLemmas.{of_hart-own}
 use Rattle.message.specs.OfHart.{of_hart}
 use Rattle.message.specs.declared.message.Message.{Message}
 use Rattle.funnel.proofs.Kept.{Keeps}
 use Rattle.funnel.specs.Machine.{Funnel, sent_by}
 use Rattle.bench.specs.steps.Taking.{IsFrontNext, IsNext}
-use Rattle.bench.proofs.ListElements.{slice_get-behind}
 use Rattle.bench.proofs.OwnPayloads.{has_log}
 
 module _ (period : ℕ) (mode : Mode) (capacity : ℕ) (logs : List ProgramLog) (state : Funnel)
@@ -24,7 +24,7 @@ module _ (period : ℕ) (mode : Mode) (capacity : ℕ) (logs : List ProgramLog) 
       (keeps.whole hart
       ∙ ap (λ queue. taken ++ of_hart hart queue) waits
       ∙ ap (λ more. taken ++ more) (of_hart-own message rest))
-      ∙ slice_get-behind taken (of_hart hart rest) message in
+      ∙ slice_get-behind taken message (of_hart hart rest) in
       let nth = keeps.nth hart (length taken) message sent in
       let has = has_log period mode hart (length taken) logs message.payload nth.payload in
       record { log = has.log; known = has.known; own = record { number = nth.number; payload = has.own } }

@@ -2,7 +2,8 @@
 use Rattle.std.proofs.Common.{◌≡◌, ◌<◌, ◌+◌, ◌∙◌, ℕ, List, [], ◌∷◌, ◌++◌, Some, length, slice_get, sym, ap, arith}
 use Rattle.std.proofs.lemmas.List.{length_push}
 use Rattle.std.proofs.lemmas.Option.{same_Some}
-use Rattle.funnel.proofs.Places.{slice_get-behind, slice_get-front, slice_get-some}
+use Rattle.message.proofs.Elements.{slice_get-behind, slice_get-some}
+use Rattle.funnel.proofs.Places.{slice_get-front}
 use Rattle.funnel.specs.Ends.{AreNewPorts, FunnelId, PortView, new_port}
 
 pub last_port : (funnel : FunnelId) (harts place : ℕ) (ports rest : List PortView) (port : PortView)

@@ -1,17 +1,8 @@
 -- Elements of a list at their places.
-use Rattle.std.proofs.Common.{◌≡◌, ◌≢◌, ℕ, zero, suc, All, List, [], ◌∷◌, ◌++◌, Some, length, set, slice_get, refl, ap}
-use Rattle.std.proofs.Common.{subst}
-use Rattle.std.proofs.lemmas.List.Elements.{All-cons, All-head, All-nil, All-push, All-same, All-tail}
-use Rattle.std.proofs.lemmas.Option.{same_Some}
+use Rattle.std.proofs.Common.{◌≡◌, ◌≢◌, ℕ, zero, suc, All, List, [], ◌∷◌, ◌++◌, Some, set, slice_get, refl, ap}
+use Rattle.std.proofs.lemmas.List.Elements.{All-cons, All-nil, All-push, All-same}
 
--- What all elements keep is kept at each place.
-pub All-at : {X : Type 0} (P : X → Type 0) (xs : List X) (place : ℕ) (x : X) → All P xs → slice_get xs place ≡ Some x
-    → P x
-All-at P [] place x all at = cc
-All-at P (a ∷ xs) zero x all at = subst P (same_Some a x at) (All-head P a xs all)
-All-at P (a ∷ xs) (suc place) x all at = All-at P xs place x (All-tail P a xs all) at
-
--- And what is kept at each place is kept by all.
+-- What is kept at each place is kept by all.
 pub All-from_places : {X : Type 0} (P : X → Type 0) (xs : List X)
     → ((place : ℕ) (x : X) → slice_get xs place ≡ Some x → P x) → All P xs
 All-from_places P [] each = All-nil P
@@ -32,9 +23,3 @@ slice_get-unwritten (a ∷ xs) zero (suc other) x apart = refl
 slice_get-unwritten (a ∷ xs) (suc place) zero x apart = refl
 slice_get-unwritten (a ∷ xs) (suc place) (suc other) x apart =
     slice_get-unwritten xs place other x (λ same. apart (ap suc same))
-
--- Behind the first elements stands the next one.
-pub slice_get-behind : {X : Type 0} (front rest : List X) (x : X)
-    → slice_get (front ++ x ∷ rest) (length front) ≡ Some x
-slice_get-behind [] rest x = refl
-slice_get-behind (a ∷ front) rest x = slice_get-behind front rest x

@@ -4,11 +4,11 @@ use Rattle.std.proofs.Common.{ap, subst, ◌∙◌}
 use Rattle.std.proofs.lemmas.List.{length_push}
 use Rattle.legalpath.specs.ProgramLog.{ProgramLog}
 use Rattle.payload.specs.declared.mode.Mode.{Mode}
+use Rattle.message.proofs.Elements.{slice_get-behind}
 use Rattle.funnel.proofs.Places.{slice_get-front, slice_get-next}
 use Rattle.bench.specs.declared.sender.Sender.{Sender}
 use Rattle.bench.specs.steps.Sending.{AreNewSenders, sender_at}
 use Rattle.bench.proofs.CollectedLemmas.{take-next}
-use Rattle.bench.proofs.ListElements.{slice_get-behind}
 
 module _ {B : Type 0} (period : ℕ) (mode : Mode) where
   -- Before the first log there is none.
@@ -31,7 +31,7 @@ module _ {B : Type 0} (period : ℕ) (mode : Mode) where
           slice_get-front senders (sender ∷ []) hart (sender_at period mode its 0) (are.each hart its before)
       by_place hart its (inr here) =
           ap (slice_get (senders ++ sender ∷ [])) (here.0 ∙ sym are.count)
-          ∙ slice_get-behind senders [] sender
+          ∙ slice_get-behind senders sender []
           ∙ ap Some is
           ∙ ap (λ (l : ProgramLog). Some (sender_at period mode l 0)) here.1
 

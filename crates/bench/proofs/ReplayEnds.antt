@@ -8,6 +8,7 @@ use Rattle.rvclass.specs.Fetch.{words_of}
 use Rattle.legalpath.specs.ProgramLog.{IsLegalLog, ProgramLog}
 use Rattle.payload.specs.declared.mode.Mode.{Mode}
 use Rattle.encoder.specs.Packets.{packets}
+use Rattle.message.proofs.Elements.{All-slice_get}
 use Rattle.message.specs.OfHart.{of_hart}
 use Rattle.message.specs.declared.message.Message.{Message}
 use Rattle.bench.specs.Beginnings.{AreBeginnings, AreThoseTaken, CameOf, LackSome, LackSomeTaken, NamesRefused}
@@ -20,7 +21,7 @@ use Rattle.bench.specs.declared.stop.Stop.TheVariants as stop
 use Rattle.bench.specs.Stopping.{NoRefusedIsClosed}
 use Rattle.bench.specs.steps.Taking.{AreTaken, IsTakenOf, LacksSome, NamesRefusedHart}
 use Rattle.bench.proofs.CollectedLemmas.{element, taken_by}
-use Rattle.bench.proofs.ListElements.{All-at, All-from_places}
+use Rattle.bench.proofs.ListElements.{All-from_places}
 use Rattle.bench.proofs.RefusedHarts.{came_not_refused, came_refused}
 use Rattle.bench.proofs.WholeLog.{has_got}
 
@@ -66,7 +67,7 @@ module _ {A : Type 0} (config : Config) (logs : List ProgramLog) (taken : List M
       keeps n = ap (λ flag. kept flag (got_after config.period config.mode log n)) keep
 
       lawful : IsLegalLog log
-      lawful = All-at IsLegalLog logs hart log legal known
+      lawful = All-slice_get IsLegalLog logs hart log known legal
 
       by_case : IsTakenOf config.period config.mode log (length (of_hart hart taken)) hart collected
           → CameOut config.period config.mode config.keep log (length (of_hart hart taken)) came

@@ -7,6 +7,7 @@ use Rattle.legalpath.specs.ProgramLog.{IsLegalLog, ProgramLog}
 use Rattle.payload.specs.declared.mode.Mode.{Mode}
 use Rattle.encoder.specs.Payloads.{payloads}
 use Rattle.encoder.specs.SourceAt.{number_behind}
+use Rattle.message.proofs.Elements.{All-slice_get}
 use Rattle.message.specs.declared.message.Message.{Message}
 use Rattle.funnel.specs.Held.{Held}
 use Rattle.funnel.specs.Machine.{Funnel, add, send, send_next, sent_by}
@@ -15,7 +16,6 @@ use Rattle.funnel.specs.Payloads.{payloads_of}
 use Rattle.bench.specs.declared.sender.Sender.{Sender}
 use Rattle.bench.specs.steps.Sending.{AreSending, message_with, sender_at}
 use Rattle.bench.proofs.CollectedLemmas.{element}
-use Rattle.bench.proofs.ListElements.{All-at}
 use Rattle.bench.proofs.SendingOn.{none_sent, one_sent}
 
 -- What a hart's sender promises of its next message.
@@ -63,7 +63,7 @@ module _ {B : Type 0} (period : ℕ) (mode : Mode) (capacity : ℕ) (logs : List
   its = element logs hart (omega (arith, known, sending.count))
 
   its_legal : IsLegalLog its.0
-  its_legal = All-at IsLegalLog logs hart its.0 legal its.1
+  its_legal = All-slice_get IsLegalLog logs hart its.0 its.1 legal
 
   stood : old ≡ sender_at period mode its.0 count
   stood =

@@ -5,9 +5,9 @@ use Rattle.std.specs.Prelude.{IsSomeAnd}
 use Rattle.std.proofs.lemmas.Option.{slice_get_within}
 use Rattle.legalpath.specs.ProgramLog.{ProgramLog}
 use Rattle.payload.specs.declared.mode.Mode.{Mode}
+use Rattle.message.proofs.Elements.{slice_get-some}
 use Rattle.message.specs.OfHart.{of_hart}
 use Rattle.message.specs.declared.message.Message.{Message}
-use Rattle.funnel.proofs.Places.{slice_get-some}
 use Rattle.bench.specs.Beginnings.{AreCarried}
 use Rattle.bench.specs.Collected.{Collected}
 use Rattle.bench.specs.Got.{got_after, got_of, kept}

@@ -11,6 +11,7 @@ use Rattle.payload.specs.declared.packet.Packet.{Packet}
 use Rattle.encoder.specs.Packets.{packets}
 use Rattle.decoder.specs.Describes.{Describes}
 use Rattle.roundtrip.specs.Reach.{reach}
+use Rattle.message.proofs.Elements.{All-slice_get}
 use Rattle.message.specs.Accepting.{accepting, harts_after}
 use Rattle.message.specs.declared.fault.DemuxFault.{DemuxFault}
 use Rattle.message.specs.declared.message.Message.{Message}
@@ -22,7 +23,6 @@ use Rattle.bench.specs.Got.{got_after, kept}
 use Rattle.bench.specs.declared.collecting.CollectFault.{CollectFault}
 use Rattle.bench.specs.declared.collecting.CollectFault.TheVariants as fault
 use Rattle.bench.specs.steps.Collecting.{IsCollected}
-use Rattle.bench.proofs.ClosingLast.{All_at}
 use Rattle.bench.proofs.CollectedLemmas.{held_first, next_accepted, next_described, next_expected, next_first}
 use Rattle.bench.proofs.CollectedLemmas.{next_packet, next_taken, set-at, taken_by}
 use Rattle.bench.proofs.TakesIn.{TakesIn, holds_moved, same_Ok}
@@ -44,7 +44,7 @@ module _ (message : Message) (packet : Packet) (old new : Collected) where
   takes_only_memory (Err why) t period mode count log has is =
       let words = words_of log.program in
       let same : t.own ≡ log = same_Some t.own log (sym t.log_at ∙ has.known) in
-      let legal = All_at IsLegalLog old.logs message.hart log has.known t.all.legal in
+      let legal = All-slice_get IsLegalLog old.logs message.hart log has.known t.all.legal in
       let next = next_packet period mode log legal count message is in
       let packet_is : next.packet ≡ packet =
       same_Ok next.packet packet
@@ -67,7 +67,7 @@ module _ (message : Message) (packet : Packet) (old new : Collected) where
   takes_next (Err why) t period mode count log has is = tt
   takes_next (Ok u) t period mode count log has is =
       let same : t.own ≡ log = same_Some t.own log (sym t.log_at ∙ has.known) in
-      let legal = All_at IsLegalLog old.logs message.hart log has.known t.all.legal in
+      let legal = All-slice_get IsLegalLog old.logs message.hart log has.known t.all.legal in
       let ps = packets_of_log period mode log in
       let next = next_packet period mode log legal count message is in
       let packet_is : next.packet ≡ packet =
@@ -118,6 +118,6 @@ pub not_refused : (collected : Collected) → IsCollected collected → (message
     → (period : ℕ) (mode : Mode) (count : ℕ) (log : ProgramLog)
     → HasCollected period mode log count message.hart collected → IsMessageOf period mode log count message → ⊥
 not_refused collected all message why answer period mode count log has is =
-    let legal = All_at IsLegalLog collected.logs message.hart log has.known all.legal in
+    let legal = All-slice_get IsLegalLog collected.logs message.hart log has.known all.legal in
     let accepted = next_accepted period mode log legal count message collected has is in
     cc

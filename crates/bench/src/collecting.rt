@@ -62,9 +62,19 @@ pub struct Collector<'l, 'p, A: Allocator = Global, B: Allocator = Global> {
 impl<'l, 'p, A: Allocator, B: Allocator> Model for Collector<'l, 'p, A, B> {
     ghost Value = { Collected };
 
-    ghost view = { λ c. record { logs = c.logs.now; keep = c.keep; received = c.receiver; harts = taken_in c.harts.items } };
+    ghost view = { λ c. record {
+      logs = c.logs.now;
+      keep = c.keep;
+      received = c.receiver;
+      harts = taken_in c.harts.items;
+    } };
 
-    ghost invariant = { λ c. IsCollected (record { logs = c.logs.now; keep = c.keep; received = c.receiver; harts = taken_in c.harts.items }) };
+    ghost invariant = { λ c. IsCollected (record {
+      logs = c.logs.now;
+      keep = c.keep;
+      received = c.receiver;
+      harts = taken_in c.harts.items;
+    }) };
 }
 
 impl<'l, 'p, A: Allocator + Copy, B: Allocator> Collector<'l, 'p, A, B> {
@@ -118,14 +128,16 @@ impl<'l, 'p, A: Allocator + Copy, B: Allocator> Collector<'l, 'p, A, B> {
 
         // Of a hart that is not refused, whatever its messages were: the packet of a message that is accepted is
         // decoded behind those that were, and counted, unless no log is described with it or memory is refused.
-        ensures decoded { (packet : AnyPacket) (log : ProgramLog) (packets : List AnyPacket) → Accepts message packet self.old
-            → HasDecoded log message.hart packets self.old
+        ensures decoded { (packet : AnyPacket) (log : ProgramLog) (packets : List AnyPacket)
+            → Accepts message packet self.old → HasDecoded log message.hart packets self.old
             → OnOk result (HasDecoded log message.hart (packets ++ packet ∷ []) self.new) }
-        ensures none { (packet : AnyPacket) (log : ProgramLog) (packets : List AnyPacket) → Accepts message packet self.old
-            → HasDecoded log message.hart packets self.old → IfErr result (λ fault. (fault ≡ CollectFault.Memory)
+        ensures none { (packet : AnyPacket) (log : ProgramLog) (packets : List AnyPacket)
+            → Accepts message packet self.old → HasDecoded log message.hart packets self.old
+            → IfErr result (λ fault. (fault ≡ CollectFault.Memory)
             ⊎ ((events : List AnyEvent) → ¬ Describes (words_of log.program) (packets ++ packet ∷ []) events)) }
-        ensures reason { (packet : AnyPacket) (log : ProgramLog) (packets : List AnyPacket) (why : AnyDecodeFault) → Accepts message packet self.old
-            → HasDecoded log message.hart packets self.old → result ≡ Err (CollectFault.Decode why)
+        ensures reason { (packet : AnyPacket) (log : ProgramLog) (packets : List AnyPacket) (why : AnyDecodeFault)
+            → Accepts message packet self.old → HasDecoded log message.hart packets self.old
+            → result ≡ Err (CollectFault.Decode why)
             → IsNotDecoded (words_of log.program) packets packet why }
         ensures counts { (packet : AnyPacket) (taken : Taken) → Accepts message packet self.old
             → slice_get self.old.harts message.hart ≡ Some taken → OnOk result (slice_get self.new.harts message.hart
@@ -221,7 +233,8 @@ fn log_at<'l, 'p, B: Allocator>(logs: &'l [LegalLog<'p, B>], hart: usize) -> &'l
 
 /// Whether there is such a hart, and memory for it was refused.
 fn is_refused<A: Allocator>(harts: &Vec<HartOutcome<A>, A>, hart: usize) -> bool
-    ensures refused { result ≡ true → IsSomeAnd (slice_get (taken_in harts.now.items) hart) (λ taken. IsTrue taken.refused) }
+    ensures refused { result ≡ true
+        → IsSomeAnd (slice_get (taken_in harts.now.items) hart) (λ taken. IsTrue taken.refused) }
     ensures going { result ≡ false
         → ¬ IsSomeAnd (slice_get (taken_in harts.now.items) hart) (λ taken. IsTrue taken.refused) }
 {
@@ -252,7 +265,8 @@ fn take_packet<A: Allocator + Copy>(
     ensures none { (packets : List AnyPacket) → HoldsHart (words_of program.now) message.now.hart packets receiver.old
         → IfErr result (λ fault. (fault ≡ CollectFault.Memory)
         ⊎ ((log : List AnyEvent) → ¬ Describes (words_of program.now) (packets ++ packet ∷ []) log)) }
-    ensures reason { (packets : List AnyPacket) (why : AnyDecodeFault) → HoldsHart (words_of program.now) message.now.hart packets receiver.old
+    ensures reason { (packets : List AnyPacket) (why : AnyDecodeFault)
+        → HoldsHart (words_of program.now) message.now.hart packets receiver.old
         → result ≡ Err (CollectFault.Decode why) → IsNotDecoded (words_of program.now) packets packet why }
     ensures expected { receiver.new.expected ≡ receiver.old.expected }
     ensures complete { IsReceived receiver.old → IsReceived receiver.new }

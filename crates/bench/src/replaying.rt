@@ -45,8 +45,10 @@ pub fn replay<A: Allocator + Copy, B: Allocator>(
     ensures lacks { IfOk result (λ outcome. LackSome
         (replayed config.period config.mode config.capacity logs.now turns.now).taken outcome.harts.items) }
     ensures stop { IfOk result (λ outcome. NamesRefused outcome.stop outcome.harts.items) }
-    ensures refused { (fault : AnySetup) → setup_fault (most_harts Two) (length logs.now) config ≡ Some fault → result ≡ Err fault }
-    ensures memory { setup_fault (most_harts Two) (length logs.now) config ≡ None → IfErr result (λ fault. fault ≡ Setup.Memory) }
+    ensures refused { (fault : AnySetup) → setup_fault (most_harts Two) (length logs.now) config ≡ Some fault
+        → result ≡ Err fault }
+    ensures memory { setup_fault (most_harts Two) (length logs.now) config ≡ None
+        → IfErr result (λ fault. fault ≡ Setup.Memory) }
 {
     if let Some(fault) = fault_of(MOST_HARTS, logs.len(), config) {
         return Err(fault);

@@ -46,8 +46,10 @@ pub fn run<A: Allocator + Copy, G: Gate, R: Threads + Wait + Sync>(
     ensures beginnings { IfOk result (λ outcome. AreBeginnings config logs.now outcome.harts.items) }
     ensures stop { IfOk result (λ outcome. NamesOpen outcome.stop outcome.harts.items) }
     ensures refused_harts { IfOk result (λ outcome. NoRefusedIsClosed outcome.harts.items) }
-    ensures refused { (fault : AnySetup) → setup_fault most_ports (length logs.now) config ≡ Some fault → result ≡ Err fault }
-    ensures memory { setup_fault most_ports (length logs.now) config ≡ None → IfErr result (λ fault. fault ≡ Setup.Memory) }
+    ensures refused { (fault : AnySetup) → setup_fault most_ports (length logs.now) config ≡ Some fault
+        → result ≡ Err fault }
+    ensures memory { setup_fault most_ports (length logs.now) config ≡ None
+        → IfErr result (λ fault. fault ≡ Setup.Memory) }
 {
     if let Some(fault) = fault_of(MOST_PORTS, logs.len(), config) {
         return Err(fault);
@@ -103,8 +105,10 @@ pub fn run_on<A: Allocator + Copy, G: Gate, R: Threads + Wait + Sync>(
                 × (outlet.now.taken ≡ []) × (outlet.now.made ≡ length logs.now) × (length logs.now ≤ most_ports) }
             ensures same { result.1.ghost_name ≡ outlet.entry.ghost_name }
             ensures beginnings { IfOk result.0 (λ outcome. AreBeginnings config logs.entry.now outcome.harts.items) }
-            ensures taken { IfOk result.0 (λ outcome. AreThoseTaken config logs.entry.now result.1.now.taken outcome.harts.items) }
-            ensures carried { IfOk result.0 (λ outcome. AreCarried config logs.entry.now result.1.now.taken outcome.harts.items) }
+            ensures taken { IfOk result.0
+                (λ outcome. AreThoseTaken config logs.entry.now result.1.now.taken outcome.harts.items) }
+            ensures carried { IfOk result.0
+                (λ outcome. AreCarried config logs.entry.now result.1.now.taken outcome.harts.items) }
             ensures lacks { IfOk result.0 (λ outcome. LackSomeTaken result.1.now.taken outcome.harts.items) }
             ensures stop { IfOk result.0 (λ outcome. NamesOpen outcome.stop outcome.harts.items) }
             ensures refused_harts { IfOk result.0 (λ outcome. NoRefusedIsClosed outcome.harts.items) }

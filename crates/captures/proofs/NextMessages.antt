@@ -23,11 +23,12 @@ use Rattle.payload.specs.Ended.{has_ended}
 use Rattle.decoder.specs.Pieces.{reported_after, Pieces}
 use Rattle.message.proofs.AcceptedLemmas.{accepted_counted}
 use Rattle.message.proofs.Answering.{answer-next}
+use Rattle.message.proofs.Elements.{All-slice_get}
 use Rattle.message.specs.Accepted.{AreAccepted, expected_after, newcomers}
 use Rattle.message.specs.Accepting.{answer_of, accepting}
 use Rattle.message.specs.Cut.{IsMessage}
 use Rattle.message.specs.declared.message.Message.{Message}
-use Rattle.captures.proofs.Elements.{All_at, All-middle}
+use Rattle.captures.proofs.Elements.{All-middle}
 use Rattle.captures.proofs.OneMode.{AgreesWith, packets_agree}
 use Rattle.receiver.specs.Agreeing.{opens_another}
 use Rattle.roundtrip.proofs.FirstPackets.{packets_describe}
@@ -81,24 +82,24 @@ module _ (program : Image) (period : ℕ) (mode : Mode) (logs : List ProgramLog)
   packets_at : (hart : ℕ) (log : ProgramLog) → slice_get logs hart ≡ Some log
       → packets_of hart all ≡ packets (words_of program) period mode log.events
   packets_at hart log at =
-      packets_of-log period mode hart logs log at (All_at (IsSound period mode) logs hart log at sound)
+      packets_of-log period mode hart logs log at (All-slice_get (IsSound period mode) logs hart log at sound)
       ∙ ap (λ (p : Image). packets (words_of p) period mode log.events)
-      (All_at (λ (l : ProgramLog). l.program ≡ program) logs hart log at all_same)
+      (All-slice_get (λ (l : ProgramLog). l.program ≡ program) logs hart log at all_same)
 
   -- Where there is a log, the bytes of the program are an image.
   pub program_image : (hart : ℕ) (log : ProgramLog) → slice_get logs hart ≡ Some log → IsImage program
   program_image hart log at =
-      subst IsImage (All_at (λ (l : ProgramLog). l.program ≡ program) logs hart log at all_same)
-      (All_at (IsSound period mode) logs hart log at sound).image
+      subst IsImage (All-slice_get (λ (l : ProgramLog). l.program ≡ program) logs hart log at all_same)
+      (All-slice_get (IsSound period mode) logs hart log at sound).image
 
   -- They describe it.
   pub log_described : (hart : ℕ) (log : ProgramLog) → slice_get logs hart ≡ Some log
       → Describes (words_of program) (packets_of hart all) log.events
   log_described hart log at =
-      let same = All_at (λ (l : ProgramLog). l.program ≡ program) logs hart log at all_same in
+      let same = All-slice_get (λ (l : ProgramLog). l.program ≡ program) logs hart log at all_same in
       let legal =
       subst (λ (p : Image). Legal (words_of p) log.events) same
-      (All_at (IsSound period mode) logs hart log at sound).legal in
+      (All-slice_get (IsSound period mode) logs hart log at sound).legal in
       let describe =
       packets_describe (words_of program) (words_of-IsProgram program (program_image hart log at)) period mode
       log.events legal in

@@ -210,7 +210,8 @@ pub fn asked<'a>(alloc: Global, words: &'a [String]) -> Result<Asked<'a>, Error>
     ensures limits { IfOk result IsWithinLimits }
     ensures refused { FailsBy (fault_of program_app (map string_bytes words.now)) result }
     // The same of an error, in words that need no `clap`.
-    ensures fault { IfErr result (λ error. (kind_of error ≡ kind.OutOfMemory) ⊎ AreRefused (map string_bytes words.now)) }
+    ensures fault { IfErr result
+        (λ error. (kind_of error ≡ kind.OutOfMemory) ⊎ AreRefused (map string_bytes words.now)) }
 {
     let matches = program(alloc)?.try_get_matches_from(words)?;
     match matches.subcommand() {

@@ -41,7 +41,8 @@ pub fn bench<'a, F: Files, O: Write, R: Threads + Wait + Sync>(
         (λ fault. result ≡ Err fault) }
     ensures refused { end_of result ≡ Status.Refused → out.new ≡ out.old }
     ensures untouched { result ≡ Err Fault.Memory → out.new ≡ out.old }
-    ensures printed { PrintsUnlessDenied (Benches (F.content files.old) asked.now) (CanBench (F.content files.old) asked.now) result
+    ensures printed { PrintsUnlessDenied (Benches (F.content files.old) asked.now)
+        (CanBench (F.content files.old) asked.now) result
         (O.contents out.old) (O.contents out.new) }
     ensures cut { IsCutOf (Benches (F.content files.old) asked.now) (O.contents out.old) (O.contents out.new) }
 {
@@ -88,7 +89,8 @@ fn outcome_of<'a, R: Threads + Wait + Sync>(
         AreBeginnings (config_at asked.now.period asked.now.mode asked.now.capacity) logs.now outcome.harts.items) }
     ensures names { IfOk result (λ outcome. NamesOpen outcome.stop outcome.harts.items) }
     ensures fault { IfErr result (λ why. (why ≡ Fault.Memory)
-        ⊎ IsSetting most_ports (length logs.now) (config_at asked.now.period asked.now.mode asked.now.capacity) (Err why)) }
+        ⊎ IsSetting most_ports (length logs.now) (config_at asked.now.period asked.now.mode asked.now.capacity)
+        (Err why)) }
 {
     let config = Config {
         period: asked.period,

@@ -38,7 +38,8 @@ pub fn check<'a, F: Files, O: Write>(
 ) -> Result<Status, Fault<'a>>
     ensures early { IfSome (logs_fault (most_harts Two) (number_of asked.now.base.now) (length asked.now.logs.items))
         (λ fault. result ≡ Err fault) }
-    ensures printed { PrintsUnlessDenied (Checks (F.content files.old) asked.now) (CanCheck (F.content files.old) asked.now) result
+    ensures printed { PrintsUnlessDenied (Checks (F.content files.old) asked.now)
+        (CanCheck (F.content files.old) asked.now) result
         (O.contents out.old) (O.contents out.new) }
     ensures begun { result ≡ Err Fault.Memory → Keeps (O.contents out.old) (O.contents out.new)
         ⊎ BeginsLines (F.content files.old) asked.now (O.contents out.old) (O.contents out.new) }
@@ -68,7 +69,8 @@ fn judge_all<'a, F: Files, O: Write>(
         (O.contents out.old) (O.contents out.new) }
     ensures begun { result ≡ Err Fault.Memory → AppendsFirstLines (F.content files.old) program.now logs.now
         (O.contents out.old) (O.contents out.new) }
-    ensures cut { BeginsPrinted (WritesFirstLines (F.content files.old) program.now logs.now) (O.contents out.old) (O.contents out.new) }
+    ensures cut { BeginsPrinted (WritesFirstLines (F.content files.old) program.now logs.now) (O.contents out.old)
+        (O.contents out.new) }
 {
     let mut status = Status::Whole;
     for path in logs {
@@ -104,7 +106,8 @@ fn write_line<'a, O: Write>(
     out: &mut O,
 ) -> Result<(), Fault<'a>>
     ensures fault { IfErr result (λ fault. fault ≡ Fault.Output) }
-    ensures text { OnOk result (Appends (O.contents out.old) (O.contents out.new) (verdict_line path.now count illegal)) }
+    ensures text { OnOk result
+        (Appends (O.contents out.old) (O.contents out.new) (verdict_line path.now count illegal)) }
     ensures begun { AppendsBeginning (verdict_line path.now count illegal) (O.contents out.old) (O.contents out.new) }
 {
     match write_bytes(out, path.as_bytes()) {

@@ -41,7 +41,8 @@ pub fn decode<'a, F: Files, O: Write>(
 ) -> Result<Status, Fault<'a>>
     ensures early { IfSome (base_fault (number_of asked.now.base.now)) (λ fault. result ≡ Err fault) }
     ensures refused { end_of result ≡ Status.Refused → out.new ≡ out.old }
-    ensures printed { PrintsUnlessDenied (Decodes (F.content files.old) asked.now) (CanDecode (F.content files.old) asked.now) result
+    ensures printed { PrintsUnlessDenied (Decodes (F.content files.old) asked.now)
+        (CanDecode (F.content files.old) asked.now) result
         (O.contents out.old) (O.contents out.new) }
     ensures begun { result ≡ Err Fault.Memory → Keeps (O.contents out.old) (O.contents out.new)
         ⊎ BeginsPrinted (Decodes (F.content files.old) asked.now) (O.contents out.old) (O.contents out.new) }

@@ -40,7 +40,8 @@ pub fn carry_out<'a, F: Files, O: Write, R: Threads + Wait + Sync>(
     ensures early { IfSome (early_fault asked.now) (λ fault. result ≡ Err fault) }
     ensures printed { IsCarriedOut (F.content files.old) asked.now result (O.contents out.old) (O.contents out.new) }
     // Where memory is refused, a beginning of the text was written.
-    ensures begun { result ≡ Err Fault.Memory → IsBegun (F.content files.old) asked.now (O.contents out.old) (O.contents out.new) }
+    ensures begun { result ≡ Err Fault.Memory
+        → IsBegun (F.content files.old) asked.now (O.contents out.old) (O.contents out.new) }
     // Then nothing is written but by `check` and `decode`.
     ensures untouched { ¬ WritesInParts asked.now → result ≡ Err Fault.Memory → out.new ≡ out.old }
     // Where the input is refused, nothing is written, but for the lines of `check`.

@@ -24,7 +24,8 @@ pub fn dump<'a, F: Files, O: Write>(
 ) -> Result<Status, Fault<'a>>
     ensures refused { end_of result ≢ Status.Refused }
     ensures untouched { result ≡ Err Fault.Memory → out.new ≡ out.old }
-    ensures printed { PrintsUnlessDenied (Dumps (F.content files.old) asked.now) (CanDump (F.content files.old) asked.now) result
+    ensures printed { PrintsUnlessDenied (Dumps (F.content files.old) asked.now)
+        (CanDump (F.content files.old) asked.now) result
         (O.contents out.old) (O.contents out.new) }
     ensures cut { IsCutOf (Dumps (F.content files.old) asked.now) (O.contents out.old) (O.contents out.new) }
 {

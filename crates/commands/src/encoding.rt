@@ -31,11 +31,13 @@ pub fn encode<'a, F: Files, O: Write>(
     out: &mut O,
 ) -> Result<Status, Fault<'a>>
     requires { 1 ≤ asked.now.period }
-    ensures early { IfSome (logs_fault (most_harts asked.now.version) (number_of asked.now.base.now) (length asked.now.logs.items))
+    ensures early { IfSome
+        (logs_fault (most_harts asked.now.version) (number_of asked.now.base.now) (length asked.now.logs.items))
         (λ fault. result ≡ Err fault) }
     ensures refused { end_of result ≡ Status.Refused → out.new ≡ out.old }
     ensures untouched { result ≡ Err Fault.Memory → out.new ≡ out.old }
-    ensures printed { PrintsUnlessDenied (Encodes (F.content files.old) asked.now) (CanEncode (F.content files.old) asked.now) result
+    ensures printed { PrintsUnlessDenied (Encodes (F.content files.old) asked.now)
+        (CanEncode (F.content files.old) asked.now) result
         (O.contents out.old) (O.contents out.new) }
     ensures cut { IsCutOf (Encodes (F.content files.old) asked.now) (O.contents out.old) (O.contents out.new) }
 {

@@ -63,7 +63,8 @@ pub(crate) fn program_of<'a, F: Files>(
     image: &'a str,
 ) -> Result<Program, Fault<'a>>
     ensures program { IfOk result (λ program. IsProgram (F.content files.old) base image.entry (Ok program)) }
-    ensures fault { IfErr result (λ why. (why ≡ Fault.Memory) ⊎ IsProgram (F.content files.old) base image.entry (Err why)) }
+    ensures fault { IfErr result
+        (λ why. (why ≡ Fault.Memory) ⊎ IsProgram (F.content files.old) base image.entry (Err why)) }
     ensures kept { F.content files.new ≡ F.content files.old }
 {
     let bytes = content_of(files, image)?;
@@ -119,7 +120,8 @@ pub(crate) fn legal_log_of<'a, 'p, F: Files>(
     path: &'a str,
 ) -> Result<LegalLog<'p>, Fault<'a>>
     ensures log { IfOk result (λ log. IsLegalLogAt (F.content files.old) program.now path.entry (Ok log)) }
-    ensures fault { IfErr result (λ why. (why ≡ Fault.Memory) ⊎ IsLegalLogAt (F.content files.old) program.now path.entry (Err why)) }
+    ensures fault { IfErr result
+        (λ why. (why ≡ Fault.Memory) ⊎ IsLegalLogAt (F.content files.old) program.now path.entry (Err why)) }
     ensures kept { F.content files.new ≡ F.content files.old }
 {
     let events = log_of(alloc, files, path)?;
@@ -138,7 +140,8 @@ pub(crate) fn legal_logs_of<'a, 'p, F: Files>(
 ) -> Result<Vec<LegalLog<'p>>, Fault<'a>>
     ensures count { IfOk result (λ logs. vec_len logs ≡ length paths.now) }
     ensures logs { IfOk result (λ logs. AreLegalLogs (F.content files.old) program.now paths.now (Ok logs.items)) }
-    ensures fault { IfErr result (λ why. (why ≡ Fault.Memory) ⊎ AreLegalLogs (F.content files.old) program.now paths.now (Err why)) }
+    ensures fault { IfErr result
+        (λ why. (why ≡ Fault.Memory) ⊎ AreLegalLogs (F.content files.old) program.now paths.now (Err why)) }
     ensures kept { F.content files.new ≡ F.content files.old }
 {
     let mut logs = Vec::new(alloc);

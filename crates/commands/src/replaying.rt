@@ -41,7 +41,8 @@ pub fn replay<'a, F: Files, O: Write>(
         (λ fault. result ≡ Err fault) }
     ensures refused { end_of result ≡ Status.Refused → out.new ≡ out.old }
     ensures untouched { result ≡ Err Fault.Memory → out.new ≡ out.old }
-    ensures printed { PrintsUnlessDenied (Replays (F.content files.old) asked.now) (CanReplay (F.content files.old) asked.now) result
+    ensures printed { PrintsUnlessDenied (Replays (F.content files.old) asked.now)
+        (CanReplay (F.content files.old) asked.now) result
         (O.contents out.old) (O.contents out.new) }
     ensures cut { IsCutOf (Replays (F.content files.old) asked.now) (O.contents out.old) (O.contents out.new) }
 {
@@ -69,7 +70,8 @@ fn replay_logs<'a, F: Files, O: Write>(
     ensures untouched { result ≡ Err Fault.Memory → out.new ≡ out.old }
     ensures printed { PrintsUnlessDenied (ReplaysLogs (F.content files.old) asked.now logs.now)
         (CanReplayLogs (F.content files.old) asked.now logs.now) result (O.contents out.old) (O.contents out.new) }
-    ensures cut { IsCutOf (ReplaysLogs (F.content files.old) asked.now logs.now) (O.contents out.old) (O.contents out.new) }
+    ensures cut { IsCutOf (ReplaysLogs (F.content files.old) asked.now logs.now) (O.contents out.old)
+        (O.contents out.new) }
 {
     let turns = turns_of(alloc, files, logs.len() as u16, asked.schedule)?;
     let outcome = outcome_of(alloc, logs, asked, turns.as_slice())?;
@@ -84,7 +86,8 @@ fn turns_of<'a, F: Files>(
     path: &'a str,
 ) -> Result<Vec<Turn>, Fault<'a>>
     ensures turns { IfOk result (λ turns. IsSchedule (F.content files.old) harts path.entry (Ok turns.items)) }
-    ensures fault { IfErr result (λ why. (why ≡ Fault.Memory) ⊎ IsSchedule (F.content files.old) harts path.entry (Err why)) }
+    ensures fault { IfErr result
+        (λ why. (why ≡ Fault.Memory) ⊎ IsSchedule (F.content files.old) harts path.entry (Err why)) }
 {
     let bytes = content_of(files, path)?;
     match read_schedule(alloc, harts, bytes.as_slice()) {
@@ -101,13 +104,15 @@ fn outcome_of<'a>(
     turns: &[Turn],
 ) -> Result<Outcome, Fault<'a>>
     ensures setting { IfOk result (λ _.
-        IsSetting (most_harts Two) (length logs.now) (config_at asked.now.period asked.now.mode asked.now.capacity) (Ok tt)) }
+        IsSetting (most_harts Two) (length logs.now) (config_at asked.now.period asked.now.mode asked.now.capacity)
+        (Ok tt)) }
     ensures count { IfOk result (λ outcome. length logs.now ≡ length outcome.harts.items) }
     ensures came { IfOk result (λ outcome. AreGot asked.now.period asked.now.mode logs.now
         (replayed asked.now.period asked.now.mode asked.now.capacity logs.now turns.now).taken outcome.stop
         (map got_of outcome.harts.items)) }
     ensures fault { IfErr result (λ why. (why ≡ Fault.Memory)
-        ⊎ IsSetting (most_harts Two) (length logs.now) (config_at asked.now.period asked.now.mode asked.now.capacity) (Err why)) }
+        ⊎ IsSetting (most_harts Two) (length logs.now) (config_at asked.now.period asked.now.mode asked.now.capacity)
+        (Err why)) }
 {
     let config = Config {
         period: asked.period,

@@ -3,6 +3,7 @@ use Rattle.std.specs.Prelude.{ℕ, ◌==◌, ◌&&◌, not, Bool, true, false, L
 use Rattle.retire.specs.Events.{is_branch, outcomes}
 use Rattle.retire.specs.declared.event.Event.{Event}
 use Rattle.rvclass.specs.Words.{Words}
+use Rattle.payload.specs.Limits.{most_outcomes}
 use Rattle.encoder.specs.Rule.{rule}
 use Rattle.encoder.specs.Spot.{Spot, spots_of}
 use Rattle.encoder.specs.declared.rule.Rule.{Rule}
@@ -22,7 +23,7 @@ events_of piece = piece.front ++ piece.last ∷ []
 -- 31st branch since the last cut, which fills the branch map.
 abbrev pub is_cut : List Event → Event → Rule → Bool
 is_cut front event (rule_of.Trap handler) = not handler
-is_cut front event rule_of.FullMap = is_branch event && (length (outcomes (front ++ event ∷ [])) == 31)
+is_cut front event rule_of.FullMap = is_branch event && (length (outcomes (front ++ event ∷ [])) == most_outcomes)
 is_cut front event other = true
 
 -- A piece ends at a cut, and what follows begins the next one; where there is no cut it goes on.

@@ -7,6 +7,7 @@ ghost use Rattle.retire.specs.Is64Bit.{Is64Bit};
 ghost use Rattle.rvclass.specs.Fetch.{words_of};
 ghost use Rattle.rvclass.specs.Words.{Words};
 ghost use Rattle.legalpath.specs.Legal.{Legal};
+ghost use Rattle.payload.specs.Limits.{most_outcomes};
 ghost use Rattle.payload.specs.Profile.{InProfile};
 ghost use Rattle.payload.specs.declared.mode.Mode.{Mode};
 ghost use Rattle.encoder.specs.Packets.{packets, closing};
@@ -19,7 +20,7 @@ use crate::packet::{handler_packet, packet_by, reported_by};
 use crate::passing::passes;
 use crate::rule::{Rule, rule_at_end, rule_before};
 use arrayvec::ArrayVec;
-use payload::{Mode, Outcomes, Packet, Support};
+use payload::{MOST_OUTCOMES, Mode, Outcomes, Packet, Support};
 use retire::Event;
 use rvclass::Program;
 
@@ -205,7 +206,7 @@ impl Encoder {
                 matches!(
                     rule_before(program, held, self.due, next, due),
                     Rule::FullMap
-                ) && self.pending.len() < 31
+                ) && self.pending.len() < MOST_OUTCOMES
             }
             None => false,
         }
@@ -240,7 +241,7 @@ impl Encoder {
     /// Holds an event, of which `due` is.
     #[inline]
     fn hold(&mut self, event: Event, due: Due)
-        requires { length self.old.pending < 31 }
+        requires { length self.old.pending < most_outcomes }
         ensures after { self.new ≡ stepping.hold self.old self.old.pending self.old.reported event due }
         ensures numbers { Is64Bit event }
     {
@@ -262,7 +263,7 @@ impl Encoder {
 /// Adds the outcome of an event, if it is a branch.
 #[inline(always)]
 fn add_outcome(pending: &mut Outcomes, event: &Event)
-    requires { length pending.old < 31 }
+    requires { length pending.old < most_outcomes }
     ensures { pending.new ≡ stepping.pending_with Due.Nothing event.now pending.old }
 {
     if event.is_branch() {

@@ -7,7 +7,7 @@ ghost use Rattle.encoder.specs.steps.Stepping.{passes};
 
 use crate::due::is_discontinuity;
 use crate::rule::jumps_back;
-use payload::Outcomes;
+use payload::{MOST_OUTCOMES, Outcomes};
 use retire::Event;
 use rvclass::Program;
 
@@ -28,7 +28,7 @@ pub fn passes(program: &Program, held: &Event, left: u16, pending: &Outcomes, ne
                 privilege == *level
                     && left != 0
                     && !is_discontinuity(*itype)
-                    && pending.len() < 31
+                    && pending.len() < MOST_OUTCOMES
                     && !jumps_back(program, held, &next)
             }
             Event::Trap { .. } => false,

@@ -9,6 +9,7 @@ use mathlib.Core.Option.{some}
 use lib.ListN.{get_elem?}
 use Rattle.atomic_table.proofs.Lists.{set_else, at_longer, at_last}
 use Rattle.message.specs.OfHart.{of_hart}
+use Rattle.message.proofs.Elements.{slice_get-behind}
 use Rattle.message.proofs.OfHartLemmas.{of_hart-append}
 use Rattle.message.specs.declared.message.Message.{Message}
 use Rattle.funnel.specs.Lawful.{Lawful}
@@ -18,7 +19,6 @@ use Rattle.funnel.specs.Order.{AreInOrder}
 use Rattle.funnel.specs.Rule.{Kept, TakesOne, handed_out, newborn, next_port}
 use Rattle.funnel.specs.declared.rule.View.{View}
 use Rattle.funnel.specs.declared.rule.View.TheVariants as V
-use Rattle.funnel.proofs.Places.{slice_get-behind}
 use Rattle.funnel.proofs.RuleSteps.{set_there}
 
 -- A new channel is the opening of no harts.

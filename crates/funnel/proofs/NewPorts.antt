@@ -5,7 +5,8 @@ use Rattle.std.proofs.lemmas.Option.{slice_get-get_or}
 use mathlib.Core.Logic.{dite}
 use native.Mathlib.Decide.{dec_le}
 use Rattle.funnel.specs.Ends.{FunnelId, PortView, new_port, AreNewPorts}
-use Rattle.funnel.proofs.Places.{slice_get-behind, slice_get-front}
+use Rattle.message.proofs.Elements.{slice_get-behind}
+use Rattle.funnel.proofs.Places.{slice_get-front}
 
 pub new_ports_next : (funnel : FunnelId) (n : ℕ) (ports : List PortView) → AreNewPorts funnel n ports
     → AreNewPorts funnel (n + 1) (ports ++ new_port funnel n ∷ [])

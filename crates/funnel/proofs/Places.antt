@@ -1,6 +1,6 @@
 -- What stands at a place of a list that another list, or one element, stands behind.
-use Rattle.std.proofs.Common.{◌≡◌, ◌⊎◌, ◌<◌, inl, inr, ⊎_elim, ℕ, zero, suc, List, [], ◌∷◌, ◌++◌, Some, length, get_or}
-use Rattle.std.proofs.Common.{replicate, slice_get, refl, sym, ap, arith}
+use Rattle.std.proofs.Common.{◌≡◌, ◌⊎◌, inl, inr, ⊎_elim, ℕ, zero, suc, List, [], ◌∷◌, ◌++◌, Some, length, get_or}
+use Rattle.std.proofs.Common.{replicate, slice_get, refl, sym, ap}
 use mathlib.Core.Option.{some, some-ne-none}
 use lib.ListN.{get_elem?}
 use Rattle.std.proofs.lemmas.Option.{same_Some}
@@ -25,18 +25,6 @@ slice_get-next (a ∷ front) last (suc n) x is = behind (slice_get-next front la
         → (slice_get front n ≡ Some x) ⊎ ((suc n ≡ suc (length front)) × (last ≡ x))
     behind (inl before) = inl before
     behind (inr here) = inr (ap suc here.0, here.1)
-
--- What stands right behind a list.
-pub slice_get-behind : {X : Type 0} (front : List X) (x : X) (more : List X)
-    → slice_get (front ++ x ∷ more) (length front) ≡ Some x
-slice_get-behind [] x more = refl
-slice_get-behind (a ∷ front) x more = slice_get-behind front x more
-
--- Each place within a list has something.
-pub slice_get-some : {X : Type 0} (xs : List X) (n : ℕ) → n < length xs → (x : X) × (slice_get xs n ≡ Some x)
-slice_get-some [] n within = absurd (omega arith)
-slice_get-some (x ∷ xs) zero within = (x, refl)
-slice_get-some (x ∷ xs) (suc n) within = slice_get-some xs n (omega arith)
 
 -- With one element more, what stands at a place stood there before, or is that element.
 pub get_elem-next : {X : Type 0} (front : List X) (last x : X) (n : ℕ) → get_elem? (front ++ last ∷ []) n ≡ some x

@@ -12,6 +12,7 @@ use Rattle.std.proofs.lemmas.Bool.Decides.{eqb_tells}
 use Rattle.crossbeam_channel.specs.Fifo.{Pushes, Pops, Forks, Merges, Learns}
 use Rattle.payload.specs.Closing.{is_closing}
 use Rattle.message.specs.OfHart.{of_hart}
+use Rattle.message.proofs.Elements.{slice_get-behind, slice_get-some}
 use Rattle.message.proofs.OfHartLemmas.{of_hart-append, of_hart-own, of_hart-next, of_hart-other}
 use Rattle.message.specs.declared.message.Message.{Message}
 use Rattle.funnel.specs.declared.rule.View.{View}
@@ -19,7 +20,7 @@ use Rattle.funnel.specs.declared.rule.View.TheVariants as V
 use Rattle.funnel.specs.Limits.{most_messages}
 use Rattle.funnel.specs.Order.{AreInOrder}
 use Rattle.funnel.specs.Rule.{Fits, Kept, newborn, TookInOrder, TakesOne, Compares, SendsOn, SendsLast}
-use Rattle.funnel.proofs.Places.{get_elem-next, slice_get-behind, slice_get-front, slice_get-some}
+use Rattle.funnel.proofs.Places.{get_elem-next, slice_get-front}
 use Rattle.funnel.proofs.OrderLemmas.{NoneCloses, in_order-front, in_order-next}
 
 abbrev All : (ℕ → View → Type 0) → List View → Type 0

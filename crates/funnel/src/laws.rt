@@ -40,8 +40,8 @@ pub fn live_channel_is_the_machine()
     ensures new { AreLive [] (newborn ∷ []) (opening []) }
 
     // Where the outlet hands out a port, there is one hart more, which sent nothing.
-    ensures hands_out { (queue : List Message) (views : List View) (state : Funnel) (pass made : ℕ) (taken : List Message)
-        (told : Option ℕ) (list : List Message) (before : View) →
+    ensures hands_out { (queue : List Message) (views : List View) (state : Funnel) (pass made : ℕ)
+        (taken : List Message) (told : Option ℕ) (list : List Message) (before : View) →
         Kept queue views → AreLive queue views state → before ≡ V.Outlet made taken told list →
         get_elem? views pass ≡ some before →
         AreLive queue (slice_set views pass (handed_out before) ++ next_port before ∷ []) (with_new_hart state) }

@@ -27,7 +27,8 @@ pub fn open<A: Allocator + Clone>(
     ensures made { IfOk result (λ opened. opened.1.made ≡ harts) }
     ensures room { IfOk result (λ opened. opened.1.room ≡ capacity) }
     ensures nothing_taken { IfOk result (λ opened. opened.1.taken ≡ []) }
-    ensures each { IfOk result (λ opened. All (λ port. (port.funnel ≡ opened.1.funnel) × (port.sent ≡ [])) opened.0.items) }
+    ensures each { IfOk result
+        (λ opened. All (λ port. (port.funnel ≡ opened.1.funnel) × (port.sent ≡ [])) opened.0.items) }
     ensures refused { (fault : AnyFault) → limit_fault most_ports harts capacity ≡ Some fault → result ≡ Err fault }
     ensures memory { limit_fault most_ports harts capacity ≡ None → IfErr result (λ fault. fault ≡ OpenFault.Memory) }
 {

@@ -42,7 +42,8 @@ impl<A: Allocator> Model for Outlet<A> {
     } };
 
     ghost invariant = { λ o. IsSeatAt (receives_on o.receiver) o.pass × IsOutlet (vec_len o.counts) (knows o.pass)
-        × ((h : ℕ) → h < vec_len o.counts → slice_index o.counts.items h ≡ length (of_hart h (taken_of (knows o.pass)))) };
+        × ((h : ℕ) → h < vec_len o.counts
+        → slice_index o.counts.items h ≡ length (of_hart h (taken_of (knows o.pass)))) };
 }
 
 impl<A: Allocator> Outlet<A> {
@@ -54,7 +55,8 @@ impl<A: Allocator> Outlet<A> {
         ensures number { IfOk result (λ message. message.number ≡ length (of_hart message.hart self.old.taken)) }
         ensures hart { IfOk result (λ message. message.hart < self.old.made) }
         // Of its hart it is one more, and what was taken of each hart is in order.
-        ensures one_more { IfOk result (λ message. of_hart message.hart self.new.taken ≡ of_hart message.hart self.old.taken ++ message ∷ []) }
+        ensures one_more { IfOk result
+            (λ message. of_hart message.hart self.new.taken ≡ of_hart message.hart self.old.taken ++ message ∷ []) }
         ensures in_order { (hart : ℕ) → AreInOrder hart (of_hart hart self.new.taken) }
         ensures ended { OnErr result (self.new ≡ self.old) }
         ensures funnel { self.new.funnel ≡ self.old.funnel }
@@ -81,7 +83,8 @@ impl<A: Allocator> Outlet<A> {
         ensures taken { result.taken ≡ length (of_hart receipt.hart self.old.taken) }
         // What was taken is a beginning of what was sent, and all of it where its last payload is closing.
         ensures beginning { IsBeginning (of_hart receipt.hart self.old.taken) receipt.sent }
-        ensures whole { EndsClosing (of_hart receipt.hart self.old.taken) → of_hart receipt.hart self.old.taken ≡ receipt.sent }
+        ensures whole { EndsClosing (of_hart receipt.hart self.old.taken)
+            → of_hart receipt.hart self.old.taken ≡ receipt.sent }
     {
         let Receipt {
             sender,

@@ -40,8 +40,10 @@ impl<A: Allocator> Core<A> {
     /// to 65,536. A fault leaves nothing taken.
     pub fn new(alloc: A, harts: u16, capacity: u32) -> Result<Core<A>, OpenFault>
         ensures made { IfOk result (λ core. core ≡ record { harts = harts; capacity = capacity; queue = [] }) }
-        ensures refused { (fault : AnyFault) → limit_fault (most_harts Two) harts capacity ≡ Some fault → result ≡ Err fault }
-        ensures memory { limit_fault (most_harts Two) harts capacity ≡ None → IfErr result (λ fault. fault ≡ OpenFault.Memory) }
+        ensures refused { (fault : AnyFault) → limit_fault (most_harts Two) harts capacity ≡ Some fault
+            → result ≡ Err fault }
+        ensures memory { limit_fault (most_harts Two) harts capacity ≡ None
+            → IfErr result (λ fault. fault ≡ OpenFault.Memory) }
     {
         if let Some(fault) = fault_of(MOST_HARTS, harts, capacity) {
             return Err(fault);

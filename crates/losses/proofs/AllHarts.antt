@@ -1,12 +1,12 @@
 -- What is collected of all harts, from one message to the next.
-use Rattle.std.proofs.Common.{◌≡◌, ◌≢◌, ◌⊎◌, inl, inr, ℕ, zero, suc, ◌+◌, ◌-◌, ◌<◌, ◌≤◌, ◌^◌, false, List, [], ◌∷◌}
-use Rattle.std.proofs.Common.{drop, map, length, set, Some, None, Ok, get_or, slice_get, refl, sym, ap, subst, ◌∙◌}
+use Rattle.std.proofs.Common.{◌≡◌, ◌≢◌, ◌⊎◌, inl, inr, ℕ, zero, suc, ◌+◌, ◌-◌, ◌<◌, ◌^◌, false, List, [], ◌∷◌}
+use Rattle.std.proofs.Common.{drop, map, length, set, Some, Ok, get_or, slice_get, refl, sym, ap, subst, ◌∙◌}
 use Rattle.std.proofs.Common.{arith}
 use Rattle.std.specs.Prelude.{⊤, Result, Err, OnOk, IfErr, slice_set}
 use Rattle.std.proofs.lemmas.Bool.{lt-ltb}
 use Rattle.std.proofs.lemmas.List.{drop-drop, length-set}
 use Rattle.std.proofs.lemmas.List.Elements.{All-head, All-tail, All-get_or}
-use Rattle.std.proofs.lemmas.Option.{slice_get-get_or, slice_get_cases, same_Some}
+use Rattle.std.proofs.lemmas.Option.{slice_get-get_or, same_Some}
 use Rattle.retire.specs.declared.event.Event.{Event}
 use Rattle.rvclass.proofs.WordsLemmas.{words_of-IsProgram}
 use Rattle.rvclass.specs.Fetch.{words_of}
@@ -22,6 +22,7 @@ use Rattle.payload.specs.declared.packet.Packet.{Packet}
 use Rattle.encoder.specs.Packets.{packets}
 use Rattle.message.proofs.AcceptedLemmas.{slice_get-set}
 use Rattle.message.proofs.AnsweringLossy.{answer_lossy-next}
+use Rattle.message.proofs.Elements.{slice_get-some}
 use Rattle.message.proofs.HartMessages.{packets_in-cons}
 use Rattle.message.proofs.OfHartLemmas.{of_hart-own, of_hart-others}
 use Rattle.message.specs.Accepting.{next_of}
@@ -260,15 +261,6 @@ module _ {A : Type 0} (program : Image) (period : ℕ) (handed : Mode) (own_mode
           each = each_hart;
         })
 
--- An item stands at each place of a list.
-pub some_at : {X : Type 0} (xs : List X) (i : ℕ) → i < length xs → (x : X) × (slice_get xs i ≡ Some x)
-some_at xs i within = by_cases (slice_get_cases xs i)
-  where
-    by_cases : (slice_get xs i ≡ slice_get xs i) × (((x : _) × (i < length xs) × (slice_get xs i ≡ Some x)
-        × (get_or xs i x ≡ x)) ⊎ ((length xs ≤ i) × (slice_get xs i ≡ None))) → (x : _) × (slice_get xs i ≡ Some x)
-    by_cases (same, inl found) = (found.0, found.2)
-    by_cases (same, inr (past, none)) = let never : ⊥ = omega (arith, within, past) in absurd never
-
 -- An answer has one packet.
 abbrev packet_in : Packet → Result (Packet × ℕ) DemuxFault → Packet
 packet_in p (Ok taken) = taken.0
@@ -293,8 +285,8 @@ module _ {A : Type 0} (program : Image) (period : ℕ) (handed : Mode) (own_mode
   taken_next traces_count pieces_count =
       let within = All-head (λ (m : Message). m.hart < length logs) message left f.known in
       let count = f.harts_count in
-      let t = some_at traces message.hart (omega (arith, within, count, traces_count)) in
-      let p = some_at pieces message.hart (omega (arith, within, count, pieces_count)) in
+      let t = slice_get-some traces message.hart (omega (arith, within, count, traces_count)) in
+      let p = slice_get-some pieces message.hart (omega (arith, within, count, pieces_count)) in
       let n = next program period handed own_mode logs messages left message harts traces pieces t.0 p.0 f t.1 p.1 in (
         n.packet,
         n.missed,

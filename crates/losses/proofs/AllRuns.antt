@@ -12,6 +12,7 @@ use Rattle.payload.specs.declared.mode.Mode.{Mode}
 use Rattle.payload.specs.declared.packet.Packet.{Packet}
 use Rattle.decoder.specs.Resuming.{IsClosed}
 use Rattle.message.proofs.AcceptedLemmas.{slice_get-set}
+use Rattle.message.proofs.Elements.{slice_get-some}
 use Rattle.message.proofs.HartMessages.{has_ended-next, packets_of-next, packets_of-other}
 use Rattle.message.proofs.OfHartLemmas.{of_hart-next, of_hart-other}
 use Rattle.message.specs.Accepted.{newcomers}
@@ -30,7 +31,6 @@ use Rattle.losses.specs.declared.fault.LossyFault.{LossyFault}
 use Rattle.losses.specs.declared.fault.LossyFault.TheVariants as fault
 use Rattle.losses.specs.declared.hart_trace.HartTrace.{HartTrace}
 use Rattle.losses.specs.declared.part.HartPieces.{HartPieces}
-use Rattle.losses.proofs.AllHarts.{some_at}
 use Rattle.losses.proofs.MessageSteps.{IsTaken, message_more, message_untold, taken_by, tells_parts}
 use Rattle.losses.proofs.RunLemmas.{describes_nothing}
 use Rattle.losses.proofs.TraceSteps.{state_laws}
@@ -250,9 +250,9 @@ told_last words mode messages demux traces before after f traces_count harts_cou
     hart_ended hart pieces at =
         let inside = slice_get_within after hart pieces at in
         let all = ended.count in
-        let t = some_at traces hart (omega (arith, inside, all, traces_count)) in
-        let p = some_at before hart (omega (arith, inside, all)) in
-        let e = some_at demux hart (omega (arith, inside, all, harts_count)) in
+        let t = slice_get-some traces hart (omega (arith, inside, all, traces_count)) in
+        let p = slice_get-some before hart (omega (arith, inside, all)) in
+        let e = slice_get-some demux hart (omega (arith, inside, all, harts_count)) in
         (t.0, p.0, ended.each hart t.0 p.0 pieces t.1 p.1 at, e, t.1, p.1)
 
 -- The messages so far tell some parts of each hart.
@@ -260,9 +260,9 @@ pub tell_some : {A : Type 0} (words : Words) (mode : Mode) (count : ℕ) (messag
     (traces : List (HartTrace A)) (pieces : List (HartPieces A)) → TellsAll words mode messages demux traces pieces
     → length demux ≡ count → length traces ≡ count → length pieces ≡ count → TellSome words mode count messages
 tell_some words mode count messages demux traces pieces f harts_count traces_count pieces_count = λ hart few.
-    let e = some_at demux hart (omega (arith, few, harts_count)) in
-    let t = some_at traces hart (omega (arith, few, traces_count)) in
-    let p = some_at pieces hart (omega (arith, few, pieces_count)) in (
+    let e = slice_get-some demux hart (omega (arith, few, harts_count)) in
+    let t = slice_get-some traces hart (omega (arith, few, traces_count)) in
+    let p = slice_get-some pieces hart (omega (arith, few, pieces_count)) in (
       _,
       tells_parts words mode (of_hart hart messages) _ _ _ _ _ (f.each hart e.0 t.0 p.0 e.1 t.1 p.1),
     )

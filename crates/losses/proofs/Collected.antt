@@ -18,6 +18,7 @@ use Rattle.payload.specs.declared.packet.Packet.{Packet}
 use Rattle.encoder.specs.Packets.{packets}
 use Rattle.encoder.specs.Payloads.{payloads}
 use Rattle.decoder.specs.Resuming.{IsClosed}
+use Rattle.message.proofs.Elements.{slice_get-some}
 use Rattle.message.specs.Accepted.{newcomers}
 use Rattle.message.specs.Harts.{Harts, newcomer}
 use Rattle.message.specs.Numbered.{messages_from}
@@ -32,7 +33,6 @@ use Rattle.losses.specs.steps.Collecting.{closed_by}
 use Rattle.losses.specs.steps.Following.{FollowsTrace}
 use Rattle.losses.specs.declared.hart_trace.HartTrace.{HartTrace}
 use Rattle.losses.specs.declared.part.HartPieces.{HartPieces}
-use Rattle.losses.proofs.AllHarts.{some_at}
 use Rattle.losses.proofs.TraceSteps.{follows_none, follows_all, state_laws}
 
 closed_by-all : (before : Option Packet) (ps : List Packet) → closes (last_or before ps) ≡ closed_by (closes before) ps
@@ -133,7 +133,7 @@ module _ {A : Type 0} (program : Image) (period : ℕ) (handed : Mode) (own : �
         let e = hart_ended hart pieces at_pieces in
         let inside = slice_get_within after hart pieces at_pieces in
         let all = ended.count in
-        let log = some_at logs hart (omega (arith, inside, all, pieces_count)) in
+        let log = slice_get-some logs hart (omega (arith, inside, all, pieces_count)) in
         let h = e.3 log.0 log.1 in
         e.2.closed ∙ sym h.1.ended;
   }
@@ -150,9 +150,9 @@ module _ {A : Type 0} (program : Image) (period : ℕ) (handed : Mode) (own : �
           let inside = slice_get_within after hart pieces at in
           let all = ended.count in
           let harts = f.harts_count in
-          let t = some_at traces hart (omega (arith, inside, all, pieces_count, traces_count)) in
-          let p = some_at before hart (omega (arith, inside, all)) in
-          let e = some_at demux hart (omega (arith, inside, all, pieces_count, harts)) in (
+          let t = slice_get-some traces hart (omega (arith, inside, all, pieces_count, traces_count)) in
+          let p = slice_get-some before hart (omega (arith, inside, all)) in
+          let e = slice_get-some demux hart (omega (arith, inside, all, pieces_count, harts)) in (
             t.0,
             p.0,
             ended.each hart t.0 p.0 pieces t.1 p.1 at,

@@ -5,6 +5,7 @@ pub mod Answering
 pub mod AnsweringLossy
 pub mod BadHeaders
 pub mod Cuts
+pub mod Elements
 pub mod Fronts
 pub mod Heads
 pub mod LittleBytes

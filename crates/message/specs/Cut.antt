@@ -1,6 +1,7 @@
 -- Bytes that begin no whole message.
 use Rattle.std.specs.Prelude.{◌≡◌, ◌⊎◌, ◌<◌, ◌≤◌, ◌^◌, ℕ, ◌++◌, List, length, slice_index}
 use Rattle.payload.specs.Bytes.{IsBytes}
+use Rattle.payload.specs.Limits.{most_bytes}
 use Rattle.message.specs.Capture.{message_bytes}
 use Rattle.message.specs.declared.message.Message.{Message}
 
@@ -9,7 +10,7 @@ pub record IsMessage (m : Message) : Type 0 where
   pub hart : m.hart < 2 ^ 16
   pub number : m.number < 2 ^ 64
   pub some : 1 ≤ length m.payload
-  pub few : length m.payload ≤ 18
+  pub few : length m.payload ≤ most_bytes
   pub bytes : IsBytes m.payload
 
 -- The bytes are a beginning of a message, neither none of it nor all of it.
@@ -23,7 +24,7 @@ pub record IsCut (bytes : List ℕ) : Type 0 where
 
 -- The byte for a payload's length is 0 or above 18.
 abbrev pub IsBadLength : ℕ → Type 0
-IsBadLength count = (count ≡ 0) ⊎ (18 < count)
+IsBadLength count = (count ≡ 0) ⊎ (most_bytes < count)
 
 -- The bytes begin with a whole head, whose byte for the payload's length is bad.
 abbrev pub HasBadLength : List ℕ → Type 0

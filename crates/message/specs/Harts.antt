@@ -11,9 +11,13 @@ Harts = List Hart
 abbrev pub newcomer : Hart
 newcomer = record { expected = 0; closed = false }
 
--- Nothing more of the hart is accepted: its closing packet was, or the number that is expected is 2^63.
+-- The number from which on no message of a hart is accepted.
+abbrev pub end_of_numbers : ℕ
+end_of_numbers = 2 ^ 63
+
+-- Nothing more of the hart is accepted: its closing packet was, or the numbers are at their end.
 abbrev pub is_over : Hart → Bool
-is_over h = h.closed || not (nat_lt h.expected (2 ^ 63))
+is_over h = h.closed || not (nat_lt h.expected end_of_numbers)
 
 -- There is such a hart, and its closing packet was accepted.
 abbrev pub is_closed : Option Hart → Bool

@@ -1,11 +1,11 @@
 -- What a demultiplexer answers to a message where messages before it may be lost, and what it expects then.
-use Rattle.std.specs.Prelude.{ℕ, ◌-◌, ◌^◌, nat_lt, if◌then◌else◌, Option, Some, None, Result, Ok, Err, slice_get}
+use Rattle.std.specs.Prelude.{ℕ, ◌-◌, nat_lt, if◌then◌else◌, Option, Some, None, Result, Ok, Err, slice_get}
 use Rattle.std.specs.Prelude.{slice_set}
 use Rattle.payload.specs.Reading.{reading}
 use Rattle.payload.specs.declared.packet.Packet.{Packet}
 use Rattle.payload.specs.declared.fault.PackFault.{PackFault}
 use Rattle.message.specs.Accepting.{next_of}
-use Rattle.message.specs.Harts.{Harts, is_over}
+use Rattle.message.specs.Harts.{Harts, end_of_numbers, is_over}
 use Rattle.message.specs.declared.hart.Hart.{Hart}
 use Rattle.message.specs.declared.message.Message.{Message}
 use Rattle.message.specs.declared.fault.DemuxFault.{DemuxFault}
@@ -22,7 +22,7 @@ abbrev pub answer_lossy : Hart → Message → Result (Packet × ℕ) DemuxFault
 answer_lossy h m =
     if is_over h then Err fault.AfterClose else
     if nat_lt m.number h.expected then Err fault.Repeat else
-    if nat_lt m.number (2 ^ 63) then packet_after_loss (m.number - h.expected) (reading m.payload) else
+    if nat_lt m.number end_of_numbers then packet_after_loss (m.number - h.expected) (reading m.payload) else
     Err (fault.Gap h.expected)
 
 -- What is expected of the hart after a message of it with this number, to which this was answered.

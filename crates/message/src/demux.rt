@@ -1,7 +1,7 @@
 //! The demultiplexer.
-ghost use Rattle.std.specs.Prelude.{◌≡◌, ◌↔◌, ◌≤◌, ◌<◌, ◌+◌, ◌^◌, ℕ, length, replicate, slice_set, Some, OnErr, IfOk};
+ghost use Rattle.std.specs.Prelude.{◌≡◌, ◌↔◌, ◌≤◌, ◌<◌, ◌+◌, ℕ, length, replicate, slice_set, Some, OnErr, IfOk};
 ghost use Rattle.std.specs.Prelude.{Err, Ok};
-ghost use Rattle.message.specs.Harts.{Harts, newcomer, Expects, IsOver, has_closed};
+ghost use Rattle.message.specs.Harts.{Harts, newcomer, end_of_numbers, Expects, IsOver, has_closed};
 ghost use Rattle.message.specs.Accepting.{accepting, harts_after, next_of};
 ghost use Rattle.message.specs.Lossy.{accepting_lossy, harts_after_lossy};
 ghost use Rattle.payload.specs.Reading.{reading};
@@ -80,16 +80,16 @@ impl<A: Allocator> Demux<A> {
     pub fn accept_lossy(&mut self, message: &Message) -> Result<(Packet, u64), DemuxFault>
         ensures accepted { (packet : AnyPacket) (missed : ℕ) → (result ≡ Ok (packet, missed))
             ↔ (Expects self.old message.now.hart (λ expected. (expected + missed ≡ message.now.number)
-            × (message.now.number < 2 ^ 63)) × (reading message.now.payload ≡ Ok packet)) }
+            × (message.now.number < end_of_numbers)) × (reading message.now.payload ≡ Ok packet)) }
         ensures stranger { (result ≡ Err DemuxFault.Stranger) ↔ (length self.old ≤ message.now.hart) }
         ensures after_close { (result ≡ Err DemuxFault.AfterClose) ↔ IsOver self.old message.now.hart }
         ensures repeat { (result ≡ Err DemuxFault.Repeat)
             ↔ Expects self.old message.now.hart (λ expected. message.now.number < expected) }
         ensures gap { (k : ℕ) → (result ≡ Err (DemuxFault.Gap k))
-            ↔ Expects self.old message.now.hart (λ expected. (expected ≡ k) × (2 ^ 63 ≤ message.now.number)) }
+            ↔ Expects self.old message.now.hart (λ expected. (expected ≡ k) × (end_of_numbers ≤ message.now.number)) }
         ensures bad_packet { (why : AnyFault) → (result ≡ Err (DemuxFault.Packet why))
             ↔ (Expects self.old message.now.hart (λ expected. (expected ≤ message.now.number)
-            × (message.now.number < 2 ^ 63)) × (reading message.now.payload ≡ Err why)) }
+            × (message.now.number < end_of_numbers)) × (reading message.now.payload ≡ Err why)) }
 
         ensures moves { IfOk result
             (λ taken. self.new ≡ slice_set self.old message.now.hart (next_of message.now.number taken.0)) }

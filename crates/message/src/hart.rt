@@ -1,7 +1,7 @@
 //! What a demultiplexer expects of one hart.
-ghost use Rattle.std.specs.Prelude.{◌≡◌, ◌<◌, ◌^◌, IsFalse};
+ghost use Rattle.std.specs.Prelude.{◌≡◌, ◌<◌, IsFalse};
 ghost use Rattle.message.specs.Accepting.{answer, state_after};
-ghost use Rattle.message.specs.Harts.{is_over};
+ghost use Rattle.message.specs.Harts.{end_of_numbers, is_over};
 ghost use Rattle.message.specs.Lossy.{answer_lossy, state_after_lossy};
 
 use crate::{DemuxFault, Message};
@@ -29,7 +29,7 @@ impl Hart {
     /// Nothing more of the hart is accepted.
     fn is_over(&self) -> bool
         ensures value { result ≡ is_over self.now }
-        ensures few { IsFalse result → self.now.expected < 2 ^ 63 }
+        ensures few { IsFalse result → self.now.expected < end_of_numbers }
     {
         self.closed || self.expected >= END_OF_NUMBERS
     }

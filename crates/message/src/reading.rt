@@ -12,9 +12,10 @@ ghost use Rattle.message.specs.declared.header.Start.{Start as AnyStart};
 ghost use Rattle.message.specs.steps.Filling.{Fills};
 ghost use Rattle.message.specs.declared.message.Message.{Message as AnyMessage};
 
-use crate::head::{HEAD, MOST_PAYLOAD_BYTES, message_of, payload_length};
+use crate::head::{HEAD, message_of, payload_length};
 use crate::header::{MARK, SETTINGS, header_of};
 use crate::{Header, Message, MessageFault, Start};
+use payload::MOST_BYTES;
 use std::io::{ErrorKind, Read};
 
 /// Reads the next message, or `None` where the input ends before it.
@@ -135,7 +136,7 @@ fn read_payload<R: Read>(r: &mut R, head: &[u8]) -> Result<Message, MessageFault
         Ok(length) => length,
         Err(fault) => return Err(fault),
     };
-    let mut bytes = [0; MOST_PAYLOAD_BYTES];
+    let mut bytes = [0; MOST_BYTES];
     if fill(r, &mut bytes[..length])? < length {
         return Err(MessageFault::Short);
     }

@@ -5,6 +5,7 @@ use Rattle.payload.specs.Bytes.{number}
 use Rattle.payload.specs.Extension.{extended}
 use Rattle.payload.specs.Layout as layout
 use Rattle.payload.specs.Layout.{Place}
+use Rattle.payload.specs.Limits.{most_bytes}
 use Rattle.payload.specs.Outcomes.{map_width}
 use Rattle.payload.specs.declared.fault.PackFault.{PackFault}
 use Rattle.payload.specs.declared.fault.PackFault.TheVariants.{Empty, TooLong, BadPad, Unsupported, BadPrivilege}
@@ -133,5 +134,5 @@ first_fault_of_bits n =
 abbrev pub first_fault : List ℕ → Option PackFault
 first_fault bytes =
     if length bytes == 0 then Some Empty else
-    if nat_lt 18 (length bytes) then Some TooLong else
+    if nat_lt most_bytes (length bytes) then Some TooLong else
     first_fault_of_bits (bits_of bytes)

@@ -2,6 +2,7 @@ pub mod Bytes
 pub mod Extension
 pub mod Fields
 pub mod Layout
+pub mod Limits
 pub mod Outcomes
 pub mod OutcomesInverse
 pub mod PacketFields

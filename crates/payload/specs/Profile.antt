@@ -2,16 +2,17 @@
 use Rattle.std.specs.Prelude.{ℕ, ◌≡◌, ◌^◌, ◌<◌, ◌≤◌, Bool, true, false, List, length}
 use Rattle.isa.specs.Address.{IsAddress}
 use Rattle.isa.specs.Privilege.{IsPrivilege}
+use Rattle.payload.specs.Limits.{most_outcomes}
 use Rattle.payload.specs.declared.packet.Packet.{Packet}
 use Rattle.payload.specs.declared.packet.Packet.TheVariants as packet
 
 -- Outcomes that an address packet may carry: none to 31.
 abbrev pub AreOutcomes : List Bool → Type 0
-AreOutcomes outcomes = length outcomes ≤ 31
+AreOutcomes outcomes = length outcomes ≤ most_outcomes
 
 -- Outcomes of a full branch map.
 abbrev pub AreFull : List Bool → Type 0
-AreFull outcomes = length outcomes ≡ 31
+AreFull outcomes = length outcomes ≡ most_outcomes
 
 -- The value that a trap reports: none with an interrupt.
 abbrev pub IsTrapValue : Bool → ℕ → Type 0

@@ -3,13 +3,14 @@ use Rattle.std.specs.Prelude.{ℕ, ◌≡◌, ◌*◌, ◌^◌, ◌<◌, ◌≤�
 use Rattle.payload.specs.Bytes.{IsBytes, number, low_bytes}
 use Rattle.payload.specs.Extension.{extended_bit, extended, magnitude, fewest_bytes}
 use Rattle.payload.specs.Fields.{Field, total, joined}
+use Rattle.payload.specs.Limits.{most_bytes}
 use Rattle.payload.specs.PacketFields.{unused_bits, fields_with, fields}
 use Rattle.payload.specs.declared.packet.Packet.{Packet}
 
 -- 1 to 18 bytes have the bits of these fields, where both go on with copies of their last bit.
 pub record Extends (bytes : List ℕ) (fs : List Field) : Type 0 where
   pub some : 1 ≤ length bytes
-  pub few : length bytes ≤ 18
+  pub few : length bytes ≤ most_bytes
   pub each : IsBytes bytes
   pub bits : (i : ℕ) → extended_bit (8 * length bytes) (number bytes) i ≡ extended_bit (total fs) (joined fs) i
 

@@ -5,6 +5,7 @@ ghost use Rattle.payload.specs.Bytes.{number};
 ghost use Rattle.payload.specs.Extension.{extended, magnitude};
 ghost use Rattle.payload.specs.Faults.{bits_of, part, field_at};
 ghost use Rattle.payload.specs.Layout.{tval_at, exception_width};
+ghost use Rattle.payload.specs.Limits.{most_bytes};
 
 use crate::layout::{Place, TVAL};
 use std::marker::Model;
@@ -29,7 +30,7 @@ impl Bits {
     #[inline(always)]
     pub(crate) fn read(bytes: &[u8]) -> Bits
         requires some { 1 ≤ length bytes.now }
-        requires few { length bytes.now ≤ 18 }
+        requires few { length bytes.now ≤ most_bytes }
         ensures { result ≡ bits_of bytes.now }
     {
         if bytes.len() < 16 {
@@ -63,7 +64,7 @@ impl Bits {
     #[inline(never)]
     fn read_long(bytes: &[u8]) -> Bits
         requires some { 16 ≤ length bytes.now }
-        requires few { length bytes.now ≤ 18 }
+        requires few { length bytes.now ≤ most_bytes }
         ensures { result ≡ bits_of bytes.now }
     {
         let fill = if bytes[bytes.len() - 1] < 0x80 {

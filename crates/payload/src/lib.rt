@@ -18,8 +18,8 @@ mod unpacking;
 
 pub use fault::PackFault;
 pub use mode::Mode;
-pub use outcomes::Outcomes;
+pub use outcomes::{MOST_OUTCOMES, Outcomes};
 pub use packet::{Packet, Report, Support};
 pub use packing::pack;
-pub use payload::Payload;
+pub use payload::{MOST_BYTES, Payload};
 pub use unpacking::unpack;

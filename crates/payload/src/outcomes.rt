@@ -1,9 +1,13 @@
 //! The outcomes of branches.
 ghost use Rattle.std.specs.Prelude.{◌≡◌, ◌^◌, ◌<◌, ◌≤◌, Bool, List, [], ◌∷◌, ◌++◌, ◌==◌, length, slice_get};
+ghost use Rattle.payload.specs.Limits.{most_outcomes};
 ghost use Rattle.payload.specs.Outcomes.{outcomes, map_width, map_of};
 ghost use Rattle.payload.specs.OutcomesInverse.{length_outcomes, map_outcomes};
 
 use std::marker::Model;
+
+/// The most outcomes of branches that a packet reports: those of a full branch map.
+pub const MOST_OUTCOMES: usize = 31;
 
 /// Up to 31 outcomes of branches, the oldest first: true is taken.
 #[derive(Clone, Copy, Debug, PartialEq, Eq)]
@@ -25,7 +29,7 @@ impl Model for Outcomes {
       count = length_outcomes o.count o.map i;
     } };
 
-    ghost invariant = { λ o. (o.count ≤ 31) × (o.map < 2 ^ o.count) };
+    ghost invariant = { λ o. (o.count ≤ most_outcomes) × (o.map < 2 ^ o.count) };
 }
 
 impl Outcomes {
@@ -38,7 +42,7 @@ impl Outcomes {
 
     /// Adds the outcome of a younger branch.
     pub fn push(&mut self, taken: bool)
-        requires { length self.old < 31 }
+        requires { length self.old < most_outcomes }
         ensures { self.new ≡ self.old ++ taken ∷ [] }
     {
         self.map += u32::from(!taken) << self.count;
@@ -48,7 +52,7 @@ impl Outcomes {
     /// How many outcomes there are, 0 to 31.
     pub fn len(&self) -> usize
         ensures value { result ≡ length self.now }
-        ensures few { result ≤ 31 }
+        ensures few { result ≤ most_outcomes }
     {
         self.count as usize
     }
@@ -73,7 +77,7 @@ impl Outcomes {
 
     /// The outcomes of the lowest `count` bits of a branch map.
     pub(crate) fn of_map(count: u32, map: u32) -> Self
-        requires few { count ≤ 31 }
+        requires few { count ≤ most_outcomes }
         requires below { map < 2 ^ count }
         ensures { result ≡ outcomes count map }
     {
@@ -99,10 +103,10 @@ impl Default for Outcomes {
 
 /// How many bits the branch map of so many outcomes has.
 pub(crate) fn map_width(count: usize) -> u32
-    requires { count ≤ 31 }
+    requires { count ≤ most_outcomes }
     ensures value { result ≡ map_width count }
     ensures some { 1 ≤ result }
-    ensures few { result ≤ 31 }
+    ensures few { result ≤ most_outcomes }
     ensures room { count ≤ result }
 {
     match count {

@@ -1,7 +1,7 @@
 //! The packets of an instruction trace.
 ghost use Rattle.std.specs.Prelude.{◌≡◌, ◌↔◌, IsTrue, false};
 
-use crate::{Mode, Outcomes};
+use crate::{MOST_OUTCOMES, Mode, Outcomes};
 use isa::is_privilege;
 
 /// A packet of an instruction trace: of the E-Trace specification's packet formats, those of this project's profile.
@@ -104,8 +104,8 @@ impl Packet {
                 outcomes,
                 delta,
                 ..
-            } => outcomes.len() <= 31 && delta % 2 == 0,
-            Packet::Map(outcomes) => outcomes.len() == 31,
+            } => outcomes.len() <= MOST_OUTCOMES && delta % 2 == 0,
+            Packet::Map(outcomes) => outcomes.len() == MOST_OUTCOMES,
         }
     }
 

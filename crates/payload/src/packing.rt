@@ -1,6 +1,7 @@
 //! From packets to payloads.
 ghost use Rattle.std.specs.Prelude.{◌≡◌, ◌+◌, ◌*◌, ◌/◌, ◌^◌, ◌<◌, ◌≤◌, [], length, Ok};
 ghost use Rattle.payload.specs.Fields.{joined};
+ghost use Rattle.payload.specs.Limits.{most_outcomes};
 ghost use Rattle.payload.specs.PacketFields.{fields, trap_fields, address_fields, report_fields};
 ghost use Rattle.payload.specs.Profile.{InProfile};
 ghost use Rattle.payload.specs.Reading.{reading};
@@ -128,7 +129,7 @@ fn support_bits(support: Support) -> u128
 
 /// The payload of an address packet.
 fn packed_address(outcomes: &Outcomes, delta: u64, report: Report) -> Payload
-    requires { length outcomes.now ≤ 31 }
+    requires { length outcomes.now ≤ most_outcomes }
     ensures { result ≡ payload_of (Packet.Address outcomes.now delta report) }
 {
     let address = address_bits(delta, report);

@@ -3,12 +3,13 @@ ghost use Rattle.std.specs.Prelude.{◌≡◌, ◌+◌, ◌-◌, ◌*◌, ◌^�
 ghost use Rattle.std.specs.Prelude.{IsOk, IfOk};
 ghost use Rattle.payload.specs.Bytes.{low_bytes};
 ghost use Rattle.payload.specs.Held.{IsHeld, held_bytes};
+ghost use Rattle.payload.specs.Limits.{most_bytes};
 
 use crate::{PackFault, unpack};
 use std::marker::Model;
 
 /// The most bytes of a payload.
-const MOST_BYTES: usize = 18;
+pub const MOST_BYTES: usize = 18;
 
 /// One to 18 bytes, held in place.
 #[derive(Debug, PartialEq, Eq, Drop)]
@@ -24,7 +25,10 @@ impl Model for Payload {
 
     ghost view = { λ p. take p.count p.bytes };
 
-    ghost inverse = { λ bytes. record { bytes = bytes ++ replicate (18 - length bytes) 0; count = length bytes } };
+    ghost inverse = { λ bytes. record {
+      bytes = bytes ++ replicate (most_bytes - length bytes) 0;
+      count = length bytes;
+    } };
 
     ghost inverse_ok = { λ p h i. record { bytes = held_bytes p.bytes p.count h i; count = h.size i } };
 
@@ -37,9 +41,9 @@ impl Payload {
     /// A payload of these bytes, whether or not they stand for a packet.
     pub fn new(bytes: &[u8]) -> Result<Payload, PackFault>
         ensures same { IfOk result (λ payload. payload ≡ bytes.now) }
-        ensures fits { IsOk result ↔ ((1 ≤ length bytes.now) × (length bytes.now ≤ 18)) }
+        ensures fits { IsOk result ↔ ((1 ≤ length bytes.now) × (length bytes.now ≤ most_bytes)) }
         ensures empty { length bytes.now ≡ 0 → result ≡ Err PackFault.Empty }
-        ensures too_long { 18 < length bytes.now → result ≡ Err PackFault.TooLong }
+        ensures too_long { most_bytes < length bytes.now → result ≡ Err PackFault.TooLong }
     {
         if bytes.is_empty() {
             return Err(PackFault::Empty);
@@ -59,7 +63,7 @@ impl Payload {
     pub fn bytes(&self) -> &[u8]
         ensures same { result.now ≡ self.now }
         ensures some { 1 ≤ length result.now }
-        ensures few { length result.now ≤ 18 }
+        ensures few { length result.now ≤ most_bytes }
     {
         &self.bytes[..usize::from(self.count)]
     }
@@ -91,7 +95,7 @@ impl Payload {
     /// The lowest `count` bytes of `low + 2^128 * high`.
     pub(crate) fn of_low_bytes_long(low: u128, high: u16, count: usize) -> Payload
         requires some { 1 ≤ count }
-        requires few { count ≤ 18 }
+        requires few { count ≤ most_bytes }
         ensures { result ≡ low_bytes count (low + 2 ^ 128 * high) }
     {
         if count <= 16 {
@@ -107,7 +111,7 @@ impl Payload {
     #[inline(always)]
     fn holding(low: u128, high: u16, count: usize) -> Payload
         requires some { 1 ≤ count }
-        requires few { count ≤ 18 }
+        requires few { count ≤ most_bytes }
         requires fits { low + 2 ^ 128 * high < 2 ^ (8 * count) }
         ensures { result ≡ low_bytes count (low + 2 ^ 128 * high) }
     {
@@ -121,7 +125,7 @@ impl Payload {
 /// The 18 bytes of `low + 2^128 * high`, in words that a machine stores at once.
 #[inline(always)]
 fn bytes_of(low: u128, high: u16) -> [u8; MOST_BYTES]
-    ensures { result ≡ low_bytes 18 (low + 2 ^ 128 * high) }
+    ensures { result ≡ low_bytes most_bytes (low + 2 ^ 128 * high) }
 {
     let mut bytes = [0; MOST_BYTES];
     bytes[..8].copy_from_slice(&((low % (1 << 64)) as u64).to_le_bytes());

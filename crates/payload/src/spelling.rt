@@ -1,6 +1,7 @@
 //! The shortest bytes of a number of so many bits, which go on with copies of its top bit.
 ghost use Rattle.std.specs.Prelude.{◌≡◌, ◌+◌, ◌-◌, ◌*◌, ◌%◌, ◌^◌, ◌<◌, ◌≤◌};
 ghost use Rattle.payload.specs.Extension.{extended, magnitude, fewest_bytes};
+ghost use Rattle.payload.specs.Limits.{most_bytes};
 ghost use Rattle.payload.specs.Spelling.{shortest_bytes};
 
 use crate::Payload;
@@ -81,7 +82,7 @@ fn byte_count_long(head: u128, rest: u64) -> usize
     requires rest { rest < 2 ^ 63 }
     ensures value { result ≡ fewest_bytes (head + 2 ^ 78 * rest) }
     ensures some { 1 ≤ result }
-    ensures few { result ≤ 18 }
+    ensures few { result ≤ most_bytes }
 {
     if rest == 0 {
         byte_count(head)

@@ -2,6 +2,7 @@
 ghost use Rattle.std.specs.Prelude.{◌≡◌, ◌<◌, ◌≤◌, IfOk, IfSome, Ok};
 ghost use Rattle.std.specs.Result.{result_err};
 ghost use Rattle.payload.specs.Faults.{first_fault};
+ghost use Rattle.payload.specs.Limits.{most_outcomes};
 ghost use Rattle.payload.specs.Profile.{InProfile};
 ghost use Rattle.payload.specs.Reading.{outcomes_from, reading};
 ghost use Rattle.payload.specs.steps.ReadingByKind.{sync_reading, trap_reading, support_reading, report_in};
@@ -13,7 +14,7 @@ ghost use Rattle.payload.specs.declared.packet.Packet.{Packet as AnyPacket};
 use crate::bits::Bits;
 use crate::layout::*;
 use crate::outcomes::map_width;
-use crate::{Mode, Outcomes, PackFault, Packet, Report, Support};
+use crate::{MOST_BYTES, Mode, Outcomes, PackFault, Packet, Report, Support};
 
 /// The packet that bytes stand for, be they the shortest or longer, or else the first fault.
 #[inline(always)]
@@ -39,7 +40,7 @@ fn unpacked(bytes: &[u8]) -> Result<Packet, PackFault>
     if bytes.is_empty() {
         return Err(PackFault::Empty);
     }
-    if bytes.len() > 18 {
+    if bytes.len() > MOST_BYTES {
         return Err(PackFault::TooLong);
     }
     let bits = Bits::read(bytes);
@@ -180,7 +181,7 @@ fn full_map_of(bits: &Bits) -> Result<Packet, PackFault>
 /// So many outcomes of the branch map.
 fn first_outcomes(bits: &Bits, count: u32) -> Outcomes
     requires some { 1 ≤ count }
-    requires few { count ≤ 31 }
+    requires few { count ≤ most_outcomes }
     ensures { result ≡ outcomes_from bits.now count }
 {
     Outcomes::of_map(count, bits.part(MAP_FROM, count) as u32)

@@ -173,8 +173,9 @@ impl<A: Allocator + Copy> Receiver<A> {
             × (opens_another told packet ≡ true)) }
         ensures agrees { OnOk result (Agrees told message.now) }
         ensures undecoded { (programs : ℕ → Words) (harts : ℕ) (messages : List AnyMessage) (packet : AnyPacket)
-            (why : AnyDecodeFault) → programs message.now.hart ≡ words_of program.now → Holds programs harts messages self.old
-            → accepting self.old.expected message.now ≡ Ok packet → result ≡ Err (ReceiveFault.Decode why)
+            (why : AnyDecodeFault) → programs message.now.hart ≡ words_of program.now
+            → Holds programs harts messages self.old → accepting self.old.expected message.now ≡ Ok packet
+            → result ≡ Err (ReceiveFault.Decode why)
             → IsNotDecoded (words_of program.now) (packets_of message.now.hart messages) packet why }
         // Whatever was received before: the demultiplexer's part, that a fault leaves all else as it was, and the
         // others.

@@ -44,7 +44,8 @@ pub fn command<F: Files, O: Write, E: Write, R: Threads + Wait + Sync>(
     // refused.
     ensures printed { AreRefused (map string_bytes words.now)
         ⊎ (((result ≡ 3) × (out.new ≡ out.old) × Tells E.contents (Err Fault.Memory) err.old err.new)
-        ⊎ AreCarriedOut (F.content files.old) (map string_bytes words.now) result (O.contents out.old) (O.contents out.new)
+        ⊎ AreCarriedOut (F.content files.old) (map string_bytes words.now) result (O.contents out.old)
+        (O.contents out.new)
         E.contents err.old err.new) }
 {
     let status = match asked(alloc, words) {

@@ -16,6 +16,7 @@ use Rattle.legalpath.specs.Successor.{successor}
 use Rattle.legalpath.specs.WordOf.{word_of}
 use Rattle.legalpath.specs.declared.next.Next.{Next}
 use Rattle.legalpath.specs.declared.next.Next.TheVariants.{One, Any, NoneInside}
+use Rattle.payload.specs.Limits.{most_outcomes}
 use Rattle.decoder.specs.steps.Faults.{IsOnTheWay}
 use Rattle.decoder.specs.steps.Leads.{may_stay_on}
 use Rattle.decoder.specs.Walk.{End, AtBranch, AtAddress, AtTarget}
@@ -131,7 +132,7 @@ StepCarries words here (Fails fault) = IsOnTheWay fault
 
 -- The number of the outcomes is kept with them, and they are no more than a packet has.
 abbrev pub IsCourse : Course → Type 0
-IsCourse course = (course.count ≡ length course.outcomes) × (course.count ≤ 31)
+IsCourse course = (course.count ≡ length course.outcomes) × (course.count ≤ most_outcomes)
 
 -- The type that the code answers, and the outcomes after so many.
 abbrev pub type_told : List Bool → ℕ → Result ℕ DecodeFault → Option (ℕ × List Bool)

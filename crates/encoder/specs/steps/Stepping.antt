@@ -9,6 +9,7 @@ use Rattle.retire.specs.declared.event.Event.TheVariants.{Retire, Trap}
 use Rattle.rvclass.specs.Words.{Words}
 use Rattle.legalpath.specs.Backward.{jumps_back}
 use Rattle.payload.specs.AddressField.{delta}
+use Rattle.payload.specs.Limits.{most_outcomes}
 use Rattle.payload.specs.declared.mode.Mode.{Mode}
 use Rattle.payload.specs.declared.packet.Packet.{Packet}
 use Rattle.payload.specs.declared.packet.Packet.TheVariants as packet
@@ -115,7 +116,7 @@ is_full_map other = false
 abbrev pub is_quiet : Words → Encoder → Option Event → Event → Due → Bool
 is_quiet words e None next after = false
 is_quiet words e (Some held) next after =
-    is_full_map (rule_before words held e.due next after) && nat_lt (length e.pending) 31
+    is_full_map (rule_before words held e.due next after) && nat_lt (length e.pending) most_outcomes
 
 -- The packets that the next event gives, of which this is due, where it does not leave the held one
 -- without a packet.
@@ -167,7 +168,8 @@ after_with words e event due =
 -- so many retirements left, and these outcomes.
 abbrev pub passes : Words → Event → ℕ → List Bool → Event → Bool
 passes words (Retire at type level) left pending (Retire addr itype priv) =
-    (priv == level) && (not (left == 0)) && (not (is_discontinuity_by_type type)) && nat_lt (length pending) 31
+    (priv == level) && (not (left == 0)) && (not (is_discontinuity_by_type type))
+    && nat_lt (length pending) most_outcomes
     && not (jumps_back_to words (Retire at type level) (Retire addr itype priv))
 passes words held left pending next = false
 

@@ -2,6 +2,7 @@
 use Rattle.std.specs.Prelude.{ℕ, ◌==◌, ◌||◌, nat_lt, if◌then◌else◌, List, length, take, drop, slice_index, Option, Some}
 use Rattle.std.specs.Prelude.{None, Result, Ok, Err}
 use Rattle.byteorder.specs.Endian.{little_number}
+use Rattle.payload.specs.Limits.{most_bytes}
 use Rattle.message.specs.declared.message.Message.{Message}
 use Rattle.message.specs.declared.fault.MessageFault.{MessageFault}
 use Rattle.message.specs.declared.fault.MessageFault.TheVariants as fault
@@ -14,7 +15,7 @@ message_of head payload =
 -- The message of a head and the payload that so many of the bytes behind it are, where they are that many.
 abbrev pub with_payload : List ℕ → List ℕ → ℕ → Result (Option Message) MessageFault
 with_payload head rest count =
-    if count == 0 || nat_lt 18 count then Err fault.BadLength else
+    if count == 0 || nat_lt most_bytes count then Err fault.BadLength else
     if nat_lt (length rest) count then Err fault.Short else
     Ok (Some (message_of head (take count rest)))
 

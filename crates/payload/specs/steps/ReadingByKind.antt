@@ -5,6 +5,7 @@ use Rattle.payload.specs.Extension.{magnitude}
 use Rattle.payload.specs.Faults.{bits_of, part, field_at, is_sync, is_trap, trap_width, is_support, is_address_alone}
 use Rattle.payload.specs.Faults.{is_map_with_address, address_behind_map}
 use Rattle.payload.specs.Layout as layout
+use Rattle.payload.specs.Limits.{most_bytes}
 use Rattle.payload.specs.Reading.{sync_from, trap_from, outcomes_from}
 use Rattle.payload.specs.declared.mode.Mode.TheVariants as mode
 use Rattle.payload.specs.declared.packet.Packet.{Packet}
@@ -97,7 +98,7 @@ reading_of_bits n =
 unfoldable pub reading_by_kind : List ℕ → Result Packet PackFault
 reading_by_kind bytes =
     if length bytes == 0 then Err Empty else
-    if nat_lt 18 (length bytes) then Err TooLong else
+    if nat_lt most_bytes (length bytes) then Err TooLong else
     reading_of_bits (bits_of bytes)
 
 -- The outcomes of bits that have an address field, and the bit at which it begins: of format 2, or of format 1 with
@@ -126,5 +127,5 @@ reading_at_place n None = reading_with_no_place n
 unfoldable pub reading_by_place : List ℕ → Result Packet PackFault
 reading_by_place bytes =
     if length bytes == 0 then Err Empty else
-    if nat_lt 18 (length bytes) then Err TooLong else
+    if nat_lt most_bytes (length bytes) then Err TooLong else
     reading_at_place (bits_of bytes) (address_place (bits_of bytes))

@@ -47,8 +47,8 @@ returns-in-Err-content_of-clause-printed g c =
       ),
     ))
 
-module _ (g : _) (c : In-Ok-content_of g) (slice : List ℕ) (same : slice ≡ c.in-Ok-content_of.bytes.items) (lossy : Bool)
-    (is : c.args.asked.now.lossy ≡ lossy) where
+module _ (g : _) (c : In-Ok-content_of g) (slice : List ℕ) (same : slice ≡ c.in-Ok-content_of.bytes.items)
+    (lossy : Bool) (is : c.args.asked.now.lossy ≡ lossy) where
   abbrev content : Content
   content = g.F.Files.content c.args.files.now
 
