@@ -5,7 +5,7 @@ use Rattle.payload.specs.FaultText.{pack_fault_text}
 use Rattle.message.specs.declared.fault.MessageFault.{MessageFault}
 use Rattle.message.specs.declared.fault.MessageFault.TheVariants.{Short, BadLength, Read, Write, BadHeader}
 use Rattle.message.specs.declared.fault.DemuxFault.{DemuxFault}
-use Rattle.message.specs.declared.fault.DemuxFault.TheVariants.{Stranger, AfterClose, Repeat, Gap, Packet}
+use Rattle.message.specs.declared.fault.DemuxFault.TheVariants.{Stranger, Repeat, Gap, AfterClose, Packet}
 
 -- Why a message is not read or not written, as a line of text.
 abbrev pub message_fault_text : MessageFault → List ℕ
@@ -18,7 +18,7 @@ message_fault_text BadHeader = codes "capture header is not valid"
 -- Why a demultiplexer does not accept a message, as a line of text.
 abbrev pub demux_fault_text : DemuxFault → List ℕ
 demux_fault_text Stranger = codes "stranger"
-demux_fault_text AfterClose = codes "after close"
 demux_fault_text Repeat = codes "repeat"
 demux_fault_text (Gap expected) = codes "gap, expected number " ++ decimal expected
+demux_fault_text AfterClose = codes "after close"
 demux_fault_text (Packet why) = codes "bad packet: " ++ pack_fault_text why

@@ -38,13 +38,12 @@ impl fmt::Display for MessageFault {
 
 impl Error for MessageFault {}
 
-/// Why a demultiplexer does not accept a message. Of several that apply, the first in this order is told.
+/// Why a demultiplexer does not accept a message. It tests `Stranger`, `AfterClose`, `Repeat`, `Gap` and `Packet` in
+/// turn, and reports the first that applies.
 #[derive(Clone, Copy, Debug, PartialEq, Eq)]
 pub enum DemuxFault {
     /// The demultiplexer does not know the hart.
     Stranger,
-    /// The hart's closing packet was accepted, or the number that it expects is 2^63.
-    AfterClose,
     /// The number is below the one that is expected.
     Repeat,
     /// The number is above the one that is expected, or, where messages may be lost, 2^63 or more.
@@ -52,6 +51,8 @@ pub enum DemuxFault {
         /// The number that is expected.
         expected: u64,
     },
+    /// The hart's closing packet was accepted, or the number that it expects is 2^63.
+    AfterClose,
     /// The payload is no packet.
     Packet(PackFault),
 }
@@ -62,9 +63,9 @@ impl fmt::Display for DemuxFault {
     fn fmt<W: fmt::Write>(&self, f: &mut fmt::Formatter<W>) -> fmt::Result {
         match *self {
             DemuxFault::Stranger => f.write_str("stranger"),
-            DemuxFault::AfterClose => f.write_str("after close"),
             DemuxFault::Repeat => f.write_str("repeat"),
             DemuxFault::Gap { expected } => write!(f, "gap, expected number {expected}"),
+            DemuxFault::AfterClose => f.write_str("after close"),
             DemuxFault::Packet(why) => write!(f, "bad packet: {why}"),
         }
     }
