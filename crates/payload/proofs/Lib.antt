@@ -6,7 +6,6 @@ pub mod ByteCounts
 pub mod AddressFields
 pub mod Extending
 pub mod FirstFaults
-pub mod HeldBytes
 pub mod LongNumbers
 pub mod MapWidths
 pub mod NumbersOfBytes

@@ -7,7 +7,7 @@ use Rattle.std.specs.Int.Count.{count_leading_zeros}
 use Rattle.payload.specs.Bytes.{low_bytes}
 use Rattle.payload.specs.Extension.{fewest_bytes}
 use Rattle.payload.specs.Spelling.{shortest_bytes}
-use Rattle.payload.proofs.ByteLists.{low_bytes-mod, power}
+use Rattle.payload.proofs.ByteLists.{power}
 use Rattle.payload.proofs.ByteCounts.{IsFirst, first_is}
 use Rattle.payload.proofs.Extending.{extended_low, extended_high, magnitude_low, magnitude_high}
 
@@ -52,18 +52,6 @@ low_bytes-append (suc j) k n =
     let place : n / 2 ^ (8 * suc j) ≡ n / 256 / 2 ^ (8 * j) =
     ap (λ x. n / x) size ∙ sym (div-div-eq-div-mul n 256 (2 ^ (8 * j))) in
     rw (count, place) (ap (λ xs. n % 256 ∷ xs) (low_bytes-append j k (n / 256)))
-
-pub low_bytes-split : (j count n : ℕ) → j ≤ count → low_bytes j n ++ low_bytes (count - j) (n / 2 ^ (8 * j))
-    ≡ low_bytes count n
-low_bytes-split j count n some =
-    let whole : j + (count - j) ≡ count = omega arith in
-    sym (low_bytes-append j (count - j) n) ∙ ap (λ k. low_bytes k n) whole
-
-pub low_part_alone : (count low high : ℕ) → count ≤ 16 → low < 2 ^ 128
-    → low_bytes count low ≡ low_bytes count (low + 2 ^ 128 * high)
-low_part_alone count low high few bound =
-    let cut : (low + 2 ^ 128 * high) % 2 ^ 128 ≡ low = omega arith in
-    ap (low_bytes count) (sym cut) ∙ low_bytes-mod count 128 (low + 2 ^ 128 * high) (omega arith)
 
 -- 142 bits, with a top bit of 0 and of 1.
 pub shortest_clear : (n count : ℕ) → n < 2 ^ 141 → count ≡ fewest_bytes n → low_bytes count n ≡ shortest_bytes 142 n

@@ -1,5 +1,5 @@
 -- Bits that read as a support packet are its fields, and its fields read as the packet.
-use Rattle.std.proofs.Common.{◌≡◌, ℕ, ◌<◌, inl, inr, true, cond, eqb, ◌==◌, ◌&&◌, Result, Ok, Err, arith, eqb-true}
+use Rattle.std.proofs.Common.{◌≡◌, ℕ, ◌<◌, inl, inr, true, ◌==◌, ◌&&◌, Ok, Err, arith, eqb-true}
 use Rattle.std.proofs.lemmas.Bool.{and_parts}
 use Rattle.payload.specs.Faults.{part}
 use Rattle.payload.specs.PacketFields.{support_fields}
@@ -9,7 +9,6 @@ use Rattle.payload.specs.declared.packet.Packet.{Packet}
 use Rattle.payload.specs.declared.packet.Packet.TheVariants as packet
 use Rattle.payload.specs.declared.packet.Support.{Support}
 use Rattle.payload.specs.declared.packet.Support.TheVariants as support
-use Rattle.payload.specs.declared.fault.PackFault.{PackFault}
 use Rattle.payload.specs.declared.fault.PackFault.TheVariants.{Unsupported}
 use Rattle.payload.proofs.Choices.{chosen_of_4}
 use Rattle.payload.proofs.PaddedBits.{IsRead, padded_found, padded_read}

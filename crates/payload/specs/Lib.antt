@@ -15,4 +15,3 @@ pub mod steps
 pub mod Closing
 pub mod Ended
 pub mod AddressField
-pub mod Held

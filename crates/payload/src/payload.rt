@@ -1,11 +1,10 @@
 //! The bytes of one packet.
-ghost use Rattle.std.specs.Prelude.{◌≡◌, ◌+◌, ◌-◌, ◌*◌, ◌^◌, ◌++◌, ◌<◌, ◌≤◌, ◌↔◌, ℕ, List, length, take, replicate};
-ghost use Rattle.std.specs.Prelude.{IsOk, IfOk};
+ghost use Rattle.std.specs.Prelude.{◌≡◌, ◌+◌, ◌*◌, ◌^◌, ◌<◌, ◌≤◌, ◌↔◌, ℕ, List, length, IsOk, IfOk};
 ghost use Rattle.payload.specs.Bytes.{low_bytes};
-ghost use Rattle.payload.specs.Held.{IsHeld, held_bytes};
 ghost use Rattle.payload.specs.Limits.{most_bytes};
 
 use crate::{PackFault, unpack};
+use arrayvec::ArrayVec;
 use std::marker::Model;
 
 /// The most bytes of a payload.
@@ -14,25 +13,17 @@ pub const MOST_BYTES: usize = 18;
 /// One to 18 bytes, held in place.
 #[derive(Debug, PartialEq, Eq, Drop)]
 pub struct Payload {
-    /// The bytes, and zeros behind them.
-    bytes: [u8; MOST_BYTES],
-    /// How many bytes there are.
-    count: u8,
+    bytes: ArrayVec<u8, MOST_BYTES>,
 }
 
 impl Model for Payload {
     ghost Value = { List ℕ };
 
-    ghost view = { λ p. take p.count p.bytes };
+    ghost view = { λ p. p.bytes.items };
 
-    ghost inverse = { λ bytes. record {
-      bytes = bytes ++ replicate (most_bytes - length bytes) 0;
-      count = length bytes;
-    } };
+    ghost inverse = { λ bytes. record { bytes = record { items = bytes } } };
 
-    ghost inverse_ok = { λ p h i. record { bytes = held_bytes p.bytes p.count h i; count = h.size i } };
-
-    ghost invariant = { λ p. IsHeld p.bytes p.count };
+    ghost invariant = { λ p. 1 ≤ length p.bytes.items };
 }
 
 impl Payload {
@@ -48,15 +39,10 @@ impl Payload {
         if bytes.is_empty() {
             return Err(PackFault::Empty);
         }
-        if bytes.len() > MOST_BYTES {
-            return Err(PackFault::TooLong);
+        match ArrayVec::try_from(bytes) {
+            Ok(bytes) => Ok(Payload { bytes }),
+            Err(_) => Err(PackFault::TooLong),
         }
-        let mut held = [0; MOST_BYTES];
-        held[..bytes.len()].copy_from_slice(bytes);
-        Ok(Payload {
-            bytes: held,
-            count: bytes.len() as u8,
-        })
     }
 
     /// The bytes.
@@ -65,7 +51,7 @@ impl Payload {
         ensures some { 1 ≤ length result.now }
         ensures few { length result.now ≤ most_bytes }
     {
-        &self.bytes[..usize::from(self.count)]
+        self.bytes.as_slice()
     }
 
     /// Whether the bytes unpack to a packet that ends a trace, EndedRep or EndedNtr.
@@ -85,40 +71,19 @@ impl Payload {
         requires few { count ≤ 16 }
         ensures { result ≡ low_bytes count n }
     {
-        if count < 16 {
-            Payload::holding(n % (1 << (8 * count)), 0, count)
-        } else {
-            Payload::holding(n, 0, count)
-        }
+        Payload::of_low_bytes_long(n, 0, count)
     }
 
     /// The lowest `count` bytes of `low + 2^128 * high`.
+    #[inline(always)]
     pub(crate) fn of_low_bytes_long(low: u128, high: u16, count: usize) -> Payload
         requires some { 1 ≤ count }
         requires few { count ≤ most_bytes }
         ensures { result ≡ low_bytes count (low + 2 ^ 128 * high) }
     {
-        if count <= 16 {
-            Payload::of_low_bytes(low, count)
-        } else if count == 17 {
-            Payload::holding(low, high % (1 << 8), count)
-        } else {
-            Payload::holding(low, high, count)
-        }
-    }
-
-    /// The bytes of `low + 2^128 * high`, which has no more than `count`.
-    #[inline(always)]
-    fn holding(low: u128, high: u16, count: usize) -> Payload
-        requires some { 1 ≤ count }
-        requires few { count ≤ most_bytes }
-        requires fits { low + 2 ^ 128 * high < 2 ^ (8 * count) }
-        ensures { result ≡ low_bytes count (low + 2 ^ 128 * high) }
-    {
-        Payload {
-            bytes: bytes_of(low, high),
-            count: count as u8,
-        }
+        let mut bytes = ArrayVec::from(bytes_of(low, high));
+        bytes.truncate(count);
+        Payload { bytes }
     }
 }
 

@@ -1,5 +1,5 @@
 -- What bytes unpack to, one kind of packet after the other, as `unpack` reads them: the same as `reading`.
-use Rattle.std.specs.Prelude.{ℕ, ◌+◌, ◌-◌, ◌*◌, ◌^◌, nat_lt, ◌==◌, ◌&&◌, not, if◌then◌else◌, Bool, List, [], length}
+use Rattle.std.specs.Prelude.{ℕ, ◌+◌, ◌-◌, ◌*◌, ◌^◌, nat_lt, ◌==◌, ◌&&◌, if◌then◌else◌, Bool, List, [], length}
 use Rattle.std.specs.Prelude.{Option, Some, None, Result, Ok, Err}
 use Rattle.payload.specs.Extension.{magnitude}
 use Rattle.payload.specs.Faults.{bits_of, part, field_at, is_sync, is_trap, trap_width, is_support, is_address_alone}
