@@ -4,10 +4,10 @@
 //! outlet's thread. Here a port that found no room sleeps until the outlet drained the funnel to its low-water mark,
 //! half of what it holds, and then sends many messages before it sleeps again.
 //!
-//! No contract speaks of this, and the tests, in `channel_tests`, show only that ports are woken: each ends long before
-//! all waits could have lasted their longest. That one port is called at the mark and none before it, that all are
-//! where no message waits, but not where one was called since the last message, and that a dropped outlet calls all,
-//! changes when a port goes on and not what is sent: a matter of speed, which no test asks for.
+//! No contract speaks of this. A test in `channel_tests` shows that ports are woken, and that one is called at the
+//! mark. That none is called before it, that all are where no message waits, but not where one was called since the
+//! last message, and that a dropped outlet calls all, changes when a port goes on and not what is sent: a matter of
+//! speed, which no test asks for.
 
 use std::alloc::Allocator;
 use std::hint;
