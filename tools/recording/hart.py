@@ -1,0 +1,241 @@
+"""One hart: rows out of the instructions that a recording announces of it and the traps that it takes."""
+from collections import deque
+from itertools import chain
+
+from recording.image import ADDRESS, HIGHEST, IS_RETURN, LEVEL, ROW, TAKEN, TARGET
+from recording.levels import OpenTraps
+
+USER, SUPERVISOR, MACHINE = 0, 1, 3
+LEVEL_OF_ECALL = {8: USER, 9: SUPERVISOR, 11: MACHINE}
+AT_OR_BEHIND = (0, 2, 4)  # where the handler of a trap returns to, less the trap's place
+CHANGING = -1  # no level: what stands here may change it
+KEPT_ENTRIES = 1 << 17  # of `known`, so that an image of any length takes no more memory
+KEPT_TRAPS = 1000  # that are not returned from, of a hart
+
+
+class Before:
+    """What stands before an event whose level need not be that of the event before: the lowest and the highest that it may be,
+    whether that is a trap, and the level of the trap that a return goes back from, where that is known."""
+
+    def __init__(self, lowest, highest, is_trap=False, level_of_trap=None):
+        self.lowest, self.highest, self.is_trap, self.level_of_trap = lowest, highest, is_trap, level_of_trap
+
+
+OUTSIDE = Before(USER, MACHINE)
+
+
+class Trap:
+    """A trap that has no row yet: `level` is None where it is not known, `before` what stands before it then, and `places` are
+    the digits of earlier traps that have its level."""
+
+    def __init__(self, is_interrupt, cause, epc, value):
+        self.is_interrupt, self.cause, self.epc, self.value = is_interrupt, cause, epc, value
+        self.level, self.before, self.places = None, None, []
+
+    def row(self, level):
+        if self.is_interrupt:
+            return b"%x,2,%d,%x,\n" % (self.epc, level, self.cause)
+        return b"%x,1,%d,%x,%x\n" % (self.epc, level, self.cause, self.value)
+
+    def place_of_level(self, place):
+        """The place of the level's digit in the row that begins at a place."""
+        piece, offset = place
+        return piece, offset + len(b"%x,1," % self.epc)
+
+    def likely_level(self, handler):
+        """The level to write until a return shows it, as far as the log stays legal. Behind a return it is that of the trap
+        that it goes back from. Taking a trap to machine level masks interrupts, so one right behind a trap comes from
+        supervisor level. Else it is the handler's, where that is known."""
+        level = self.before.level_of_trap
+        if level is None:
+            level = SUPERVISOR if handler is None or self.is_interrupt and self.before.is_trap else handler
+        return max(self.before.lowest, min(self.before.highest, level))
+
+    def lowest_handler(self):
+        """The lowest level that the handler may begin at."""
+        if self.level is not None:
+            return max(self.level, SUPERVISOR)
+        return self.before.lowest if self.before.is_trap else SUPERVISOR
+
+
+class Hart:
+    """The rows of one hart. `form` is the module that reads the lines, `known` the entries by what a line says, `files` where
+    rows go, and `warn` is called with a text that the user should see."""
+
+    def __init__(self, number, image, form, known, files, warn):
+        self.number, self.image, self.form, self.known, self.files, self.warn = number, image, form, known, files, warn
+        self.prefix = form.prefix(number)
+        self.rows = []  # not yet given to `files`
+        self.held = None  # the entry of the last instruction, which has no row before the next event is known
+        self.trapped = None  # a trap that has no row yet
+        self.level = None  # of the last event
+        self.before = OUTSIDE  # where the next event may be at another level; else None
+        self.depth = 0  # how many traps are not returned from
+        self.taken = deque(maxlen=KEPT_TRAPS)  # places and levels of the last of these
+        self.opened = OpenTraps()
+        self.traps = 0
+        self.has_begun = self.has_warned = False
+        self.why_ended = None
+
+    def follow(self, line, lines):
+        """Takes a line and then those of `lines`, as long as they announce instructions of this hart; returns the first that
+        does not, None at the end."""
+        if self.why_ended:
+            return next((line for line in lines if not line.startswith(self.prefix)), None)
+        prefix, mark, shift, width = self.prefix, self.form.MARK, self.form.SHIFT, self.form.WIDTH
+        get, append, held, level = self.known.get, self.rows.append, self.held, self.steady_level()
+        for line in chain((line,), lines):
+            if not line.startswith(prefix):
+                break
+            at = line.find(mark) + shift
+            entry = get(line[at : at + width])
+            if entry is None or entry[LEVEL] != level:
+                self.held = held
+                if not self.announce_line(line, at, entry):
+                    break
+                held, level = self.held, self.steady_level()
+                continue
+            append(held[TAKEN] if entry[ADDRESS] == held[TARGET] else held[ROW])
+            held = entry
+        else:
+            line = None
+        self.held = held
+        return line
+
+    def steady_level(self):
+        """The level of the held instruction, where the next event has it too."""
+        return CHANGING if self.held is None or self.held[LEVEL] & IS_RETURN else self.level
+
+    def announce_line(self, line, at, entry):
+        """Takes a line, `at` where the part begins that says which instruction, and its entry where that is known; returns
+        whether it announces an instruction."""
+        if entry is not None:
+            self.announce(entry[ADDRESS], entry[LEVEL] & ~IS_RETURN, entry)
+            return True
+        found = self.form.INSTRUCTION.match(line)
+        if not found:
+            return False
+        address, shown = self.form.instruction(found)
+        self.announce(address, shown, None)
+        is_new = self.held is not None and self.held[LEVEL] & ~IS_RETURN == shown
+        if is_new and found.end("key") - at == self.form.WIDTH:
+            if len(self.known) >= KEPT_ENTRIES:
+                self.known.clear()
+            self.known[line[at : at + self.form.WIDTH]] = self.held
+        return True
+
+    def announce(self, address, shown, entry):
+        """Takes an instruction that is about to retire, at the level that its line shows, and its entry where that is known."""
+        if self.why_ended:
+            return
+        level = self.agreed_level(address, shown)
+        self.reach(address, level)
+        if self.why_ended:
+            return
+        self.level, self.before = level, None
+        if address in self.image:
+            self.has_begun = True
+            self.held = entry if entry is not None and level == shown else self.image.entry(address, level)
+        elif self.has_begun:
+            self.end(f"left the image at {address:x}")
+        else:
+            self.before = OUTSIDE
+
+    def agreed_level(self, address, shown):
+        """The level of an instruction: what its line shows behind a return or a trap, else that of the event before."""
+        is_return = self.held is not None and self.held[LEVEL] & IS_RETURN
+        follows = self.level if self.before is None and not is_return else None
+        level = follows if follows is not None else shown if shown in (USER, SUPERVISOR, MACHINE) else SUPERVISOR
+        if level != shown and not self.has_warned:
+            self.has_warned = True
+            self.warn(f"hart {self.number}: at {address:x} a line shows level {shown}, and the log has {level}; no other is named")
+        return level
+
+    def withdraw(self):
+        """The instruction that was announced last is not retired, and nothing is known yet of why."""
+        self.held = None
+
+    def trap(self, is_interrupt, cause, epc, value=0):
+        """Takes a trap; its value may come later, by `value_of_trap`."""
+        if self.why_ended:
+            return
+        trap = Trap(is_interrupt, cause, epc, value)
+        shown = None if is_interrupt else LEVEL_OF_ECALL.get(cause)
+        if self.form.ANNOUNCES and not is_interrupt and self.held is not None and self.held[ADDRESS] == epc:
+            self.withdraw()
+        else:
+            trap.places = self.reach(epc, shown)
+        if self.has_begun and not self.why_ended:
+            trap.level, trap.before = shown if self.before else self.level, self.before
+            self.trapped = trap
+            self.before = Before(trap.lowest_handler(), MACHINE, is_trap=True)
+
+    def value_of_trap(self, value):
+        """The value of the trap that was taken last."""
+        if self.trapped:
+            self.trapped.value = value
+
+    def reach(self, address, level):
+        """The next event stands at an address, at a level, which is None where nothing shows it: so the event before is decided.
+        Returns the places of earlier traps whose level is that of the next event and not seen yet."""
+        if self.trapped:
+            self.settle(level)
+        held, self.held = self.held, None
+        if held is None:
+            return []
+        self.rows.append(held[TAKEN] if address == held[TARGET] else held[ROW])
+        if not held[LEVEL] & IS_RETURN:
+            return []
+        return self.go_back(held[HIGHEST], address, level)
+
+    def go_back(self, highest, address, level):
+        """A return, which leads to no level above `highest`, leads to an address: sets the level of the trap that it goes back
+        from, and returns its places where the level is not known yet."""
+        places = self.opened.take(address, self.depth)
+        epc, level_of_trap = self.taken.pop() if self.taken else (address, None)
+        self.depth = max(self.depth - 1, 0)
+        self.before = Before(USER, highest, level_of_trap=level_of_trap if address - epc in AT_OR_BEHIND else None)
+        if level is None:
+            return places
+        for place in places or self.opened.peek(address):
+            self.files.set_digit(place, level)
+        return []
+
+    def settle(self, handler):
+        """Writes the row of the trap that has none yet, `handler` the level that its handler begins at, None if not known."""
+        trap, self.trapped = self.trapped, None
+        level = trap.likely_level(handler) if trap.level is None else trap.level
+        self.rows.append(trap.row(level))
+        self.flush()
+        if self.why_ended:
+            return
+        self.traps += 1
+        self.depth += 1
+        self.taken.append((trap.epc, level))
+        if trap.level is None:
+            place = trap.place_of_level(self.files.place_of_last())
+            self.opened.add(trap.epc, self.depth, trap.places + [place])
+
+    def flush(self):
+        """Gives the rows to `files`."""
+        self.files.write(self.rows)
+        self.rows.clear()
+        if self.files.is_full and not self.why_ended:
+            self.why_ended = "row limit"
+            self.held = None
+
+    def end(self, why):
+        """The log of this hart ends here."""
+        self.flush()
+        self.held = None
+        self.why_ended = self.why_ended or why
+
+    def finish(self):
+        """The recording ends. An instruction that was only announced may not have retired, and nothing shows of a branch that
+        retired last where it led: such a row is left out."""
+        if self.trapped:
+            self.settle(None)
+        if self.form.LAST_RETIRED and self.held is not None and self.held[TARGET] is None:
+            self.rows.append(self.held[ROW])
+        self.end("end of the recording" if self.has_begun else "never came to the image")
+        self.files.close()

@@ -1,0 +1,186 @@
+"""`tools/record` as a program: its words, what it tests before it reads, its statuses and its text."""
+import os
+import resource
+import subprocess
+import sys
+import tempfile
+import unittest
+
+from support import MACHINE, MRET, NOP, TOOLS, USER, image_of, interrupt, record, trace, traces
+
+IMAGE = image_of(*[NOP] * 7, MRET)
+LINES = "".join(line + "\n" for line in traces((0, 1, 2), USER))
+
+
+class Command(unittest.TestCase):
+    def setUp(self):
+        kept = tempfile.TemporaryDirectory()
+        self.addCleanup(kept.cleanup)
+        self.folder = kept.name
+        self.image = self.file("program.bin", IMAGE)
+        self.recording = self.file("qemu.log", LINES.encode())
+        self.logs = os.path.join(self.folder, "logs")
+        os.mkdir(self.logs)
+
+    def file(self, name, content):
+        path = os.path.join(self.folder, name)
+        with open(path, "wb") as file:
+            file.write(content)
+        return path
+
+    def run_with(self, form="qemu", base="80000000", image=None, recording=None, folder=None, more=(), given=b""):
+        words = [form, *more, base, image or self.image, recording or self.recording, folder or self.logs]
+        return record(*words, given=given)
+
+    def refused(self, want, **how):
+        """The recording is not read, one line says why, and nothing is written."""
+        ran = self.run_with(recording=how.pop("recording", "/dev/full"), **how)
+        self.assertEqual((ran.returncode, ran.stdout), (2, b""), ran.stderr)
+        self.assertEqual(ran.stderr.decode().count("\n"), 1)
+        self.assertIn(want, ran.stderr.decode())
+        self.assertEqual(os.listdir(self.logs), [])
+
+    def test_a_whole_run(self):
+        ran = self.run_with()
+        want = b"hart 0: 2 rows, 2 retirements, 0 traps; last at 80000004: end of the recording; 0 levels guessed\n"
+        self.assertEqual((ran.returncode, ran.stdout, ran.stderr), (0, want, b""))
+        with open(os.path.join(self.logs, "hart00.csv")) as file:
+            self.assertEqual(file.read(), "addr,itype,priv,cause,tval\n80000000,0,0,,\n80000004,0,0,,\n")
+
+    def test_standard_input(self):
+        ran = self.run_with(recording="-", given=LINES.encode())
+        self.assertEqual((ran.returncode, ran.stdout), (0, self.summary_of_file()))
+
+    def summary_of_file(self):
+        other = os.path.join(self.folder, "other")
+        os.mkdir(other)
+        return self.run_with(folder=other).stdout
+
+    def test_a_fifo(self):
+        fifo = os.path.join(self.folder, "fifo")
+        os.mkfifo(fifo)
+        words = ["qemu", "80000000", self.image, fifo, self.logs]
+        with subprocess.Popen([os.path.join(TOOLS, "record"), *words], stdout=subprocess.PIPE) as reader:
+            with open(fifo, "w") as writer:
+                writer.write(LINES)
+            self.assertEqual(reader.communicate()[0], self.summary_of_file())
+
+    def test_a_base_with_a_prefix(self):
+        self.assertEqual(self.run_with(base="0x80000000").returncode, 0)
+
+    def test_pieces_is_taken(self):
+        self.assertEqual(self.run_with(more=["--pieces"]).returncode, 0)
+
+    def test_harts_are_summed_up_in_order(self):
+        lines = "".join(trace(place, USER, hart) + "\n" for place in (0, 1) for hart in (10, 2, 0))
+        text = self.run_with(recording="-", given=lines.encode()).stdout.decode()
+        self.assertEqual([line.split(":")[0] for line in text.splitlines()], ["hart 0", "hart 2", "hart 10"])
+
+    def test_a_log_that_is_cut_is_status_1(self):
+        lines = LINES + trace(0x90000000, USER) + "\n"
+        ran = self.run_with(recording="-", given=lines.encode())
+        self.assertEqual((ran.returncode, b": left the image at 90000000;" in ran.stdout), (1, True))
+
+    def test_a_recording_without_an_instruction_is_status_1(self):
+        ran = self.run_with(recording="-", given=b"hello\n")
+        self.assertEqual((ran.returncode, ran.stdout), (1, b""))
+        self.assertIn(b"- has no line of an instruction: qemu writes them with -singlestep -d exec,int,nochain", ran.stderr)
+
+    def test_a_warning_is_a_line_of_standard_error(self):
+        lines = LINES + trace(3, MACHINE) + "\n" + trace(4, MACHINE) + "\n"
+        ran = self.run_with(recording="-", given=lines.encode())
+        self.assertEqual((ran.returncode, ran.stderr.count(b"\n")), (0, 1))
+        self.assertTrue(ran.stderr.startswith(b"record: hart 0: at 8000000c a line shows level 3"))
+
+    def test_no_words_are_usage_and_status_2(self):
+        for words in ((), ("qemu",), ("qemu", "80000000", self.image, self.recording)):
+            ran = record(*words)
+            self.assertEqual((ran.returncode, ran.stdout), (2, b""))
+            self.assertTrue(ran.stderr.startswith(b"usage: tools/record"))
+            self.assertNotIn(b"Traceback", ran.stderr)
+
+    def test_help(self):
+        ran = record("--help")
+        self.assertEqual((ran.returncode, ran.stderr), (0, b""))
+        for word in (b"BASE", b"IMAGE", b"LOG", b"FOLDER", b"--pieces", b"qemu", b"spike", b"status: 0"):
+            self.assertIn(word, ran.stdout)
+
+    def test_an_unknown_simulator(self):
+        self.assertEqual(self.run_with(form="gdb").returncode, 2)
+
+    def test_an_elf_file_is_named_with_the_line_that_makes_an_image(self):
+        elf = self.file("program.elf", b"\x7fELF" + IMAGE)
+        self.refused(f"{elf} is an ELF file; the raw image is what this writes: riscv64-unknown-elf-objcopy -O binary {elf} ", image=elf)
+
+    def test_images(self):
+        self.refused("No such file", image=os.path.join(self.folder, "none.bin"))
+        self.refused("Is a directory", image=self.folder)
+        self.refused("image is empty", image=self.file("empty.bin", b""))
+        self.refused("image is larger than 16777216 bytes", image=self.file("large.bin", bytes((1 << 24) + 1)))
+        self.refused("image runs past the last address", base="ffffffffffffffe0")
+
+    def test_the_largest_image_is_taken(self):
+        self.assertEqual(self.run_with(image=self.file("large.bin", bytes(1 << 24))).returncode, 0)
+
+    def test_bases(self):
+        for base in ("program.bin", "", "0x", "8000_0000", "12345678123456781", "+80000000"):
+            self.refused(f"{base}: base is not a hexadecimal number", base=base)
+        self.refused("80000001: base is odd", base="80000001")
+
+    def test_folders(self):
+        self.refused("no such folder", folder=os.path.join(self.folder, "none"))
+        self.refused("no such folder", folder=self.image)
+
+    def test_a_folder_with_logs(self):
+        self.file("logs/hart03.csv", b"")
+        ran = self.run_with()
+        self.assertEqual((ran.returncode, os.listdir(self.logs)), (2, ["hart03.csv"]))
+        self.assertIn(b"hart03.csv is there already: name a folder that has no logs", ran.stderr)
+
+    def test_recordings(self):
+        self.refused("No such file", recording=os.path.join(self.folder, "none.log"))
+
+    def test_a_read_that_fails_is_status_3(self):
+        ran = self.run_with(recording=self.folder)
+        self.assertIn(ran.returncode, (2, 3))
+        self.assertNotIn(b"Traceback", ran.stderr)
+
+    def test_a_write_that_fails_is_status_3(self):
+        def limit():
+            resource.setrlimit(resource.RLIMIT_FSIZE, (100000, 100000))
+
+        words = [sys.executable, os.path.join(TOOLS, "record"), "qemu", "80000000", self.image, "-", self.logs]
+        lines = 30000 * (trace(0, USER) + "\n" + trace(1, USER) + "\n")
+        ran = subprocess.run(words, input=lines.encode(), capture_output=True, preexec_fn=limit)
+        self.assertEqual(ran.returncode, 3)
+        self.assertIn(b"File too large", ran.stderr)
+        self.assertNotIn(b"Traceback", ran.stderr)
+
+    def test_bytes_that_are_no_text(self):
+        given = bytes(range(256)) * 4096 + b"\n" + LINES.encode() + b"\xff\xfe\n"
+        self.assertEqual(self.run_with(recording="-", given=given).stdout, self.summary_of_file())
+
+
+class Costs(unittest.TestCase):
+    """A long recording with traps in it: at most 200 MB, and 150,000 rows a second of processor time."""
+
+    def test_time_and_memory(self):
+        loop = traces((0, 1, 2, 3), USER) + [interrupt(7, 4)] + traces((6, 7), MACHINE) + [interrupt(3, 4)]
+        loop += traces((6, 7), MACHINE) + traces((4, 5), USER)
+        block = "".join(line + "\n" for line in 1000 * loop).encode()
+        with tempfile.TemporaryDirectory() as folder:
+            image = os.path.join(folder, "program.bin")
+            with open(image, "wb") as file:
+                file.write(IMAGE)
+            words = [os.path.join(TOOLS, "record"), "qemu", "80000000", image, "-", folder]
+            with subprocess.Popen(words, stdin=subprocess.PIPE, stdout=subprocess.PIPE) as ran:
+                for _ in range(60):
+                    ran.stdin.write(block)
+                ran.stdin.close()
+                summary = ran.stdout.read().decode()
+                _, ran.returncode, used = os.wait4(ran.pid, 0)
+        seconds, kilobytes = used.ru_utime + used.ru_stime, used.ru_maxrss
+        rows = int(summary.split()[2])
+        self.assertGreater(rows, 700_000)
+        self.assertGreater(rows / seconds, 150_000)
+        self.assertLess(kilobytes, 200_000)
