@@ -3,7 +3,7 @@ from collections import deque
 from itertools import chain
 
 from recording.image import ADDRESS, HIGHEST, IS_RETURN, LEVEL, ROW, TAKEN, TARGET
-from recording.levels import OpenTraps
+from recording.levels import Open, OpenTraps
 
 USER, SUPERVISOR, MACHINE = 0, 1, 3
 LEVEL_OF_ECALL = {8: USER, 9: SUPERVISOR, 11: MACHINE}
@@ -25,12 +25,12 @@ OUTSIDE = Before(USER, MACHINE)
 
 
 class Trap:
-    """A trap that has no row yet: `level` is None where it is not known, `before` what stands before it then, and `places` are
-    the digits of earlier traps that have its level."""
+    """A trap that has no row yet: `level` is None where it is not known, `before` what stands before it then, and `same` the open
+    trap whose handler went back to its place, so that both have the same level."""
 
     def __init__(self, is_interrupt, cause, epc, value):
         self.is_interrupt, self.cause, self.epc, self.value = is_interrupt, cause, epc, value
-        self.level, self.before, self.places = None, None, []
+        self.level, self.before, self.same = None, None, None
 
     def row(self, level):
         if self.is_interrupt:
@@ -49,13 +49,8 @@ class Trap:
         level = self.before.level_of_trap
         if level is None:
             level = SUPERVISOR if handler is None or self.is_interrupt and self.before.is_trap else handler
-        return max(self.before.lowest, min(self.before.highest, level))
-
-    def lowest_handler(self):
-        """The lowest level that the handler may begin at."""
-        if self.level is not None:
-            return max(self.level, SUPERVISOR)
-        return self.before.lowest if self.before.is_trap else SUPERVISOR
+        highest = self.before.highest if handler is None else min(self.before.highest, handler)
+        return max(self.before.lowest, min(highest, level))
 
 
 class Hart:
@@ -144,7 +139,8 @@ class Hart:
     def agreed_level(self, address, shown):
         """The level of an instruction: what its line shows behind a return or a trap, else that of the event before."""
         is_return = self.held is not None and self.held[LEVEL] & IS_RETURN
-        follows = self.level if self.before is None and not is_return else None
+        may_change = self.before or self.trapped or is_return
+        follows = None if may_change else self.level
         level = follows if follows is not None else shown if shown in (USER, SUPERVISOR, MACHINE) else SUPERVISOR
         if level != shown and not self.has_warned:
             self.has_warned = True
@@ -164,11 +160,10 @@ class Hart:
         if self.form.ANNOUNCES and not is_interrupt and self.held is not None and self.held[ADDRESS] == epc:
             self.withdraw()
         else:
-            trap.places = self.reach(epc, shown)
+            trap.same = self.reach(epc, shown)
         if self.has_begun and not self.why_ended:
             trap.level, trap.before = shown if self.before else self.level, self.before
             self.trapped = trap
-            self.before = Before(trap.lowest_handler(), MACHINE, is_trap=True)
 
     def value_of_trap(self, value):
         """The value of the trap that was taken last."""
@@ -177,34 +172,44 @@ class Hart:
 
     def reach(self, address, level):
         """The next event stands at an address, at a level, which is None where nothing shows it: so the event before is decided.
-        Returns the places of earlier traps whose level is that of the next event and not seen yet."""
+        Returns the open trap whose level is that of the next event and not seen yet; None if there is none."""
         if self.trapped:
             self.settle(level)
         held, self.held = self.held, None
         if held is None:
-            return []
+            return None
         self.rows.append(held[TAKEN] if address == held[TARGET] else held[ROW])
         if not held[LEVEL] & IS_RETURN:
-            return []
+            return None
         return self.go_back(held[HIGHEST], address, level)
 
     def go_back(self, highest, address, level):
-        """A return, which leads to no level above `highest`, leads to an address: sets the level of the trap that it goes back
-        from, and returns its places where the level is not known yet."""
-        places = self.opened.take(address, self.depth)
-        epc, level_of_trap = self.taken.pop() if self.taken else (address, None)
+        """A return, which leads to no level above `highest`, leads to an address: sets the level of the open trap that it goes
+        back from, or returns the trap where the level is not known yet."""
+        found = self.opened.take(address, self.depth)
+        epc, level_of_trap = self.taken.pop() if self.taken else (None, None)
+        is_nested = epc is not None and address - epc in AT_OR_BEHIND
         self.depth = max(self.depth - 1, 0)
-        self.before = Before(USER, highest, level_of_trap=level_of_trap if address - epc in AT_OR_BEHIND else None)
+        self.before = Before(USER, highest, level_of_trap=level_of_trap if is_nested else None)
         if level is None:
-            return places
-        for place in places or self.opened.peek(address):
-            self.files.set_digit(place, level)
-        return []
+            return found
+        if not is_nested:
+            found = found or self.opened.last_at(address)
+        self.set_level(found, level)
+        return None
+
+    def set_level(self, found, level):
+        """Sets the level of an open trap, if there is one, in its rows."""
+        if found and found.level != level:
+            found.level = level
+            for place in found.places:
+                self.files.set_digit(place, level)
 
     def settle(self, handler):
         """Writes the row of the trap that has none yet, `handler` the level that its handler begins at, None if not known."""
         trap, self.trapped = self.trapped, None
         level = trap.likely_level(handler) if trap.level is None else trap.level
+        self.before = Before(max(level, SUPERVISOR), MACHINE, is_trap=True)
         self.rows.append(trap.row(level))
         self.flush()
         if self.why_ended:
@@ -213,8 +218,10 @@ class Hart:
         self.depth += 1
         self.taken.append((trap.epc, level))
         if trap.level is None:
-            place = trap.place_of_level(self.files.place_of_last())
-            self.opened.add(trap.epc, self.depth, trap.places + [place])
+            self.set_level(trap.same, level)
+            places = trap.same.places if trap.same else []
+            places.append(trap.place_of_level(self.files.place_of_last()))
+            self.opened.add(trap.epc, Open(self.depth, places, level))
 
     def flush(self):
         """Gives the rows to `files`."""

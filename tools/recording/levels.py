@@ -9,11 +9,11 @@ MOST_KEPT = 10_000  # places of one hart, so that a run of any length takes no m
 
 
 class Open:
-    """A trap whose level is not seen yet, and those before it at the same address with nothing retired between them."""
+    """A trap whose level is not seen yet, and those before it at the same address with nothing retired between them: the places
+    of their digits, and the level that is written there."""
 
-    def __init__(self, depth, places):
-        self.depth, self.places = depth, places
-        self.is_seen = False  # a return at another depth went to the address
+    def __init__(self, depth, places, level):
+        self.depth, self.places, self.level = depth, places, level
 
 
 class OpenTraps:
@@ -24,18 +24,18 @@ class OpenTraps:
         self.kept = 0
         self.given_up = 0
 
-    def add(self, address, depth, places):
-        """Keeps a trap that was taken at `address`; the digits of its level stand at `places`."""
-        self.at.setdefault(address, []).append(Open(depth, places))
-        self.kept += len(places)
+    def add(self, address, found):
+        """Keeps an open trap that was taken at `address`."""
+        self.at.setdefault(address, []).append(found)
+        self.kept += len(found.places)
         while self.kept > MOST_KEPT:
             self.give_up_oldest()
 
     def give_up_oldest(self):
         first = next(iter(self.at))
         oldest = self.at[first][0]
-        self.given_up += not oldest.is_seen
         oldest.places.pop(0)
+        self.given_up += 1
         self.kept -= 1
         if not oldest.places:
             self.remove(first, oldest)
@@ -47,21 +47,18 @@ class OpenTraps:
             del self.at[address]
 
     def take(self, address, depth):
-        """The places of the trap that a return at this depth to this address goes back from; it is open no more."""
+        """The trap that a return at this depth to this address goes back from, which is kept no more; None if there is none."""
         for found in reversed(self.at.get(address, ())):
             if found.depth == depth:
                 self.remove(address, found)
-                return found.places
-        return []
+                return found
+        return None
 
-    def peek(self, address):
-        """The places of the last trap at this address, where no trap and return nest; a better return may come."""
-        if address not in self.at:
-            return []
-        found = self.at[address][-1]
-        found.is_seen = True
-        return found.places
+    def last_at(self, address):
+        """The last trap at this address, which stays open: where traps and returns do not nest, a return at another depth that
+        goes there shows its level too, if less surely."""
+        return self.at[address][-1] if address in self.at else None
 
     def guessed(self):
-        """How many traps no return went back from."""
-        return self.given_up + sum(len(found.places) for all_at in self.at.values() for found in all_at if not found.is_seen)
+        """How many traps no return at their depth went back from."""
+        return self.given_up + self.kept

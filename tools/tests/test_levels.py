@@ -97,7 +97,7 @@ class BehindReturns(unittest.TestCase):
         """Behind it traps and returns do not nest; the return to the place shows the level all the same."""
         lines = TO_MACHINE + [interrupt(7, 4)] + [trace(0, MACHINE), exception(11, 0)] + TO_MACHINE + traces((4, 5), USER)
         found, run = trap_rows(lines)
-        self.assertEqual((found, guessed(run)), ([(4, USER), (0, MACHINE)], 0))
+        self.assertEqual((found, guessed(run)), ([(4, USER), (0, MACHINE)], 1))
 
 
 class BehindTraps(unittest.TestCase):
