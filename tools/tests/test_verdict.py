@@ -1,0 +1,171 @@
+"""`tools/verdict`, over a stand-in for the program that does one thing wrong, and over the program itself where TRACEBENCH names it."""
+import os
+import subprocess
+import sys
+import tempfile
+import textwrap
+import unittest
+
+from support import BASE, RECORDED, TOOLS, TRACEBENCH, record, recorded
+
+HEADER = "addr,itype,priv,cause,tval\n"
+LOGS = [HEADER + "80000000,0,3,,\n80000004,0,3,,\n", HEADER + "80000000,0,0,,\n"]
+
+STAND_IN = '''\
+    #!{python}
+    """Answers as tracebench does: a capture is the text that it is decoded to."""
+    import sys
+    command, words = sys.argv[1], sys.argv[2:]
+    logs = [word for word in words if word.endswith(".csv")]
+    wrong = {wrong!r}
+    open({calls!r}, "a").write(" ".join(sys.argv[1:]) + "\\n")
+    if wrong == command + " fails":
+        sys.stderr.write("tracebench: out of memory\\n")
+        sys.exit(3)
+    if command == "check":
+        texts = [open(log).read() for log in logs]
+        lines = [f"{{log}}: legal, {{text.count(chr(10)) - 1}} events" for log, text in zip(logs, texts)]
+        if wrong == "illegal":
+            lines[-1] = f"{{logs[-1]}}: row 1: WrongPrivilege"
+        if wrong == "no image":
+            sys.stderr.write("tracebench: image.bin: cannot be read\\n")
+            sys.exit(3)
+        print("\\n".join(lines))
+        sys.exit(2 if wrong == "illegal" else 0)
+    if command == "encode":
+        text = "".join(f"hart {{hart}}\\n" + open(log).read() for hart, log in enumerate(logs))
+        sys.stdout.write(text)
+    if command == "decode":
+        text = open(words[-1]).read()
+        if wrong == "a digit":
+            text = text[:-5] + "1" + text[-4:]
+        if wrong == "short":
+            text = text[:-15]
+        if wrong == "long":
+            text += "hart 2\\n"
+        if wrong == "a hart":
+            text = text[: text.index("hart 1")]
+        sys.stdout.write(text)
+        if wrong in ("short", "a hart", "status"):
+            sys.stderr.write("tracebench: hart 1: no closing packet\\n")
+            sys.exit(1)
+    if command == "bench":
+        for hart, log in enumerate(logs):
+            print(f"hart {{hart}}: 2 events, 5 packets, 12 payload bytes, decoded 2, whole")
+        print("result: not whole" if wrong == "not whole" else "result: whole")
+        sys.exit(1 if wrong == "not whole" else 0)
+'''
+
+
+class StandIn(unittest.TestCase):
+    def setUp(self):
+        kept = tempfile.TemporaryDirectory()
+        self.addCleanup(kept.cleanup)
+        self.folder = kept.name
+        self.calls = self.path("calls")
+        self.paths = [self.file(f"hart{hart:02}.csv", text) for hart, text in enumerate(LOGS)]
+
+    def path(self, name):
+        return os.path.join(self.folder, name)
+
+    def file(self, name, text):
+        with open(self.path(name), "w") as file:
+            file.write(text)
+        return self.path(name)
+
+    def run_with(self, wrong=None, words=(), logs=None):
+        program = self.file("program", textwrap.dedent(STAND_IN).format(python=sys.executable, wrong=wrong, calls=self.calls))
+        os.chmod(program, 0o755)
+        given = [*words, "--program", program, "80000000", "image.bin", *(self.paths if logs is None else logs)]
+        return subprocess.run([os.path.join(TOOLS, "verdict"), *given], capture_output=True, text=True)
+
+    def commands(self):
+        with open(self.calls) as file:
+            return [line.split() for line in file]
+
+    def test_all_is_as_it_should_be(self):
+        ran = self.run_with()
+        want = "check: 2 logs legal, 3 rows\nperiod 1024: capture of 113 bytes; decoded to the same bytes; "
+        want += "whole over threads, 10 packets, 24 payload bytes; 64.000 bits a row\nverdict: good\n"
+        self.assertEqual((ran.returncode, ran.stdout, ran.stderr), (0, want, ""))
+
+    def test_each_command_is_run_at_each_period(self):
+        ran = self.run_with(words=["--periods", "1,16", "--full"])
+        self.assertEqual([line.split(":")[0] for line in ran.stdout.splitlines()], ["check", "period 1", "period 16", "verdict"])
+        calls = self.commands()
+        self.assertEqual([call[0] for call in calls], ["check", "encode", "decode", "bench", "encode", "decode", "bench"])
+        for call, period in ((calls[1], "1"), (calls[3], "1"), (calls[4], "16"), (calls[6], "16")):
+            self.assertEqual(call[1:7], ["--base", "80000000", "--period", period, "--full", "image.bin"])
+            self.assertEqual(call[7:], self.paths)
+
+    def test_an_illegal_log(self):
+        ran = self.run_with("illegal")
+        want = f"{self.paths[1]}: row 1: WrongPrivilege\nverdict: bad, 1 of 2 logs not legal; none is encoded\n"
+        self.assertEqual((ran.returncode, ran.stdout, ran.stderr), (1, want, ""))
+        self.assertEqual([call[0] for call in self.commands()], ["check"])
+
+    def wrong(self, wrong, text):
+        ran = self.run_with(wrong)
+        self.assertEqual((ran.returncode, ran.stderr), (1, ""))
+        self.assertIn(text, ran.stdout)
+        self.assertTrue(ran.stdout.endswith("verdict: bad at period 1024\n"))
+
+    def test_another_digit(self):
+        self.wrong("a digit", f"; {self.paths[1]} differs at row 1; whole over")
+
+    def test_rows_that_are_missing(self):
+        self.wrong("short", f"; {self.paths[1]} differs at row 1 (tracebench: hart 1: no closing packet);")
+
+    def test_a_hart_that_is_missing(self):
+        self.wrong("a hart", "; hart 1 is missing (tracebench: hart 1: no closing packet);")
+
+    def test_more_than_the_logs(self):
+        self.wrong("long", f"; behind {self.paths[1]} more is decoded;")
+
+    def test_the_same_bytes_with_another_status(self):
+        self.wrong("status", "; status 1;")
+
+    def test_a_run_over_threads_that_is_not_whole(self):
+        self.wrong("not whole", "; decoded to the same bytes; not whole over threads, ")
+
+    def test_a_command_that_fails(self):
+        for command in ("encode", "bench"):
+            ran = self.run_with(command + " fails")
+            self.assertEqual((ran.returncode, ran.stderr), (3, "verdict: tracebench: out of memory\n"))
+
+    def test_what_check_cannot_read(self):
+        ran = self.run_with("no image")
+        self.assertEqual((ran.returncode, ran.stdout, ran.stderr), (3, "", "verdict: tracebench: image.bin: cannot be read\n"))
+
+    def test_more_logs_than_threads(self):
+        logs = [self.file(f"many{hart:02}.csv", LOGS[0]) for hart in range(65)]
+        ran = self.run_with(logs=logs)
+        self.assertEqual(ran.returncode, 0)
+        self.assertIn("; no threads, since bench takes 64 logs at most\nverdict: good\n", ran.stdout)
+
+    def test_words(self):
+        for words in (["--periods", "0"], ["--periods", "65536"], ["--periods", "x"], ["--periods", ""]):
+            ran = self.run_with(words=words)
+            self.assertEqual((ran.returncode, ran.stdout), (2, ""))
+            self.assertNotIn("Traceback", ran.stderr)
+        self.assertEqual(self.run_with(logs=[]).returncode, 2)
+
+    def test_a_program_that_is_not_there(self):
+        ran = self.run_with(words=[], logs=["--program", self.path("none"), "x.csv"])
+        self.assertEqual((ran.returncode, ran.stdout), (3, ""))
+        self.assertIn("none: No such file", ran.stderr)
+
+
+@unittest.skipUnless(TRACEBENCH, "TRACEBENCH does not name the program")
+class WithTheProgram(unittest.TestCase):
+    def test_recorded_runs(self):
+        for name, harts in (("four", 4), ("behind_trap", 1), ("faults", 1)):
+            with tempfile.TemporaryDirectory() as folder:
+                image = os.path.join(RECORDED, f"{name}.bin")
+                record("qemu", f"{BASE:x}", image, "-", folder, given=recorded(f"{name}.log.xz"))
+                logs = [os.path.join(folder, f"hart{hart:02}.csv") for hart in range(harts)]
+                for mode in ([], ["--full"]):
+                    words = ["--periods", "1,7,1024", *mode, f"{BASE:x}", image, *logs]
+                    ran = subprocess.run([os.path.join(TOOLS, "verdict"), *words], capture_output=True, text=True)
+                    self.assertEqual((ran.returncode, ran.stderr), (0, ""), ran.stdout)
+                    self.assertEqual(ran.stdout.count("; decoded to the same bytes; whole over threads, "), 3)
