@@ -3,54 +3,14 @@ from collections import deque
 from itertools import chain
 
 from recording.image import ADDRESS, HIGHEST, IS_RETURN, LEVEL, ROW, TAKEN, TARGET
-from recording.levels import Open, OpenTraps
+from recording.levels import LEVEL_OF_ECALL, MACHINE, SUPERVISOR, USER, Before, Trap
+from recording.open_traps import Open, OpenTraps
 
-USER, SUPERVISOR, MACHINE = 0, 1, 3
-LEVEL_OF_ECALL = {8: USER, 9: SUPERVISOR, 11: MACHINE}
+OUTSIDE = Before(USER, MACHINE)
 AT_OR_BEHIND = (0, 2, 4)  # where the handler of a trap returns to, less the trap's place
 CHANGING = -1  # no level: what stands here may change it
 KEPT_ENTRIES = 1 << 17  # of `known`, so that an image of any length takes no more memory
 KEPT_TRAPS = 1000  # that are not returned from, of a hart
-
-
-class Before:
-    """What stands before an event whose level need not be that of the event before: the lowest and the highest that it may be,
-    whether that is a trap, and the level of the trap that a return goes back from, where that is known."""
-
-    def __init__(self, lowest, highest, is_trap=False, level_of_trap=None):
-        self.lowest, self.highest, self.is_trap, self.level_of_trap = lowest, highest, is_trap, level_of_trap
-
-
-OUTSIDE = Before(USER, MACHINE)
-
-
-class Trap:
-    """A trap that has no row yet: `level` is None where it is not known, `before` what stands before it then, and `same` the open
-    trap whose handler went back to its place, so that both have the same level."""
-
-    def __init__(self, is_interrupt, cause, epc, value):
-        self.is_interrupt, self.cause, self.epc, self.value = is_interrupt, cause, epc, value
-        self.level, self.before, self.same = None, None, None
-
-    def row(self, level):
-        if self.is_interrupt:
-            return b"%x,2,%d,%x,\n" % (self.epc, level, self.cause)
-        return b"%x,1,%d,%x,%x\n" % (self.epc, level, self.cause, self.value)
-
-    def place_of_level(self, place):
-        """The place of the level's digit in the row that begins at a place."""
-        piece, offset = place
-        return piece, offset + len(b"%x,1," % self.epc)
-
-    def likely_level(self, handler):
-        """The level to write until a return shows it, as far as the log stays legal. Behind a return it is that of the trap
-        that it goes back from. Taking a trap to machine level masks interrupts, so one right behind a trap comes from
-        supervisor level. Else it is the handler's, where that is known."""
-        level = self.before.level_of_trap
-        if level is None:
-            level = SUPERVISOR if handler is None or self.is_interrupt and self.before.is_trap else handler
-        highest = self.before.highest if handler is None else min(self.before.highest, handler)
-        return max(self.before.lowest, min(highest, level))
 
 
 class Hart:
@@ -233,6 +193,8 @@ class Hart:
 
     def end(self, why):
         """The log of this hart ends here."""
+        if self.trapped:
+            self.settle(None)
         self.flush()
         self.held = None
         self.why_ended = self.why_ended or why
@@ -240,8 +202,6 @@ class Hart:
     def finish(self):
         """The recording ends. An instruction that was only announced may not have retired, and nothing shows of a branch that
         retired last where it led: such a row is left out."""
-        if self.trapped:
-            self.settle(None)
         if self.form.LAST_RETIRED and self.held is not None and self.held[TARGET] is None:
             self.rows.append(self.held[ROW])
         self.end("end of the recording" if self.has_begun else "never came to the image")

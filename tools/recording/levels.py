@@ -1,64 +1,41 @@
-"""The traps of one hart whose level is not seen yet.
+"""Levels, and what is known of the level that a trap was taken from before its handler goes back."""
 
-No line of a recording says which level an interrupt was taken from. Behind a return from a trap, and behind another trap, the
-event before does not say it either. It shows once the handler goes back to where the trap was taken: the instruction there has
-the level. A trap and the return that goes back from it stand at the same depth, as long as traps and returns nest.
-"""
-
-MOST_KEPT = 10_000  # places of one hart, so that a run of any length takes no more memory
+USER, SUPERVISOR, MACHINE = 0, 1, 3
+LEVEL_OF_ECALL = {8: USER, 9: SUPERVISOR, 11: MACHINE}  # by its cause
 
 
-class Open:
-    """A trap whose level is not seen yet, and those before it at the same address with nothing retired between them: the places
-    of their digits, and the level that is written there."""
+class Before:
+    """What stands before an event whose level need not be that of the event before: the lowest and the highest that it may be,
+    whether that is a trap, and the level of the trap that a return goes back from, where that is known."""
 
-    def __init__(self, depth, places, level):
-        self.depth, self.places, self.level = depth, places, level
+    def __init__(self, lowest, highest, is_trap=False, level_of_trap=None):
+        self.lowest, self.highest, self.is_trap, self.level_of_trap = lowest, highest, is_trap, level_of_trap
 
 
-class OpenTraps:
-    """The open traps of one hart, each at the address that it was taken at."""
+class Trap:
+    """A trap that has no row yet: `level` is None where it is not known, `before` what stands before it then, and `same` the open
+    trap whose handler went back to its place, so that both have the same level."""
 
-    def __init__(self):
-        self.at = {}
-        self.kept = 0
-        self.given_up = 0
+    def __init__(self, is_interrupt, cause, epc, value):
+        self.is_interrupt, self.cause, self.epc, self.value = is_interrupt, cause, epc, value
+        self.level, self.before, self.same = None, None, None
 
-    def add(self, address, found):
-        """Keeps an open trap that was taken at `address`."""
-        self.at.setdefault(address, []).append(found)
-        self.kept += len(found.places)
-        while self.kept > MOST_KEPT:
-            self.give_up_oldest()
+    def row(self, level):
+        if self.is_interrupt:
+            return b"%x,2,%d,%x,\n" % (self.epc, level, self.cause)
+        return b"%x,1,%d,%x,%x\n" % (self.epc, level, self.cause, self.value)
 
-    def give_up_oldest(self):
-        first = next(iter(self.at))
-        oldest = self.at[first][0]
-        oldest.places.pop(0)
-        self.given_up += 1
-        self.kept -= 1
-        if not oldest.places:
-            self.remove(first, oldest)
+    def place_of_level(self, place):
+        """The place of the level's digit in the row that begins at a place."""
+        piece, offset = place
+        return piece, offset + len(b"%x,1," % self.epc)
 
-    def remove(self, address, found):
-        self.at[address].remove(found)
-        self.kept -= len(found.places)
-        if not self.at[address]:
-            del self.at[address]
-
-    def take(self, address, depth):
-        """The trap that a return at this depth to this address goes back from, which is kept no more; None if there is none."""
-        for found in reversed(self.at.get(address, ())):
-            if found.depth == depth:
-                self.remove(address, found)
-                return found
-        return None
-
-    def last_at(self, address):
-        """The last trap at this address, which stays open: where traps and returns do not nest, a return at another depth that
-        goes there shows its level too, if less surely."""
-        return self.at[address][-1] if address in self.at else None
-
-    def guessed(self):
-        """How many traps no return at their depth went back from."""
-        return self.given_up + self.kept
+    def likely_level(self, handler):
+        """The level to write until a return shows it, as far as the log stays legal. Behind a return it is that of the trap
+        that it goes back from. Taking a trap to machine level masks interrupts, so one right behind a trap comes from
+        supervisor level. Else it is the handler's, where that is known."""
+        level = self.before.level_of_trap
+        if level is None:
+            level = SUPERVISOR if handler is None or self.is_interrupt and self.before.is_trap else handler
+        highest = self.before.highest if handler is None else min(self.before.highest, handler)
+        return max(self.before.lowest, min(highest, level))

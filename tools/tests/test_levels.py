@@ -6,7 +6,7 @@ from support import (
     BASE, MACHINE, MRET, NOP, RET, SRET, STOPPED, SUPERVISOR, USER, Run, at, exception, image_of, interrupt, trace, traces,
 )
 
-from recording import hart, levels
+from recording import hart, open_traps
 
 # 0 and 1: NOP, MRET; 2 and 3: NOP, SRET; 4 to 9: NOP; 10 and 11: JALR, MRET
 IMAGE = image_of(NOP, MRET, NOP, SRET, NOP, NOP, NOP, NOP, NOP, NOP, RET, MRET)
@@ -166,7 +166,7 @@ class Bounds(unittest.TestCase):
     """Runs in which no handler goes back take no more memory."""
 
     def test_open_traps_are_given_up_oldest_first(self):
-        with mock.patch.object(levels, "MOST_KEPT", 4):
+        with mock.patch.object(open_traps, "MOST_KEPT", 4):
             lines = [line for place in (4, 5, 6, 7, 8) for line in TO_MACHINE + [interrupt(7, place)]]
             lines += TO_MACHINE + traces((4, 5), USER) + [interrupt(7, 6)] + TO_MACHINE + traces((8, 9), USER)
             found, run = trap_rows(lines)
@@ -174,7 +174,7 @@ class Bounds(unittest.TestCase):
             self.assertEqual((run.harts.found[0].opened.kept, guessed(run)), (3, 4))
 
     def test_a_chain_of_interrupts_is_given_up_oldest_first(self):
-        with mock.patch.object(levels, "MOST_KEPT", 4):
+        with mock.patch.object(open_traps, "MOST_KEPT", 4):
             found, run = trap_rows(TO_MACHINE + 6 * ([interrupt(7, 4)] + TO_MACHINE) + traces((4, 5), USER))
             self.assertEqual(found, [(4, MACHINE)] * 2 + [(4, USER)] * 4)
             self.assertEqual(guessed(run), 2)

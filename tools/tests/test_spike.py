@@ -78,6 +78,12 @@ class Spike(unittest.TestCase):
         self.assertEqual((len(run.rows()), run.harts.are_whole()), (1, False))
         self.assertIn(": trap_of_some_kind has no cause here; ", run.summary())
 
+    def test_a_trap_before_one_that_is_not_known_has_its_row(self):
+        lines = [*commits((3, 4), 0), *trap("trap_breakpoint", 5, 8), *trap("trap_of_some_kind", 5), commit(5, 3)]
+        run = Run(IMAGE, lines, form=spike)
+        self.assertEqual(run.rows()[2:], ["80000014,1,0,3,8"])
+        self.assertIn(": 3 rows, 2 retirements, 1 traps; ", run.summary())
+
     def test_the_causes_are_those_of_the_architecture(self):
         """By the table of mcause in the Privileged Architecture."""
         want = {"instruction_address_misaligned": 0, "illegal_instruction": 2, "breakpoint": 3, "store_access_fault": 7}
