@@ -43,10 +43,10 @@ class Hart:
             if not line.startswith(prefix):
                 break
             at = line.find(mark) + shift
-            entry = get(line[at : at + width])
+            entry = get(line[at : at + width]) or self.new_entry(line[at : at + width])
             if entry is None or entry[LEVEL] != level:
                 self.held = held
-                if not self.announce_line(line, at, entry):
+                if not self.announce_line(line, entry):
                     break
                 held, level = self.held, self.steady_level()
                 continue
@@ -61,23 +61,26 @@ class Hart:
         """The level of the held instruction, where the next event has it too."""
         return CHANGING if self.held is None or self.held[LEVEL] & IS_RETURN else self.level
 
-    def announce_line(self, line, at, entry):
-        """Takes a line, `at` where the part begins that says which instruction, and its entry where that is known; returns
-        whether it announces an instruction."""
+    def new_entry(self, key):
+        """The entry of an instruction that no line named before, by the part of a line that says which and at what level; None
+        where that says no instruction of the image."""
+        address, shown = self.form.address_and_level(key)
+        if address not in self.image:
+            return None
+        if len(self.known) >= KEPT_ENTRIES:
+            self.known.clear()
+        entry = self.known[key] = self.image.entry(address, shown)
+        return entry
+
+    def announce_line(self, line, entry):
+        """Takes a line, with the entry of its instruction if that is in the image; returns whether it announces one."""
         if entry is not None:
             self.announce(entry[ADDRESS], entry[LEVEL] & ~IS_RETURN, entry)
             return True
         found = self.form.INSTRUCTION.match(line)
-        if not found:
-            return False
-        address, shown = self.form.instruction(found)
-        self.announce(address, shown, None)
-        is_new = self.held is not None and self.held[LEVEL] & ~IS_RETURN == shown
-        if is_new and found.end("key") - at == self.form.WIDTH:
-            if len(self.known) >= KEPT_ENTRIES:
-                self.known.clear()
-            self.known[line[at : at + self.form.WIDTH]] = self.held
-        return True
+        if found:
+            self.announce(*self.form.instruction(found), None)
+        return bool(found)
 
     def announce(self, address, shown, entry):
         """Takes an instruction that is about to retire, at the level that its line shows, and its entry where that is known."""

@@ -45,8 +45,8 @@ class Image:
     def word(self, address):
         """The word at an address of the image: 16 bits of it, or 32 where its two lowest bits are 11."""
         place = address - self.base
-        low = int.from_bytes(self.content[place : place + 2], "little")
-        return low if low & 3 != 3 else int.from_bytes(self.content[place : place + 4], "little")
+        word = int.from_bytes(self.content[place : place + 4], "little")
+        return word if word & 3 == 3 else word & 0xFFFF
 
     def entry(self, address, level):
         """What a retirement needs: its address, its level with `IS_RETURN` for MRET and SRET, the address that it leads to as

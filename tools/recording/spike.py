@@ -10,11 +10,12 @@ instruction without the level (`core   0: 0x... (0x...) addi ...`), which says n
 """
 import re
 
-MARK, SHIFT, WIDTH = b":", 2, len("3 0x0000000080000000")  # where a line says address and level
+MARK, SHIFT, WIDTH = b":", 2, len("3 0x0000000080000000 (")  # where a line says address and level
+NOWHERE = -1  # no address
 ANNOUNCES = False  # an instruction that has a line retired
 LAST_RETIRED = True
 
-INSTRUCTION = re.compile(rb"core +(?P<hart>\d+): (?P<key>(?P<level>\d) 0x(?P<pc>[0-9a-f]{16})) \(0x")
+INSTRUCTION = re.compile(rb"core +(?P<hart>\d+): (?P<level>\d) 0x(?P<pc>[0-9a-f]{16}) \(0x")
 TRAP = re.compile(rb"core +(\d+): exception (\w+|interrupt #\d+|trap #\d+), epc 0x([0-9a-f]{16})")
 VALUE = re.compile(rb"core +(\d+): +tval 0x([0-9a-f]{16})")
 FORM = "-l --log-commits"
@@ -49,6 +50,16 @@ def wanted(lines):
 def instruction(found):
     """The address and the level that a line shows."""
     return int(found["pc"], 16), int(found["level"])
+
+
+def address_and_level(key):
+    """What the part of a line says that begins with the level; `NOWHERE` if it is of no instruction that retired."""
+    if len(key) != WIDTH or key[1:4] != b" 0x" or key[20:] != b" (":
+        return NOWHERE, None
+    try:
+        return int(key[4:20], 16), int(key[:1])
+    except ValueError:
+        return NOWHERE, None
 
 
 def other(line, harts):

@@ -162,25 +162,46 @@ class Command(unittest.TestCase):
 
 
 class Costs(unittest.TestCase):
-    """A long recording with traps in it: at most 200 MB, and 150,000 rows a second of processor time."""
+    """A long recording in which two of ten rows are interrupts behind returns: at most 200 MB, and 150,000 rows a second of
+    processor time, at the best of a few tries on a machine that does other things too."""
+
+    def setUp(self):
+        kept = tempfile.TemporaryDirectory()
+        self.addCleanup(kept.cleanup)
+        self.folder = kept.name
+        self.image = os.path.join(self.folder, "program.bin")
+        with open(self.image, "wb") as file:
+            file.write(IMAGE)
+
+    def cost(self, name, block, count):
+        """Rows, seconds and kilobytes of a recording that has a block so many times."""
+        logs = os.path.join(self.folder, name)
+        os.mkdir(logs)
+        words = [os.path.join(TOOLS, "record"), "qemu", "80000000", self.image, "-", logs]
+        with subprocess.Popen(words, stdin=subprocess.PIPE, stdout=subprocess.PIPE) as ran:
+            for _ in range(count):
+                ran.stdin.write(block)
+            ran.stdin.close()
+            summary = ran.stdout.read().decode()
+            _, ran.returncode, used = os.wait4(ran.pid, 0)
+        rows = int(summary.split()[2]) if summary else 0
+        return rows, used.ru_utime + used.ru_stime, used.ru_maxrss
 
     def test_time_and_memory(self):
         loop = traces((0, 1, 2, 3), USER) + [interrupt(7, 4)] + traces((6, 7), MACHINE) + [interrupt(3, 4)]
         loop += traces((6, 7), MACHINE) + traces((4, 5), USER)
         block = "".join(line + "\n" for line in 1000 * loop).encode()
-        with tempfile.TemporaryDirectory() as folder:
-            image = os.path.join(folder, "program.bin")
-            with open(image, "wb") as file:
-                file.write(IMAGE)
-            words = [os.path.join(TOOLS, "record"), "qemu", "80000000", image, "-", folder]
-            with subprocess.Popen(words, stdin=subprocess.PIPE, stdout=subprocess.PIPE) as ran:
-                for _ in range(60):
-                    ran.stdin.write(block)
-                ran.stdin.close()
-                summary = ran.stdout.read().decode()
-                _, ran.returncode, used = os.wait4(ran.pid, 0)
-        seconds, kilobytes = used.ru_utime + used.ru_stime, used.ru_maxrss
-        rows = int(summary.split()[2])
-        self.assertGreater(rows, 700_000)
-        self.assertGreater(rows / seconds, 150_000)
+        fastest = 0
+        for attempt in range(5):
+            rows, seconds, kilobytes = self.cost(f"logs{attempt}", block, 20)
+            self.assertGreater(rows, 230_000)
+            self.assertLess(kilobytes, 200_000)
+            fastest = max(fastest, rows / seconds)
+            if fastest > 150_000:
+                break
+        self.assertGreater(fastest, 150_000)
+
+    def test_a_line_without_end_takes_no_memory(self):
+        rows, _, kilobytes = self.cost("logs", bytes(1 << 20), 300)
+        self.assertEqual(rows, 0)
         self.assertLess(kilobytes, 200_000)
