@@ -58,8 +58,9 @@ class Limit(unittest.TestCase):
 
 class Digits(unittest.TestCase):
     def run_of(self, limit):
-        """An interrupt behind MRET, whose handler has some twenty rows and then goes back to user level."""
-        lines = traces((29, 30), MACHINE) + [interrupt(7, 4)] + traces(range(10, 31), MACHINE) + traces(range(4, 20), USER)
+        """An interrupt behind MRET, whose handler is interrupted itself and then goes back to user level."""
+        lines = traces((29, 30), MACHINE) + [interrupt(7, 4)] + traces(range(10, 20), MACHINE) + [interrupt(3, 20)]
+        lines += traces(range(10, 31), MACHINE) + traces(range(20, 31), MACHINE) + traces(range(4, 20), USER)
         with mock.patch.object(files, "ROW_LIMIT", limit):
             return Run(IMAGE, lines, has_pieces=True)
 
@@ -71,7 +72,7 @@ class Digits(unittest.TestCase):
             run = self.run_of(limit)
             names = ["hart00.csv"] + [f"hart00.{piece}.csv" for piece in range(1, len(run.names()))]
             rows = [row for name in names for row in run.rows(name)]
-            self.assertEqual((len(rows), rows[2]), (39, "80000010,2,0,7,"), limit)
+            self.assertEqual((len(rows), rows[2]), (61, "80000010,2,0,7,"), limit)
 
     def test_of_a_long_address(self):
         base = (1 << 64) - 0x1000

@@ -52,6 +52,22 @@ class BehindReturns(unittest.TestCase):
         found, run = trap_rows(lines)
         self.assertEqual((found, guessed(run)), ([(5, USER), (6, USER)], 1))
 
+    def test_without_a_return_behind_a_return_to_another_place_it_is_the_handlers(self):
+        lines = traces((4, 5), USER) + [interrupt(7, 6)] + TO_MACHINE + [interrupt(3, 9)] + traces((0, 0), MACHINE)
+        found, run = trap_rows(lines)
+        self.assertEqual((found, guessed(run)), ([(6, USER), (9, MACHINE)], 1))
+
+    def test_without_a_return_it_is_not_above_the_handlers(self):
+        """The handler of an interrupt from machine level goes back to a lower level, where a delegated interrupt waits."""
+        lines = traces((4, 5), MACHINE) + [interrupt(7, 6)] + TO_MACHINE + [interrupt(5, 6)] + traces((2, 2), SUPERVISOR)
+        found, run = trap_rows(lines)
+        self.assertEqual((found, guessed(run)), ([(6, MACHINE), (6, SUPERVISOR)], 1))
+
+    def test_of_two_traps_at_a_place_the_later_is_returned_from(self):
+        lines = TO_MACHINE + [interrupt(7, 4)] + TO_MACHINE + traces((6, 7, 8, 9, 10, 1), MACHINE)
+        found, run = trap_rows(lines + [interrupt(3, 4)] + TO_MACHINE + traces((4, 5), USER))
+        self.assertEqual((found, guessed(run)), ([(4, MACHINE), (4, USER)], 1))
+
     def test_a_return_to_another_place_shows_nothing(self):
         lines = TO_MACHINE + [interrupt(7, 4)] + TO_MACHINE + traces((6, 7), USER)
         found, run = trap_rows(lines)

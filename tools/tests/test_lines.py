@@ -45,6 +45,10 @@ class Instructions(unittest.TestCase):
         lines = [line.replace("[0000000000000000/", "[00000000/") for line in traces((1, 2, 1, 2, 3), MACHINE)]
         self.assertEqual(len(rows_of(*lines)), 4)
 
+    def test_an_address_of_another_width(self):
+        lines = [line.replace("/00000000", "/").replace("00209", "0f209") for line in traces((1, 2, 1, 2, 3), 4 | USER)]
+        self.assertEqual(rows_of(*lines), ["80000004,0,0,,", "80000008,0,0,,"] * 2)
+
     def test_other_lines_are_nothing(self):
         others = ["", "IN: main", "----------------", "Priv: 3; Virt: 0", "Trace is on", "riscv_cpu_do_interrupt: none", "\xff" * 9]
         lines = [line for place in (1, 2, 3) for line in [*others, trace(place, MACHINE), *others]]

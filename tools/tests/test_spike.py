@@ -1,10 +1,10 @@
 """Spike's log, in the form that its documentation and sources show. No Spike was run: the lines are written by hand."""
 import unittest
 
-from support import BASE, BEQ_8, ECALL, MRET, NOP, RET, Run, at, image_of, spike
+from support import BASE, BEQ_8, ECALL, LOOP, MRET, NOP, RET, Run, at, image_of, spike
 
-# 0: BEQ to 2; 1: NOP; 2: ECALL; 3: NOP; 4: JALR; 5 and 6: NOP, MRET
-IMAGE = image_of(BEQ_8, NOP, ECALL, NOP, RET, NOP, MRET)
+# 0: BEQ to 2; 1: NOP; 2: ECALL; 3: NOP; 4: JALR; 5 and 6: NOP, MRET; 7: JAL to itself
+IMAGE = image_of(BEQ_8, NOP, ECALL, NOP, RET, NOP, MRET, LOOP)
 
 
 def commit(place, level, hart=0, rest="x5  0x0000000000000001"):
@@ -68,6 +68,10 @@ class Spike(unittest.TestCase):
     def test_interrupts(self):
         lines = [commit(3, 0), *trap("interrupt #7", 4), commit(5, 3)]
         self.assertEqual(rows_of(*lines)[1], "80000010,2,0,7,")
+
+    def test_a_fetch_that_faults_behind_a_jump_to_the_same_place(self):
+        lines = [commit(7, 0), *trap("trap_instruction_page_fault", 7, at(7)), commit(5, 3)]
+        self.assertEqual(rows_of(*lines)[:2], ["8000001c,0,0,,", "8000001c,1,0,c,8000001c"])
 
     def test_exceptions_without_a_name(self):
         lines = [commit(3, 0), *trap("trap #24", 4, 0), commit(5, 3)]
