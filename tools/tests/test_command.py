@@ -139,11 +139,12 @@ class Command(unittest.TestCase):
 
     def test_recordings(self):
         self.refused("No such file", recording=os.path.join(self.folder, "none.log"))
+        self.refused("Is a directory", recording=self.folder)
 
     def test_a_read_that_fails_is_status_3(self):
-        ran = self.run_with(recording=self.folder)
-        self.assertIn(ran.returncode, (2, 3))
-        self.assertNotIn(b"Traceback", ran.stderr)
+        ran = self.run_with(recording="/proc/self/mem")
+        self.assertEqual((ran.returncode, ran.stdout), (3, b""))
+        self.assertEqual(ran.stderr, b"record: the recording or a log: Input/output error\n")
 
     def test_a_write_that_fails_is_status_3(self):
         def limit():
