@@ -30,7 +30,10 @@ impl Form for HexLines {
     ghost text = { hex_line };
 
     fn write<W: Write>(sink: &mut W, message: &Message) -> Result<(), MessageFault> {
-        write_line(sink, message)
+        match write_line(sink, message.hart, message.number, &message.payload) {
+            Ok(()) => Ok(()),
+            Err(_) => Err(MessageFault::Write),
+        }
     }
 }
 

@@ -1,6 +1,7 @@
 //! Whole captures: from the logs of harts to the bytes of a capture, and from such bytes to text and to logs.
 //!
-//! [`encode_capture`] writes the messages of logs as a capture, and [`encode_hex`] as lines of hexadecimal.
+//! [`encode_capture`] writes the messages of logs as a capture, and [`encode_hex`] as lines of hexadecimal; [`hex_lines`]
+//! writes those of a hart's payloads as such lines.
 //! [`decode_capture`] gives the events of each hart of a capture, [`read_messages`] its messages as they are, and
 //! [`dump_capture`] writes what they tell, a line each.
 #![tactic(auto)]
@@ -18,4 +19,5 @@ pub use capture_decoding::decode_capture;
 pub use capture_reading::{ReadFault, WholeCapture, read_messages};
 pub use dumping::{Dumped, dump_capture};
 pub use encoding::{encode_capture, encode_hex};
+pub use lines::hex_lines;
 pub use outcome::{CaptureFault, CaptureOutcome};

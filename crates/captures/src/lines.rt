@@ -3,37 +3,65 @@
 ghost use Rattle.std.specs.Prelude.{◌≡◌, IfErr, OnOk};
 ghost use Rattle.std.specs.Io.KnownBytes.{Appends};
 ghost use Rattle.output.specs.Begun.{AppendsBeginning};
-ghost use Rattle.captures.specs.HexLines.{hex_line};
+ghost use Rattle.message.specs.Numbered.{messages_from};
+ghost use Rattle.captures.specs.HexLines.{hex_line, hex_text};
 
 use hex::encode_to_slice;
-use message::{Message, MessageFault};
 use output::{write_bytes, write_text};
+use payload::Payload;
+use retire::WriteFault;
 use std::io::Write;
 
-/// Writes the line of a message: the hart's number and the message's, both decimal, and the payload's bytes in
-/// lower-case hexadecimal, parted by spaces.
-pub(crate) fn write_line<W: Write>(sink: &mut W, message: &Message) -> Result<(), MessageFault>
-    ensures text { OnOk result (Appends (W.contents sink.old) (W.contents sink.new) (hex_line message.now)) }
-    ensures begun { AppendsBeginning (hex_line message.now) (W.contents sink.old) (W.contents sink.new) }
-    ensures fault { IfErr result (λ fault. fault ≡ MessageFault.Write) }
+/// Writes the messages of a hart with these payloads, numbered from 0 on, a line each, as [`encode_hex`] does: the
+/// hart's number and the message's, both decimal, and the payload's bytes in lower-case hexadecimal, parted by spaces.
+///
+/// The payloads need not stand for packets. The only fault is [`WriteFault::Write`], where the writer failed; what was
+/// written then is a beginning of the text. No memory is taken, and the writer is not flushed.
+///
+/// [`encode_hex`]: crate::encode_hex
+pub fn hex_lines<W: Write>(hart: u16, payloads: &[Payload], sink: &mut W) -> Result<(), WriteFault>
+    ensures text { OnOk result (Appends (W.contents sink.old) (W.contents sink.new)
+        (hex_text (messages_from hart 0 payloads.now))) }
+    ensures begun { AppendsBeginning (hex_text (messages_from hart 0 payloads.now))
+        (W.contents sink.old) (W.contents sink.new) }
+    ensures fault { IfErr result (λ fault. fault ≡ WriteFault.Write) }
 {
-    let bytes = message.payload.bytes();
+    for (number, payload) in payloads.iter().enumerate() {
+        write_line(sink, hart, number as u64, payload)?;
+    }
+    Ok(())
+}
+
+/// Writes the line of a hart's message with this number and this payload.
+pub(crate) fn write_line<W: Write>(
+    sink: &mut W,
+    hart: u16,
+    number: u64,
+    payload: &Payload,
+) -> Result<(), WriteFault>
+    ensures text { OnOk result (Appends (W.contents sink.old) (W.contents sink.new)
+        (hex_line (record { hart = hart; number = number; payload = payload.now }))) }
+    ensures begun { AppendsBeginning (hex_line (record { hart = hart; number = number; payload = payload.now }))
+        (W.contents sink.old) (W.contents sink.new) }
+    ensures fault { IfErr result (λ fault. fault ≡ WriteFault.Write) }
+{
+    let bytes = payload.bytes();
     let mut room = [0; 36];
     let digits = &mut room[..2 * bytes.len()];
     match encode_to_slice(bytes, digits) {
         Ok(()) => {}
         Err(_) => unreachable!(),
     }
-    match write_text(sink, format_args!("{} {} ", message.hart, message.number)) {
+    match write_text(sink, format_args!("{hart} {number} ")) {
         Ok(()) => {}
-        Err(_) => return Err(MessageFault::Write),
+        Err(_) => return Err(WriteFault::Write),
     }
     match write_bytes(sink, digits) {
         Ok(()) => {}
-        Err(_) => return Err(MessageFault::Write),
+        Err(_) => return Err(WriteFault::Write),
     }
     match write_bytes(sink, b"\n") {
         Ok(()) => Ok(()),
-        Err(_) => Err(MessageFault::Write),
+        Err(_) => Err(WriteFault::Write),
     }
 }

@@ -10,6 +10,10 @@ use Rattle.message.specs.declared.message.Message.{Message}
 use Rattle.captures.specs.HexLines.{hex_line}
 use Rattle.captures.proofs.lines.write_line.Goals as goal
 
+-- The message that the line is of.
+abbrev message : ℕ → ℕ → List ℕ → Message
+message hart number payload = record { hart = hart; number = number; payload = payload }
+
 -- What stands before the digits.
 abbrev numbers : Message → List ℕ
 numbers m = decimal m.hart ++ (codes " " ++ (decimal m.number ++ codes " "))
@@ -22,7 +26,7 @@ parted m =
 
 pub returns-in-Err-write_text-clause-begun : goal.returns-in-Err-write_text-clause-begun
 returns-in-Err-write_text-clause-begun g c =
-    let m = c.args.message.now in
+    let m = message c.args.hart c.args.number c.args.payload.now in
     let old = g.W.Write.contents c.args.sink.now in
     let new = g.W.Write.contents c.write_text.new.out in
     subst (λ l. AppendsBeginning l old new) (sym (parted m))
@@ -30,7 +34,7 @@ returns-in-Err-write_text-clause-begun g c =
 
 pub returns-in-Err-write_bytes-clause-begun : goal.returns-in-Err-write_bytes-clause-begun
 returns-in-Err-write_bytes-clause-begun g c =
-    let m = c.args.message.now in
+    let m = message c.args.hart c.args.number c.args.payload.now in
     let old = g.W.Write.contents c.args.sink.now in
     let mid = g.W.Write.contents c.write_text.new.out in
     let new = g.W.Write.contents c.write_bytes.new.out in
@@ -42,7 +46,7 @@ returns-in-Err-write_bytes-clause-begun g c =
 
 pub returns-in-Ok-write_bytes-2-clause-text : goal.returns-in-Ok-write_bytes-2-clause-text
 returns-in-Ok-write_bytes-2-clause-text g c =
-    let m = c.args.message.now in
+    let m = message c.args.hart c.args.number c.args.payload.now in
     let old = g.W.Write.contents c.args.sink.now in
     let mid = g.W.Write.contents c.write_text.new.out in
     let late = g.W.Write.contents c.write_bytes.new.out in
@@ -55,12 +59,12 @@ returns-in-Ok-write_bytes-2-clause-text g c =
 
 pub returns-in-Ok-write_bytes-2-clause-begun : goal.returns-in-Ok-write_bytes-2-clause-begun
 returns-in-Ok-write_bytes-2-clause-begun g c =
-    whole_begun (hex_line c.args.message.now) (g.W.Write.contents c.args.sink.now)
+    whole_begun (hex_line (message c.args.hart c.args.number c.args.payload.now)) (g.W.Write.contents c.args.sink.now)
     (g.W.Write.contents c.write_bytes-2.new.out) (returns-in-Ok-write_bytes-2-clause-text g c)
 
 pub returns-in-Err-write_bytes-2-clause-begun : goal.returns-in-Err-write_bytes-2-clause-begun
 returns-in-Err-write_bytes-2-clause-begun g c =
-    let m = c.args.message.now in
+    let m = message c.args.hart c.args.number c.args.payload.now in
     let old = g.W.Write.contents c.args.sink.now in
     let mid = g.W.Write.contents c.write_text.new.out in
     let late = g.W.Write.contents c.write_bytes.new.out in
