@@ -12,3 +12,4 @@ mod PartTexts
 mod Reports
 mod Runs
 mod Schedules
+mod WrittenOutcomes

@@ -19,3 +19,4 @@ pub mod Inputs
 pub mod Benching
 pub mod CarriedOut
 pub mod Begun
+pub mod steps

@@ -12,6 +12,7 @@ ghost use Rattle.retire.specs.Number.{number_of};
 ghost use Rattle.commands.specs.Decoding.{end_of_capture};
 ghost use Rattle.commands.specs.Faults.{end_of, status_of};
 ghost use Rattle.commands.specs.Order.{base_fault};
+ghost use Rattle.commands.specs.steps.Writing.{EndsWriting, StopsBehindLine};
 
 use crate::fault::Fault;
 use crate::files::Files;
@@ -82,12 +83,29 @@ fn decode_whole<'a, O: Write>(
     ensures cut { IsCutOf (WritesDecoded harts program.now bytes.now) (O.contents out.old) (O.contents out.new) }
 {
     let outcome = decode_capture(alloc, program, harts, bytes)?;
-    write_logs(alloc, outcome.harts.as_slice(), out)?;
-    out.flush()?;
-    ended(&outcome)
+    write_outcome(alloc, &outcome, out)
 }
 
-/// Writes the log of each hart, after a line with the hart's number.
+/// Writes the log of each hart, as far as it was decoded, and answers how decoding ended. What was decoded before a fault
+/// is written whole, also where the fault is that a decoder was refused memory.
+fn write_outcome<'a, O: Write>(
+    alloc: Global,
+    outcome: &CaptureOutcome,
+    out: &mut O,
+) -> Result<Status, Fault<'a>>
+    ensures never_refused { end_of result ≢ Status.Refused }
+    ensures written { EndsWriting (events_in outcome.now.harts.items) outcome.now.closed.items outcome.now.fault
+        result (O.contents out.old) (O.contents out.new) }
+    ensures begun { AppendsBeginning (harts_text 0 (events_in outcome.now.harts.items))
+        (O.contents out.old) (O.contents out.new) }
+{
+    write_logs(alloc, outcome.harts.as_slice(), out)?;
+    out.flush()?;
+    ended(outcome)
+}
+
+/// Writes the log of each hart, after a line with the hart's number. Memory may be refused for the text of a log, once
+/// the line of its hart is written.
 fn write_logs<'a, O: Write>(
     alloc: Global,
     logs: &[Vec<Event>],
@@ -95,6 +113,8 @@ fn write_logs<'a, O: Write>(
 ) -> Result<(), Fault<'a>>
     ensures machine { IfErr result (λ fault. status_of fault ≡ Status.Machine) }
     ensures denied { IfErr result (IsDenied ⊤) }
+    ensures memory { result ≡ Err Fault.Memory
+        → StopsBehindLine (events_in logs.now) (O.contents out.old) (O.contents out.new) }
     ensures text { OnOk result (Appends (O.contents out.old) (O.contents out.new) (harts_text 0 (events_in logs.now))) }
     ensures begun { AppendsBeginning (harts_text 0 (events_in logs.now)) (O.contents out.old) (O.contents out.new) }
 {

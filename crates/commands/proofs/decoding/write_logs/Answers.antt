@@ -1,5 +1,5 @@
 -- The prover does not part a text at the hart whose log is not written: the lemma on it is handed to it.
-use Rattle.std.proofs.Common.{subst, Vec, Global, arith}
+use Rattle.std.proofs.Common.{◌≡◌, ◌∙◌, ap, subst, sym, Vec, Global, arith, Err}
 use Rattle.std.specs.Io.KnownBytes.{Appends}
 use Rattle.receiver.specs.Received.{events_in}
 use Rattle.retire.specs.declared.event.Event.{Event}
@@ -9,8 +9,12 @@ use Rattle.std.proofs.lemmas.List.{take_all}
 use Rattle.output.specs.Begun.{AppendsBeginning}
 use Rattle.commands.specs.Decoded.{harts_text}
 use Rattle.commands.specs.EachHart.{hart_line}
+use Rattle.commands.specs.Faults.{write_fault}
+use Rattle.commands.specs.steps.Writing.{StopsBehindLine}
 use Rattle.output.proofs.Beginnings.{begun_behind, begun_in_front, whole_begun}
 use Rattle.commands.proofs.HartTexts.{hart_begun, hart_written}
+use Rattle.commands.proofs.WrittenOutcomes.{stops_behind, write_memory}
+use Rattle.retire.specs.declared.fault.WriteFault.TheVariants as write
 use Rattle.commands.proofs.decoding.write_logs.Goals as goal
 
 pub loop-hart-preserved : goal.loop-hart-preserved
@@ -59,3 +63,18 @@ pub returns-clause-begun : goal.returns-clause-begun
 returns-clause-begun g c =
     whole_begun (harts_text 0 (events_in c.args.logs.now)) (g.O.Write.contents c.args.out.now)
     (g.O.Write.contents c.loop-hart.out) (returns-clause-text g c)
+
+pub returns-in_err-write_log-clause-memory : goal.returns-in_err-write_log-clause-memory
+returns-in_err-write_log-clause-memory g c = λ memory.
+    let contents = g.O.Write.contents in
+    let list = c.index-logs-hart.result in
+    let why = c.in_err-write_log.field-0.0 in
+    let told : c.from_residual-in_err-write_log.result ≡ Err (write_fault why) = grind (arith, common_steps) in
+    let refused : why ≡ write.Memory = write_memory why (cc (sym told ∙ memory)) in
+    let head : Appends (contents c.loop-hart.out) (contents c.write_text.new.out) (hart_line c.loop-hart.hart-counter) =
+    grind (arith, common_steps) in
+    subst (λ out. StopsBehindLine (events_in c.args.logs.now) (contents c.args.out.now) (contents out))
+    (sym (c.write_log.ensures.untouched (c.in_err-write_log.was ∙ ap Err refused)))
+    (stops_behind (λ (list : Vec Event Global). list.items) c.args.logs.now c.loop-hart.hart-counter list
+    c.loop-hart-test.true c.index-logs-hart.is (contents c.args.out.now) (contents c.loop-hart.out)
+    (contents c.write_text.new.out) c.loop-hart.invariant head)

@@ -1,0 +1,28 @@
+-- How the writing of logs ends.
+use Rattle.std.specs.Prelude.{◌≡◌, ◌⊎◌, ℕ, ◌++◌, Bool, List, ◌∷◌, Option, Result, Err, length}
+use Rattle.std.specs.Io.KnownBytes.{Appends}
+use Rattle.captures.specs.declared.outcome.CaptureFault.{CaptureFault}
+use Rattle.retire.specs.declared.event.Event.{Event}
+use Rattle.commands.specs.Decoded.{harts_text}
+use Rattle.commands.specs.Decoding.{end_of_capture}
+use Rattle.commands.specs.EachHart.{hart_line}
+use Rattle.commands.specs.declared.fault.Fault.{Fault}
+use Rattle.commands.specs.declared.fault.Fault.TheVariants as fault
+use Rattle.commands.specs.declared.status.Status.{Status}
+
+-- The texts of the first harts were appended, and the line of the next one, whose log was not begun.
+pub record StopsBehindLine (lists : List (List Event)) (old new : Option (List ℕ)) : Type 0 where
+  pub front : List (List Event)
+  pub next : List Event
+  pub later : List (List Event)
+  pub parted : lists ≡ front ++ next ∷ later
+  pub appended : Appends old new (harts_text 0 front ++ hart_line (length front))
+
+-- The texts of all harts were appended, and the end is that of decoding, whatever its fault; or else the output failed,
+-- or memory for the text of a log was refused, which is behind the line of its hart.
+abbrev pub EndsWriting : List (List Event) → List Bool → Option (ℕ × CaptureFault) → Result Status Fault
+    → Option (List ℕ) → Option (List ℕ) → Type 0
+EndsWriting lists closed stop ended old new =
+    (Appends old new (harts_text 0 lists) × (ended ≡ end_of_capture stop closed))
+    ⊎ ((ended ≡ Err fault.Output)
+    ⊎ ((ended ≡ Err fault.Memory) × StopsBehindLine lists old new))
