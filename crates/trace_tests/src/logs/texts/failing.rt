@@ -1,38 +1,96 @@
 //! Devices that fail, and memory that is refused.
 
 use super::{RETIRED, ROW, text_of_rows};
+use crate::devices::{FailingReader, FailingWriter};
 use crate::same::same_at;
 use linked_list_allocator::LocalHeap;
-use retire::{LogFault, WriteFault, read_log, read_log_from_slice, write_log};
-use std::io;
-use std::io::{ErrorKind, Read, Write};
+use retire::{Event, LogFault, WriteFault, read_log, read_log_from_slice, write_log};
+use std::process::Abort;
 
-/// A reader and a writer that fails at each call.
-#[derive(Drop)]
-struct Failing;
-
-impl Read for Failing {
-    fn read(&mut self, _buf: &mut [u8]) -> io::Result<usize> {
-        Err(io::Error::from(ErrorKind::TimedOut))
+/// How many events are read of a text, so many bytes a call, by a reader that fails after so many calls.
+fn read_failing<R: Abort + AllocGlobal>(
+    rt: &R,
+    rest: &[u8],
+    most: usize,
+    calls: usize,
+) -> Result<usize, LogFault> {
+    let source = FailingReader { rest, most, calls };
+    match read_log(rt.alloc(), rt.alloc(), source) {
+        Ok(events) => Ok(events.len()),
+        Err(fault) => Err(fault),
     }
 }
 
-impl Write for Failing {
-    fn write(&mut self, _buf: &[u8]) -> io::Result<usize> {
-        Err(io::Error::from(ErrorKind::StorageFull))
+/// A text of two rows, so many bytes a call, is not read by readers that fail after fewer calls than are needed, and is
+/// read by others.
+fn is_read<R: Abort + AllocGlobal>(rt: &R, text: &[u8], most: usize) {
+    let mut failed = 0usize;
+    for calls in 0..200 {
+        let read = read_failing(rt, text, most, calls);
+        if read == Err(LogFault::Read) {
+            same_at(rt, (most, "calls that are too few"), calls, failed);
+            failed = failed.saturating_add(1);
+        } else {
+            same_at(rt, (most, calls), read, Ok(2));
+        }
     }
-
-    fn flush(&mut self) -> io::Result<()> {
-        Ok(())
-    }
+    // One call finds the end of the text.
+    let enough = text.len() < failed.saturating_mul(most) && failed < 200;
+    assert!(rt; enough, "{failed} calls of {most} bytes");
 }
 
 #[test]
-fn devices_fail(rt: HostRuntime) {
-    let read = read_log(rt.alloc(), rt.alloc(), Failing).err();
-    same_at(&rt, "read", read, Some(LogFault::Read));
-    let written = write_log(rt.alloc(), &mut Failing, &[RETIRED]).err();
-    same_at(&rt, "written", written, Some(WriteFault::Write));
+fn reader_fails_at_each_call(rt: HostRuntime) {
+    let text = text_of_rows(&rt, "80000000,0,3,,\n80000004,2,3,7,0", 1);
+    for most in [1, 7, 1000] {
+        is_read(&rt, &text, most);
+    }
+}
+
+/// Whether a log is written whole, at most so many bytes a call, to a writer that fails after so many calls. The writer
+/// holds the text; or a beginning of it, and then the call returned that fault.
+fn is_written<R: Abort + AllocGlobal>(
+    rt: &R,
+    events: &[Event],
+    whole: &[u8],
+    most: usize,
+    calls: usize,
+) -> bool {
+    let mut sink = FailingWriter {
+        held: Vec::new(rt.alloc()),
+        most,
+        calls,
+    };
+    let end = write_log(rt.alloc(), &mut sink, events).err();
+    let fails = sink.held.len() < whole.len();
+    let begins = whole.starts_with(&sink.held);
+    let found = (end, begins);
+    let wanted = (fails.then_some(WriteFault::Write), true);
+    same_at(rt, (most, calls), found, wanted);
+    !fails
+}
+
+/// A log of so many rows is not written to writers that fail after fewer calls than are needed, and is written to others.
+fn fail_first<R: Abort + AllocGlobal>(rt: &R, count: usize, most: usize, limit: usize) {
+    let events = vec![in rt.alloc(); RETIRED; count].expect(rt, "memory");
+    let whole = text_of_rows(rt, ROW, count);
+    let mut failed = 0usize;
+    for calls in 0..limit {
+        if !is_written(rt, &events, &whole, most, calls) {
+            same_at(rt, (most, "calls that are too few"), calls, failed);
+            failed = failed.saturating_add(1);
+        }
+    }
+    let enough = whole.len() <= failed.saturating_mul(most) && failed < limit;
+    assert!(rt; enough, "{failed} calls of {most} bytes");
+}
+
+/// A byte a call; and more text than is held at a time.
+#[test]
+fn writer_fails_at_each_call(rt: HostRuntime) {
+    for (count, most, limit) in [(3, 1, 80), (10_000, 10_007, 20), (10_000, 1_000_000, 20)] {
+        fail_first(&rt, count, most, limit);
+    }
 }
 
 #[test]
