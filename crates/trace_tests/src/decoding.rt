@@ -2,6 +2,7 @@
 //! that go on after a loss.
 
 mod faults;
+mod longest_walk;
 mod order;
 mod resuming;
 mod rows;

@@ -62,6 +62,25 @@ pub(crate) fn program_of<R: Abort + AllocGlobal>(rt: &R, words: &[u32]) -> Progr
     program_with(rt, words, &[])
 }
 
+/// The program of so many words C.NOP, from the base on.
+pub(crate) fn short_words<R: Abort + AllocGlobal>(rt: &R, count: u32) -> Program {
+    let mut image = Vec::new(rt.alloc());
+    for _ in 0..count {
+        add(rt, &mut image, &[1, 0]);
+    }
+    Program::new(BASE, image).expect(rt, "a program")
+}
+
+/// The log of a hart that retires each of these words once, at machine level.
+pub(crate) fn short_log<R: Abort + AllocGlobal>(rt: &R, count: u32) -> Vec<Event> {
+    let mut log = Vec::new(rt.alloc());
+    for number in 0..u64::from(count) {
+        log.push(retired(number.wrapping_mul(2), 0, 3))
+            .expect(rt, "memory");
+    }
+    log
+}
+
 /// A retirement so far from the base.
 pub(crate) fn retired(offset: u64, itype: u8, privilege: u8) -> Event {
     Event::Retire {
