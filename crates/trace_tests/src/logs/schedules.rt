@@ -1,5 +1,6 @@
 //! What texts tell.
 
+use crate::fixtures::add;
 use crate::same::same_at;
 use funnel::Turn;
 use funnel::Turn::{Collect, Hart};
@@ -52,6 +53,27 @@ fn tells<R: Abort + AllocGlobal>(rt: &R, harts: u16, text: &str, told: &[Option<
 fn tells_turns(rt: HostRuntime) {
     for (harts, text, told) in &TURNS {
         tells(&rt, *harts, text, told);
+    }
+}
+
+/// The text of a turn of hart 0 and one of the collector, so many times.
+fn text_of_pairs<R: Abort + AllocGlobal>(rt: &R, count: u32) -> Vec<u8> {
+    let mut text = Vec::new(rt.alloc());
+    for _ in 0..count {
+        add(rt, &mut text, b"0 c ");
+    }
+    text
+}
+
+/// More than 65,536 turns.
+#[test]
+fn many_turns(rt: HostRuntime) {
+    let text = text_of_pairs(&rt, 35_000);
+    let turns = read_schedule(rt.alloc(), 1, &text).expect(&rt, "turns");
+    same_at(&rt, "turns", turns.len(), 70_000);
+    for (place, turn) in turns.iter().enumerate() {
+        let want = if place % 2 == 0 { Hart(0) } else { Collect };
+        same_at(&rt, place, *turn, want);
     }
 }
 

@@ -3,6 +3,7 @@
 mod definitions;
 mod failing;
 mod faults;
+mod many_rows;
 mod reading;
 mod writing;
 

@@ -34,7 +34,7 @@ const EXCEPTION: Event = Event::Trap {
 };
 
 /// How many events are read of a text, and the first of them.
-type Told = Result<(usize, Option<Event>), LogFault>;
+pub(super) type Told = Result<(usize, Option<Event>), LogFault>;
 
 /// What is told of what was read.
 fn told(read: Result<Vec<Event>, LogFault>) -> Told {
@@ -45,7 +45,7 @@ fn told(read: Result<Vec<Event>, LogFault>) -> Told {
 }
 
 /// This is read of a text, from a reader and from memory.
-fn is_read<R: Abort + AllocGlobal>(rt: &R, place: &str, text: &[u8], want: Told) {
+pub(super) fn is_read<R: Abort + AllocGlobal>(rt: &R, place: &str, text: &[u8], want: Told) {
     let alloc = rt.alloc();
     same_at(rt, place, told(read_log(alloc, alloc, text)), want);
     same_at(

@@ -6,7 +6,12 @@ use retire::{Event, read_log, write_log};
 use std::process::Abort;
 
 /// Events are written as the header and these rows, so many times, and are read back from that.
-fn is_written<R: Abort + AllocGlobal>(rt: &R, events: &[Event], row: &str, count: usize) {
+pub(super) fn is_written<R: Abort + AllocGlobal>(
+    rt: &R,
+    events: &[Event],
+    row: &str,
+    count: usize,
+) {
     let want = text_of_rows(rt, row, count);
     let mut written = Vec::new(rt.alloc());
     write_log(rt.alloc(), &mut written, events).expect(rt, "a written log");
