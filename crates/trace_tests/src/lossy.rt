@@ -2,5 +2,6 @@
 
 mod collected;
 mod faults;
+mod many;
 mod small_logs;
 mod worked_logs;
