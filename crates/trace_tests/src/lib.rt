@@ -1,4 +1,4 @@
-//! Tests of logs, of their packets and of what is decoded of them, also after losses.
+//! Tests of logs, of their packets, of their captures and of what is decoded of them, also after losses.
 //!
 //! They stand in a crate of their own: the gate proves a crate that has tests once more with them.
 #![tactic(auto)]
@@ -17,3 +17,5 @@ mod lossy;
 mod packets;
 #[cfg(test)]
 mod same;
+#[cfg(test)]
+mod whole_captures;

@@ -1,5 +1,6 @@
 //! Packets: their bits (`payload`), and which packets a log has (`encoder`).
 
+mod faults_by_bits;
 mod forms;
 mod outcomes;
 mod payloads;
@@ -7,6 +8,7 @@ mod refusals;
 mod rows;
 mod vectors;
 
+pub(crate) use self::faults_by_bits::fault_of;
 use self::forms::payload_of;
 use encoder::{Encoder, Source};
 use legalpath::LegalLog;

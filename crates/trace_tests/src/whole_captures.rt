@@ -1,0 +1,106 @@
+//! Whole captures (`captures`): of worked logs with each byte changed, of many harts, of long logs, and to writers that
+//! fail.
+
+mod by_bytes;
+mod changed;
+mod copies;
+mod failing;
+mod long_logs;
+
+use crate::fixtures::add;
+use captures::{CaptureOutcome, decode_capture, encode_capture};
+use legalpath::LegalLog;
+use message::{MessageFault, Version};
+use payload::Mode;
+use retire::Event;
+use rvclass::Program;
+use std::io::Write;
+use std::process::Abort;
+
+/// What a capture of version 1 of this many harts, or of version 2, decodes to.
+fn decoded<R: Abort + AllocGlobal>(
+    rt: &R,
+    program: &Program,
+    harts: u16,
+    capture: &[u8],
+) -> CaptureOutcome {
+    decode_capture(rt.alloc(), program, harts, capture).expect(rt, "memory")
+}
+
+/// Writes the capture of logs, 1 to 1,024, in differential mode.
+fn write_capture<R: Abort, W: Write>(
+    rt: &R,
+    logs: &[LegalLog<'_>],
+    period: u16,
+    version: Version,
+    sink: &mut W,
+) -> Result<(), MessageFault> {
+    let count = logs.len();
+    assert!(rt; 0 < count && count <= 1024, "{count} logs");
+    let period = period.max(1);
+    match version {
+        Version::One => encode_capture(logs, period, Mode::Differential, Version::One, sink),
+        Version::Two => encode_capture(logs, period, Mode::Differential, Version::Two, sink),
+    }
+}
+
+/// The capture of logs, 1 to 1,024, in differential mode.
+fn capture_of<R: Abort + AllocGlobal>(
+    rt: &R,
+    logs: &[LegalLog<'_>],
+    period: u16,
+    version: Version,
+) -> Vec<u8> {
+    let mut capture = Vec::new(rt.alloc());
+    write_capture(rt, logs, period, version, &mut capture).expect(rt, "a capture");
+    capture
+}
+
+/// Adds the messages with which a hart sends payloads.
+fn add_messages<R: Abort + AllocGlobal>(
+    rt: &R,
+    capture: &mut Vec<u8>,
+    hart: u16,
+    payloads: &[&[u8]],
+) {
+    for (number, payload) in payloads.iter().enumerate() {
+        add(rt, capture, &hart.to_le_bytes());
+        add(rt, capture, &(number as u64).to_le_bytes());
+        add(rt, capture, &[payload.len().min(18) as u8]);
+        add(rt, capture, payload);
+    }
+}
+
+/// What stands before the messages of so many harts, at the period 1,024 in differential mode, in a capture of this
+/// version.
+fn start_of<R: Abort + AllocGlobal>(rt: &R, version: Version, harts: u16) -> Vec<u8> {
+    let mut start = Vec::new(rt.alloc());
+    if version == Version::Two {
+        add(rt, &mut start, b"\xff\xffrvtrace2\0\0\0\x04");
+        add(rt, &mut start, &harts.to_le_bytes());
+    }
+    start
+}
+
+/// The capture of so many harts of which each sends these payloads, at the period 1,024 in differential mode.
+fn capture_by_hand<R: Abort + AllocGlobal>(
+    rt: &R,
+    version: Version,
+    harts: u16,
+    payloads: &[&[u8]],
+) -> Vec<u8> {
+    let mut capture = start_of(rt, version, harts);
+    for hart in 0..harts {
+        add_messages(rt, &mut capture, hart, payloads);
+    }
+    capture
+}
+
+/// Whether an outcome is whole: each of so many harts has this log and closed, and there is no fault.
+fn is_whole(outcome: &CaptureOutcome, harts: usize, log: &[Event]) -> bool {
+    let mut whole = outcome.fault.is_none();
+    for (list, closed) in outcome.harts.iter().zip(outcome.closed.iter()) {
+        whole &= *closed & (list.as_slice() == log);
+    }
+    whole & (outcome.harts.len() == harts) & (outcome.closed.len() == harts)
+}

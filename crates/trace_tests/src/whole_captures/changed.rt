@@ -1,0 +1,151 @@
+//! Captures of version 1 with one byte changed.
+
+use super::by_bytes::stop_of;
+use super::{decoded, is_whole};
+use crate::fixtures::Step::{self, Retires, Traps};
+use crate::fixtures::{BASE, FAR, JUMP_LOOP, NOP, log_of, program_of};
+use captures::{CaptureFault, CaptureOutcome};
+use decoder::DecodeFault;
+use retire::Event;
+use rvclass::Program;
+use std::process::Abort;
+
+/// The words of a program, the capture of a hart that runs it, its log, and of each message where it begins and how many
+/// events are known before it.
+type Row = (
+    &'static [u32],
+    &'static [u8],
+    &'static [Step],
+    &'static [(usize, usize)],
+);
+
+const TWO_WORDS: Row = (
+    &[NOP, NOP],
+    b"\0\0\0\0\0\0\0\0\0\0\x01\x1f\
+      \0\0\x01\0\0\0\0\0\0\0\x05\x73\0\0\0\x20\
+      \0\0\x02\0\0\0\0\0\0\0\x01\x0a\
+      \0\0\x03\0\0\0\0\0\0\0\x01\x4f",
+    &[Retires(0, 0, 3), Retires(4, 0, 3)],
+    &[(0, 0), (12, 0), (28, 1), (40, 1)],
+);
+
+/// A jump to itself.
+const JUMPS: Row = (
+    &[JUMP_LOOP],
+    b"\0\0\0\0\0\0\0\0\0\0\x01\x1f\
+      \0\0\x01\0\0\0\0\0\0\0\x05\x73\0\0\0\x20\
+      \0\0\x02\0\0\0\0\0\0\0\x09\x02\0\0\0\0\0\0\0\xfe\
+      \0\0\x03\0\0\0\0\0\0\0\x01\x02\
+      \0\0\x04\0\0\0\0\0\0\0\x01\x4f",
+    &[Retires(0, 0, 3); 3],
+    &[(0, 0), (12, 0), (28, 1), (48, 2), (60, 2)],
+);
+
+/// An exception with its handler.
+const EXCEPTION: Row = (
+    &FAR,
+    b"\0\0\0\0\0\0\0\0\0\0\x01\x1f\
+      \0\0\x01\0\0\0\0\0\0\0\x05\x73\0\0\0\x20\
+      \0\0\x02\0\0\0\0\0\0\0\x06\xf7\x45\x40\0\0\x20\
+      \0\0\x03\0\0\0\0\0\0\0\x02\xcf\0",
+    &[
+        Retires(0, 0, 3),
+        Traps(BASE + 4, 3, false, 0xb, 0),
+        Retires(0x100, 0, 3),
+    ],
+    &[(0, 0), (12, 0), (28, 1), (45, 3)],
+);
+
+/// The message in which a byte stands, by its number, and how many events are known before it.
+fn message_with(messages: &[(usize, usize)], place: usize) -> (u64, usize) {
+    let mut found = (0, 0);
+    for (number, (begins, known)) in messages.iter().enumerate() {
+        if *begins <= place {
+            found = (number as u64, *known);
+        }
+    }
+    found
+}
+
+/// Whether an outcome has the events before the changed message, and ends as it has to where so many messages are
+/// accepted, and no more for this reason: there, and with no other events if the changed message is the one that is not
+/// accepted; or at a packet that is not decoded, from the changed message on and before that end.
+fn is_right(
+    outcome: &CaptureOutcome,
+    known: &[Event],
+    changed: u64,
+    (accepted, why): (u64, Option<CaptureFault>),
+) -> bool {
+    let Some(list) = outcome.harts.first() else {
+        return false;
+    };
+    let stops = match outcome.fault {
+        None => why.is_none(),
+        Some((_, CaptureFault::Decode(DecodeFault::Memory))) => false,
+        Some((number, CaptureFault::Decode(_))) => changed <= number && number < accepted,
+        Some((number, fault)) => {
+            let extra = number == changed && list.len() != known.len();
+            number == accepted && why == Some(fault) && !extra
+        }
+    };
+    stops && outcome.harts.len() == 1 && list.starts_with(known)
+}
+
+/// The capture in which the byte at a place has this value decodes rightly.
+fn decodes_rightly<R: Abort + AllocGlobal>(
+    rt: &R,
+    program: &Program,
+    capture: &[u8],
+    known: &[Event],
+    changed: u64,
+    (place, value): (usize, u8),
+) {
+    let outcome = decoded(rt, program, 1, capture);
+    let right = is_right(&outcome, known, changed, stop_of(rt, capture));
+    assert!(rt; right, "{place}: {value}");
+}
+
+/// Sets the byte at a place.
+fn set(bytes: &mut [u8], place: usize, value: u8) {
+    if let Some(byte) = bytes.get_mut(place) {
+        *byte = value;
+    }
+}
+
+/// Sets the byte at a place to each value.
+fn change<R: Abort + AllocGlobal>(
+    rt: &R,
+    program: &Program,
+    capture: &mut [u8],
+    log: &[Event],
+    messages: &[(usize, usize)],
+    place: usize,
+) {
+    let (changed, known) = message_with(messages, place);
+    let known = log.get(..known).expect(rt, "so many events");
+    let was = capture.get(place).copied().expect(rt, "such a byte");
+    for value in 0..=u8::MAX {
+        set(capture, place, value);
+        decodes_rightly(rt, program, capture, known, changed, (place, value));
+    }
+    set(capture, place, was);
+}
+
+/// The capture of a row decodes to its log; sets each byte of it to each value.
+fn change_each_byte<R: Abort + AllocGlobal>(rt: &R, (words, bytes, steps, messages): &Row) {
+    let program = program_of(rt, words);
+    let log = log_of(rt, steps);
+    let mut capture = bytes.to_vec(rt.alloc()).expect(rt, "memory");
+    let outcome = decoded(rt, &program, 1, &capture);
+    assert!(rt; is_whole(&outcome, 1, &log), "as it is");
+    for place in 0..bytes.len() {
+        change(rt, &program, &mut capture, &log, messages, place);
+    }
+}
+
+#[test]
+fn each_byte_changed(rt: HostRuntime) {
+    for row in [TWO_WORDS, JUMPS, EXCEPTION] {
+        change_each_byte(&rt, &row);
+    }
+}
