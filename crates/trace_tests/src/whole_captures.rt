@@ -1,10 +1,11 @@
-//! Whole captures (`captures`): of worked logs with each byte changed, of many harts, of long logs, and to writers that
-//! fail.
+//! Whole captures (`captures`): of worked logs with each byte changed, of many harts, of long logs, to writers that fail,
+//! and as lines.
 
 mod by_bytes;
 mod changed;
 mod copies;
 mod failing;
+mod lines;
 mod long_logs;
 
 use crate::fixtures::add;
