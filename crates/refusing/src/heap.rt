@@ -1,0 +1,49 @@
+//! The allocator.
+
+use crate::count::Count;
+use std::alloc::{AllocError, Allocator};
+
+/// An allocator that refuses one request and passes all others on to another one.
+///
+/// Collections hold a `&` to it. A list makes a request for its first room and at each growth. Its contract is that of
+/// any allocator; no contract tells which request is refused, since a cell holds the count.
+#[derive(Drop)]
+pub struct Refusing<B: Allocator> {
+    inner: B,
+    count: Count,
+}
+
+impl<B: Allocator> Refusing<B> {
+    /// An allocator over another one, which refuses the request of this number; the first one has number 0.
+    pub fn new(inner: B, refused: u64) -> Refusing<B> {
+        Refusing {
+            inner,
+            count: Count::new(refused),
+        }
+    }
+
+    /// How many requests came, with that which was refused.
+    pub fn requests(&self) -> u64 {
+        self.count.made()
+    }
+
+    /// Whether a request was refused.
+    pub fn has_refused(&self) -> bool {
+        self.count.has_refused()
+    }
+}
+
+unsafe impl<B: Allocator> Allocator for Refusing<B> {
+    ghost dealloc_token = { λ heap ty ptr. B.dealloc_token heap.inner ty ptr };
+
+    fn allocate(&self, size: usize, align: usize) -> Result<*mut u8, AllocError> {
+        if self.count.refuses() {
+            return Err(AllocError);
+        }
+        self.inner.allocate(size, align)
+    }
+
+    unsafe fn deallocate(&self, ptr: *mut u8, size: usize, align: usize) {
+        self.inner.deallocate(ptr, size, align);
+    }
+}
