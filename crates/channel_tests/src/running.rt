@@ -5,6 +5,7 @@ mod collect;
 mod made;
 mod memory;
 mod no_memory;
+mod refused;
 mod replays;
 mod report;
 mod runs;

@@ -16,6 +16,8 @@ mod lossy;
 #[cfg(test)]
 mod packets;
 #[cfg(test)]
+mod refused_captures;
+#[cfg(test)]
 mod same;
 #[cfg(test)]
 mod whole_captures;

@@ -3,5 +3,6 @@
 
 mod legal_paths;
 mod programs;
+mod refused;
 mod schedules;
 mod texts;
