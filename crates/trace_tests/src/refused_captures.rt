@@ -1,7 +1,7 @@
 //! Each request for memory refused in turn, to what decodes a capture.
 
-use crate::fixtures::Step::{self, Retires};
-use crate::fixtures::{BRANCH_LOOP, NOP, RET, log_of, program_of};
+use crate::fixtures::Step::{self, Retires, Traps};
+use crate::fixtures::{BASE, BRANCH_LOOP, log_of, program_of};
 use crate::same::same_at;
 use captures::{CaptureFault, CaptureOutcome, decode_capture};
 use decoder::DecodeFault;
@@ -9,31 +9,30 @@ use refusing::Refusing;
 use std::alloc::{AllocError, Global};
 use std::process::Abort;
 
-/// Two words, a return, and a branch to itself.
-const WORDS: [u32; 4] = [NOP, NOP, RET, BRANCH_LOOP];
+/// The events of the hart that takes a branch to itself 33 times.
+const BRANCHES: [Step; 33] = [Retires(0, 5, 3); 33];
 
-/// The events of the hart that takes the branch 33 times.
-const BRANCHES: [Step; 33] = [Retires(12, 5, 3); 33];
-
-/// The events of the hart that returns to the second word.
-const RETURNS: [Step; 4] = [
-    Retires(0, 0, 3),
-    Retires(4, 0, 3),
-    Retires(8, 6, 3),
-    Retires(4, 0, 3),
+/// The events of the hart that takes it four times and is then interrupted.
+const INTERRUPTED: [Step; 5] = [
+    Retires(0, 5, 3),
+    Retires(0, 5, 3),
+    Retires(0, 5, 3),
+    Retires(0, 5, 3),
+    Traps(BASE, 3, true, 7, 0),
 ];
 
 /// The capture of both harts: their messages in turn, one in each line.
-const CAPTURE: [u8; 117] = [
+const CAPTURE: [u8; 134] = [
     0, 0, 0, 0, 0, 0, 0, 0, 0, 0, 1, 0x1f, // opens
     1, 0, 0, 0, 0, 0, 0, 0, 0, 0, 1, 0x1f, // opens
-    0, 0, 1, 0, 0, 0, 0, 0, 0, 0, 5, 0x63, 0x03, 0, 0, 0x20, // the first branch
-    1, 0, 1, 0, 0, 0, 0, 0, 0, 0, 5, 0x73, 0, 0, 0, 0x20, // the first word
+    0, 0, 1, 0, 0, 0, 0, 0, 0, 0, 5, 0x63, 0, 0, 0, 0x20, // the first branch
+    1, 0, 1, 0, 0, 0, 0, 0, 0, 0, 5, 0x63, 0, 0, 0, 0x20, // the first branch
     0, 0, 2, 0, 0, 0, 0, 0, 0, 0, 1, 0x01, // 31 branches
-    1, 0, 2, 0, 0, 0, 0, 0, 0, 0, 1, 0x0a, // the second word, which waits
+    1, 0, 2, 0, 0, 0, 0, 0, 0, 0, 1, 0x0d, // three branches, which wait
     0, 0, 3, 0, 0, 0, 0, 0, 0, 0, 1, 0x05, // the last branch, which waits
-    1, 0, 3, 0, 0, 0, 0, 0, 0, 0, 2, 0xcf, 0, // closes: the second word was a target
-    0, 0, 4, 0, 0, 0, 0, 0, 0, 0, 1, 0x4f, // closes: the last branch was reported at the end
+    1, 0, 3, 0, 0, 0, 0, 0, 0, 0, 6, 0xf7, 0x23, 0, 0, 0, 0x20, // the interrupt
+    1, 0, 4, 0, 0, 0, 0, 0, 0, 0, 2, 0xcf, 0, // closes
+    0, 0, 4, 0, 0, 0, 0, 0, 0, 0, 1, 0x4f, // closes
 ];
 
 /// How many requests come before a message is decoded: for the numbers, the decoders, the lists and the flags of the
@@ -43,9 +42,9 @@ const BEFORE: usize = 4;
 /// Where decoding ends where one of the requests behind these is refused: at which message, and how many events of each
 /// hart were known before it.
 ///
-/// The list of the first hart grows to 4, 32 and 64 events, and that of the second to 4. Messages 5 to 7 take no memory:
-/// an address waits for the packet behind it, and what the second hart's closing packet settles has room.
-const ENDS: [(u64, usize, usize); 4] = [(2, 0, 0), (3, 1, 0), (4, 1, 1), (8, 32, 4)];
+/// The list of the first hart grows to 4, 32 and 64 events, and that of the second to 4 and 8. There is room for the
+/// three branches that wait and not for the interrupt behind them: all four are left out.
+const ENDS: [(u64, usize, usize); 5] = [(2, 0, 0), (3, 1, 0), (4, 1, 1), (7, 32, 1), (9, 32, 5)];
 
 /// Why decoding ends there.
 const MEMORY: CaptureFault = CaptureFault::Decode(DecodeFault::Memory);
@@ -78,17 +77,17 @@ fn ends_at<R: Abort + AllocGlobal>(rt: &R, place: usize, answer: Answer<'_>) {
     assert!(rt; BEFORE <= place, "{place}: an outcome");
     let (fault, first, second) = match ENDS.get(place - BEFORE) {
         Some((message, first, second)) => (Some((*message, MEMORY)), *first, *second),
-        None => (None, BRANCHES.len(), RETURNS.len()),
+        None => (None, BRANCHES.len(), INTERRUPTED.len()),
     };
     same_at(rt, place, outcome.harts.len(), 2);
     same_at(rt, place, outcome.fault, fault);
     has_first(rt, (place, 0), &outcome, &BRANCHES, first);
-    has_first(rt, (place, 1), &outcome, &RETURNS, second);
+    has_first(rt, (place, 1), &outcome, &INTERRUPTED, second);
 }
 
 #[test]
 fn each_request_of_a_decoding(rt: HostRuntime) {
-    let program = program_of(&rt, &WORDS);
+    let program = program_of(&rt, &[BRANCH_LOOP]);
     for place in 0..BEFORE + ENDS.len() + 1 {
         let heap = Refusing::new(rt.alloc(), place as u64);
         let answer = decode_capture(&heap, &program, 2, &CAPTURE);
