@@ -6,7 +6,7 @@ use std::alloc::{AllocError, Allocator};
 /// An allocator that refuses one request and passes all others on to another one.
 ///
 /// Collections hold a `&` to it. A list makes a request for its first room and at each growth. Its contract is that of
-/// any allocator; no contract tells which request is refused, since a cell holds the count.
+/// any allocator; no contract says which request is refused, since a cell holds the count.
 #[derive(Drop)]
 pub struct Refusing<B: Allocator> {
     inner: B,
