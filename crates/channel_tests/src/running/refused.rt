@@ -66,7 +66,7 @@ fn ends_at<R: Abort + AllocGlobal>(
             same_at(rt, (place, "report"), heap.requests(), requests);
         }
     }
-    let refused = place < before + REFUSED.len();
+    let refused = place.saturating_sub(before) < REFUSED.len();
     same_at(rt, (place, "refused"), heap.has_refused(), refused);
 }
 
