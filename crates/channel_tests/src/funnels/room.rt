@@ -11,14 +11,14 @@ use std::thread::Threads;
 use std::time::{Clock, Duration};
 
 // The port and the outlet of a funnel of one hart.
-fn ends_of<R: Abort + AllocGlobal>(rt: &R, capacity: u32) -> (Port, Outlet) {
+pub(crate) fn ends_of<R: Abort + AllocGlobal>(rt: &R, capacity: u32) -> (Port, Outlet) {
     let (mut ports, outlet) = open(rt.alloc(), 1, capacity).expect(rt, "a funnel");
     (ports.pop().expect(rt, "a port"), outlet)
 }
 
 // Sends so many payloads, which fill the channel. What becomes of them is not asked: where a sender starts late, the
 // outlet may have been dropped.
-fn fill<R: Abort + Wait>(rt: &R, port: &mut Port, capacity: u32) {
+pub(crate) fn fill<R: Abort + Wait>(rt: &R, port: &mut Port, capacity: u32) {
     for _ in 0..capacity {
         fate_of(rt, port, OPEN);
     }

@@ -1,15 +1,101 @@
-//! Ports that wait for room in a full funnel are woken long before they would look for it again by themselves.
+//! A port that waits for room in a full funnel is called at the low-water mark.
 //!
-//! A port that no one calls sleeps 10 ms. What is sent here is so much that with all those sleeps a test takes about the
-//! 60 seconds that the gate gives it, or more; where ports are called it ends soon. So no clock is asked. On a fast
-//! machine it may end in time with no port called, and shows nothing there.
+//! A port that no one calls looks for room again by itself, 10 ms later. So a payload that a sleeping port sends sooner
+//! shows that the port was called. The rounds in which it does are counted. On a loaded machine a port that is called
+//! may go on late in some rounds, and in a few it may find room before it ever sleeps; a port that is never called is
+//! early in none but those few.
 
-use super::workers::is_whole;
+use super::made::{OPEN, comes, sends};
+use super::room::{ends_of, fill};
+use super::workers::send_open;
+use funnel::{Outlet, Port};
+use std::process::Abort;
+use std::sync::Wait;
+use std::sync::atomic::{AtomicU64, Ordering};
+use std::thread;
+use std::thread::Threads;
+use std::time::{Clock, Duration, Instant};
 
-// Were no port called, a port would wait 10 ms about once for 9 messages through 8 places, and once for 3 through one
-// place: some 100 seconds in all, where no more is sent while the outlet takes.
+/// How many messages the funnel holds.
+const CAPACITY: u32 = 8;
+
+/// How many of them are taken down to the low-water mark.
+const DEPTH: u64 = 4;
+
+/// How many milliseconds a port sleeps at least that no one calls.
+const LONGEST: u128 = 10;
+
+/// How many rounds there are.
+const ROUNDS: u64 = 100;
+
+/// In how many of them, at least, the port has to be called.
+const ENOUGH: u64 = 10;
+
+/// Sends a payload through a port that finds no room, and raises the round before. Whether it was sent sooner than by a
+/// port that no one calls.
+fn is_called<R: Abort + Clock + Wait>(
+    rt: &R,
+    port: &mut Port,
+    raised: &AtomicU64,
+    round: u64,
+) -> bool {
+    let start = Instant::now(rt).expect(rt, "a clock");
+    raised.store(round, Ordering::SeqCst);
+    sends(rt, port, OPEN);
+    let waited = start.elapsed(rt).expect(rt, "a clock");
+    waited.as_millis() < LONGEST
+}
+
+/// Fills the funnel. In each round waits with one payload more until the funnel is drained to its low-water mark, and
+/// fills it again. In how many rounds the port was called.
+fn wait_in_rounds<R: Abort + Clock + Wait>(rt: &R, mut port: Port, raised: &AtomicU64) -> u64 {
+    fill(rt, &mut port, CAPACITY);
+    let mut called = 0u64;
+    for round in 1..=ROUNDS {
+        if is_called(rt, &mut port, raised, round) {
+            called = called.saturating_add(1);
+        }
+        send_open(rt, &mut port, DEPTH - 1);
+    }
+    called
+}
+
+/// Waits until a round is raised, and then for as long as a port needs to fall asleep.
+fn await_sleep<R: Abort + Clock>(rt: &R, raised: &AtomicU64, round: u64) {
+    for _ in 0..50_000 {
+        let is_raised = raised.load(Ordering::SeqCst) == round;
+        thread::sleep(rt, Duration::from_millis(1));
+        if is_raised {
+            return;
+        }
+    }
+    panic!(rt; "round {round} never comes");
+}
+
+/// Takes what is between a full funnel and its low-water mark, from the message of this number on.
+fn drain<R: Abort + Wait>(rt: &R, outlet: &mut Outlet, first: u64) {
+    for number in first..first.saturating_add(DEPTH) {
+        comes(rt, outlet, 0, number, OPEN);
+    }
+}
+
+/// In how many rounds a port that waits is called.
+fn rounds<R: Abort + AllocGlobal + Clock + Threads + Wait + Sync>(rt: &R) -> u64 {
+    let (port, mut outlet) = ends_of(rt, CAPACITY);
+    let raised = AtomicU64::new(0);
+    let waits = &raised;
+    thread::scope(thread::scope_env(), rt, move |scope| {
+        let sender = scope.spawn(move || wait_in_rounds(rt, port, waits));
+        for round in 1..=ROUNDS {
+            await_sleep(rt, waits, round);
+            drain(rt, &mut outlet, (round - 1).saturating_mul(DEPTH));
+        }
+        sender.ok().expect(rt, "a thread").join(rt)
+    })
+}
+
 #[test]
-fn a_sender_is_woken(rt: HostRuntime) {
-    is_whole(&rt, 1, 8, 60_000);
-    is_whole(&rt, 1, 1, 10_000);
+fn a_port_is_called_at_the_mark(rt: HostRuntime) {
+    let called = rounds(&rt);
+    assert!(rt; called >= ENOUGH, "called in {called} of {ROUNDS} rounds");
 }
