@@ -2,6 +2,7 @@
 
 mod came;
 mod collect;
+mod gates;
 mod made;
 mod memory;
 mod no_memory;
