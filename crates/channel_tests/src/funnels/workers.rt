@@ -150,8 +150,9 @@ fn settle_all<R: Abort + Threads>(
     }
 }
 
-// Starts the workers, takes until the channel has room for all that is left, settles the receipts, and takes what is
-// left. No end is left by then that sends, so a lost message shows as the channel's end.
+// Starts the workers, takes until so many messages are left, settles the receipts, and takes what is left, for which
+// the channel has room. No end is left by then that sends, so a lost message shows as the channel's end. Where none are
+// left, each receipt has to say that all its hart sent was taken.
 fn conduct<'s, E, R: Abort + AllocGlobal + Threads + Wait + Sync>(
     scope: &Scope<'s, E>,
     rt: &'s R,
@@ -159,26 +160,29 @@ fn conduct<'s, E, R: Abort + AllocGlobal + Threads + Wait + Sync>(
     mut outlet: Outlet,
     capacity: u32,
     count: u64,
+    left: u64,
 )
     requires { All (λ port. port.funnel ≡ outlet.funnel) ports.items }
 {
     let all = (ports.len() as u64).saturating_mul(count);
-    let last = all.min(u64::from(capacity));
     let mut next = [0u64; 64];
     let workers = start_all(scope, rt, ports, count, &outlet);
-    let first = all.saturating_sub(last);
+    let first = all.saturating_sub(left);
     take_some(rt, &mut outlet, &mut next, first, capacity, count);
-    settle_all(rt, workers, &mut outlet, &next, capacity, count);
-    take_some(rt, &mut outlet, &mut next, last, capacity, count);
+    let taken = if left == 0 { [count; 64] } else { next };
+    settle_all(rt, workers, &mut outlet, &taken, capacity, count);
+    take_some(rt, &mut outlet, &mut next, left, capacity, count);
     same_at(rt, (capacity, "the end"), outlet.take(rt), Err(Ended));
 }
 
-// All that so many workers send is taken in order, their receipts say so, and then the channel ends.
-pub(crate) fn is_whole<R: Abort + AllocGlobal + Threads + Wait + Sync>(
+// All that so many workers send is taken in order, their receipts say so while so many messages are left, and then the
+// channel ends.
+fn is_settled<R: Abort + AllocGlobal + Threads + Wait + Sync>(
     rt: &R,
     harts: u16,
     capacity: u32,
     count: u64,
+    left: u64,
 ) {
     let (ports, outlet) = open(rt.alloc(), harts, capacity).expect(rt, "a funnel");
     thread::scope(
@@ -186,11 +190,28 @@ pub(crate) fn is_whole<R: Abort + AllocGlobal + Threads + Wait + Sync>(
         rt,
         move |scope| -> ()
             requires { All (λ port. port.funnel ≡ outlet.funnel) ports.items }
-        { conduct(scope, rt, ports, outlet, capacity, count) },
+        { conduct(scope, rt, ports, outlet, capacity, count, left) },
     )
+}
+
+// The same, where the channel is full of messages that are left, or has room for all.
+pub(crate) fn is_whole<R: Abort + AllocGlobal + Threads + Wait + Sync>(
+    rt: &R,
+    harts: u16,
+    capacity: u32,
+    count: u64,
+) {
+    let all = u64::from(harts).saturating_mul(count);
+    is_settled(rt, harts, capacity, count, all.min(u64::from(capacity)));
 }
 
 #[test]
 fn two_workers_at_capacity_1(rt: HostRuntime) {
     is_whole(&rt, 2, 1, 1000);
+}
+
+// Each of the two receipts says that 1,000 were sent and 1,000 taken.
+#[test]
+fn receipts_say_that_all_was_taken(rt: HostRuntime) {
+    is_settled(&rt, 2, 1, 1000, 0);
 }
