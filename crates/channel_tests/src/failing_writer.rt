@@ -3,7 +3,8 @@
 use std::io;
 use std::io::{ErrorKind, Write};
 
-/// A writer that keeps what it takes, one byte a call, and fails once its calls are used up.
+/// A writer that keeps what it takes, one byte a call, and fails at one call, behind so many. It would take what comes
+/// after that.
 #[derive(Drop)]
 pub(crate) struct FailingWriter {
     pub(crate) held: Vec<u8>,
@@ -13,6 +14,7 @@ pub(crate) struct FailingWriter {
 impl Write for FailingWriter {
     fn write(&mut self, buf: &[u8]) -> io::Result<usize> {
         if self.calls == 0 {
+            self.calls = usize::MAX;
             return Err(io::Error::from(ErrorKind::StorageFull));
         }
         self.calls -= 1;

@@ -91,16 +91,22 @@ pub(crate) fn are_read(
 }
 
 #[test]
+fn one_read_fails_at_each_place(rt: HostRuntime) {
+    for calls in 0..16 {
+        are_refused(&rt, 16, calls, ErrorKind::UnexpectedEof, MessageFault::Read);
+    }
+}
+
+#[test]
 fn readers_of_one_byte_a_call(rt: HostRuntime) {
-    let (eof, timeout) = (ErrorKind::UnexpectedEof, ErrorKind::TimedOut);
-    are_refused(&rt, 16, 3, eof, MessageFault::Read);
+    let timeout = ErrorKind::TimedOut;
     are_refused(&rt, 7, 100, timeout, MessageFault::Short);
     are_read(&rt, 16, timeout, Err(MessageFault::Read));
     are_read(&rt, 5, ErrorKind::Interrupted, Ok(None));
 }
 
-/// Ends the test unless a message, and a header, are written so by writers that fail after so many calls, of which each
-/// then holds that many bytes of it.
+/// Ends the test unless a message, and a header, are written so by writers that fail at one call, behind so many, of
+/// which each then holds the first bytes of it, that many.
 pub(crate) fn are_written<R: Abort + AllocGlobal>(
     rt: &R,
     calls: usize,
@@ -123,7 +129,9 @@ pub(crate) fn are_written<R: Abort + AllocGlobal>(
 }
 
 #[test]
-fn writers_of_one_byte_a_call(rt: HostRuntime) {
-    are_written(&rt, 5, Err(MessageFault::Write));
+fn one_write_fails_at_each_place(rt: HostRuntime) {
+    for calls in 0..16 {
+        are_written(&rt, calls, Err(MessageFault::Write));
+    }
     are_written(&rt, 16, Ok(()));
 }

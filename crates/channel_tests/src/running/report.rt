@@ -145,8 +145,8 @@ fn stops(rt: HostRuntime) {
     }
 }
 
-/// Ends the test unless a writer that fails behind so many calls takes as many bytes of this report, and its fault is
-/// told.
+/// Ends the test unless a writer that fails at one call, behind so many, holds the first bytes of this report, that
+/// many, and its fault is returned.
 pub(crate) fn cut_at<R: Abort + AllocGlobal>(
     rt: &R,
     calls: usize,
@@ -178,12 +178,12 @@ pub(crate) fn cut_at<R: Abort + AllocGlobal>(
 }
 
 #[test]
-fn writer_fails(rt: HostRuntime) {
+fn one_write_fails_at_each_place(rt: HostRuntime) {
     let program = program(&rt);
     let logs = logs(&rt, &program);
     let outcome = whole_with(&rt, Stop::Memory(1));
     let want = text_of(&rt, &outcome, &logs);
-    for calls in [0usize, 70, want.len()] {
+    for calls in 0..=want.len() {
         cut_at(&rt, calls, &outcome, &logs, want.as_slice());
     }
 }
