@@ -8,6 +8,7 @@
 use super::made::{OPEN, comes, sends};
 use super::room::{ends_of, fill};
 use super::workers::send_open;
+use crate::same::same_at;
 use funnel::{Outlet, Port};
 use std::process::Abort;
 use std::sync::Wait;
@@ -25,11 +26,14 @@ const DEPTH: u64 = 4;
 /// How many milliseconds a port sleeps at least that no one calls.
 const LONGEST: u128 = 10;
 
-/// How many rounds there are.
-const ROUNDS: u64 = 100;
+/// How many rounds there are at most.
+const ROUNDS: u64 = 500;
 
-/// In how many of them, at least, the port has to be called.
+/// In how many of them the port has to be called. No more rounds come then.
 const ENOUGH: u64 = 10;
+
+/// What is raised in place of a round where no more come.
+const DONE: u64 = u64::MAX;
 
 /// Sends a payload through a port that finds no room, and raises the round before. Whether it was sent sooner than by a
 /// port that no one calls.
@@ -47,26 +51,30 @@ fn is_called<R: Abort + Clock + Wait>(
 }
 
 /// Fills the funnel. In each round waits with one payload more until the funnel is drained to its low-water mark, and
-/// fills it again. In how many rounds the port was called.
+/// fills it again, until the port was called in enough rounds. In how many it was.
 fn wait_in_rounds<R: Abort + Clock + Wait>(rt: &R, mut port: Port, raised: &AtomicU64) -> u64 {
     fill(rt, &mut port, CAPACITY);
     let mut called = 0u64;
     for round in 1..=ROUNDS {
+        if called == ENOUGH {
+            break;
+        }
         if is_called(rt, &mut port, raised, round) {
             called = called.saturating_add(1);
         }
         send_open(rt, &mut port, DEPTH - 1);
     }
+    raised.store(DONE, Ordering::SeqCst);
     called
 }
 
-/// Waits until a round is raised, and then for as long as a port needs to fall asleep.
-fn await_sleep<R: Abort + Clock>(rt: &R, raised: &AtomicU64, round: u64) {
+/// Whether a round comes. Waits until it is raised, and then for as long as a port needs to fall asleep.
+fn is_raised<R: Abort + Clock>(rt: &R, raised: &AtomicU64, round: u64) -> bool {
     for _ in 0..50_000 {
-        let is_raised = raised.load(Ordering::SeqCst) == round;
+        let now = raised.load(Ordering::SeqCst);
         thread::sleep(rt, Duration::from_millis(1));
-        if is_raised {
-            return;
+        if now >= round {
+            return now != DONE;
         }
     }
     panic!(rt; "round {round} never comes");
@@ -79,7 +87,7 @@ fn drain<R: Abort + Wait>(rt: &R, outlet: &mut Outlet, first: u64) {
     }
 }
 
-/// In how many rounds a port that waits is called.
+/// In how many rounds a port that waits is called, of as many as it takes for enough.
 fn rounds<R: Abort + AllocGlobal + Clock + Threads + Wait + Sync>(rt: &R) -> u64 {
     let (port, mut outlet) = ends_of(rt, CAPACITY);
     let raised = AtomicU64::new(0);
@@ -87,7 +95,9 @@ fn rounds<R: Abort + AllocGlobal + Clock + Threads + Wait + Sync>(rt: &R) -> u64
     thread::scope(thread::scope_env(), rt, move |scope| {
         let sender = scope.spawn(move || wait_in_rounds(rt, port, waits));
         for round in 1..=ROUNDS {
-            await_sleep(rt, waits, round);
+            if !is_raised(rt, waits, round) {
+                break;
+            }
             drain(rt, &mut outlet, (round - 1).saturating_mul(DEPTH));
         }
         sender.ok().expect(rt, "a thread").join(rt)
