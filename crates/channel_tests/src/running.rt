@@ -3,6 +3,7 @@
 mod came;
 mod collect;
 mod gates;
+mod large;
 mod made;
 mod memory;
 mod no_memory;

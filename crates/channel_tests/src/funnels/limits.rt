@@ -22,13 +22,14 @@ const CAPACITY: Option<OpenFault> = Some(OpenFault::Capacity);
 type Row = (u16, u32, Option<OpenFault>, Option<OpenFault>);
 
 /// The queue serves 1 to 1,024 harts, the channel 1 to 64.
-const FAULTS: [Row; 18] = [
+const FAULTS: [Row; 19] = [
     (0, 0, NO_HARTS, NO_HARTS),
     (0, 16, NO_HARTS, NO_HARTS),
     (0, 65_537, NO_HARTS, NO_HARTS),
     (65, 0, CAPACITY, MANY),
     (65, 16, None, MANY),
     (1024, 16, None, MANY),
+    (1024, 65_536, None, MANY),
     (1024, 0, CAPACITY, MANY),
     (1024, 65_537, CAPACITY, MANY),
     (1025, 0, MANY, MANY),

@@ -1,5 +1,7 @@
 //! Messages that are taken in by hand.
 
+ghost use Rattle.std.specs.Prelude.{◌≤◌};
+
 use super::came::{End, came_at};
 use super::made::{logs, program};
 use crate::same::same_at;
@@ -14,19 +16,25 @@ use std::process::Abort;
 
 /// How many messages of a log were taken in, and how many bytes their payloads have.
 #[derive(Clone, Copy)]
-struct Sent {
-    taken: u64,
+pub(crate) struct Sent {
+    pub(crate) taken: u64,
     bytes: u64,
 }
 
-/// Takes the first messages of a log in, this many.
-fn send<A: Allocator + Copy>(
+/// A period that is longer than both logs.
+const PERIOD: u16 = 1024;
+
+/// Takes the first messages of a log of this period in, this many.
+pub(crate) fn send<A: Allocator + Copy>(
     collector: &mut Collector<'_, '_, A>,
     log: &LegalLog<'_>,
+    period: u16,
     hart: u16,
     count: u64,
-) -> Sent {
-    let mut source = Source::new(log, 1024, Mode::Differential);
+) -> Sent
+    requires { 1 ≤ period }
+{
+    let mut source = Source::new(log, period, Mode::Differential);
     let mut sent = Sent { taken: 0, bytes: 0 };
     for number in 0..count {
         if let Some(payload) = source.next() {
@@ -69,8 +77,13 @@ fn ends(bytes: u64, kept: [usize; 2]) -> [End; 2] {
 /// and they come to what they should, with so many packets kept.
 fn comes<R: Abort + AllocGlobal>(rt: &R, logs: &[LegalLog<'_>; 2], keep: bool, kept: [usize; 2]) {
     let mut collector = Collector::new(rt.alloc(), logs, keep).expect(rt, "memory");
-    same_at(rt, keep, send(&mut collector, &logs[0], 0, 9).taken, 5);
-    let some = send(&mut collector, &logs[1], 1, 3);
+    same_at(
+        rt,
+        keep,
+        send(&mut collector, &logs[0], PERIOD, 0, 9).taken,
+        5,
+    );
+    let some = send(&mut collector, &logs[1], PERIOD, 1, 3);
     same_at(rt, keep, some.taken, 3);
     let outcome = collector.finish();
     same_at(rt, keep, outcome.stop, None);
@@ -163,8 +176,18 @@ fn a_refused_hart_is_passed_over(rt: HostRuntime) {
     let mut collector = Collector::new(rt.alloc(), &logs, true).expect(&rt, "memory");
     collector.refuse(0);
     answers(&rt, &mut collector, (0, 7, &[0x4f], Ok(())));
-    same_at(&rt, 0, send(&mut collector, &logs[0], 0, 5).taken, 5);
-    same_at(&rt, 1, send(&mut collector, &logs[1], 1, 4).taken, 4);
+    same_at(
+        &rt,
+        0,
+        send(&mut collector, &logs[0], PERIOD, 0, 5).taken,
+        5,
+    );
+    same_at(
+        &rt,
+        1,
+        send(&mut collector, &logs[1], PERIOD, 1, 4).taken,
+        4,
+    );
     let nothing = End {
         taken: 0,
         bytes: 0,

@@ -64,7 +64,11 @@ pub(crate) fn returns<R: Abort + AllocGlobal>(rt: &R) -> Vec<Event> {
 }
 
 /// The log of these events, which are legal for the program.
-fn legal_log<'p, R: Abort>(rt: &R, program: &'p Program, events: Vec<Event>) -> LegalLog<'p> {
+pub(crate) fn legal_log<'p, R: Abort>(
+    rt: &R,
+    program: &'p Program,
+    events: Vec<Event>,
+) -> LegalLog<'p> {
     assert!(rt; events.len() <= 1 << 24, "too many events");
     LegalLog::new(program, events).expect(rt, "a legal log")
 }
