@@ -1,72 +1,96 @@
 //! Files in memory.
 
+ghost use Rattle.std.specs.Prelude.{◌≡◌, [], MatchOption, map, string_bytes};
+ghost use Rattle.commands.specs.Known.{Absent, Told, content_in};
+
 use commands::{FileFault, Files};
 use std::alloc::Global;
 use std::process::Abort;
 
-/// Files by their names, of which the last of a name counts.
+/// A file in memory.
+#[derive(Drop)]
+struct File {
+    name: String,
+    bytes: Vec<u8>,
+}
+
+/// Files, the newest first: of two of one name it is the one that counts.
 #[derive(Drop)]
 pub(crate) struct Shelf {
     alloc: Global,
-    names: Vec<&'static str>,
-    contents: Vec<Vec<u8>>,
+    files: Vec<File>,
 }
 
 impl Shelf {
     /// No file.
-    pub(crate) fn new(alloc: Global) -> Shelf {
+    pub(crate) fn new(alloc: Global) -> Shelf
+        ensures { result.files.items ≡ [] }
+    {
         Shelf {
             alloc,
-            names: Vec::new(alloc),
-            contents: Vec::new(alloc),
+            files: Vec::new(alloc),
         }
     }
 
     /// Adds a file of this name, with nothing in it.
-    pub(crate) fn begin(&mut self, rt: &impl Abort, name: &'static str) {
-        self.names.push(name).expect(rt, "memory");
-        self.contents
-            .push(Vec::new(self.alloc))
-            .expect(rt, "memory");
+    pub(crate) fn begin(&mut self, rt: &impl Abort, name: &str) {
+        let file = File {
+            name: String::from_str(self.alloc, name).expect(rt, "memory"),
+            bytes: Vec::new(self.alloc),
+        };
+        self.files.insert(0, file).expect(rt, "memory");
     }
 
-    /// Appends to the file that was added last.
+    /// Appends to the newest file.
     pub(crate) fn append(&mut self, rt: &impl Abort, bytes: &[u8]) {
-        let content = self.contents.last_mut().expect(rt, "a file");
-        content.extend_from_slice(bytes).expect(rt, "memory");
+        let file = self.files.first_mut().expect(rt, "a file");
+        file.bytes.extend_from_slice(bytes).expect(rt, "memory");
+    }
+
+    /// Adds the file that a path `NAME:COUNT` names: so many of the first bytes of the file `NAME`. Any other path adds
+    /// none.
+    pub(crate) fn cut(&mut self, rt: &impl Abort, path: &str) {
+        let mut copy = Vec::new(self.alloc);
+        match self.beginning(path) {
+            Some(bytes) => copy.extend_from_slice(bytes).expect(rt, "memory"),
+            None => return,
+        }
+        self.begin(rt, path);
+        self.append(rt, copy.as_slice());
+    }
+
+    /// The bytes that a path `NAME:COUNT` stands for.
+    fn beginning(&self, path: &str) -> Option<&[u8]> {
+        let (name, count) = path.split_once(':')?;
+        let count = count.parse().ok()?;
+        self.content(name)?.get(..count)
     }
 
     /// The content of the file of this name.
-    pub(crate) fn content(&self, name: &str) -> Option<&[u8]> {
-        let mut found = None;
-        for (one, content) in self.names.iter().zip(&self.contents) {
-            if *one == name {
-                found = Some(content.as_slice());
+    pub(crate) fn content(&self, name: &str) -> Option<&[u8]>
+        ensures { let files = map (λ file. (string_bytes file.name, file.bytes.items)) self.now.files.items in
+            MatchOption result (content_in files name.now ≡ Absent) (λ bytes. content_in files name.now
+            ≡ Told bytes.now) }
+    {
+        for file in &self.files {
+            if file.name.as_str() == name {
+                return Some(file.bytes.as_slice());
             }
         }
-        found
-    }
-
-    /// What stands at a path: all of a file, or so many of its first bytes.
-    fn bytes_at(&self, path: &str) -> Option<&[u8]> {
-        match path.split_once(':') {
-            None => self.content(path),
-            Some((name, count)) => {
-                let content = self.content(name)?;
-                let count = count.parse().ok()?;
-                content.get(..count)
-            }
-        }
+        None
     }
 }
 
 impl Files for Shelf {
-    /// `NAME` is a file, `NAME:COUNT` its first bytes, and `full` a file that memory is refused for.
+    ghost content = { λ shelf path.
+        content_in (map (λ file. (string_bytes file.name, file.bytes.items)) shelf.files.items) path };
+
+    /// Memory is refused for the file `full`.
     fn read(&mut self, path: &str) -> Result<Vec<u8>, FileFault> {
         if path == "full" {
             return Err(FileFault::Memory);
         }
-        match self.bytes_at(path) {
+        match self.content(path) {
             Some(bytes) => Vec::from_slice(self.alloc, bytes).map_err(|_| FileFault::Memory),
             None => Err(FileFault::CannotRead),
         }

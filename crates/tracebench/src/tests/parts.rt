@@ -53,16 +53,37 @@ fn add_form(rt: &impl Abort, shelf: &Shelf, content: &mut Vec<u8>, form: char, t
     }
 }
 
-/// The text with a number for each `@`.
+/// The text with a number for each `@`; `@{A+S}` stands for the hexadecimal number A, and S more for each number from 0
+/// on.
 fn numbered<R: Abort + AllocGlobal>(rt: &R, text: &str, number: u64) -> String {
     let mut whole = String::new(rt.alloc());
     for (i, part) in text.split('@').enumerate() {
-        if i > 0 {
-            push(rt, &mut whole, number);
+        if i == 0 {
+            push(rt, &mut whole, part);
+        } else {
+            push_numbered(rt, &mut whole, part, number);
         }
-        push(rt, &mut whole, part);
     }
     whole
+}
+
+/// Appends the number that stands before a part of a text, and the part without its step.
+fn push_numbered(rt: &impl Abort, whole: &mut String, part: &str, number: u64) {
+    match part.strip_prefix('{') {
+        Some(rest) => {
+            let (first, rest) = rest.split_once('+').expect(rt, "a step");
+            let (step, rest) = rest.split_once('}').expect(rt, "an end of a step");
+            let added = hexadecimal(rt, step).wrapping_mul(number);
+            let sum = hexadecimal(rt, first).wrapping_add(added);
+            write!(whole, "{sum:x}{rest}").expect(rt, "memory");
+        }
+        None => write!(whole, "{number}{part}").expect(rt, "memory"),
+    }
+}
+
+/// The number that a text of hexadecimal digits is.
+fn hexadecimal(rt: &impl Abort, digits: &str) -> u64 {
+    u64::from_str_radix(digits, 16).expect(rt, "a hexadecimal number")
 }
 
 /// Appends what a value displays.
@@ -70,16 +91,15 @@ pub(crate) fn push<D: Display + Drop>(rt: &impl Abort, text: &mut String, value:
     write!(text, "{value}").expect(rt, "memory");
 }
 
-/// Appends what a text stands for so often, in lines that `\n` parts, with the number of the time for each `@`.
+/// Appends what a text stands for at each of the times from the first to before the end, in lines that `\n` parts.
 fn add_times<R: Abort + AllocGlobal>(
     rt: &R,
     shelf: &Shelf,
     content: &mut Vec<u8>,
-    times: u64,
-    form: char,
-    text: &str,
+    (first, end): (u64, u64),
+    (form, text): (char, &str),
 ) {
-    for time in 0..times {
+    for time in first..end {
         for line in text.split("\\n") {
             let line = numbered(rt, line, time);
             add_form(rt, shelf, content, form, line.as_str());
@@ -87,32 +107,49 @@ fn add_times<R: Abort + AllocGlobal>(
     }
 }
 
-/// The text behind a form, which a space parts from it.
-fn behind(text: &str) -> &str {
-    text.strip_prefix(' ').unwrap_or(text)
+/// The first and last number of a range such as `1..11}`, and the text behind it.
+pub(crate) fn range_at<'a>(rt: &impl Abort, text: &'a str) -> (u64, u64, &'a str) {
+    let (first, rest) = text.split_once("..").expect(rt, "a range");
+    let (last, rest) = rest.split_once('}').expect(rt, "a range");
+    (number_of(rt, first), number_of(rt, last), rest)
 }
 
-/// Appends what a line stands for: a form and a text, or `*`, how often they are meant, and both.
+/// The times that a text begins with, as a count or a range: the first, the end behind the last, and the text behind
+/// them.
+fn times_at<'a>(rt: &impl Abort, text: &'a str) -> (u64, u64, &'a str) {
+    if let Some(range) = text.strip_prefix('{') {
+        let (first, last, rest) = range_at(rt, range);
+        return (first, last.saturating_add(1), rest);
+    }
+    let digits = text
+        .find(|c: char| !c.is_ascii_digit())
+        .unwrap_or(text.len());
+    let (count, rest) = text.split_at(digits);
+    (0, number_of(rt, count), rest)
+}
+
+/// The form of a line, and the text behind it, which a space may part from it.
+fn form_at(line: &str) -> (char, &str) {
+    let form = line.chars().next().unwrap_or(' ');
+    let text = line.strip_prefix(['=', '~', '<', '+']).unwrap_or(line);
+    (form, text.strip_prefix(' ').unwrap_or(text))
+}
+
+/// Appends what a line stands for: a form and a text, or `*`, the times that they are meant, and both.
 pub(crate) fn add_line<R: Abort + AllocGlobal>(
     rt: &R,
     shelf: &Shelf,
     content: &mut Vec<u8>,
     line: &str,
 ) {
-    let (times, rest) = match line.strip_prefix('*') {
+    match line.strip_prefix('*') {
         Some(counted) => {
-            let digits = counted
-                .find(|c: char| !c.is_ascii_digit())
-                .unwrap_or(counted.len());
-            let (count, rest) = counted.split_at(digits);
-            (Some(number_of(rt, count)), rest)
+            let (first, end, rest) = times_at(rt, counted);
+            add_times(rt, shelf, content, (first, end), form_at(rest));
         }
-        None => (None, line),
-    };
-    let form = rest.chars().next().unwrap_or(' ');
-    let text = behind(rest.strip_prefix(['=', '~', '<', '+']).unwrap_or(rest));
-    match times {
-        Some(times) => add_times(rt, shelf, content, times, form, text),
-        None => add_form(rt, shelf, content, form, text),
+        None => {
+            let (form, text) = form_at(line);
+            add_form(rt, shelf, content, form, text);
+        }
     }
 }

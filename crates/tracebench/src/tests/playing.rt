@@ -1,7 +1,7 @@
 //! Runs of a transcript, and what has to come of them.
 
 use super::files::Shelf;
-use super::parts::{number_of, push};
+use super::parts::{number_of, push, range_at};
 use crate::command;
 use cli::asked;
 use std::alloc::Global;
@@ -142,11 +142,17 @@ fn words_of<R: Abort + AllocGlobal>(rt: &R, line: &str, number: u64) -> Vec<Stri
 fn range_of(rt: &impl Abort, line: &str) -> (u64, u64) {
     match line.split_once('{') {
         Some((_, rest)) => {
-            let (first, rest) = rest.split_once("..").expect(rt, "a range");
-            let (last, _) = rest.split_once('}').expect(rt, "a range");
-            (number_of(rt, first), number_of(rt, last))
+            let (first, last, _) = range_at(rt, rest);
+            (first, last)
         }
         None => (0, 0),
+    }
+}
+
+/// Adds to the shelf the beginnings of files that words ask for.
+fn cut_files(rt: &impl Abort, shelf: &mut Shelf, words: &[String]) {
+    for word in words {
+        shelf.cut(rt, word.as_str());
     }
 }
 
@@ -164,6 +170,7 @@ pub(crate) fn is_played<R: Abort + AllocGlobal + Threads + Wait + Sync>(
             is_asked(rt, words.as_slice(), run);
         } else if let Some(line) = run.line.strip_prefix('$') {
             let words = words_of(rt, line, number);
+            cut_files(rt, shelf, words.as_slice());
             match way {
                 Way::Whole => is_run(rt, shelf, words.as_slice(), run),
                 Way::Failing => fails_at_each_call(rt, shelf, words.as_slice(), run),

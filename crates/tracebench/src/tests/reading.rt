@@ -10,7 +10,8 @@
 //! Behind `|`, `>` and `!` stands a text; or `=` and bytes in hexadecimal; or `~` and a message, as its hart, its
 //! number and its payload; or `<` and a file's name, for what stands in it; or `+` and a text without an end of line.
 //! A `*` and a count before these stand for so many of them, each with its number, from 0, for each `@`, in lines that
-//! `\n` parts.
+//! `\n` parts; `*{A..B}` numbers them from A to B instead. `@{A+S}` stands for the hexadecimal number A, and S more for
+//! each number from 0 on.
 //!
 //! Of the words of a run, `COUNT*WORD` is a word so often, `{A..B}` stands for a run with each number from A to B,
 //! `NAME:COUNT` for a file's first bytes, and `full` for a file that memory is refused for. A file takes the place of
