@@ -1,0 +1,221 @@
+//! Logs, captures and schedules of more than 65,536 rows, messages and turns.
+
+/// Logs of 70,000 rows, whose expected texts are one row or one message so often.
+pub(crate) const LOGS: &str = r#"
+# 70,000 `nop` of two bytes, each retired once.
+file image.bin
+|*70000= 0100
+file log.csv
+| addr,itype,priv,cause,tval
+|*70000 @{80000000+2},0,3,,
+$ tracebench check --base 80000000 image.bin log.csv
+> log.csv: legal, 70000 events
+
+# Fields in quotes make no other log.
+file quoted.csv
+| addr,itype,priv,cause,tval
+|*70000 "@{80000000+2}",0,3,,
+$ tracebench check --base 80000000 image.bin quoted.csv
+> quoted.csv: legal, 70000 events
+
+# The row behind them is illegal, or none.
+file off.csv
+|< log.csv
+| 800222e0,0,3,,
+file odd.csv
+|< log.csv
+| 800222e1,0,3,,
+file odd-quoted.csv
+|< quoted.csv
+| 800222e1,0,3,,
+$ tracebench check --base 80000000 image.bin off.csv
+> off.csv: row 70001: OffProgram
+? 2
+$ tracebench check --base 80000000 image.bin odd.csv
+! tracebench: odd.csv: row 70001: odd address
+? 2
+$ tracebench check --base 80000000 image.bin odd-quoted.csv
+! tracebench: odd-quoted.csv: row 70001: odd address
+? 2
+
+# At the longest period the 65,536th row gives the second synchronisation, and the last rows before it and of the log an
+# address.
+$ tracebench encode --base 80000000 --period 65535 --hex image.bin log.csv
+> 0 0 1f
+> 0 1 7300000020
+> 0 2 faff03
+> 0 3 f3ff7f0020
+> 0 4 c245
+> 0 5 4f
+"#;
+
+/// Captures of more than 65,536 messages, and of fewer that stand for more events.
+pub(crate) const CAPTURES: &str = r"
+# A branch to itself that is taken 70,000 times, where each retirement gives a synchronisation.
+file branch.bin
+|= 63000000
+file log.csv
+| addr,itype,priv,cause,tval
+|*70000 80000000,5,3,,
+file log.capture
+|= ffff727674726163653200 00 0100 0100
+|~ 0 0 1f
+|*{1..70000}~ 0 @ 6300000020
+|~ 0 70001 cf00
+$ tracebench check --base 80000000 branch.bin log.csv
+> log.csv: legal, 70000 events
+$ tracebench encode --base 80000000 --period 1 branch.bin log.csv
+>< log.capture
+$ tracebench encode --base 80000000 --period 1 --hex branch.bin log.csv
+> 0 0 1f
+>*{1..70000} 0 @ 6300000020
+> 0 70001 cf00
+$ tracebench dump log.capture
+> capture 2 mode=diff period=1 harts=1
+> 0 0 open
+>*{1..70000} 0 @ sync addr=80000000 priv=3 branch=0
+> 0 70001 close ended_ntr
+$ tracebench decode --base 80000000 branch.bin log.capture
+> hart 0
+>< log.csv
+$ tracebench decode --base 80000000 --lossy branch.bin log.capture
+> hart 0
+> stretch: 70000 events
+>< log.csv
+
+# The last message comes twice.
+file repeated.capture
+|~ 0 0 1f
+|*{1..70000}~ 0 @ 6300000020
+|~ 0 70000 6300000020
+$ tracebench decode --base 80000000 branch.bin repeated.capture
+> hart 0
+>< log.csv
+! tracebench: message 70001: repeat
+? 1
+$ tracebench decode --base 80000000 --lossy branch.bin repeated.capture
+! tracebench: message 70001: repeat
+? 1
+
+# At a period of 280, of each 279 retirements behind a synchronisation eight packets map 31 branches each, and a ninth
+# packet maps the last 31 with the last address.
+file log.csv
+| addr,itype,priv,cause,tval
+|*65800 80000000,5,3,,
+file log.capture
+|= ffff727674726163653200 00 1801 0100
+|~ 0 0 1f
+|~ 0 1 6300000020
+|*{2..9}~ 0 @ 01
+|*{1..234}~ 0 @0 7d\n0 @1 6300000020\n0 @2 01\n0 @3 01\n0 @4 01\n0 @5 01\n0 @6 01\n0 @7 01\n0 @8 01\n0 @9 01
+|~ 0 2350 7d
+|~ 0 2351 4f
+$ tracebench encode --base 80000000 --period 280 branch.bin log.csv
+>< log.capture
+$ tracebench decode --base 80000000 branch.bin log.capture
+> hart 0
+>< log.csv
+
+file full.capture
+|= ffff727674726163653200 01 1801 0100
+|~ 0 0 1f01
+|~ 0 1 6300000020
+|*{2..9}~ 0 @ 01
+|*{1..234}~ 0 @0 7d0000000000000010\n0 @1 6300000020\n0 @2 01\n0 @3 01\n0 @4 01\n0 @5 01\n0 @6 01\n0 @7 01\n0 @8 01\n0 @9 01
+|~ 0 2350 7d0000000000000010
+|~ 0 2351 4f
+$ tracebench encode --base 80000000 --full --period 280 branch.bin log.csv
+>< full.capture
+$ tracebench decode --base 80000000 branch.bin full.capture
+> hart 0
+>< log.csv
+
+# One address behind 69,999 retirements of `nop`, and so one walk over them.
+file nops.bin
+|*70000= 0100
+file log.capture
+|~ 0 0 1f
+|~ 0 1 7300000020
+|~ 0 2 be4504
+|~ 0 3 4f
+$ tracebench decode --base 80000000 nops.bin log.capture
+> hart 0
+> addr,itype,priv,cause,tval
+>*70000 @{80000000+2},0,3,,
+$ tracebench decode --base 80000000 --lossy nops.bin log.capture
+> hart 0
+> stretch: 70000 events
+> addr,itype,priv,cause,tval
+>*70000 @{80000000+2},0,3,,
+";
+
+/// Captures with many losses: of each ten numbers four are missing.
+pub(crate) const LOSSES: &str = r"
+# A jump to itself, of which each retirement gives a synchronisation. The numbers that end in 4, 5, 6 and 0 are missing.
+file image.bin
+|= 6f000000
+file log.capture
+|~ 0 0 1f
+|*1200~ 0 @1 7300000020\n0 @2 7300000020\n0 @3 7300000020\n0 @7 7300000020\n0 @8 7300000020\n0 @9 7300000020
+|~ 0 12000 cf00
+file stretch.txt
+| stretch: 3 events
+| addr,itype,priv,cause,tval
+|*3 80000000,0,3,,
+file ten.txt
+| gap: 1 messages
+|< stretch.txt
+| gap: 3 messages
+|< stretch.txt
+$ tracebench decode --base 80000000 --lossy image.bin log.capture
+> hart 0
+>< stretch.txt
+> gap: 3 messages
+>< stretch.txt
+>*1199< ten.txt
+? 1
+
+# More messages are missing at one place than a number of 16 bits counts, and as many as may be.
+file log.capture
+|~ 0 0 1f
+|~ 0 70000 7300000020
+|~ 0 9223372036854775807 7300000020
+$ tracebench decode --base 80000000 --lossy image.bin log.capture
+> hart 0
+> gap: 69999 messages
+> stretch: 1 events
+> addr,itype,priv,cause,tval
+> 80000000,0,3,,
+> gap: 9223372036854705806 messages
+> stretch: 1 events
+> addr,itype,priv,cause,tval
+> 80000000,0,3,,
+! tracebench: hart 0: no closing packet
+? 1
+";
+
+/// Turns and runs over threads with more than 65,536 messages.
+pub(crate) const RUNS: &str = r"
+# One hart sends 70,002 messages, each of which is taken at once.
+file image.bin
+|= 63000000
+file log.csv
+| addr,itype,priv,cause,tval
+|*70000 80000000,5,3,,
+file turns.txt
+|*70002 0 c
+$ tracebench replay --base 80000000 --period 1 image.bin turns.txt log.csv
+> hart 0: 70000 events, 70002 packets, 350003 payload bytes, decoded 70000, whole
+> result: whole
+$ tracebench bench --base 80000000 --period 1 --capacity 1024 image.bin log.csv
+> hart 0: 70000 events, 70002 packets, 350003 payload bytes, decoded 70000, whole
+> result: whole
+
+# 64 harts send more than a thousand messages each.
+file log.csv
+| addr,itype,priv,cause,tval
+|*1100 80000000,5,3,,
+$ tracebench bench --base 80000000 --period 1 image.bin 64*log.csv
+>*64 hart @: 1100 events, 1102 packets, 5503 payload bytes, decoded 1100, whole
+> result: whole
+";
