@@ -1,1 +1,2 @@
 mod CarriedOut
+mod NoFiles

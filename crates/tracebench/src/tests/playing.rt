@@ -95,7 +95,7 @@ impl Write for FailsAt {
 }
 
 /// Ends the test where this did not come of a run: a status, what is written and what is told.
-fn ends(
+pub(crate) fn ends(
     rt: &impl Abort,
     (line, call): (&str, usize),
     found: (u8, &[u8], &[u8]),
@@ -124,7 +124,7 @@ fn add_word<R: Abort + AllocGlobal>(rt: &R, words: &mut Vec<String>, word: &str,
 }
 
 /// The words of a line, with this number for a range in braces; `COUNT*WORD` is a word so often.
-fn words_of<R: Abort + AllocGlobal>(rt: &R, line: &str, number: u64) -> Vec<String> {
+pub(crate) fn words_of<R: Abort + AllocGlobal>(rt: &R, line: &str, number: u64) -> Vec<String> {
     let mut words = Vec::new(rt.alloc());
     for word in line.split_whitespace() {
         let (times, word) = match word.split_once('*') {

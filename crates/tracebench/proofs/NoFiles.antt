@@ -1,0 +1,168 @@
+-- Where there is no file, nothing that words ask for is done: an image or a capture is read before anything is.
+use Rattle.std.proofs.Common.{◌≡◌, ◌≢◌, ◌∙◌, ◌⊎◌, ℕ, List, [], Option, Result, Ok, Err, ap, arith, inl, inr, map, refl}
+use Rattle.std.proofs.Common.{subst, sym}
+use Rattle.subcommands.specs.declared.words.Asked.{Asked}
+use Rattle.subcommands.specs.declared.words.Asked.TheVariants.{Bench, Check, Decode, Dump, Encode, Replay}
+use Rattle.commands.specs.Benching.{BenchesLogs}
+use Rattle.commands.specs.CarriedOut.{IsCarriedOut}
+use Rattle.commands.specs.Checking.{WritesLines}
+use Rattle.commands.specs.Decoded.{WritesTold}
+use Rattle.commands.specs.Dumping.{WritesDump}
+use Rattle.commands.specs.Encoding.{WritesMessages}
+use Rattle.commands.specs.Faults.{Path, end_of, status_of}
+use Rattle.commands.specs.Finding.{After, IsFoundFrom}
+use Rattle.commands.specs.Found.{AreAskedLogs, AreFew, AreLegalLogs, IsAskedProgram, IsBase, IsProgram, IsRead}
+use Rattle.commands.specs.Found.{program_at}
+use Rattle.commands.specs.Known.{Content, content_in}
+use Rattle.commands.specs.Printed.{First, GoesOn, Printed}
+use Rattle.commands.specs.Replaying.{ReplaysLogs}
+use Rattle.commands.specs.Status.{code_of}
+use Rattle.commands.specs.declared.fault.Fault.{Fault}
+use Rattle.commands.specs.declared.fault.Fault.TheVariants as fault
+use Rattle.commands.specs.declared.status.Status.{Status}
+use Rattle.tracebench.specs.Words.{AreCarriedOut}
+
+-- What is known where there is no file.
+abbrev none : Content
+none = λ path. content_in [] path
+
+-- No value is found.
+abbrev NeverFound : {A : Type 0} → (Result A Fault → Type 0) → Type 0
+NeverFound {A} Finds = (value : A) → Finds (Ok value) → ⊥
+
+-- No bytes are found.
+no_bytes : (path : Path) → NeverFound (IsRead none path)
+no_bytes path bytes read = read
+
+-- No program is made of bytes of no file.
+no_image : (base : ℕ) (path : Path) (bytes : Result (List ℕ) Fault) → IsRead none path bytes
+    → NeverFound (λ found. found ≡ program_at base bytes)
+no_image base path (Ok bytes) read program made = read
+no_image base path (Err why) read program made = cc
+
+-- No program is found.
+no_program : (base : ℕ) (path : Path) → NeverFound (IsProgram none base path)
+no_program base path program found = no_image base path found.bytes found.read program found.made
+
+-- Nothing is found from what was, where that never leads to a value.
+not_from : {A B : Type 0} (Finds : Result A Fault → Type 0) (Next : A → Result B Fault → Type 0) (first : Result A Fault)
+    → ((a : A) → Finds (Ok a) → NeverFound (Next a)) → Finds first → NeverFound (IsFoundFrom first Next)
+not_from Finds Next (Err why) never finds value found = cc
+not_from Finds Next (Ok a) never finds value found = never a finds value found
+
+-- Nothing is found after what never leads to a value.
+not_after : {A B : Type 0} (Finds : Result A Fault → Type 0) (Next : A → Result B Fault → Type 0)
+    → ((a : A) → Finds (Ok a) → NeverFound (Next a)) → NeverFound (After Finds Next)
+not_after Finds Next never value found = not_from Finds Next found.0 never found.1 value found.2
+
+-- No program is found that is asked for with logs.
+no_asked : (most : ℕ) (text : List ℕ) (image : Path) (paths : List Path)
+    → NeverFound (IsAskedProgram none most text image paths)
+no_asked most text image paths =
+    not_after (IsBase text) (λ base. After (AreFew most paths) (λ _. IsProgram none base image)) (λ base is.
+    not_after (AreFew most paths) (λ _. IsProgram none base image) (λ few counted. no_program base image))
+
+-- No logs are found.
+no_logs : (most : ℕ) (text : List ℕ) (image : Path) (paths : List Path)
+    → NeverFound (AreAskedLogs none most text image paths)
+no_logs most text image paths =
+    not_after (IsAskedProgram none most text image paths) (λ program. AreLegalLogs none program paths)
+    (λ program is logs legal. no_asked most text image paths program is)
+
+-- No run ends well whose input, once found, leads to no such end.
+not_going : {A : Type 0} (Finds : Result A Fault → Type 0) (next : A → Printed → Type 0) (printed : Printed)
+    (status : Status) (found : Result A Fault) → printed.ended ≡ Ok status
+    → ((a : A) → Finds (Ok a) → next a printed → ⊥) → Finds found → GoesOn found next printed → ⊥
+not_going Finds next printed status (Err why) ended never finds goes =
+    let stopped : printed.ended ≡ Err why = ap (λ (p : Printed). p.ended) goes in cc
+not_going Finds next printed status (Ok a) ended never finds goes = never a finds goes
+
+-- It is so of what is found first.
+not_first : {A : Type 0} (Finds : Result A Fault → Type 0) (next : A → Printed → Type 0) (printed : Printed)
+    (status : Status) → printed.ended ≡ Ok status → ((a : A) → Finds (Ok a) → next a printed → ⊥)
+    → First Finds next printed → ⊥
+not_first Finds next printed status ended never prints =
+    not_going Finds next printed status prints.0 ended never prints.1 prints.2
+
+-- Nothing is carried out to its end.
+not_ended : (asked : Asked) (status : Status) (old new : Option (List ℕ)) → IsCarriedOut none asked (Ok status) old new
+    → ⊥
+not_ended (Check asked) status old new done =
+    not_first (IsAskedProgram none _ asked.base.now asked.image asked.logs.items)
+    (λ program. WritesLines none program asked.logs.items) (record { text = done.text; ended = Ok status }) status refl
+    (λ program is lines. no_asked _ asked.base.now asked.image asked.logs.items program is) done.prints
+not_ended (Encode asked) status old new done =
+    not_first (AreAskedLogs none _ asked.base.now asked.image asked.logs.items) (WritesMessages asked)
+    (record { text = done.text; ended = Ok status }) status refl
+    (λ logs are messages. no_logs _ asked.base.now asked.image asked.logs.items logs are) done.prints
+not_ended (Dump asked) status old new done =
+    not_first (IsRead none asked.capture) WritesDump (record { text = done.text; ended = Ok status }) status refl
+    (λ bytes read dump. no_bytes asked.capture bytes read) done.prints
+not_ended (Decode asked) status old new done =
+    let printed : Printed = record { text = done.text; ended = Ok status } in
+    not_first (IsBase asked.base.now) (λ base. First (IsProgram none base asked.image) (λ program.
+    First (IsRead none asked.capture) (WritesTold asked.lossy asked.harts program))) printed status refl
+    (λ base is prints. not_first (IsProgram none base asked.image) (λ program.
+    First (IsRead none asked.capture) (WritesTold asked.lossy asked.harts program)) printed status refl
+    (λ program made logs. no_program base asked.image program made) prints) done.prints
+not_ended (Replay asked) status old new done =
+    not_first (AreAskedLogs none _ asked.base.now asked.image asked.logs.items) (ReplaysLogs none asked)
+    (record { text = done.text; ended = Ok status }) status refl
+    (λ logs are report. no_logs _ asked.base.now asked.image asked.logs.items logs are) done.prints
+not_ended (Bench asked) status old new done =
+    not_first (AreAskedLogs none _ asked.base.now asked.image asked.logs.items) (BenchesLogs asked)
+    (record { text = done.text; ended = Ok status }) status refl
+    (λ logs are report. no_logs _ asked.base.now asked.image asked.logs.items logs are) done.prints
+
+-- No fault ends with status 0.
+faulty : (why : Fault) → code_of (status_of why) ≢ 0
+faulty fault.Words = λ is. omega arith
+faulty fault.Base = λ is. omega arith
+faulty fault.NoLogs = λ is. omega arith
+faulty (fault.ManyLogs most) = λ is. omega arith
+faulty (fault.Unreadable path) = λ is. omega arith
+faulty (fault.Image why) = λ is. omega arith
+faulty (fault.Log path why) = λ is. omega arith
+faulty (fault.Illegal path why) = λ is. omega arith
+faulty (fault.Schedule why) = λ is. omega arith
+faulty (fault.Unsent why) = λ is. omega arith
+faulty fault.Header = λ is. omega arith
+faulty (fault.Message number why) = λ is. omega arith
+faulty (fault.Unclosed hart) = λ is. omega arith
+faulty fault.Output = λ is. omega arith
+faulty fault.Memory = λ is. omega arith
+
+-- What was carried out of no files did not end with status 0.
+ended_faulty : (asked : Asked) (ended : Result Status Fault) (old new : Option (List ℕ))
+    → IsCarriedOut none asked ended old new → code_of (end_of ended) ≢ 0
+ended_faulty asked (Ok status) old new done = absurd (not_ended asked status old new done)
+ended_faulty asked (Err why) old new done = faulty why
+
+-- What the words ask for did not end with status 0.
+not_done : {E : Type 0} (words : List (List ℕ)) (code : ℕ) (old new : Option (List ℕ))
+    (contents : E → Option (List ℕ)) (err_old err_new : E)
+    → AreCarriedOut none words code old new contents err_old err_new → code ≢ 0
+not_done words code old new contents err_old err_new carried =
+    let faulty : code_of (end_of carried.done.ended) ≢ 0
+    = ended_faulty carried.asked carried.done.ended old new carried.done.carried in
+    λ is. faulty (ap code_of (sym carried.done.ends) ∙ (sym carried.coded ∙ is))
+
+-- Words that are refused do not end with status 0.
+not_refused : {M : Type 0} (code : ℕ) → (code ≡ 2) ⊎ ((code ≡ 3) × M) → code ≢ 0
+not_refused code (inl two) = λ is. omega arith
+not_refused code (inr three) = let machine : code ≡ 3 = three.0 in λ is. omega arith
+
+-- Nothing ends with status 0 where no file is left on the shelf.
+pub not_whole : {F E R K M N L : Type 0} (f : F → List ℕ × List ℕ) (files : List F) (words : List (List ℕ)) (code : ℕ)
+    (old new : Option (List ℕ)) (contents : E → Option (List ℕ)) (err_old err_new : E) → files ≡ []
+    → (R → K × ((code ≡ 2) ⊎ ((code ≡ 3) × M)))
+    → R ⊎ (((code ≡ 3) × N × L)
+    ⊎ AreCarriedOut (λ path. content_in (map f files) path) words code old new contents err_old err_new)
+    → code ≢ 0
+not_whole f files words code old new contents err_old err_new gone refusal (inl refused) =
+    not_refused code (refusal refused).1
+not_whole f files words code old new contents err_old err_new gone refusal (inr (inl memory)) =
+    let machine : code ≡ 3 = memory.0 in λ is. omega arith
+not_whole f files words code old new contents err_old err_new gone refusal (inr (inr carried)) =
+    not_done words code old new contents err_old err_new (subst (λ left. AreCarriedOut
+    (λ path. content_in (map f left) path) words code old new contents err_old err_new) gone carried)
