@@ -45,7 +45,8 @@ no_program : (base : ℕ) (path : Path) → NeverFound (IsProgram none base path
 no_program base path program found = no_image base path found.bytes found.read program found.made
 
 -- Nothing is found from what was, where that never leads to a value.
-not_from : {A B : Type 0} (Finds : Result A Fault → Type 0) (Next : A → Result B Fault → Type 0) (first : Result A Fault)
+not_from : {A B : Type 0} (Finds : Result A Fault → Type 0) (Next : A → Result B Fault → Type 0)
+    (first : Result A Fault)
     → ((a : A) → Finds (Ok a) → NeverFound (Next a)) → Finds first → NeverFound (IsFoundFrom first Next)
 not_from Finds Next (Err why) never finds value found = cc
 not_from Finds Next (Ok a) never finds value found = never a finds value found

@@ -6,4 +6,5 @@ use Rattle.tracebench.proofs.tests.files.Shelf.content.Given as goal
 abbrev pub invariant-loop-file : goal.invariant-loop-file
 invariant-loop-file l =
     content_in (map (λ file. (string_bytes file.name, file.bytes.items)) l.self.files.items) l.name
-    ≡ content_in (map (λ file. (string_bytes file.name, file.bytes.items)) (drop l.file-index l.self.files.items)) l.name
+    ≡ content_in (map (λ file. (string_bytes file.name, file.bytes.items)) (drop l.file-index l.self.files.items))
+    l.name
