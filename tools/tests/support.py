@@ -23,7 +23,8 @@ NOP, MRET, SRET, ECALL, RET, WFI = 0x13, 0x30200073, 0x10200073, 0x73, 0x8067, 0
 BEQ_8, LOOP = 0x00000463, 0x0000006F  # BEQ x0, x0, 8 bytes on; JAL x0, 0
 USER, SUPERVISOR, MACHINE = 0, 1, 3
 STOPPED = "Stopped execution of TB chain before 0x7f7c0c000100 [0000000080000000] "
-TRACEBENCH = os.environ.get("TRACEBENCH")
+BUILT = os.path.join(os.path.dirname(TOOLS), "crates/tracebench/out/tracebench")
+TRACEBENCH = os.environ.get("TRACEBENCH") or (BUILT if os.path.exists(BUILT) else None)
 
 
 def image_of(*words):

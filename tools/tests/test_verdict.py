@@ -39,6 +39,8 @@ STAND_IN = '''\
         text = open(words[-1]).read()
         if wrong == "a digit":
             text = text[:-5] + "1" + text[-4:]
+        if wrong == "early":
+            text = text.replace("80000000", "80000002", 1) + "80000000,0,3,,\\n" * 20000
         if wrong == "short":
             text = text[:-15]
         if wrong == "long":
@@ -112,6 +114,9 @@ class StandIn(unittest.TestCase):
 
     def test_another_digit(self):
         self.wrong("a digit", f"; {self.paths[1]} differs at row 1; whole over")
+
+    def test_a_digit_before_more_than_a_pipe_holds(self):
+        self.wrong("early", f"; {self.paths[0]} differs at row 1; whole over")
 
     def test_rows_that_are_missing(self):
         self.wrong("short", f"; {self.paths[1]} differs at row 1 (tracebench: hart 1: no closing packet);")
