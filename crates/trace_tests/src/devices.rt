@@ -3,7 +3,7 @@
 use std::io;
 use std::io::{ErrorKind, Read, Write};
 
-/// A reader of a text, at most so many bytes a call, that fails once its calls are used up.
+/// A reader of a text, at most so many bytes a call, that fails at one call, behind so many. It would go on after that.
 #[derive(Drop)]
 pub(crate) struct FailingReader<'a> {
     pub(crate) rest: &'a [u8],
@@ -14,6 +14,7 @@ pub(crate) struct FailingReader<'a> {
 impl Read for FailingReader<'_> {
     fn read(&mut self, buf: &mut [u8]) -> io::Result<usize> {
         if self.calls == 0 {
+            self.calls = usize::MAX;
             return Err(io::Error::from(ErrorKind::TimedOut));
         }
         self.calls -= 1;
@@ -22,7 +23,8 @@ impl Read for FailingReader<'_> {
     }
 }
 
-/// A writer that keeps what it takes, at most so many bytes a call, and fails once its calls are used up.
+/// A writer that keeps what it takes, at most so many bytes a call, and fails at one call, behind so many. It would take
+/// what comes after that.
 #[derive(Drop)]
 pub(crate) struct FailingWriter {
     pub(crate) held: Vec<u8>,
@@ -33,6 +35,7 @@ pub(crate) struct FailingWriter {
 impl Write for FailingWriter {
     fn write(&mut self, buf: &[u8]) -> io::Result<usize> {
         if self.calls == 0 {
+            self.calls = usize::MAX;
             return Err(io::Error::from(ErrorKind::StorageFull));
         }
         self.calls -= 1;
