@@ -8,7 +8,7 @@ use crate::logs::{self, Judging, Reading, Writing};
 use crate::packets::{MODE, PERIOD, Packing, Unpacking, VERSION, packets_of, payloads_of};
 use crate::replaying::{measure_replay, measure_runs};
 use crate::sending::{Bare, IN_ONE_THREAD, OneThread, Senders, measure_senders};
-use crate::whole_captures::{CaptureDecoding, CaptureWriting};
+use crate::whole_captures::{CaptureDecoding, CaptureWriting, LossyDecoding};
 use captures::encode_capture;
 use legalpath::LegalLog;
 use std::alloc::Global;
@@ -171,5 +171,11 @@ fn measure_captures<'a, 'p, R: Clock + AllocGlobal, E: Write>(
         program,
         capture: capture.as_slice(),
     };
-    measure(rt, err, "capture decoding", count, decoding)
+    measure(rt, err, "capture decoding", count, decoding)?;
+    let lossy = LossyDecoding {
+        alloc,
+        program,
+        capture: capture.as_slice(),
+    };
+    measure(rt, err, "lossy decoding", count, lossy)
 }

@@ -3,8 +3,9 @@
 use crate::fault::Fault;
 use crate::least::Phase;
 use crate::packets::{MODE, PERIOD, VERSION};
-use captures::{CaptureOutcome, decode_capture, encode_capture};
+use captures::{CaptureOutcome, decode_capture, encode_capture, read_messages};
 use legalpath::LegalLog;
+use losses::{HartPieces, collect_lossy};
 use rvclass::Program;
 use std::alloc::Global;
 
@@ -46,5 +47,32 @@ impl Phase for CaptureDecoding<'_> {
             events = events.wrapping_add(list.len() as u64);
         }
         Ok((outcome, events))
+    }
+}
+
+/// From the capture of a log to its stretches, read so that messages may be missing.
+#[derive(Drop)]
+pub(crate) struct LossyDecoding<'a> {
+    pub(crate) alloc: Global,
+    pub(crate) program: &'a Program,
+    pub(crate) capture: &'a [u8],
+}
+
+impl Phase for LossyDecoding<'_> {
+    type Made = Vec<HartPieces<Global>>;
+
+    fn run(&mut self) -> Result<(Vec<HartPieces<Global>>, u64), Fault> {
+        let Ok(whole) = read_messages(self.alloc, self.capture) else {
+            return Err(Fault::Log);
+        };
+        let messages = whole.messages.as_slice();
+        let Ok(pieces) = collect_lossy(self.alloc, self.program, 1, MODE, messages) else {
+            return Err(Fault::Log);
+        };
+        let mut parts = 0u64;
+        for hart in &pieces {
+            parts = parts.wrapping_add(hart.parts.len() as u64);
+        }
+        Ok((pieces, parts))
     }
 }
