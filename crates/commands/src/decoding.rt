@@ -87,7 +87,8 @@ fn decode_whole<'a, O: Write>(
 }
 
 /// Writes the log of each hart, as far as it was decoded, and answers how decoding ended. What was decoded before a fault
-/// is written whole, also where the fault is that a decoder was refused memory.
+/// is written whole, also where the fault is that a decoder was refused memory, unless the output fails or memory for a
+/// log's text is refused.
 fn write_outcome<'a, O: Write>(
     alloc: Global,
     outcome: &CaptureOutcome,
