@@ -124,9 +124,9 @@ def packets(program, events, period, mode):
             next_rule = rule_of(program, events, numbers, period, place + 1)
             if rule == "target" and next_rule in ("trap", "sync"):
                 report = "updiscon"
-            told = event[1] if mode == reading.FULL else (event[1] - reported) & MASK
+            delta = event[1] if mode == reading.FULL else (event[1] - reported) & MASK
             reported = event[1]
-            yield "address", tuple(outcomes), told, report
+            yield "address", tuple(outcomes), delta, report
         elif rule is None and len(outcomes) == 31:
             yield "map", tuple(outcomes)
         elif rule is None:
@@ -140,11 +140,11 @@ def packets(program, events, period, mode):
 SUPPORT = {name: pair for pair, name in reading.SUPPORT.items()}
 
 
-def tail(told, report):
+def tail(delta, report):
     """The address field and the three bits behind it."""
-    notify = told >> 63 ^ (report == "notify")
+    notify = delta >> 63 ^ (report == "notify")
     updiscon = notify ^ (report == "updiscon")
-    return [(63, told >> 1), (1, notify), (1, updiscon), (1, updiscon)]
+    return [(63, delta >> 1), (1, notify), (1, updiscon), (1, updiscon)]
 
 
 def fields_of(packet):
@@ -204,9 +204,9 @@ def any_packet(random, program):
         return "trap", random.random() < 0.1, privilege, random.randrange(64), interrupt, handler, near(), value
     if kind == "address":
         address, difference = near(), near() - program.base
-        told = random.choice((2, 4, 8, address, address, difference, MASK + 1 - 4, random.getrandbits(64))) & MASK & ~1
+        delta = random.choice((2, 4, 8, address, address, difference, MASK + 1 - 4, random.getrandbits(64))) & MASK & ~1
         report = random.choice(("plain", "plain", "updiscon", "notify"))
-        return "address", outcomes(random.choice((0, 0, 0, 1, 2, 5, 31))), told, report
+        return "address", outcomes(random.choice((0, 0, 0, 1, 2, 5, 31))), delta, report
     if kind == "map":
         return "map", outcomes(31)
     options = random.choice(reading.MODES) if kind == "open" else 0

@@ -273,8 +273,8 @@ def log_text(events):
 
 
 # Packets: ("sync", taken, privilege, address), ("trap", taken, privilege, cause, interrupt, handler, address, value),
-# ("open", mode), ("ended_rep",), ("ended_ntr",), ("address", outcomes, told, report), ("map", outcomes). An address
-# packet tells a difference or an address, as the mode of its trace says.
+# ("open", mode), ("ended_rep",), ("ended_ntr",), ("address", outcomes, delta, report), ("map", outcomes). An address
+# packet reports a difference or an address, as the mode of its trace says.
 
 DIFFERENTIAL, FULL = 0, 1
 MODES = DIFFERENTIAL, FULL
@@ -376,8 +376,8 @@ def digits(outcomes):
     return "".join("0" if taken else "1" for taken in outcomes) or "-"
 
 
-def packet_text(packet, told):
-    """The text of a packet behind a header that tells this mode."""
+def packet_text(packet, mode):
+    """The text of a packet behind a header that announces this mode."""
     kind = packet[0]
     if kind == "sync":
         return f"sync addr={packet[3]:x} priv={packet[2]} branch={int(not packet[1])}"
@@ -387,7 +387,7 @@ def packet_text(packet, told):
         place = "handler" if handler else "epc"
         return f"trap {what} {place}={address:x} priv={privilege} branch={int(not taken)}"
     if kind == "address":
-        name = "addr" if told == FULL else "diff"
+        name = "addr" if mode == FULL else "diff"
         return f"address {name}={packet[2]:x} map={digits(packet[1])} {packet[3]}"
     if kind == "map":
         return f"map {digits(packet[1])}"
@@ -528,7 +528,7 @@ class NoHeader(Exception):
 
 
 def start(capture):
-    """What the header of a capture tells, its mode, period and count of harts, or None; and where messages begin."""
+    """The mode, period and count of harts that the header of a capture has, or None; and where messages begin."""
     if capture[: len(MARK)] != MARK:
         return None, 0
     settings = capture[len(MARK) : len(MARK) + 5]
@@ -556,8 +556,8 @@ def messages(capture, at):
         at += 11 + len(payload)
 
 
-def let_through(message, expected, decoders, is_lossy=False):
-    """The packet of a message that a demultiplexer lets through, one where messages may be missing or one of the others."""
+def accepted(message, expected, decoders, is_lossy=False):
+    """The packet of a message that a demultiplexer accepts; `is_lossy` where messages may be lost."""
     hart, count, payload = message
     if hart >= len(decoders):
         raise Refused("stranger")
@@ -586,7 +586,7 @@ def decode(program, harts, capture):
         if isinstance(message, str):
             return f"message {place}: {message}", decoders
         try:
-            packet = let_through(message, expected, decoders)
+            packet = accepted(message, expected, decoders)
         except Refused as why:
             return f"message {place}: {why}", decoders
         if header and packet[0] == "open" and packet[1] != header[0]:
@@ -600,7 +600,7 @@ def decode(program, harts, capture):
 
 
 class Left:
-    """What is left of a hart's log where messages are missing: its parts, each a count of messages or a list of events."""
+    """What is left of a hart's log where messages are lost: its parts, each a count of messages or a list of events."""
 
     def __init__(self, program):
         self.program, self.parts, self.decoder = program, [], Decoder(program)
@@ -608,7 +608,7 @@ class Left:
         self.closed = self.passes_over = False
 
     def take(self, number, missing, packet, mode):
-        """Takes a packet, before which so many messages are missing; this is the mode where none was told."""
+        """Takes a packet, before which so many messages are missing; `mode` holds where no Open announced another."""
         if missing:
             self.end()
             self.parts.append(missing)
@@ -641,7 +641,7 @@ def lossy(program, harts, capture):
     left, expected = [Left(program) for _ in range(harts)], [0] * harts
     for place, message in enumerate(made):
         try:
-            packet = let_through(message, expected, left, is_lossy=True)
+            packet = accepted(message, expected, left, is_lossy=True)
         except Refused as why:
             return [], f"message {place}: {why}"
         hart, number, _ = message
@@ -661,10 +661,10 @@ def dump(capture):
         header, at = start(capture)
     except NoHeader as why:
         return "", str(why), False
-    lines, bad, stop, told = [], False, "dumped", DIFFERENTIAL
+    lines, bad, stop, mode = [], False, "dumped", DIFFERENTIAL
     if header:
-        told, period, harts = header
-        name = "full" if told == FULL else "diff"
+        mode, period, harts = header
+        name = "full" if mode == FULL else "diff"
         lines.append(f"capture 2 mode={name} period={period} harts={harts}\n")
     for place, message in enumerate(messages(capture, at)):
         if isinstance(message, str):
@@ -672,7 +672,7 @@ def dump(capture):
             break
         hart, count, payload = message
         try:
-            text = packet_text(unpack(payload), told)
+            text = packet_text(unpack(payload), mode)
         except Refused as why:
             text, bad = f"bad {why}", True
         lines.append(f"{hart} {count} {text}\n")

@@ -7,11 +7,11 @@ import tempfile
 import cases
 import reading
 
-Run = collections.namedtuple("Run", "words status out told")
+Run = collections.namedtuple("Run", "words status out error")
 
 
 def of_capture(maker, harts, capture):
-    """What comes of a capture: its logs, what is left of them where messages may be missing, and its dump."""
+    """What comes of a capture: its logs, what is left of them where messages may be lost, and its dump."""
     base = ["--base", f"{maker.program.base:x}"]
     stop, decoders = reading.decode(maker.program, harts, capture)
     text = "".join(f"hart {hart}\n{reading.log_text(it.events)}" for hart, it in enumerate(decoders))
@@ -25,7 +25,7 @@ def of_capture(maker, harts, capture):
 
 
 def of_lossy_capture(maker, harts, capture, words):
-    """What is left of a capture's logs where messages may be missing."""
+    """What is left of a capture's logs where messages may be lost."""
     left, stop = reading.lossy(maker.program, harts, capture)
     text = "".join(f"hart {hart}\n{''.join(map(part_text, it.parts))}" for hart, it in enumerate(left))
     has_gap = any(isinstance(part, int) for it in left for part in it.parts)
@@ -74,8 +74,8 @@ def answer(binary, folder, words):
 
 
 def compared(binary, kind, maker, harts, made):
-    """Runs the program over cases: how many runs there were, and of the first that is answered otherwise the place of
-    its case, what was wanted and the answer."""
+    """Runs the program over cases. Returns how many runs there were, and for the first that is answered otherwise the
+    place of its case, what was wanted and the answer."""
     of_case, count = {"captures": of_capture, "logs": of_log}[kind], 0
     with tempfile.TemporaryDirectory() as folder:
         with open(f"{folder}/image", "wb") as file:
@@ -84,9 +84,9 @@ def compared(binary, kind, maker, harts, made):
             with open(f"{folder}/case", "wb") as file:
                 file.write(case)
             for run in of_case(maker, harts, case):
-                told = f"tracebench: {run.told}\n".encode() if run.told else b""
+                error = f"tracebench: {run.error}\n".encode() if run.error else b""
                 found = answer(binary, folder, run.words)
-                if found != (run.status, run.out, told):
+                if found != (run.status, run.out, error):
                     return count, (place, run, found)
                 count += 1
     return count, None

@@ -49,7 +49,7 @@ image_rule = record (new_rule (codes "IMAGE")) { action = Some Set; required = t
 abbrev pub period_parser : ValueParser
 period_parser = Signed (pos 1) (pos longest_period)
 
--- `--period N`, which is 1024 where it is not there.
+-- `--period N`. Where it is not given, N is 1024.
 abbrev pub period_rule : Rule
 period_rule = record (new_rule (codes "period")) {
   long = Some (codes "period");
@@ -63,7 +63,7 @@ period_rule = record (new_rule (codes "period")) {
 abbrev pub capacity_parser : ValueParser
 capacity_parser = Signed (pos 1) (pos most_capacity)
 
--- `--capacity N`, which is 16 where it is not there.
+-- `--capacity N`. Where it is not given, N is 16.
 abbrev pub capacity_rule : Rule
 capacity_rule = record (new_rule (codes "capacity")) {
   long = Some (codes "capacity");
@@ -77,11 +77,11 @@ capacity_rule = record (new_rule (codes "capacity")) {
 abbrev pub schedule_rule : Rule
 schedule_rule = record (new_rule (codes "SCHEDULE")) { action = Some Set; required = true }
 
--- As many values as there are words, and one at least.
+-- One value or more.
 abbrev pub one_or_more : ValueRange
 one_or_more = record { start_inclusive = 1; end_inclusive = usize_max }
 
--- LOG..., words of their own of which one has to be there.
+-- LOG..., words of their own. At least one has to be there.
 abbrev pub logs_rule : Rule
 logs_rule = record (new_rule (codes "LOG")) {
   action = Some Append;
@@ -93,7 +93,7 @@ logs_rule = record (new_rule (codes "LOG")) {
 abbrev pub harts_parser : ValueParser
 harts_parser = Signed (pos 1) (pos (most_harts Two))
 
--- `--harts N`, which is 1 where it is not there.
+-- `--harts N`. Where it is not given, N is 1.
 abbrev pub harts_rule : Rule
 harts_rule = record (new_rule (codes "harts")) {
   long = Some (codes "harts");
@@ -107,6 +107,6 @@ harts_rule = record (new_rule (codes "harts")) {
 abbrev pub capture_rule : Rule
 capture_rule = record (new_rule (codes "CAPTURE")) { action = Some Set; required = true }
 
--- The argument is read by this rule, and at its own subcommand alone.
+-- The argument is read by this rule, and by its own subcommand alone.
 abbrev pub IsReadBy : Rule → Arg → Type 0
 IsReadBy rule a = (rule_of a ≡ rule) × (a.global ≡ false)

@@ -1,5 +1,5 @@
-//! The arguments that the subcommands of `tracebench` take, one function each: how `clap` reads each of them, with the
-//! range of its number.
+//! The arguments that the subcommands of `tracebench` take, with one function for each: how `clap` reads the argument,
+//! and the range of its number.
 #![tactic(auto)]
 
 mod rules;

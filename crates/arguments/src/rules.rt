@@ -74,7 +74,7 @@ pub fn capture<'a>(alloc: Global) -> Arg<'a>
     file(alloc, "CAPTURE", "File of trace messages")
 }
 
-/// `--full`, which asks for addresses named in full.
+/// `--full`, which asks for full addresses in the packets, not differences.
 pub fn full<'a>(alloc: Global) -> Arg<'a>
     ensures { IsReadBy full_rule result }
 {
@@ -108,7 +108,7 @@ pub fn image<'a>(alloc: Global) -> Arg<'a>
     file(alloc, "IMAGE", "File of the program's bytes")
 }
 
-/// LOG..., the logs' files, of which one has to be given.
+/// LOG..., the logs' files. At least one has to be given.
 pub fn logs<'a>(alloc: Global) -> Arg<'a>
     ensures { IsReadBy logs_rule result }
 {
@@ -119,7 +119,7 @@ pub fn logs<'a>(alloc: Global) -> Arg<'a>
         .help("Logs, each of one hart, as CSV")
 }
 
-/// `--lossy`, which asks to go on where messages are missing.
+/// `--lossy`, which asks to go on where messages are lost.
 pub fn lossy<'a>(alloc: Global) -> Arg<'a>
     ensures { IsReadBy lossy_rule result }
 {

@@ -14,7 +14,7 @@ use Rattle.rvclass.specs.Words.{Words, IsProgram}
 use Rattle.legalpath.specs.ProgramLog.{IsLegalLog, ProgramLog}
 use Rattle.payload.proofs.ReadingLaws.{payload_of-shortest, reading-payload_of}
 use Rattle.payload.specs.Closing.{is_closing_packet}
-use Rattle.payload.specs.Ended.{has_ended}
+use Rattle.payload.specs.ClosedTrace.{last_is_closing}
 use Rattle.payload.specs.Profile.{InProfile}
 use Rattle.payload.specs.Reading.{reading}
 use Rattle.payload.specs.Spelling.{payload_of}
@@ -29,7 +29,7 @@ use Rattle.roundtrip.proofs.FirstPackets.{first_packets_describe}
 use Rattle.roundtrip.specs.Reach.{reach}
 use Rattle.message.proofs.Answering.{answer-next}
 use Rattle.message.proofs.Elements.{All-slice_get}
-use Rattle.message.proofs.HartMessages.{has_ended-next}
+use Rattle.message.proofs.HartMessages.{last_is_closing-next}
 use Rattle.message.proofs.Moving.{harts_after-ok}
 use Rattle.message.specs.Accepting.{accepting, answer_of, harts_after, next_of}
 use Rattle.message.specs.declared.hart.Hart.{Hart}
@@ -37,7 +37,7 @@ use Rattle.message.specs.declared.message.Message.{Message}
 use Rattle.receiver.specs.Holds.{HoldsHart}
 use Rattle.receiver.specs.Received.{IsReceived, Received}
 use Rattle.bench.specs.Collected.{Collected, HasCollected, IsMessageOf, Taken, packets_with, saturating_sum}
-use Rattle.bench.specs.Collected.{with_packet}
+use Rattle.bench.specs.Collected.{one_packet_more}
 use Rattle.bench.specs.Got.{Got, got_after, kept}
 use Rattle.bench.proofs.ClosingLast.{packet_at}
 use Rattle.bench.proofs.GotLemmas.{profile}
@@ -131,7 +131,7 @@ module _ (period : ℕ) (mode : Mode) (log : ProgramLog) (legal : IsLegalLog log
       (holds.stands decoder.0 list.0 decoder.1 list.1).described
       (first_packets_describe words program period mode log.events legal.legal count) in (
         list.1 ∙ ap Some same,
-        flag.1 ∙ ap Some (holds.ended flag.0 flag.1 ∙ first_ended words period mode log.events count few),
+        flag.1 ∙ ap Some (holds.closed flag.0 flag.1 ∙ first_ended words period mode log.events count few),
       )
 
   -- The message carries the packet of this number.
@@ -192,7 +192,7 @@ module _ (period : ℕ) (mode : Mode) (log : ProgramLog) (legal : IsLegalLog log
       let few : count + 1 ≤ length ps = omega (arith, within) in
       let moved = harts_after-ok old message (Ok next.packet) (sym (next_accepted count message collected has is)) in
       let closing : is_closing_packet next.packet ≡ ((count + 1) == length ps) =
-      sym (has_ended-next (take count ps) next.packet) ∙ sym (ap has_ended (next_first count message is))
+      sym (last_is_closing-next (take count ps) next.packet) ∙ sym (ap last_is_closing (next_first count message is))
       ∙ first_ended words period mode log.events (count + 1) few in
       ap (λ harts. slice_get harts message.hart) moved
       ∙ set-at old message.hart (next_of message.number next.packet) known
@@ -201,7 +201,7 @@ module _ (period : ℕ) (mode : Mode) (log : ProgramLog) (legal : IsLegalLog log
 
   -- What came of the hart then, but for its events and whether it closed.
   pub next_taken : (keep : Bool) (count : ℕ) (message : Message) (is : IsMessageOf period mode log count message)
-      → with_packet keep (next_packet count message is).packet (length message.payload)
+      → one_packet_more keep (next_packet count message is).packet (length message.payload)
       (taken_by (kept keep (got_after period mode log count)) false)
       ≡ taken_by (kept keep (got_after period mode log (count + 1))) false
   next_taken keep count message is =

@@ -24,10 +24,10 @@ use Rattle.message.specs.Harts.{newcomer}
 use Rattle.receiver.proofs.HoldLemmas.{same_hart, set-other}
 use Rattle.receiver.specs.Holds.{HasReceived}
 use Rattle.receiver.specs.Received.{Received, events_in}
-use Rattle.bench.specs.Collected.{Came, Collected, HasCollected, IsSameOf, Taken}
+use Rattle.bench.specs.Collected.{Collected, HasCollected, HasOutcome, IsSameOf, Taken}
 use Rattle.bench.specs.Got.{Got, got_of}
 use Rattle.bench.specs.declared.outcome.HartOutcome.{HartOutcome}
-use Rattle.bench.specs.steps.Collecting.{IsCollected, closed_in, decoded_in, nothing, taken_in, taken_of}
+use Rattle.bench.specs.steps.Collecting.{IsCollected, closed_in, decoded_in, nothing, taken_in, taken_of_outcome}
 use Rattle.bench.proofs.CollectedLemmas.{element, held_first, set-at, taken_by}
 
 -- A list of one value repeated, at a place.
@@ -44,11 +44,11 @@ replicate-next n x = replicate-append-replicate n 1 x
 pub nothing-next : {A : Type 0} (harts new : List (HartOutcome A)) (outcome : HartOutcome A) (n : ℕ)
     → new ≡ harts ++ outcome ∷ []
     → taken_in harts ≡ replicate n nothing → outcome.packets.items ≡ []
-    → taken_of outcome ≡ record nothing { packets = outcome.packets.items }
+    → taken_of_outcome outcome ≡ record nothing { packets = outcome.packets.items }
     → taken_in new ≡ replicate (n + 1) nothing
 nothing-next harts new outcome n whole before none is =
-    ap taken_in whole ∙ map-append taken_of harts (outcome ∷ [])
-    ∙ ap (λ some. some ++ taken_of outcome ∷ []) before
+    ap taken_in whole ∙ map-append taken_of_outcome harts (outcome ∷ [])
+    ∙ ap (λ some. some ++ taken_of_outcome outcome ∷ []) before
     ∙ ap (λ taken. replicate n nothing ++ taken ∷ []) (is ∙ ap (λ some. record nothing { packets = some }) none)
     ∙ replicate-next n nothing
 
@@ -78,7 +78,7 @@ none_kept : (keep : Bool) → ◌≡◌ {A = List Packet} [] (if keep then [] el
 none_kept true = refl
 none_kept false = refl
 
--- What came is told by its parts.
+-- What came is the same where its parts are.
 same_got : (a b : Got) → a.packets ≡ b.packets → a.taken ≡ b.taken → a.bytes ≡ b.bytes → a.decoded ≡ b.decoded
     → a.closed ≡ b.closed → a ≡ b
 same_got a b packets taken bytes decoded closed =
@@ -168,20 +168,22 @@ module _ {A : Type 0} (logs : List ProgramLog) (keep : Bool) (received : Receive
 
   -- What came of a hart that is refused.
   pub refused_came : (old : Collected) → whole harts ≡ old → hart < length old.logs → IsCollected (whole harts)
-      → taken_of written ≡ record (taken_of outcome) { refused = true }
-      → (got : Got) (refused : Bool) → Came hart got refused old → Came hart got true (whole (set harts at written))
+      → taken_of_outcome written ≡ record (taken_of_outcome outcome) { refused = true }
+      → (got : Got) (refused : Bool) → HasOutcome hart got refused old
+      → HasOutcome hart got true (whole (set harts at written))
   refused_came old view known all same got refused given =
-      let came = subst (Came hart got refused) (sym view) given in
+      let came = subst (HasOutcome hart got refused) (sym view) given in
       let within = slice_get_within (taken_in harts) hart (taken_by got refused) came.taken in
-      let inside : at < length harts = omega (arith, here, within, length-map harts taken_of) in
-      let now = ap (slice_get (taken_in harts)) (sym here) ∙ slice_get-map taken_of harts at
-      ∙ ap (option_map taken_of) (slice_get_read harts (length harts) at outcome refl inside is) in
-      let before : taken_of outcome ≡ taken_by got refused =
-      same_Some (taken_of outcome) (taken_by got refused) (sym now ∙ came.taken) in
+      let inside : at < length harts = omega (arith, here, within, length-map harts taken_of_outcome) in
+      let now = ap (slice_get (taken_in harts)) (sym here) ∙ slice_get-map taken_of_outcome harts at
+      ∙ ap (option_map taken_of_outcome) (slice_get_read harts (length harts) at outcome refl inside is) in
+      let before : taken_of_outcome outcome ≡ taken_by got refused =
+      same_Some (taken_of_outcome outcome) (taken_by got refused) (sym now ∙ came.taken) in
       record {
         taken = ap (λ taken. slice_get taken hart)
-            (map-set taken_of harts at written ∙ ap (λ i. set (taken_in harts) i (taken_of written)) here)
-            ∙ set-at (taken_in harts) hart (taken_of written) within
+            (map-set taken_of_outcome harts at written
+            ∙ ap (λ i. set (taken_in harts) i (taken_of_outcome written)) here)
+            ∙ set-at (taken_in harts) hart (taken_of_outcome written) within
             ∙ ap Some (same ∙ ap (λ (taken : Taken). record taken { refused = true }) before);
         decoded = came.decoded;
         closed = came.closed;
@@ -191,8 +193,8 @@ module _ {A : Type 0} (logs : List ProgramLog) (keep : Bool) (received : Receive
   pub refused_others : (old : Collected) → whole harts ≡ old → (other : ℕ) → other ≢ hart
       → IsSameOf other old (whole (set harts at written))
   refused_others old view other apart = subst (λ old. IsSameOf other old (whole (set harts at written))) view (record {
-    taken = ap (λ taken. slice_get taken other) (map-set taken_of harts at written)
-        ∙ set-other (taken_in harts) at (taken_of written) other (λ same. apart (same ∙ here));
+    taken = ap (λ taken. slice_get taken other) (map-set taken_of_outcome harts at written)
+        ∙ set-other (taken_in harts) at (taken_of_outcome written) other (λ same. apart (same ∙ here));
     received = same_hart other received received refl;
   })
 
@@ -201,15 +203,15 @@ pub finished_came : {A : Type 0} (harts : List (HartOutcome A)) (hart : ℕ) (go
     (collected : Collected)
     → taken_in harts ≡ collected.harts → decoded_in harts ≡ collected.received.lists
     → closed_in harts ≡ collected.received.closed
-    → Came hart got refused collected
+    → HasOutcome hart got refused collected
     → IsSomeAnd (slice_get harts hart) (λ came. (got_of came ≡ got) × (came.refused ≡ refused))
 finished_came {A} harts hart got refused collected taken lists closed came =
     let one = ap (λ all. slice_get all hart) taken ∙ came.taken in
     let within = slice_get_within (taken_in harts) hart (taken_by got refused) one in
-    let found = element harts hart (omega (arith, within, length-map harts taken_of)) in
+    let found = element harts hart (omega (arith, within, length-map harts taken_of_outcome)) in
     let outcome = found.0 in
-    let same = same_Some (taken_of outcome) (taken_by got refused)
-    (sym (slice_get-map taken_of harts hart ∙ ap (option_map taken_of) found.1) ∙ one) in
+    let same = same_Some (taken_of_outcome outcome) (taken_by got refused)
+    (sym (slice_get-map taken_of_outcome harts hart ∙ ap (option_map taken_of_outcome) found.1) ∙ one) in
     let events : outcome.decoded.items ≡ got.decoded = same_Some outcome.decoded.items got.decoded
     (sym (slice_get-map (λ (hart : HartOutcome A). hart.decoded.items) harts hart
     ∙ ap (option_map (λ (hart : HartOutcome A). hart.decoded.items)) found.1)
@@ -239,14 +241,14 @@ pub filled_next : {A : Type 0} (first : List (HartOutcome A)) (lists : List (Vec
     (harts : List (HartOutcome A)) (left rest : List (Vec Event A))
     → (list : Vec Event A) (at : ℕ) (outcome written : HartOutcome A) → IsFilled first lists closed harts left
     → length lists ≡ length first → length closed ≡ length first → left ≡ rest ++ list ∷ [] → at ≡ length rest
-    → outcome ≡ get_or harts at outcome → taken_of written ≡ taken_of outcome → written.decoded ≡ list
+    → outcome ≡ get_or harts at outcome → taken_of_outcome written ≡ taken_of_outcome outcome → written.decoded ≡ list
     → written.closed ≡ get_or closed at false
     → IsFilled first lists closed (set harts at written) rest
 filled_next {A} first lists closed harts left rest list at outcome written before all_lists all_closed split here is
     same events flag = record {
       count = length-set harts at written ∙ before.count;
       few = let few = before.few in omega (arith, len, here, few);
-      taken = map-set_same taken_of harts at written outcome (same ∙ ap taken_of is) ∙ before.taken;
+      taken = map-set_same taken_of_outcome harts at written outcome (same ∙ ap taken_of_outcome is) ∙ before.taken;
       rest = left-before lists left rest (length rest) before.rest taken (ap length split ∙ length_push rest list);
       decoded = ap (λ n. drop n (decoded_in (set harts at written))) (sym here)
           ∙ ap (drop at)

@@ -3,7 +3,7 @@ use Rattle.std.proofs.Common.{◌≡◌, ◌∙◌, ◌<◌, ◌≤◌, ℕ, Boo
 use Rattle.std.proofs.Common.{slice_get, refl, sym, ap, subst, arith}
 use Rattle.std.specs.Prelude.{IsFalse, IsSomeAnd, IsTrue}
 use Rattle.std.proofs.lemmas.Option.{get_or_from_slice_get, same_Some, slice_get-get_or, slice_get_within}
-use Rattle.bench.specs.Stopping.{AreClosed, IsEndedHart, IsOpenHart, NoneEnded}
+use Rattle.bench.specs.Stopping.{AreClosed, ClosedUnlessRefused, IsOpenHart, IsOpenNotRefused}
 use Rattle.bench.specs.declared.outcome.HartOutcome.{HartOutcome}
 use Rattle.bench.specs.steps.Stopping.{IsHandedBack, IsOfNone}
 
@@ -42,7 +42,7 @@ module _ {A : Type 0} (harts : List (HartOutcome A)) where
 
   -- Its channel ended where it is not closed and memory was not refused.
   pub ended_here : (h : ℕ) (d e : HartOutcome A) → h < length harts → (get_or harts h d).closed ≡ false
-      → (get_or harts h e).refused ≡ false → IsEndedHart harts h
+      → (get_or harts h e).refused ≡ false → IsOpenNotRefused harts h
   ended_here h d e within opened going =
       let same = same_Some (get_or harts h d) (get_or harts h e)
       (sym (slice_get-get_or harts h d within) ∙ slice_get-get_or harts h e within) in
@@ -51,13 +51,13 @@ module _ {A : Type 0} (harts : List (HartOutcome A)) where
 
   -- It did not where it is closed, or memory was refused.
   pub shut_not_ended : (h : ℕ) (d : HartOutcome A) → h < length harts → (get_or harts h d).closed ≡ true
-      → ¬ IsEndedHart harts h
+      → ¬ IsOpenNotRefused harts h
   shut_not_ended h d within shut = λ given.
       apart (get_or harts h d).closed shut
       ((subst (λ o. IsSomeAnd o has_ended) (slice_get-get_or harts h d within) given).0)
 
   pub refused_not_ended : (h : ℕ) (d : HartOutcome A) → h < length harts → (get_or harts h d).refused ≡ true
-      → ¬ IsEndedHart harts h
+      → ¬ IsOpenNotRefused harts h
   refused_not_ended h d within refused = λ given.
       apart (get_or harts h d).refused refused
       ((subst (λ o. IsSomeAnd o has_ended) (slice_get-get_or harts h d within) given).1)
@@ -69,8 +69,8 @@ module _ {A : Type 0} (harts : List (HartOutcome A)) where
       is_on (get_or harts k d).closed (λ opened. none k (omega (arith, low, over)) (open_here k d low opened))
 
   -- Of none of them the channel ended.
-  pub none_ended : (n : ℕ) → length harts ≤ n → ((before : ℕ) → before < n → ¬ IsEndedHart harts before)
-      → NoneEnded harts
+  pub none_ended : (n : ℕ) → length harts ≤ n → ((before : ℕ) → before < n → ¬ IsOpenNotRefused harts before)
+      → ClosedUnlessRefused harts
   none_ended n over none = λ k d low going.
       is_on (get_or harts k d).closed
       (λ opened. none k (omega (arith, low, over)) (ended_here k d d low opened going))
@@ -81,7 +81,7 @@ module _ {A : Type 0} (harts : List (HartOutcome A)) where
   open_within h (Some came) at opened = slice_get_within harts h came at
 
   -- An open hart was refused memory where the channel of none ended.
-  pub open_refused : (h : ℕ) → NoneEnded harts → IsOpenHart harts h
+  pub open_refused : (h : ℕ) → ClosedUnlessRefused harts → IsOpenHart harts h
       → IsSomeAnd (slice_get harts h) (λ (came : HartOutcome A). IsTrue came.refused)
   open_refused h none given = by_found (slice_get harts h) refl given
     where

@@ -6,7 +6,7 @@ use Rattle.rvclass.proofs.WordsLemmas.{words_of-IsProgram}
 use Rattle.rvclass.specs.Fetch.{words_of}
 use Rattle.rvclass.specs.Words.{Words, IsProgram}
 use Rattle.legalpath.specs.ProgramLog.{ProgramLog, IsLegalLog}
-use Rattle.payload.specs.Ended.{has_ended}
+use Rattle.payload.specs.ClosedTrace.{last_is_closing}
 use Rattle.payload.specs.Profile.{InProfile}
 use Rattle.payload.specs.declared.mode.Mode.{Mode}
 use Rattle.payload.specs.declared.packet.Packet.{Packet}
@@ -61,8 +61,8 @@ module _ (period : ℕ) (mode : Mode) (log : ProgramLog) (legal : IsLegalLog log
           (subst (λ some. Describes words some decoded) first.packets described)
           (first_packets_describe words program period mode log.events legal.legal count)
 
-      ended : has_ended (packets_in messages) ≡ (count == length ps)
-      ended = ap has_ended first.packets ∙ first_ended words period mode log.events count first.few
+      ended : last_is_closing (packets_in messages) ≡ (count == length ps)
+      ended = ap last_is_closing first.packets ∙ first_ended words period mode log.events count first.few
 
       got : List Packet → ℕ → List Event → Bool → Got
       got some bytes events closed =
@@ -71,10 +71,11 @@ module _ (period : ℕ) (mode : Mode) (log : ProgramLog) (legal : IsLegalLog log
       same : got_from messages decoded ≡ kept true (got_after period mode log count)
       same =
           ap (λ some. got some (sum (map length (payloads_in messages))) decoded
-          (has_ended (packets_in messages))) first.packets
-          ∙ ap (λ carry. got (take count ps) (sum (map length carry)) decoded (has_ended (packets_in messages))) carried
+          (last_is_closing (packets_in messages))) first.packets
+          ∙ ap (λ carry. got (take count ps) (sum (map length carry)) decoded (last_is_closing (packets_in messages)))
+          carried
           ∙ ap (λ events. got (take count ps) (sum (map length (take count (payloads period mode log)))) events
-          (has_ended (packets_in messages))) reached
+          (last_is_closing (packets_in messages))) reached
           ∙ ap (got (take count ps) (sum (map length (take count (payloads period mode log))))
           (take (reach words period mode log.events count) log.events)) ended
 

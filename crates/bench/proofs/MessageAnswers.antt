@@ -26,7 +26,7 @@ use Rattle.bench.proofs.TakesPacket.{takes_none, takes_others, takes_reason, tak
 abbrev Answer : Type 0
 Answer = Result (Unit {0}) CollectFault
 
--- No fault is told where there is none.
+-- No fault is returned where there is none.
 no_fault : (why : CollectFault) → ◌≡◌ {A = Answer} (Ok tt) (Err why) → ⊥
 no_fault why is = cc
 

@@ -12,14 +12,14 @@ use Rattle.message.proofs.Elements.{All-slice_get}
 use Rattle.message.specs.OfHart.{of_hart}
 use Rattle.message.specs.declared.message.Message.{Message}
 use Rattle.bench.specs.Beginnings.{AreBeginnings, AreThoseTaken, CameOf, LackSome, LackSomeTaken, NamesRefused}
-use Rattle.bench.specs.Collected.{Came, Collected, IsRefusedHart}
+use Rattle.bench.specs.Collected.{Collected, HasOutcome, IsRefusedHart}
 use Rattle.bench.specs.Got.{Got, HasGot, got_after, got_of, kept}
 use Rattle.bench.specs.declared.config.Config.{Config}
 use Rattle.bench.specs.declared.outcome.HartOutcome.{HartOutcome}
 use Rattle.bench.specs.declared.stop.Stop.{Stop}
 use Rattle.bench.specs.declared.stop.Stop.TheVariants as stop
 use Rattle.bench.specs.Stopping.{NoRefusedIsClosed}
-use Rattle.bench.specs.steps.Taking.{AreTaken, IsTakenOf, LacksSome, NamesRefusedHart}
+use Rattle.bench.specs.steps.Taking.{CameUnlessRefused, IsTakenOf, LacksSome, NamesRefusedHart}
 use Rattle.bench.proofs.CollectedLemmas.{element, taken_by}
 use Rattle.bench.proofs.ListElements.{All-from_places}
 use Rattle.bench.proofs.RefusedHarts.{came_not_refused, came_refused}
@@ -35,7 +35,7 @@ Says got refused came = (got_of came ≡ got) × (came.refused ≡ refused)
 -- What a collector promises of its end.
 pub record Finishes {A : Type 0} (collected : Collected) (harts : List (HartOutcome A)) : Type 0 where
   pub count : length harts ≡ length collected.logs
-  pub came : (hart : ℕ) (got : Got) (refused : Bool) → Came hart got refused collected
+  pub came : (hart : ℕ) (got : Got) (refused : Bool) → HasOutcome hart got refused collected
       → IsSomeAnd (slice_get harts hart) (λ came. (got_of came ≡ got) × (came.refused ≡ refused))
 
 -- How many packets of the log came of a hart of which so many were taken.
@@ -47,9 +47,9 @@ record CameOut {A : Type 0} (period : ℕ) (mode : Mode) (keep : Bool) (log : Pr
 
 module _ {A : Type 0} (config : Config) (logs : List ProgramLog) (taken : List Message) (collected : Collected)
     (harts : List (HartOutcome A)) (legal : All IsLegalLog logs) (keep : collected.keep ≡ config.keep)
-    (are : AreTaken config.period config.mode logs taken collected) (ends : Finishes collected harts) where
+    (are : CameUnlessRefused config.period config.mode logs taken collected) (ends : Finishes collected harts) where
   says : (hart : ℕ) (came : HartOutcome A) (got : Got) (refused : Bool) → slice_get harts hart ≡ Some came
-      → Came hart got refused collected → Says got refused came
+      → HasOutcome hart got refused collected → Says got refused came
   says hart came got refused at of =
       subst (λ some. IsSomeAnd some (λ one. (got_of one ≡ got) × (one.refused ≡ refused))) at
       (ends.came hart got refused of)
@@ -73,24 +73,24 @@ module _ {A : Type 0} (config : Config) (logs : List ProgramLog) (taken : List M
           → CameOut config.period config.mode config.keep log (length (of_hart hart taken)) came
       by_case (inl has) =
           let n = length (of_hart hart taken) in
-          let told = says hart came (kept collected.keep (got_after config.period config.mode log n)) false at
+          let held = says hart came (kept collected.keep (got_after config.period config.mode log n)) false at
           has.came in
           record {
             count = n;
-            got = has_got config.period config.mode n config.keep log (got_of came) lawful has.few (told.0 ∙ keeps n);
-            all = subst (λ refused. CameOf refused n n) (sym told.1) refl;
+            got = has_got config.period config.mode n config.keep log (got_of came) lawful has.few (held.0 ∙ keeps n);
+            all = subst (λ refused. CameOf refused n n) (sym held.1) refl;
           }
       by_case (inr cut) =
           let n = length (of_hart hart taken) in
-          let told = says hart came (kept collected.keep (got_after config.period config.mode log cut.count)) true at
+          let held = says hart came (kept collected.keep (got_after config.period config.mode log cut.count)) true at
           cut.came in
           record {
             count = cut.count;
             got =
                 has_got config.period config.mode cut.count config.keep log (got_of came) lawful
                 (omega (arith, cut.few))
-                (told.0 ∙ keeps cut.count);
-            all = subst (λ refused. CameOf refused n cut.count) (sym told.1) cut.within;
+                (held.0 ∙ keeps cut.count);
+            all = subst (λ refused. CameOf refused n cut.count) (sym held.1) cut.within;
           }
 
   as_many : length harts ≡ length logs
@@ -118,13 +118,13 @@ module _ {A : Type 0} (config : Config) (logs : List ProgramLog) (taken : List M
           → came.taken < length (of_hart hart taken)
       by_case log known (inl has) =
           let got = kept collected.keep (got_after config.period config.mode log (length (of_hart hart taken))) in
-          let told = says hart came got false at has.came in
-          absurd (differ (sym refused ∙ told.1))
+          let held = says hart came got false at has.came in
+          absurd (differ (sym refused ∙ held.1))
       by_case log known (inr cut) =
           let got = kept collected.keep (got_after config.period config.mode log cut.count) in
-          let told = says hart came got true at cut.came in
+          let held = says hart came got true at cut.came in
           let less = lacks hart log (taken_by got true) known cut.came.taken refl in
-          subst (λ n. n < length (of_hart hart taken)) (sym (ap (λ (some : Got). some.taken) told.0)) less
+          subst (λ n. n < length (of_hart hart taken)) (sym (ap (λ (some : Got). some.taken) held.0)) less
 
   -- And of one that is refused, of which any was taken, by what was cut off.
   pub lack_some_taken : LackSomeTaken taken harts
@@ -141,9 +141,9 @@ module _ {A : Type 0} (config : Config) (logs : List ProgramLog) (taken : List M
           let got = kept collected.keep (got_after config.period config.mode log (length (of_hart hart taken))) in
           absurd (differ (sym refused ∙ (says hart came got false at has.came).1))
       by_case hart log came at refused some (inr cut) =
-          let told = says hart came (kept collected.keep (got_after config.period config.mode log cut.count)) true at
+          let held = says hart came (kept collected.keep (got_after config.period config.mode log cut.count)) true at
           cut.came in
-          subst (λ n. n < length (of_hart hart taken)) (sym (ap (λ (got : Got). got.taken) told.0)) (cut.lacks some)
+          subst (λ n. n < length (of_hart hart taken)) (sym (ap (λ (got : Got). got.taken) held.0)) (cut.lacks some)
 
   -- Of a hart that is not refused all came.
   not_refused : (hart : ℕ) (log : ProgramLog) (came : HartOutcome A) → slice_get harts hart ≡ Some came
@@ -157,13 +157,13 @@ module _ {A : Type 0} (config : Config) (logs : List ProgramLog) (taken : List M
       absurd (none (came_refused hart (kept collected.keep (got_after config.period config.mode log cut.count))
       collected cut.came))
 
-  told_refused : (got : Got) (at : Option (HartOutcome A)) → got.closed ≡ false
+  refused_open : (got : Got) (at : Option (HartOutcome A)) → got.closed ≡ false
       → IsSomeAnd at (λ one. (got_of one ≡ got) × (one.refused ≡ true))
       → IsSomeAnd at (λ one. IsTrue one.refused × IsFalse one.closed)
-  told_refused got None open_yet never = never
-  told_refused got (Some one) open_yet told = (told.1, ap (λ (some : Got). some.closed) told.0 ∙ open_yet)
+  refused_open got None open_yet never = never
+  refused_open got (Some one) open_yet held = (held.1, ap (λ (some : Got). some.closed) held.0 ∙ open_yet)
 
-  -- And one that is refused is told so, and that it is not closed.
+  -- And the outcome of one that is refused says so, and that it is not closed.
   is_refused : (hart : ℕ) (log : ProgramLog) → IsRefusedHart hart collected
       → IsTakenOf config.period config.mode log (length (of_hart hart taken)) hart collected
       → IsSomeAnd (slice_get harts hart) (λ came. IsTrue came.refused × IsFalse came.closed)
@@ -175,7 +175,7 @@ module _ {A : Type 0} (config : Config) (logs : List ProgramLog) (taken : List M
       let got = kept collected.keep (got_after config.period config.mode log cut.count) in
       let few = cut.few in
       let all = length (packets (words_of log.program) config.period config.mode log.events) in
-      told_refused got (slice_get harts hart) (ne_eqb cut.count all (λ same. omega (arith, same, few)))
+      refused_open got (slice_get harts hart) (ne_eqb cut.count all (λ same. omega (arith, same, few)))
       (ends.came hart got true cut.came)
 
   -- A hart that is refused is not closed.
@@ -191,7 +191,7 @@ module _ {A : Type 0} (config : Config) (logs : List ProgramLog) (taken : List M
           → came.closed ≡ false
       by_case hart log came at refused (inl has) =
           let got = kept collected.keep (got_after config.period config.mode log (length (of_hart hart taken))) in
-          let told : came.refused ≡ false = (says hart came got false at has.came).1 in
+          let held : came.refused ≡ false = (says hart came got false at has.came).1 in
           cc
       by_case hart log came at refused (inr cut) =
           let few = cut.few in

@@ -22,7 +22,7 @@ use Rattle.bench.specs.declared.sender.Sender.{Sender}
 use Rattle.bench.specs.declared.stop.Stop.{Stop}
 use Rattle.bench.specs.steps.Replaying.{IsReplayed}
 use Rattle.bench.specs.steps.Sending.{AreNewSenders, AreSending, sender_at}
-use Rattle.bench.specs.steps.Taking.{AreTaken, IsFrontNext, IsReady, LacksSome, NamesRefusedHart}
+use Rattle.bench.specs.steps.Taking.{CameUnlessRefused, IsFrontNext, IsReady, LacksSome, NamesRefusedHart}
 use Rattle.bench.proofs.FrontMessage.{front_next}
 use Rattle.bench.proofs.CollectedLemmas.{element, take-next}
 use Rattle.bench.proofs.RefusedHarts.{came_not_refused}
@@ -149,7 +149,7 @@ module _ (config : Config) (logs : List ProgramLog) where
           is.sending)));
       keep = is.keep;
       taken =
-          subst (λ some. AreTaken config.period config.mode logs some collected)
+          subst (λ some. CameUnlessRefused config.period config.mode logs some collected)
           (sym (ap (λ (state : Funnel). state.taken) next
           ∙ send_next-taken config.capacity hart
           (slice_get (payloads_of hart (map (payloads config.period config.mode) logs))
@@ -171,18 +171,20 @@ module _ (config : Config) (logs : List ProgramLog) where
 
     -- After a turn of the collector.
     pub after_collect : slice_get all place ≡ Some turn.Collect
-        → (new : Held) (now : Collected) (told : Option Stop)
+        → (new : Held) (now : Collected) (next_why : Option Stop)
         → ((state : Funnel) → state.queue ≡ core.queue → new ≡ record core { queue = (take_front state).queue })
         → now.keep ≡ collected.keep
         → ((period : ℕ) (mode : Mode) (some : List ProgramLog) (state : Funnel) → state.queue ≡ core.queue
-        → IsFrontNext period mode some state.taken state.queue → AreTaken period mode some state.taken collected
-        → AreTaken period mode some (take_front state).taken now)
+        → IsFrontNext period mode some state.taken state.queue
+        → CameUnlessRefused period mode some state.taken collected
+        → CameUnlessRefused period mode some (take_front state).taken now)
         → ((period : ℕ) (mode : Mode) (some : List ProgramLog) (state : Funnel) → state.queue ≡ core.queue
-        → IsFrontNext period mode some state.taken state.queue → AreTaken period mode some state.taken collected
+        → IsFrontNext period mode some state.taken state.queue
+        → CameUnlessRefused period mode some state.taken collected
         → LacksSome state.taken collected → LacksSome (take_front state).taken now)
-        → (NamesRefusedHart why collected → NamesRefusedHart told now)
-        → IsReplayed config logs (take (place + 1) all) new senders now told
-    after_collect at new now told step keep came lack names = record {
+        → (NamesRefusedHart why collected → NamesRefusedHart next_why now)
+        → IsReplayed config logs (take (place + 1) all) new senders now next_why
+    after_collect at new now next_why step keep came lack names = record {
       sending =
           subst (λ state. AreSending config.period config.mode config.capacity logs state new senders) (sym next)
           (record {
@@ -200,7 +202,7 @@ module _ (config : Config) (logs : List ProgramLog) where
           });
       keep = keep ∙ is.keep;
       taken =
-          subst (λ (state : Funnel). AreTaken config.period config.mode logs state.taken now) (sym next)
+          subst (λ (state : Funnel). CameUnlessRefused config.period config.mode logs state.taken now) (sym next)
           (came config.period config.mode logs before (sym waits) next_is is.taken);
       lacks =
           subst (λ (state : Funnel). LacksSome state.taken now) (sym next)

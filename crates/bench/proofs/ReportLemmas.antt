@@ -10,66 +10,68 @@ use Rattle.output.specs.Begun.{AppendsBeginning}
 use Rattle.output.proofs.Beginnings.{begun_behind, begun_in_front}
 use Rattle.legalpath.specs.ProgramLog.{ProgramLog}
 use Rattle.bench.specs.Got.{Got, got_of}
-use Rattle.bench.specs.Report.{are_whole, hart_line, hart_lines, is_whole_verdict}
+use Rattle.bench.specs.Report.{are_whole, report_line, report_lines, is_whole_verdict}
 use Rattle.bench.specs.Verdict.{verdict}
 use Rattle.bench.specs.declared.outcome.HartOutcome.{HartOutcome}
 use Rattle.bench.specs.declared.stop.Stop.{Stop}
 
 -- The lines of first harts, the first of them this one, and of the next.
-pub hart_lines-next : (hart : ℕ) (gots : List Got) (logs : List ProgramLog) (k : ℕ) (got : Got) (log : ProgramLog)
+pub report_lines-next : (hart : ℕ) (gots : List Got) (logs : List ProgramLog) (k : ℕ) (got : Got) (log : ProgramLog)
     → slice_get gots k ≡ Some got → slice_get logs k ≡ Some log
-    → hart_lines hart (take (suc k) gots) (take (suc k) logs)
-    ≡ hart_lines hart (take k gots) (take k logs) ++ hart_line (hart + k) got log
-hart_lines-next hart [] logs k got log at there = cc
-hart_lines-next hart (g ∷ gots) [] k got log at there = cc
-hart_lines-next hart (g ∷ gots) (l ∷ logs) zero got log at there =
+    → report_lines hart (take (suc k) gots) (take (suc k) logs)
+    ≡ report_lines hart (take k gots) (take k logs) ++ report_line (hart + k) got log
+report_lines-next hart [] logs k got log at there = cc
+report_lines-next hart (g ∷ gots) [] k got log at there = cc
+report_lines-next hart (g ∷ gots) (l ∷ logs) zero got log at there =
     let here : hart + 0 ≡ hart = omega arith in
-    append-nil (hart_line hart g l)
-    ∙ ap (λ h. hart_line h g l) (sym here)
-    ∙ ap (λ (one : Got). hart_line (hart + 0) one l) (same_Some g got at)
-    ∙ ap (λ (one : ProgramLog). hart_line (hart + 0) got one) (same_Some l log there)
-hart_lines-next hart (g ∷ gots) (l ∷ logs) (suc k) got log at there =
+    append-nil (report_line hart g l)
+    ∙ ap (λ h. report_line h g l) (sym here)
+    ∙ ap (λ (one : Got). report_line (hart + 0) one l) (same_Some g got at)
+    ∙ ap (λ (one : ProgramLog). report_line (hart + 0) got one) (same_Some l log there)
+report_lines-next hart (g ∷ gots) (l ∷ logs) (suc k) got log at there =
     let place : hart + 1 + k ≡ hart + suc k = omega arith in
-    ap (λ rest. hart_line hart g l ++ rest) (hart_lines-next (hart + 1) gots logs k got log at there)
-    ∙ sym (append_assoc (hart_line hart g l) (hart_lines (hart + 1) (take k gots) (take k logs))
-    (hart_line (hart + 1 + k) got log))
-    ∙ ap (λ h. hart_line hart g l ++ hart_lines (hart + 1) (take k gots) (take k logs) ++ hart_line h got log) place
+    ap (λ rest. report_line hart g l ++ rest) (report_lines-next (hart + 1) gots logs k got log at there)
+    ∙ sym (append_assoc (report_line hart g l) (report_lines (hart + 1) (take k gots) (take k logs))
+    (report_line (hart + 1 + k) got log))
+    ∙ ap (λ h. report_line hart g l ++ report_lines (hart + 1) (take k gots) (take k logs) ++ report_line h got log)
+    place
 
 -- No logs have no lines.
-hart_lines-none : (hart : ℕ) (gots : List Got) → hart_lines hart gots [] ≡ []
-hart_lines-none hart [] = refl
-hart_lines-none hart (g ∷ gots) = refl
+report_lines-none : (hart : ℕ) (gots : List Got) → report_lines hart gots [] ≡ []
+report_lines-none hart [] = refl
+report_lines-none hart (g ∷ gots) = refl
 
 -- The lines of first harts, the first of them this one, and of the others.
-hart_lines-parted : (hart : ℕ) (gots : List Got) (logs : List ProgramLog) (k : ℕ)
-    → hart_lines hart gots logs
-    ≡ hart_lines hart (take k gots) (take k logs) ++ hart_lines (hart + k) (drop k gots) (drop k logs)
-hart_lines-parted hart gots logs zero = ap (λ h. hart_lines h gots logs) (omega arith)
-hart_lines-parted hart [] logs (suc k) = refl
-hart_lines-parted hart (g ∷ gots) [] (suc k) = sym (hart_lines-none (hart + suc k) (drop k gots))
-hart_lines-parted hart (g ∷ gots) (l ∷ logs) (suc k) =
+report_lines-parted : (hart : ℕ) (gots : List Got) (logs : List ProgramLog) (k : ℕ)
+    → report_lines hart gots logs
+    ≡ report_lines hart (take k gots) (take k logs) ++ report_lines (hart + k) (drop k gots) (drop k logs)
+report_lines-parted hart gots logs zero = ap (λ h. report_lines h gots logs) (omega arith)
+report_lines-parted hart [] logs (suc k) = refl
+report_lines-parted hart (g ∷ gots) [] (suc k) = sym (report_lines-none (hart + suc k) (drop k gots))
+report_lines-parted hart (g ∷ gots) (l ∷ logs) (suc k) =
     let place : hart + 1 + k ≡ hart + suc k = omega arith in
-    ap (λ rest. hart_line hart g l ++ rest) (hart_lines-parted (hart + 1) gots logs k)
-    ∙ sym (append_assoc (hart_line hart g l) (hart_lines (hart + 1) (take k gots) (take k logs))
-    (hart_lines (hart + 1 + k) (drop k gots) (drop k logs)))
-    ∙ ap (λ h. (hart_line hart g l ++ hart_lines (hart + 1) (take k gots) (take k logs))
-    ++ hart_lines h (drop k gots) (drop k logs)) place
+    ap (λ rest. report_line hart g l ++ rest) (report_lines-parted (hart + 1) gots logs k)
+    ∙ sym (append_assoc (report_line hart g l) (report_lines (hart + 1) (take k gots) (take k logs))
+    (report_lines (hart + 1 + k) (drop k gots) (drop k logs)))
+    ∙ ap (λ h. (report_line hart g l ++ report_lines (hart + 1) (take k gots) (take k logs))
+    ++ report_lines h (drop k gots) (drop k logs)) place
 
 -- The lines of first harts were written, and a beginning of the next.
 pub hart_begun : (gots : List Got) (logs : List ProgramLog) (k : ℕ) (got : Got) (log : ProgramLog)
     (old mid new : Option (List ℕ)) → slice_get gots k ≡ Some got → slice_get logs k ≡ Some log
-    → Appends old mid (hart_lines 0 (take k gots) (take k logs)) → AppendsBeginning (hart_line (0 + k) got log) mid new
-    → AppendsBeginning (hart_lines 0 gots logs) old new
+    → Appends old mid (report_lines 0 (take k gots) (take k logs))
+    → AppendsBeginning (report_line (0 + k) got log) mid new
+    → AppendsBeginning (report_lines 0 gots logs) old new
 hart_begun gots logs k got log old mid new at there first begun =
-    let front = hart_lines 0 (take k gots) (take k logs) in
-    let here = hart_line (0 + k) got log in
-    let rest = hart_lines (0 + suc k) (drop (suc k) gots) (drop (suc k) logs) in
-    let all : hart_lines 0 gots logs ≡ (front ++ here) ++ rest =
-    hart_lines-parted 0 gots logs (suc k) ∙ ap (λ l. l ++ rest) (hart_lines-next 0 gots logs k got log at there) in
+    let front = report_lines 0 (take k gots) (take k logs) in
+    let here = report_line (0 + k) got log in
+    let rest = report_lines (0 + suc k) (drop (suc k) gots) (drop (suc k) logs) in
+    let all : report_lines 0 gots logs ≡ (front ++ here) ++ rest =
+    report_lines-parted 0 gots logs (suc k) ∙ ap (λ l. l ++ rest) (report_lines-next 0 gots logs k got log at there) in
     subst (λ l. AppendsBeginning l old new) (sym all)
     (begun_in_front (front ++ here) rest old new (begun_behind front here old mid new first begun))
 
--- The element at a place, of which a hart's outcome tells the rest.
+-- The element at a place, which is the outcome of a hart.
 pub got_at : {A : Type 0} (harts : List (HartOutcome A)) (k : ℕ) (hart : HartOutcome A) → k < length harts
     → hart ≡ get_or harts k hart
     → slice_get (map got_of harts) k ≡ Some (got_of hart)
@@ -113,10 +115,10 @@ module _ (gots : List Got) (logs : List ProgramLog) (k : ℕ) (over : length got
       ap (λ first. are_whole first (take k logs)) (take_all k gots over)
       ∙ ap (are_whole gots) (take_all k logs over_logs)
 
-  pub hart_lines-all : hart_lines 0 (take k gots) (take k logs) ≡ hart_lines 0 gots logs
-  hart_lines-all =
-      ap (λ first. hart_lines 0 first (take k logs)) (take_all k gots over)
-      ∙ ap (hart_lines 0 gots) (take_all k logs over_logs)
+  pub report_lines-all : report_lines 0 (take k gots) (take k logs) ≡ report_lines 0 gots logs
+  report_lines-all =
+      ap (λ first. report_lines 0 first (take k logs)) (take_all k gots over)
+      ∙ ap (report_lines 0 gots) (take_all k logs over_logs)
 
 -- Whether there is a stop.
 pub none_of : (why : Option Stop) (none : Bool) → is_some why ≡ not none → none ≡ is_none why

@@ -35,7 +35,7 @@ module _ {B : Type 0} (period : ℕ) (mode : Mode) (count : ℕ) (log : ProgramL
   pub number_at : (sender : Sender B) → sender ≡ sender_at period mode log count → sender.number ≡ count
   number_at sender is = ap (λ (s : Sender B). s.number) is
 
-  -- Behind what the source gave it stands where its number tells.
+  -- Behind what the source gave it stands where its number says.
   pub stands_behind : (source : SourceAt) (number : ℕ) (result payload : Option (List ℕ)) → result ≡ payload
       → IsAt period mode log (number_behind count result) source → number ≡ number_behind count result
       → sender_of source number ≡ sender_at period mode log (number_behind count payload)

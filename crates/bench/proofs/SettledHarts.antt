@@ -18,7 +18,7 @@ use Rattle.bench.specs.declared.outcome.HartOutcome.{HartOutcome}
 use Rattle.bench.specs.declared.stop.Stop.{Stop}
 use Rattle.bench.specs.declared.stop.Stop.TheVariants as stop
 use Rattle.bench.specs.steps.Gathering.{AreGathered}
-use Rattle.bench.specs.steps.Taking.{AreTaken, IsTakenOf}
+use Rattle.bench.specs.steps.Taking.{CameUnlessRefused, IsTakenOf}
 use Rattle.bench.proofs.ReplayEnds.{Finishes, differ}
 
 -- What was gathered was taken, where what was taken of each hart whose worker was started carries the first payloads of
@@ -27,7 +27,7 @@ pub gathered_taken : (period : ℕ) (mode : Mode) (logs : List ProgramLog) (star
     (collected : Collected) → length started ≡ length logs → AreGathered period mode logs started taken collected
     → ((hart : ℕ) (log : ProgramLog) → slice_get logs hart ≡ Some log → slice_get started hart ≡ Some true
     → CarryFirst period mode log (of_hart hart taken))
-    → AreTaken period mode logs taken collected
+    → CameUnlessRefused period mode logs taken collected
 gathered_taken period mode logs started taken collected flags came carried = record {
   own = came.own;
   each = λ hart log at.
@@ -60,9 +60,9 @@ are_carried config logs started taken collected harts flags gathered ends carrie
     by_flag hart log came known at going false off =
         let cut = gathered.others hart log known off in
         let got = kept collected.keep (got_after config.period config.mode log cut.count) in
-        let told = subst (λ some. IsSomeAnd some (λ one. (got_of one ≡ got) × (one.refused ≡ true))) at
+        let held = subst (λ some. IsSomeAnd some (λ one. (got_of one ≡ got) × (one.refused ≡ true))) at
         (ends.came hart got true cut.came) in
-        absurd (differ (sym told.1 ∙ going))
+        absurd (differ (sym held.1 ∙ going))
 
 -- What follows of the hart of which a payload was handed back, by what is known of it.
 pub handed_back_as : (P Q : ℕ → Type 0) (why : Option Stop) → ((hart : ℕ) → P hart → Q hart) → IfHandedBack P why

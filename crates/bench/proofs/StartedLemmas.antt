@@ -7,7 +7,7 @@ use Rattle.legalpath.specs.ProgramLog.{ProgramLog}
 use Rattle.payload.specs.declared.mode.Mode.{Mode}
 use Rattle.encoder.specs.SourceAt.{IsAt, SourceAt}
 use Rattle.funnel.specs.Ends.{FunnelId, PortView, new_port}
-use Rattle.bench.specs.Collected.{Came, Collected, HasCollected, IsSameOf}
+use Rattle.bench.specs.Collected.{Collected, HasCollected, HasOutcome, IsSameOf}
 use Rattle.bench.specs.Got.{Got, got_after, kept}
 use Rattle.bench.specs.steps.Gathering.{Among, AreGathered}
 use Rattle.bench.specs.steps.Taking.{IsCutOff}
@@ -109,7 +109,7 @@ module _ {W : Type 0} (hart_of : W → ℕ) (period : ℕ) (mode : Mode) (logs :
 
     -- With a hart that is refused.
     pub begun_refused : (new : Collected)
-        → ((got : Got) (refused : Bool) → Came place got refused old → Came place got true new)
+        → ((got : Got) (refused : Bool) → HasOutcome place got refused old → HasOutcome place got true new)
         → ((other : ℕ) → other ≢ place → IsSameOf other old new) → new ≡ record old { harts = new.harts }
         → AreBegun left (set started place false) workers new
     begun_refused new refused others same = record {
@@ -153,7 +153,7 @@ module _ {W : Type 0} (hart_of : W → ℕ) (period : ℕ) (mode : Mode) (logs :
           lacks = λ some. omega (arith, some);
           few = omega arith;
           came =
-              subst (λ flag. Came place (kept flag (got_after period mode log 0)) true new) (sym keep)
+              subst (λ flag. HasOutcome place (kept flag (got_after period mode log 0)) true new) (sym keep)
               (refused (kept old.keep (got_after period mode log 0)) false has.came);
         }
 

@@ -10,7 +10,7 @@ use Rattle.retire.specs.declared.event.Event.{Event}
 use Rattle.rvclass.specs.Words.{Words}
 use Rattle.payload.proofs.ReadingLaws.{reading-payload_of}
 use Rattle.payload.specs.Closing.{is_closing_packet}
-use Rattle.payload.specs.Ended.{closes, has_ended}
+use Rattle.payload.specs.ClosedTrace.{closes, last_is_closing}
 use Rattle.payload.specs.Profile.{InProfile}
 use Rattle.payload.specs.Reading.{reading}
 use Rattle.payload.specs.Spelling.{payload_of}
@@ -54,7 +54,7 @@ last_or-take b (a ∷ xs) (suc n) x is = last_or-take (Some a) xs n x is
 module _ (words : Words) (period : ℕ) (mode : Mode) (log : List Event) where
   -- The first packets of a log have ended exactly where they are all.
   pub first_ended : (count : ℕ) → count ≤ length (packets words period mode log)
-      → has_ended (take count (packets words period mode log)) ≡ (count == length (packets words period mode log))
+      → last_is_closing (take count (packets words period mode log)) ≡ (count == length (packets words period mode log))
   first_ended zero few = sym (ne_eqb zero (length (packets words period mode log)) (λ same. omega (arith, same)))
   first_ended (suc n) few = by_count (cases_eq (suc n) (length all))
     where
@@ -67,16 +67,17 @@ module _ (words : Words) (period : ℕ) (mode : Mode) (log : List Event) where
       at : slice_get all n ≡ Some last
       at = slice_get-get_or all n (packet.Support (Open mode)) (omega (arith, few))
 
-      ended : has_ended (take (suc n) all) ≡ is_closing_packet last
+      ended : last_is_closing (take (suc n) all) ≡ is_closing_packet last
       ended = ap closes (last_or-take None all n last at)
 
       going : (suc n ≡ length all → ⊥) → (flag : Bool) → is_closing_packet last ≡ flag → flag ≡ false
       going other true ends = absurd (other (sym (packets_close_last words period mode log n last at ends)))
       going other false ends = refl
 
-      by_count : (suc n ≡ length all) ⊎ (suc n ≡ length all → ⊥) → has_ended (take (suc n) all) ≡ (suc n == length all)
+      by_count : (suc n ≡ length all) ⊎ (suc n ≡ length all → ⊥)
+          → last_is_closing (take (suc n) all) ≡ (suc n == length all)
       by_count (inl whole) =
-          ap has_ended (take_all (suc n) all (omega (arith, whole)))
+          ap last_is_closing (take_all (suc n) all (omega (arith, whole)))
           ∙ packets_end words period mode log
           ∙ sym (eq-eqb (suc n) (length all) whole)
       by_count (inr other) = ended ∙ going other (is_closing_packet last) refl ∙ sym (ne_eqb (suc n) (length all) other)

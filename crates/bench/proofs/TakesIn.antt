@@ -12,19 +12,19 @@ use Rattle.legalpath.specs.ProgramLog.{IsLegalLog, ProgramLog}
 use Rattle.payload.specs.declared.packet.Packet.{Packet}
 use Rattle.decoder.specs.Describes.{Describes}
 use Rattle.decoder.specs.declared.fault.DecodeFault.{DecodeFault}
-use Rattle.message.specs.Accepting.{accepting, harts_after, harts_by, state_after}
+use Rattle.message.specs.Accepting.{accepting, harts_after, harts_after_found, state_after}
 use Rattle.message.specs.Harts.{Harts}
 use Rattle.message.specs.declared.fault.DemuxFault.{DemuxFault}
 use Rattle.message.specs.declared.hart.Hart.{Hart}
 use Rattle.message.specs.declared.message.Message.{Message}
 use Rattle.receiver.specs.Holds.{HoldsHart}
 use Rattle.receiver.specs.Received.{IsReceived, IsSameHart, Received}
-use Rattle.receiver.specs.Refused.{IsNotDecoded}
-use Rattle.bench.specs.Collected.{Collected, Taken, with_packet}
+use Rattle.receiver.specs.NotReceived.{IsNotDecoded}
+use Rattle.bench.specs.Collected.{Collected, Taken, one_packet_more}
 use Rattle.bench.specs.declared.collecting.CollectFault.{CollectFault}
 use Rattle.bench.specs.declared.collecting.CollectFault.TheVariants as fault
 use Rattle.bench.specs.declared.outcome.HartOutcome.{HartOutcome}
-use Rattle.bench.specs.steps.Collecting.{IsCollected, IsLeftBy, taken_in, taken_of}
+use Rattle.bench.specs.steps.Collecting.{IsCollected, IsLeftBy, taken_in, taken_of_outcome}
 use Rattle.bench.proofs.RefusedHarts.{taken_at}
 
 -- The answer to a message whose packet was accepted, and what a collector has then.
@@ -42,7 +42,7 @@ pub record TakesIn (message : Message) (packet : Packet) (answer : Result (Unit 
   pub logs : new.logs ≡ old.logs
   pub keep : new.keep ≡ old.keep
   pub harts : new.harts ≡ set old.harts message.hart after
-  pub counts : OnOk answer (after ≡ with_packet old.keep packet (length message.payload) before)
+  pub counts : OnOk answer (after ≡ one_packet_more old.keep packet (length message.payload) before)
   pub leaves : IfErr answer (λ why. IsLeftBy why before after)
   pub stays : IfErr answer (λ why. new.received ≡ accepted)
   pub holds : (packets : List Packet) → HoldsHart (words_of own.program) message.hart packets accepted
@@ -62,14 +62,14 @@ pub holds_moved : (words : Words) (hart : ℕ) (packets : List Packet) (old acce
     → accepted ≡ record old { expected = harts_after old.expected message } → HoldsHart words hart packets old
     → HoldsHart words hart packets accepted
 holds_moved words hart packets old accepted message moved holds =
-    subst (HoldsHart words hart packets) (sym moved) (record { stands = holds.stands; ended = holds.ended })
+    subst (HoldsHart words hart packets) (sym moved) (record { stands = holds.stands; closed = holds.closed })
 
 -- What is expected is of as many harts.
 pub length-harts_after : (expected : Harts) (message : Message)
     → length (harts_after expected message) ≡ length expected
 length-harts_after expected message = by_hart (slice_get expected message.hart)
   where
-    by_hart : (found : Option Hart) → length (harts_by expected message found) ≡ length expected
+    by_hart : (found : Option Hart) → length (harts_after_found expected message found) ≡ length expected
     by_hart None = refl
     by_hart (Some h) = length-set expected message.hart (state_after h message)
 
@@ -105,8 +105,9 @@ pub takes_in : {A : Type 0} (logs : List ProgramLog) (keep : Bool) (old accepted
     → accepted ≡ record old { expected = harts_after old.expected message }
     → message.hart < length accepted.lists
     → own ≡ get_or logs at own → outcome ≡ get_or harts at outcome → image ≡ own.program
-    → OnOk answer (taken_of written ≡ with_packet keep packet (length message.payload) (taken_of outcome))
-    → IfErr answer (λ why. IsLeftBy why (taken_of outcome) (taken_of written))
+    → OnOk answer (taken_of_outcome written
+    ≡ one_packet_more keep packet (length message.payload) (taken_of_outcome outcome))
+    → IfErr answer (λ why. IsLeftBy why (taken_of_outcome outcome) (taken_of_outcome written))
     → IfErr answer (λ why. new ≡ accepted)
     → ((packets : List Packet) → HoldsHart (words_of image) message.hart packets accepted
     → OnOk answer (HoldsHart (words_of image) message.hart (packets ++ packet ∷ []) new))
@@ -124,8 +125,8 @@ takes_in {A} logs keep old accepted new harts message packet at own image outcom
     record {
       own = own;
       accepted = accepted;
-      before = taken_of outcome;
-      after = taken_of written;
+      before = taken_of_outcome outcome;
+      after = taken_of_outcome written;
       all = all;
       packet_answered = answered;
       moved = moved;
@@ -133,7 +134,8 @@ takes_in {A} logs keep old accepted new harts message packet at own image outcom
       taken_at = taken_at harts at message.hart outcome here of_harts is_outcome;
       logs = refl;
       keep = refl;
-      harts = map-set taken_of harts at written ∙ ap (λ i. set (taken_in harts) i (taken_of written)) here;
+      harts = map-set taken_of_outcome harts at written
+          ∙ ap (λ i. set (taken_in harts) i (taken_of_outcome written)) here;
       counts = counts;
       leaves = leaves;
       stays = stays;
@@ -179,4 +181,5 @@ takes_in {A} logs keep old accepted new harts message packet at own image outcom
     of_logs = let count = all.logs in omega (arith, here, known, lists, all_lists, count)
 
     of_harts : at < length harts
-    of_harts = let count = all.harts in omega (arith, here, known, lists, all_lists, count, length-map harts taken_of)
+    of_harts =
+        let count = all.harts in omega (arith, here, known, lists, all_lists, count, length-map harts taken_of_outcome)

@@ -18,7 +18,7 @@ use Rattle.message.specs.declared.message.Message.{Message}
 use Rattle.receiver.specs.Holds.{HoldsHart}
 use Rattle.receiver.specs.Received.{Received}
 use Rattle.bench.specs.Collected.{Collected, HasCollected, IsMessageOf}
-use Rattle.bench.specs.Collected.{with_packet}
+use Rattle.bench.specs.Collected.{one_packet_more}
 use Rattle.bench.specs.Got.{got_after, kept}
 use Rattle.bench.specs.declared.collecting.CollectFault.{CollectFault}
 use Rattle.bench.specs.declared.collecting.CollectFault.TheVariants as fault
@@ -59,7 +59,7 @@ module _ (message : Message) (packet : Packet) (old new : Collected) where
       same (t.none first) holds in
       ⊎_elim (λ memory. memory) (λ none. absurd (none (beginning period mode log (count + 1)) described)) either
 
-  -- And else adds what it tells.
+  -- And else adds what it settles.
   pub takes_next : (answer : Result (Unit {0}) CollectFault) → TakesIn message packet answer old new
       → (period : ℕ) (mode : Mode) (count : ℕ) (log : ProgramLog)
       → HasCollected period mode log count message.hart old → IsMessageOf period mode log count message
@@ -93,8 +93,8 @@ module _ (message : Message) (packet : Packet) (old new : Collected) where
       (sym t.taken_at ∙ has.came.taken) in
       let after : t.after ≡ taken_by (kept new.keep (got_after period mode log (count + 1))) false =
       t.counts
-      ∙ ap (with_packet old.keep packet (length message.payload)) before
-      ∙ ap (λ one. with_packet old.keep one (length message.payload)
+      ∙ ap (one_packet_more old.keep packet (length message.payload)) before
+      ∙ ap (λ one. one_packet_more old.keep one (length message.payload)
       (taken_by (kept old.keep (got_after period mode log count)) false)) (sym packet_is)
       ∙ next_taken period mode log legal old.keep count message is
       ∙ ap (λ keep. taken_by (kept keep (got_after period mode log (count + 1))) false) (sym t.keep) in

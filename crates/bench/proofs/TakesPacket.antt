@@ -16,9 +16,9 @@ use Rattle.receiver.proofs.AcceptLemmas.{accepts_others}
 use Rattle.receiver.proofs.HoldLemmas.{same_hart_twice, set-other}
 use Rattle.receiver.specs.Holds.{HoldsHart}
 use Rattle.receiver.specs.Received.{Received}
-use Rattle.receiver.specs.Refused.{IsNotDecoded}
-use Rattle.bench.specs.Collected.{Accepts, Came, Collected, HasDecoded, IsSameOf, Taken}
-use Rattle.bench.specs.Collected.{with_packet}
+use Rattle.receiver.specs.NotReceived.{IsNotDecoded}
+use Rattle.bench.specs.Collected.{Accepts, Collected, HasDecoded, HasOutcome, IsSameOf, Taken}
+use Rattle.bench.specs.Collected.{one_packet_more}
 use Rattle.bench.specs.Got.{Got}
 use Rattle.bench.specs.declared.collecting.CollectFault.{CollectFault}
 use Rattle.bench.specs.declared.collecting.CollectFault.TheVariants as fault
@@ -40,7 +40,7 @@ module _ (message : Message) (packet : Packet) (old new : Collected) where
       → slice_get old.harts message.hart ≡ Some (taken_by got was)
       → t ≡ record old.received { expected = harts_after old.received.expected message }
       → new.harts ≡ set old.harts message.hart after → new.received ≡ t
-      → after ≡ taken_by got is → Came message.hart got was old → Came message.hart got is new
+      → after ≡ taken_by got is → HasOutcome message.hart got was old → HasOutcome message.hart got is new
   came_left t after got was is at moved harts stays same came = record {
     taken = ap (λ harts. slice_get harts message.hart) harts
         ∙ set-at old.harts message.hart after (slice_get_within old.harts message.hart (taken_by got was) at)
@@ -52,7 +52,7 @@ module _ (message : Message) (packet : Packet) (old new : Collected) where
   -- Memory was refused then.
   pub takes_memory : (answer : Result (Unit {0}) CollectFault) → TakesIn message packet answer old new
       → (got : Got) (refused : Bool)
-      → Came message.hart got refused old → answer ≡ Err fault.Memory → Came message.hart got true new
+      → HasOutcome message.hart got refused old → answer ≡ Err fault.Memory → HasOutcome message.hart got true new
   takes_memory (Ok u) t got refused came is = cc
   takes_memory (Err (fault.Demux why)) t got refused came is = absurd t.leaves
   takes_memory (Err (fault.Decode why)) t got refused came is = cc
@@ -61,10 +61,11 @@ module _ (message : Message) (packet : Packet) (old new : Collected) where
       came_left t.accepted t.after got refused true came.taken t.moved t.harts t.stays
       (t.leaves ∙ ap (λ (taken : Taken). record taken { refused = true }) before) came
 
-  -- The packet tells something else than a log.
+  -- The packet describes something else than a log.
   pub takes_undecoded : (answer : Result (Unit {0}) CollectFault) → TakesIn message packet answer old new
       → (got : Got) (refused : Bool) (why : DecodeFault)
-      → Came message.hart got refused old → answer ≡ Err (fault.Decode why) → Came message.hart got refused new
+      → HasOutcome message.hart got refused old → answer ≡ Err (fault.Decode why)
+      → HasOutcome message.hart got refused new
   takes_undecoded (Ok u) t got refused why came is = cc
   takes_undecoded (Err (fault.Demux other)) t got refused why came is = absurd t.leaves
   takes_undecoded (Err fault.Memory) t got refused why came is = cc
@@ -72,7 +73,7 @@ module _ (message : Message) (packet : Packet) (old new : Collected) where
       let before = same_Some t.before (taken_by got refused) (sym t.taken_at ∙ came.taken) in
       came_left t.accepted t.after got refused refused came.taken t.moved t.harts t.stays (t.leaves ∙ before) came
 
-  -- What the packet tells is held then too.
+  -- What the packet describes is held then too.
   pub takes_decoded : (answer : Result (Unit {0}) CollectFault) → TakesIn message packet answer old new
       → (one : Packet) (log : ProgramLog) (some : List Packet) → Accepts message one old
       → HasDecoded log message.hart some old → OnOk answer (HasDecoded log message.hart (some ++ one ∷ []) new)
@@ -108,7 +109,7 @@ module _ (message : Message) (packet : Packet) (old new : Collected) where
       subst (λ one. (why ≡ fault.Memory) ⊎ ((events : List Event) → ¬ Describes words (some ++ one ∷ []) events))
       packet_is (either before)
 
-  -- And a fault of the decoder is told for its reason.
+  -- And a fault of the decoder is returned for its reason.
   pub takes_reason : (answer : Result (Unit {0}) CollectFault) → TakesIn message packet answer old new
       → (one : Packet) (log : ProgramLog) (some : List Packet) (why : DecodeFault) → Accepts message one old
       → HasDecoded log message.hart some old → answer ≡ Err (fault.Decode why)
@@ -118,23 +119,23 @@ module _ (message : Message) (packet : Packet) (old new : Collected) where
       let packet_is : packet ≡ one = same_Ok packet one (sym t.packet_answered ∙ accepts.answer) in
       let words = words_of log.program in
       let before = holds_moved words message.hart some old.received t.accepted message t.moved has.holds in
-      let told = subst (λ (own : ProgramLog). HoldsHart (words_of own.program) message.hart some t.accepted
+      let reason = subst (λ (own : ProgramLog). HoldsHart (words_of own.program) message.hart some t.accepted
       → IsNotDecoded (words_of own.program) some packet why) same (λ holds. t.reason some why holds is) in
-      subst (λ one. IsNotDecoded words some one why) packet_is (told before)
+      subst (λ one. IsNotDecoded words some one why) packet_is (reason before)
 
   -- It is counted.
   pub takes_counts : (answer : Result (Unit {0}) CollectFault) → TakesIn message packet answer old new
       → (one : Packet) (taken : Taken) → Accepts message one old → slice_get old.harts message.hart ≡ Some taken
       → OnOk answer (slice_get new.harts message.hart
-      ≡ Some (with_packet old.keep one (length message.payload) taken))
+      ≡ Some (one_packet_more old.keep one (length message.payload) taken))
   takes_counts (Err why) t one taken accepts at = tt
   takes_counts (Ok u) t one taken accepts at =
       let before : t.before ≡ taken = same_Some t.before taken (sym t.taken_at ∙ at) in
       let packet_is : packet ≡ one = same_Ok packet one (sym t.packet_answered ∙ accepts.answer) in
       ap (λ harts. slice_get harts message.hart) t.harts
       ∙ set-at old.harts message.hart t.after (slice_get_within old.harts message.hart taken at)
-      ∙ ap Some (t.counts ∙ ap (with_packet old.keep packet (length message.payload)) before
-      ∙ ap (λ one. with_packet old.keep one (length message.payload) taken) packet_is)
+      ∙ ap Some (t.counts ∙ ap (one_packet_more old.keep packet (length message.payload)) before
+      ∙ ap (λ one. one_packet_more old.keep one (length message.payload) taken) packet_is)
 
   -- Of its hart another message is expected then.
   pub takes_expected : (answer : Result (Unit {0}) CollectFault) → TakesIn message packet answer old new

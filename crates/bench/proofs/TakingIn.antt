@@ -14,13 +14,14 @@ use Rattle.encoder.specs.Payloads.{payloads}
 use Rattle.message.proofs.OfHartLemmas.{of_hart-next, of_hart-other}
 use Rattle.message.specs.OfHart.{of_hart}
 use Rattle.message.specs.declared.message.Message.{Message}
-use Rattle.bench.specs.Collected.{Came, Collected, HasCollected, IsMessageOf, IsRefusedHart, Taken}
+use Rattle.bench.specs.Collected.{Collected, HasCollected, HasOutcome, IsMessageOf, IsRefusedHart, Taken}
 use Rattle.bench.specs.Got.{got_after, kept}
 use Rattle.bench.specs.declared.collecting.CollectFault.{CollectFault}
 use Rattle.bench.specs.declared.collecting.CollectFault.TheVariants as fault
 use Rattle.bench.specs.declared.stop.Stop.{Stop}
 use Rattle.bench.specs.declared.stop.Stop.TheVariants as stop
-use Rattle.bench.specs.steps.Taking.{AreTaken, IsCutOff, IsFrontNext, IsNext, IsTakenOf, LacksSome, NamesRefusedHart}
+use Rattle.bench.specs.steps.Taking.{CameUnlessRefused, IsCutOff, IsFrontNext, IsNext, IsTakenOf, LacksSome}
+use Rattle.bench.specs.steps.Taking.{NamesRefusedHart}
 use Rattle.bench.specs.steps.TakesMessage.{TakesMessage}
 use Rattle.bench.proofs.CollectedLemmas.{taken_by}
 use Rattle.bench.proofs.CollectedSame.{collected_same, cut_off_same}
@@ -75,7 +76,7 @@ module _ (message : Message) (result : Result (Unit {0}) CollectFault) (old new 
         lacks = λ some. omega arith;
         few = below_all count log own;
         came =
-            subst (λ flag. Came message.hart (kept flag (got_after period mode log count)) true new)
+            subst (λ flag. HasOutcome message.hart (kept flag (got_after period mode log count)) true new)
             (sym takes.logs.1)
             (takes.memory (kept old.keep (got_after period mode log count)) false has.came (is ∙ ap Err memory));
       })
@@ -96,7 +97,7 @@ module _ (message : Message) (result : Result (Unit {0}) CollectFault) (old new 
 
 module _ (period : ℕ) (mode : Mode) (logs : List ProgramLog) (taken : List Message) (message : Message)
     (result : Result (Unit {0}) CollectFault) (old new : Collected) (takes : TakesMessage message result old new)
-    (came : AreTaken period mode logs taken old) (next : IsNext period mode logs taken message) where
+    (came : CameUnlessRefused period mode logs taken old) (next : IsNext period mode logs taken message) where
   abbrev before : ℕ
   before = length (of_hart message.hart taken)
 
@@ -121,7 +122,7 @@ module _ (period : ℕ) (mode : Mode) (logs : List ProgramLog) (taken : List Mes
           subst (λ r. IfErr r (λ why. why ≡ fault.Memory)) (sym (passed_over cut).0) tt
 
   -- Of each hart the messages that were taken and this one came, or memory for it was refused.
-  pub takes_more : AreTaken period mode logs (taken ++ message ∷ []) new
+  pub takes_more : CameUnlessRefused period mode logs (taken ++ message ∷ []) new
   takes_more = record {
     own = takes.logs.0 ∙ came.own;
     each = λ hart log at. by_hart hart log at (cases_eq hart message.hart);

@@ -11,8 +11,9 @@ use Rattle.bench.specs.declared.outcome.HartOutcome.{HartOutcome}
 use Rattle.bench.specs.declared.stop.Stop.{Stop}
 use Rattle.bench.specs.declared.stop.Stop.TheVariants as stop
 
--- What came of each hart is what comes of a beginning of its log's packets: each once, in order, none behind the
--- closing one; they decode to a beginning of its log, and to the whole log where the closing packet came.
+-- There is an outcome for each log. What came of each hart is what comes of the first packets of its log, some number
+-- of them: each once, in order, none behind the closing one. They decode to a beginning of the log, and to the whole
+-- log where the closing packet came.
 pub record AreBeginnings {A : Type 0} (config : Config) (logs : List ProgramLog) (harts : List (HartOutcome A))
     : Type 0 where
   pub count : length harts ≡ length logs
@@ -20,13 +21,14 @@ pub record AreBeginnings {A : Type 0} (config : Config) (logs : List ProgramLog)
       → slice_get harts hart ≡ Some came
       → (count : ℕ) × HasGot config.period config.mode config.keep log count (got_of came)
 
--- How many of the messages that were taken of a hart came of it: at most all where memory for it was refused, and
--- else all.
+-- As many messages came of a hart as were taken of it, or, where memory or its thread was refused for the hart, at most
+-- as many.
 abbrev pub CameOf : Bool → ℕ → ℕ → Type 0
 CameOf true taken count = count ≤ taken
 CameOf false taken count = count ≡ taken
 
--- Of these messages, which were taken of a funnel, those of each hart came of it, but where memory for it was refused.
+-- These messages were taken of a funnel. What came of each hart is what comes of the first packets of its log: as many
+-- as the hart's messages among these, or, where memory or its thread was refused for the hart, at most as many.
 abbrev pub AreThoseTaken : {A : Type 0} → Config → List ProgramLog → List Message → List (HartOutcome A) → Type 0
 AreThoseTaken {A} config logs taken harts =
     (hart : ℕ) (log : ProgramLog) (came : HartOutcome A) → slice_get logs hart ≡ Some log
@@ -34,28 +36,28 @@ AreThoseTaken {A} config logs taken harts =
     → (count : ℕ) × HasGot config.period config.mode config.keep log count (got_of came)
     × CameOf came.refused (length (of_hart hart taken)) count
 
--- The messages of each hart among these carry the first payloads of its log, in order, but where memory for it was
--- refused.
+-- The messages of each hart among these carry the first payloads of its log, in order, unless memory or its thread was
+-- refused for the hart.
 abbrev pub AreCarried : {A : Type 0} → Config → List ProgramLog → List Message → List (HartOutcome A) → Type 0
 AreCarried {A} config logs taken harts =
     (hart : ℕ) (log : ProgramLog) (came : HartOutcome A) → slice_get logs hart ≡ Some log
     → slice_get harts hart ≡ Some came → IsFalse came.refused
     → CarryFirst config.period config.mode log (of_hart hart taken)
 
--- Of each hart for which memory was refused fewer packets came than messages of it are among these.
+-- Where memory was refused for a hart, fewer packets of it came than messages of it are among these.
 abbrev pub LackSome : {A : Type 0} → List Message → List (HartOutcome A) → Type 0
 LackSome {A} taken harts =
     (hart : ℕ) (came : HartOutcome A) → slice_get harts hart ≡ Some came → IsTrue came.refused
     → came.taken < length (of_hart hart taken)
 
--- Of each hart for which memory was refused fewer packets came than messages of it are among these, where any are.
+-- Where memory or its thread was refused for a hart, and messages of it are among these, fewer packets of it came.
 abbrev pub LackSomeTaken : {A : Type 0} → List Message → List (HartOutcome A) → Type 0
 LackSomeTaken {A} taken harts =
     (hart : ℕ) (came : HartOutcome A) → slice_get harts hart ≡ Some came → IsTrue came.refused
     → 0 < length (of_hart hart taken) → came.taken < length (of_hart hart taken)
 
--- There is no stop exactly where memory for no hart was refused, and else one of those harts is named, whose closing
--- packet did not come.
+-- There is no stop exactly where memory was refused for no hart. Otherwise the stop is of the kind `Memory` and names a
+-- hart for which memory was refused, and whose closing packet did not come.
 abbrev pub NamesRefused : {A : Type 0} → Option Stop → List (HartOutcome A) → Type 0
 NamesRefused None harts = All (λ hart. IsFalse hart.refused) harts
 NamesRefused (Some (stop.Memory hart)) harts =

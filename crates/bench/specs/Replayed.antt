@@ -2,7 +2,7 @@
 use Rattle.std.specs.Prelude.{ℕ, List, length, map, sum}
 use Rattle.retire.specs.declared.event.Event.{Event}
 use Rattle.legalpath.specs.ProgramLog.{ProgramLog}
-use Rattle.payload.specs.Ended.{has_ended}
+use Rattle.payload.specs.ClosedTrace.{last_is_closing}
 use Rattle.payload.specs.declared.mode.Mode.{Mode}
 use Rattle.encoder.specs.Payloads.{payloads}
 use Rattle.message.specs.OfHart.{packets_in}
@@ -12,18 +12,18 @@ use Rattle.funnel.specs.Payloads.{payloads_in}
 use Rattle.funnel.specs.declared.turn.Turn.{Turn}
 use Rattle.bench.specs.Got.{Got}
 
--- The state of the funnel machine after turns of harts that have the payloads of these logs at this period and in this
--- mode.
+-- The state of the funnel machine after these turns, where the harts have the payloads of these logs at this period and
+-- in this mode.
 abbrev pub replayed : ℕ → Mode → ℕ → List ProgramLog → List Turn → Funnel
 replayed period mode capacity logs turns =
     after_turns capacity (map (payloads period mode) logs) turns (opening (map (payloads period mode) logs))
 
--- What comes of a hart whose messages these are, and whose packets decode to this.
+-- What comes of a hart's messages, whose packets decode to these events.
 abbrev pub got_from : List Message → List Event → Got
 got_from messages decoded = record {
   packets = packets_in messages;
   taken = length messages;
   bytes = sum (map length (payloads_in messages));
   decoded = decoded;
-  closed = has_ended (packets_in messages);
+  closed = last_is_closing (packets_in messages);
 }

@@ -16,28 +16,28 @@ verdict_text Whole = codes "whole"
 verdict_text Beginning = codes "beginning"
 verdict_text (Differs row) = codes "differs at row " ++ decimal row
 
--- What is told of a hart: its number, how many events its log has, how many packets came, of how many payload bytes,
--- how many events were decoded, and how they compare with the log.
+-- The text of a hart: its number, how many events its log has, how many packets came, how many bytes their payloads
+-- had, how many events were decoded, and how they compare with the log.
 abbrev pub hart_text : ℕ → ℕ → ℕ → ℕ → ℕ → Verdict → List ℕ
 hart_text hart events taken bytes decoded verdict =
     codes "hart " ++ (decimal hart ++ (codes ": " ++ (decimal events ++ (codes " events, "
     ++ (decimal taken ++ (codes " packets, " ++ (decimal bytes ++ (codes " payload bytes, decoded "
     ++ (decimal decoded ++ (codes ", " ++ verdict_text verdict))))))))))
 
--- The line of a hart.
-abbrev pub hart_line : ℕ → Got → ProgramLog → List ℕ
-hart_line hart got log =
+-- The line of a hart in a report.
+abbrev pub report_line : ℕ → Got → ProgramLog → List ℕ
+report_line hart got log =
     hart_text hart (length log.events) got.taken got.bytes (length got.decoded)
     (verdict got.closed got.decoded log.events)
     ++ codes "\n"
 
--- The lines of harts, the first of them this one.
-abbrev pub hart_lines : ℕ → List Got → List ProgramLog → List ℕ
-hart_lines hart [] logs = []
-hart_lines hart (got ∷ gots) [] = []
-hart_lines hart (got ∷ gots) (log ∷ logs) = hart_line hart got log ++ hart_lines (hart + 1) gots logs
+-- The lines of harts in order. The first hart has this number.
+abbrev pub report_lines : ℕ → List Got → List ProgramLog → List ℕ
+report_lines hart [] logs = []
+report_lines hart (got ∷ gots) [] = []
+report_lines hart (got ∷ gots) (log ∷ logs) = report_line hart got log ++ report_lines (hart + 1) gots logs
 
--- What a stop tells.
+-- The text of a stop.
 abbrev pub stop_text : Stop → List ℕ
 stop_text (stop.Memory hart) = codes "memory at hart " ++ decimal hart
 stop_text (stop.HandedBack hart) = codes "handed back at hart " ++ decimal hart
@@ -61,7 +61,7 @@ are_whole (got ∷ gots) [] = false
 are_whole (got ∷ gots) (log ∷ logs) =
     is_whole_verdict (verdict got.closed got.decoded log.events) && are_whole gots logs
 
--- It did, and there is no stop.
+-- Every hart's log came back whole, and there is no stop.
 abbrev pub is_whole : Option Stop → List Got → List ProgramLog → Bool
 is_whole why gots logs = is_none why && are_whole gots logs
 
@@ -72,4 +72,4 @@ result_line false = codes "result: not whole\n"
 
 -- The report: a line for each hart, one for a stop where there is one, and one for the result.
 abbrev pub report_text : Option Stop → List Got → List ProgramLog → List ℕ
-report_text why gots logs = hart_lines 0 gots logs ++ (stop_line why ++ result_line (is_whole why gots logs))
+report_text why gots logs = report_lines 0 gots logs ++ (stop_line why ++ result_line (is_whole why gots logs))

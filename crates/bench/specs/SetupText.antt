@@ -1,4 +1,4 @@
--- The texts of what a run is refused for.
+-- The texts of why nothing is sent at all.
 use Rattle.std.specs.Prelude.{ℕ, List, codes}
 use Rattle.bench.specs.declared.setup.Setup.{Setup}
 use Rattle.bench.specs.declared.setup.Setup.TheVariants as setup

@@ -20,13 +20,14 @@ is_alike (Trap privilege interrupt cause epc tval) (Trap privilege' interrupt' c
     && (is_same_flag interrupt interrupt' && (cause == cause' && tval == tval')))
 is_alike event other = false
 
--- How many events come before the first place where the lists differ or one has ended.
+-- How many events come before the first place where the lists differ or one of them has no event.
 abbrev pub count_alike : List Event → List Event → ℕ
 count_alike [] log = 0
 count_alike (event ∷ decoded) [] = 0
 count_alike (event ∷ decoded) (row ∷ log) = if is_alike event row then suc (count_alike decoded log) else 0
 
--- The log was decoded whole, or a beginning of it, or the row, counted from 1, where it is first another is told.
+-- The whole log was decoded and the hart is closed; or else a beginning of the log, or all of it, was decoded; or else
+-- what was decoded differs from the log, first in this row, counted from 1.
 abbrev pub verdict : Bool → List Event → List Event → Verdict
 verdict closed decoded log =
     if closed && (count_alike decoded log == length decoded && count_alike decoded log == length log) then Whole else

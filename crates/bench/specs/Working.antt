@@ -15,8 +15,8 @@ CarryFirst period mode log messages = payloads_in messages ≡ take (length mess
 abbrev pub AreNotAll : ℕ → Mode → ProgramLog → List Message → Type 0
 AreNotAll period mode log messages = length messages < length (payloads period mode log)
 
--- A worker leaves the receipt of its port, through which the first payloads of its log went, and where one was handed
--- back not all of them.
+-- A worker leaves the receipt of its port. What was sent through it carries the first payloads of the worker's log, and
+-- not all of them where a payload was handed back.
 abbrev pub IsWork : ℕ → Mode → PortView → ProgramLog → PortView → Bool → Type 0
 IsWork period mode port log receipt handed_back =
     (receipt.funnel ≡ port.funnel) × (receipt.hart ≡ port.hart) × CarryFirst period mode log receipt.sent

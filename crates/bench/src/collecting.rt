@@ -14,12 +14,12 @@ ghost use Rattle.message.specs.Accepting.{accepting, harts_after};
 ghost use Rattle.message.specs.declared.fault.DemuxFault.{DemuxFault as AnyDemuxFault};
 ghost use Rattle.receiver.specs.Holds.{HoldsHart};
 ghost use Rattle.receiver.specs.Received.{IsReceived, IsSameHart, events_in};
-ghost use Rattle.receiver.specs.Refused.{IsNotDecoded};
-ghost use Rattle.bench.specs.Collected.{Accepts, Came, Collected, HasCollected, HasDecoded, IsMessageOf, IsRefusedHart};
-ghost use Rattle.bench.specs.Collected.{IsSameOf, Taken, with_packet};
+ghost use Rattle.receiver.specs.NotReceived.{IsNotDecoded};
+ghost use Rattle.bench.specs.Collected.{Accepts, Collected, HasCollected, HasDecoded, HasOutcome, IsMessageOf};
+ghost use Rattle.bench.specs.Collected.{IsRefusedHart, IsSameOf, Taken, one_packet_more};
 ghost use Rattle.bench.specs.Got.{Got, got_of};
 ghost use Rattle.bench.specs.steps.Collecting.{IsCollected, IsLeftBy, closed_in, decoded_in, nothing, taken_in};
-ghost use Rattle.bench.specs.steps.Collecting.{taken_of};
+ghost use Rattle.bench.specs.steps.Collecting.{taken_of_outcome};
 ghost use Rattle.bench.specs.steps.TakesMessage.{TakesMessage};
 
 use crate::outcome::{HartOutcome, Outcome};
@@ -55,7 +55,7 @@ pub struct Collector<'l, 'p, A: Allocator = Global, B: Allocator = Global> {
     /// Whether packets are kept.
     keep: bool,
     receiver: Receiver<A>,
-    /// What came of each hart, but for its events and whether it closed, which the receiver has.
+    /// What came of each hart, without its events and whether it is closed, which the receiver has.
     harts: Vec<HartOutcome<A>, A>,
 }
 
@@ -78,7 +78,7 @@ impl<'l, 'p, A: Allocator, B: Allocator> Model for Collector<'l, 'p, A, B> {
 }
 
 impl<'l, 'p, A: Allocator + Copy, B: Allocator> Collector<'l, 'p, A, B> {
-    /// A collector for the harts of these logs, each with its log's program, to which no message came.
+    /// A collector for the harts of these logs, before the first message. It decodes each hart by its log's program.
     pub fn new(
         alloc: A,
         logs: &'l [LegalLog<'p, B>],
@@ -100,13 +100,14 @@ impl<'l, 'p, A: Allocator + Copy, B: Allocator> Collector<'l, 'p, A, B> {
         })
     }
 
-    /// Takes the next message of a hart in: demultiplexes it and decodes its packet. A fault leaves what came of all
-    /// harts as it was, but that the hart is refused after [`CollectFault::Memory`]. Further messages of a hart that is
-    /// refused change nothing.
+    /// Takes the next message of a hart in: demultiplexes it and decodes its packet.
+    ///
+    /// A fault leaves what came of all harts as it was. After [`CollectFault::Memory`] the collector notes that memory
+    /// was refused for the hart. From then on messages of that hart change nothing.
     pub fn take_in(&mut self, message: Message) -> Result<(), CollectFault>
         ensures logs { (self.new.logs ≡ self.old.logs) × (self.new.keep ≡ self.old.keep) }
 
-        // The next message of a log adds what it tells, unless memory is refused.
+        // The next message of a log adds what it settles, unless memory is refused.
         ensures next { (period : ℕ) (mode : Mode) (count : ℕ) (log : ProgramLog)
             → HasCollected period mode log count message.hart self.old
             → IsMessageOf period mode log count message
@@ -117,17 +118,18 @@ impl<'l, 'p, A: Allocator + Copy, B: Allocator> Collector<'l, 'p, A, B> {
         ensures others { (hart : ℕ) → hart ≢ message.hart → IsSameOf hart self.old self.new }
 
         // A fault leaves what came of the hart as it was.
-        ensures memory { (got : Got) (refused : Bool) → Came message.hart got refused self.old
-            → result ≡ Err CollectFault.Memory → Came message.hart got true self.new }
-        ensures undecoded { (got : Got) (refused : Bool) (why : AnyDecodeFault) → Came message.hart got refused self.old
-            → result ≡ Err (CollectFault.Decode why) → Came message.hart got refused self.new }
+        ensures memory { (got : Got) (refused : Bool) → HasOutcome message.hart got refused self.old
+            → result ≡ Err CollectFault.Memory → HasOutcome message.hart got true self.new }
+        ensures undecoded { (got : Got) (refused : Bool) (why : AnyDecodeFault)
+            → HasOutcome message.hart got refused self.old → result ≡ Err (CollectFault.Decode why)
+            → HasOutcome message.hart got refused self.new }
         ensures not_accepted { (why : AnyDemuxFault) → result ≡ Err (CollectFault.Demux why) → self.new ≡ self.old }
         ensures demux { ¬ IsRefusedHart message.hart self.old → (why : AnyDemuxFault)
             → (result ≡ Err (CollectFault.Demux why)) ↔ (accepting self.old.received.expected message ≡ Err why) }
         ensures passed_over { IsRefusedHart message.hart self.old → (result ≡ Ok tt) × (self.new ≡ self.old) }
 
-        // Of a hart that is not refused, whatever its messages were: the packet of a message that is accepted is
-        // decoded behind those that were, and counted, unless no log is described with it or memory is refused.
+        // Where nothing was refused for the hart, whatever its messages were: the packet of a message that is accepted
+        // is decoded behind those before it, and counted, unless no log is described with it or memory is refused.
         ensures decoded { (packet : AnyPacket) (log : ProgramLog) (packets : List AnyPacket)
             → Accepts message packet self.old → HasDecoded log message.hart packets self.old
             → OnOk result (HasDecoded log message.hart (packets ++ packet ∷ []) self.new) }
@@ -141,7 +143,7 @@ impl<'l, 'p, A: Allocator + Copy, B: Allocator> Collector<'l, 'p, A, B> {
             → IsNotDecoded (words_of log.program) packets packet why }
         ensures counts { (packet : AnyPacket) (taken : Taken) → Accepts message packet self.old
             → slice_get self.old.harts message.hart ≡ Some taken → OnOk result (slice_get self.new.harts message.hart
-            ≡ Some (with_packet self.old.keep packet (length message.payload) taken)) }
+            ≡ Some (one_packet_more self.old.keep packet (length message.payload) taken)) }
         ensures expected { ¬ IsRefusedHart message.hart self.old
             → self.new.received.expected ≡ harts_after self.old.received.expected message }
         ensures kept { OnErr result (self.new.received
@@ -151,7 +153,7 @@ impl<'l, 'p, A: Allocator + Copy, B: Allocator> Collector<'l, 'p, A, B> {
         self.take_message(message)
     }
 
-    /// The same, whose contract says all of it in one record.
+    /// The same, with a contract of one record.
     pub(crate) fn take_message(&mut self, message: Message) -> Result<(), CollectFault>
         ensures { TakesMessage message result self.old self.new }
     {
@@ -175,10 +177,11 @@ impl<'l, 'p, A: Allocator + Copy, B: Allocator> Collector<'l, 'p, A, B> {
         )
     }
 
-    /// Notes that memory for the hart was refused, or the start of its worker.
+    /// Notes that memory or its thread was refused for the hart.
     pub fn refuse(&mut self, hart: u16)
         requires known { hart < length self.old.logs }
-        ensures refused { (got : Got) (refused : Bool) → Came hart got refused self.old → Came hart got true self.new }
+        ensures refused { (got : Got) (refused : Bool) → HasOutcome hart got refused self.old
+            → HasOutcome hart got true self.new }
         ensures others { (other : ℕ) → other ≢ hart → IsSameOf other self.old self.new }
         ensures same { self.new ≡ record self.old { harts = self.new.harts } }
     {
@@ -189,7 +192,7 @@ impl<'l, 'p, A: Allocator + Copy, B: Allocator> Collector<'l, 'p, A, B> {
     pub fn finish(self) -> Outcome<A>
         ensures stop { result.stop ≡ None }
         ensures count { length result.harts.items ≡ length self.entry.logs }
-        ensures came { (hart : ℕ) (got : Got) (refused : Bool) → Came hart got refused self.entry
+        ensures came { (hart : ℕ) (got : Got) (refused : Bool) → HasOutcome hart got refused self.entry
             → IsSomeAnd (slice_get result.harts.items hart) (λ came. (got_of came ≡ got) × (came.refused ≡ refused)) }
     {
         let mut harts = self.harts;
@@ -199,7 +202,7 @@ impl<'l, 'p, A: Allocator + Copy, B: Allocator> Collector<'l, 'p, A, B> {
     }
 }
 
-/// An outcome for the hart of each log, of which nothing came.
+/// An outcome for the hart of each log, before its first message.
 fn outcomes_of<A: Allocator + Copy, B: Allocator>(
     alloc: A,
     logs: &[LegalLog<'_, B>],
@@ -209,7 +212,7 @@ fn outcomes_of<A: Allocator + Copy, B: Allocator>(
 {
     let mut harts = Vec::with_capacity(alloc, logs.len())?;
     for hart in 0..logs.len() {
-        // Its contract tells that the log is legal.
+        // By the contract of this call the log is legal.
         let _ = logs[hart].events();
         harts.push_reserved(HartOutcome {
             packets: Vec::new(alloc),
@@ -231,7 +234,7 @@ fn log_at<'l, 'p, B: Allocator>(logs: &'l [LegalLog<'p, B>], hart: usize) -> &'l
     &logs[hart]
 }
 
-/// Whether there is such a hart, and memory for it was refused.
+/// Whether there is such a hart, and memory or its thread was refused for it.
 fn is_refused<A: Allocator>(harts: &Vec<HartOutcome<A>, A>, hart: usize) -> bool
     ensures refused { result ≡ true
         → IsSomeAnd (slice_get (taken_in harts.now.items) hart) (λ taken. IsTrue taken.refused) }
@@ -241,9 +244,11 @@ fn is_refused<A: Allocator>(harts: &Vec<HartOutcome<A>, A>, hart: usize) -> bool
     hart < harts.len() && harts[hart].refused
 }
 
-/// Decodes the next packet of a hart, whose log has so many events, and counts it in the hart's outcome. Room for it is
-/// reserved first, where packets are kept, and from the second packet on, the first that tells an event, for all events
-/// of the log; so that a fault leaves both as they were, but that the outcome tells of memory that was refused.
+/// Decodes the next packet of a hart, whose log has `events` events, and counts it in the hart's outcome.
+///
+/// Room is reserved first: for the packet, where packets are kept, and, from the second packet on, for all events of
+/// the log. The second packet is the first that settles an event. So a fault leaves the receiver and the outcome as
+/// they were, but that the outcome notes memory that was refused.
 fn take_packet<A: Allocator + Copy>(
     receiver: &mut Receiver<A>,
     outcome: &mut HartOutcome<A>,
@@ -254,9 +259,10 @@ fn take_packet<A: Allocator + Copy>(
     packet: Packet,
 ) -> Result<(), CollectFault>
     requires known { message.now.hart < length receiver.old.lists }
-    ensures taken { OnOk result (taken_of outcome.new
-        ≡ with_packet keep packet (length message.now.payload) (taken_of outcome.old)) }
-    ensures left { IfErr result (λ fault. IsLeftBy fault (taken_of outcome.old) (taken_of outcome.new)) }
+    ensures taken { OnOk result (taken_of_outcome outcome.new
+        ≡ one_packet_more keep packet (length message.now.payload) (taken_of_outcome outcome.old)) }
+    ensures left { IfErr result
+        (λ fault. IsLeftBy fault (taken_of_outcome outcome.old) (taken_of_outcome outcome.new)) }
     ensures kept { IfErr result (λ fault. receiver.new ≡ receiver.old) }
     ensures one_memory { result ≢ Err (CollectFault.Decode DecodeFault.Memory) }
     ensures hart { (packets : List AnyPacket) → HoldsHart (words_of program.now) message.now.hart packets receiver.old
@@ -288,8 +294,8 @@ fn take_packet<A: Allocator + Copy>(
     Ok(())
 }
 
-/// Whether there is room for the next packet of a hart, which is reserved: where packets are kept, for it, and from the
-/// second packet on for so many events.
+/// Reserves room for the next packet of a hart, where packets are kept, and, from the second packet on, for `events`
+/// events. Returns whether there is room.
 fn has_room<A: Allocator + Copy>(
     receiver: &mut Receiver<A>,
     outcome: &mut HartOutcome<A>,
@@ -299,7 +305,7 @@ fn has_room<A: Allocator + Copy>(
 ) -> bool
     requires { hart < length receiver.old.lists }
     ensures receiver { receiver.new ≡ receiver.old }
-    ensures outcome { taken_of outcome.new ≡ taken_of outcome.old }
+    ensures outcome { taken_of_outcome outcome.new ≡ taken_of_outcome outcome.old }
     ensures room { result ≡ true → keep ≡ true
         → length outcome.new.packets.items < vec_capacity outcome.new.packets }
 {
@@ -309,9 +315,9 @@ fn has_room<A: Allocator + Copy>(
     outcome.taken == 0 || receiver.reserve(hart, events).is_ok()
 }
 
-/// Why a packet is not decoded. The outcome tells of memory that was refused then.
+/// Why a packet is not decoded. The outcome notes memory that was refused.
 fn undecoded<A: Allocator>(fault: DecodeFault, outcome: &mut HartOutcome<A>) -> CollectFault
-    ensures left { IsLeftBy result (taken_of outcome.old) (taken_of outcome.new) }
+    ensures left { IsLeftBy result (taken_of_outcome outcome.old) (taken_of_outcome outcome.new) }
     ensures memory { fault ≡ DecodeFault.Memory → result ≡ CollectFault.Memory }
     ensures why { (why : AnyDecodeFault) → result ≡ CollectFault.Decode why → fault ≡ why }
     ensures one_memory { result ≢ CollectFault.Decode DecodeFault.Memory }
@@ -323,7 +329,7 @@ fn undecoded<A: Allocator>(fault: DecodeFault, outcome: &mut HartOutcome<A>) -> 
     CollectFault::Decode(fault)
 }
 
-/// Gives the outcome of each hart its events, and whether it closed.
+/// Gives the outcome of each hart its events, and whether it is closed.
 fn fill<A: Allocator>(
     harts: &mut Vec<HartOutcome<A>, A>,
     lists: Vec<Vec<Event, A>, A>,

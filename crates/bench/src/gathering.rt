@@ -17,7 +17,7 @@ use std::alloc::Allocator;
 use std::sync::Wait;
 use std::thread::Threads;
 
-/// Takes messages in until the closing ones of so many harts came, or the channel ended.
+/// Takes messages in until the closing ones of `running` harts came, or the channel ended.
 pub(crate) fn collect<A: Allocator + Copy, R: Wait>(
     rt: &R,
     running: usize,
@@ -42,7 +42,7 @@ pub(crate) fn collect<A: Allocator + Copy, R: Wait>(
     }
 }
 
-/// Takes one message in, and tells whether it closes its hart's trace; `None` where the channel ended.
+/// Takes one message in, and returns whether it closes its hart's trace; `None` where the channel ended.
 fn collect_one<A: Allocator + Copy, R: Wait>(
     rt: &R,
     collector: &mut Collector<'_, '_, A>,
@@ -62,7 +62,8 @@ fn collect_one<A: Allocator + Copy, R: Wait>(
     Some(closing)
 }
 
-/// Joins the workers and settles their receipts. At each place, whether a payload of that hart was handed back.
+/// Joins the workers and settles their receipts. Notes at each hart's place whether a payload of the hart was handed
+/// back.
 pub(crate) fn settle_all<S: Payloads, A: Allocator, R: Threads>(
     rt: &R,
     logs: &[LegalLog<'_>],
@@ -92,7 +93,7 @@ pub(crate) fn settle_all<S: Payloads, A: Allocator, R: Threads>(
     }
 }
 
-/// Joins a worker and settles its receipt, and tells its hart and whether a payload was handed back.
+/// Joins a worker and settles its receipt. Returns its hart, and whether a payload was handed back.
 fn settle<S: Payloads, R: Threads>(rt: &R, worker: Worker<S>, outlet: &mut Outlet) -> (u16, bool)
     requires { worker.promise.port.value.funnel ≡ outlet.old.funnel }
     ensures outlet { outlet.new ≡ outlet.old }

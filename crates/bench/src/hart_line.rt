@@ -1,4 +1,4 @@
-//! What is told of one hart.
+//! The text of one hart in a report.
 
 ghost use Rattle.std.specs.Prelude.{Some};
 ghost use Rattle.bench.specs.Report.{hart_text};
@@ -6,7 +6,7 @@ ghost use Rattle.bench.specs.Report.{hart_text};
 use crate::verdict::Verdict;
 use std::fmt;
 
-/// What is told of a hart.
+/// What a report says of a hart.
 #[derive(Clone, Copy)]
 pub(crate) struct HartLine {
     pub(crate) hart: usize,

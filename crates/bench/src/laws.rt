@@ -18,7 +18,8 @@ pub fn turns_let_beginnings_through()
     ensures lawful { (period : ℕ) (mode : Mode) (capacity : ℕ) (logs : List ProgramLog) (turns : List Turn) →
         All IsLegalLog logs → Lawful (replayed period mode capacity logs turns) }
 
-    // What the messages that were taken of a hart tell is what comes of it after so many packets of its log.
+    // Where the packets that were taken of a hart describe these events, what comes of the hart is what comes of the
+    // first packets of its log, as many as were taken.
     ensures got { (period : ℕ) (mode : Mode) (capacity : ℕ) (logs : List ProgramLog) (turns : List Turn) (hart : ℕ)
         (log : ProgramLog)
         (decoded : List Event) → IsLegalLog log → slice_get logs hart ≡ Some log →

@@ -8,9 +8,9 @@ use std::alloc::{Allocator, Global};
 /// What came of a hart.
 #[derive(Debug, Drop)]
 pub struct HartOutcome<A: Allocator = Global> {
-    /// The packets that were demultiplexed, where they are kept, and else none.
+    /// The packets that were decoded, where they are kept, and else none.
     pub packets: Vec<Packet, A>,
-    /// How many packets were demultiplexed.
+    /// How many packets were decoded.
     pub taken: u64,
     /// How many bytes their payloads had.
     pub bytes: u64,
@@ -18,7 +18,7 @@ pub struct HartOutcome<A: Allocator = Global> {
     pub decoded: Vec<Event, A>,
     /// Whether the closing packet was decoded.
     pub closed: bool,
-    /// Whether memory for this hart, or the start of its worker, was refused.
+    /// Whether memory for this hart, or the thread of its worker, was refused.
     pub refused: bool,
 }
 

@@ -14,7 +14,7 @@ ghost use Rattle.bench.specs.Replayed.{replayed};
 ghost use Rattle.bench.specs.Setting.{setup_fault};
 ghost use Rattle.bench.specs.declared.setup.Setup.{Setup as AnySetup};
 ghost use Rattle.bench.specs.steps.Sending.{AreSending};
-ghost use Rattle.bench.specs.steps.Taking.{AreTaken, IsFrontNext, IsReady, LacksSome, NamesRefusedHart};
+ghost use Rattle.bench.specs.steps.Taking.{CameUnlessRefused, IsFrontNext, IsReady, LacksSome, NamesRefusedHart};
 
 use crate::collecting::{CollectFault, Collector};
 use crate::config::Config;
@@ -29,9 +29,10 @@ use std::alloc::Allocator;
 
 /// Sends the messages of logs through a funnel and decodes what is taken of it, in the order of the turns.
 ///
-/// A turn that cannot act changes nothing: a hart's where the funnel is full or the hart has no message left, and one
-/// of a strange hart; a collecting one where the funnel is empty. The turns may end before all messages are taken. The
-/// one stop is want of memory for a hart, of which nothing more is decoded then, while the others go on.
+/// A turn that cannot act changes nothing: the turn of a hart where the funnel is full, where the hart has no message
+/// left, or where there is no such hart; a collecting turn where the funnel is empty. The turns may end before all
+/// messages are taken. The only stop is [`Stop::Memory`]. Nothing more of that hart is decoded then, and the others go
+/// on.
 pub fn replay<A: Allocator + Copy, B: Allocator>(
     alloc: A,
     logs: &[LegalLog<'_, B>],
@@ -39,7 +40,7 @@ pub fn replay<A: Allocator + Copy, B: Allocator>(
     turns: &[Turn],
 ) -> Result<Outcome<A>, Setup>
     ensures beginnings { IfOk result (λ outcome. AreBeginnings config logs.now outcome.harts.items) }
-    // As many messages came of each hart as were taken of it, but where memory for it was refused.
+    // As many messages came of each hart as were taken of it, unless memory for it was refused.
     ensures taken { IfOk result (λ outcome. AreThoseTaken config logs.now
         (replayed config.period config.mode config.capacity logs.now turns.now).taken outcome.harts.items) }
     ensures lacks { IfOk result (λ outcome. LackSome
@@ -77,8 +78,8 @@ pub fn replay<A: Allocator + Copy, B: Allocator>(
     Ok(outcome)
 }
 
-/// The first fault of this count of logs, of which there may be so many at most, and this configuration, where there is
-/// one.
+/// The first fault of a count of logs, which may be `most` or fewer, and of this configuration; `None` where there is
+/// none.
 pub(crate) fn fault_of(most: u16, logs: usize, config: Config) -> Option<Setup>
     ensures fault { result ≡ setup_fault most logs config }
     ensures harts { result ≡ None → logs ≤ most }
@@ -129,8 +130,8 @@ fn send<A: Allocator, C: Allocator, B: Allocator>(
     }
 }
 
-/// The turn of the collector: it takes the front message in, where there is one. Where memory for it is refused, its
-/// hart is what stops.
+/// The turn of the collector: it takes the front message in, where there is one. Where memory for it is refused, the
+/// stop names its hart.
 fn collect<A: Allocator + Copy, B: Allocator>(
     core: &mut Core<A>,
     collector: &mut Collector<'_, '_, A, B>,
@@ -141,10 +142,12 @@ fn collect<A: Allocator + Copy, B: Allocator>(
         → core.new ≡ record core.old { queue = (take_front state).queue } }
     ensures keep { collector.new.keep ≡ collector.old.keep }
     ensures taken { (period : ℕ) (mode : Mode) (logs : List ProgramLog) (state : Funnel) → state.queue ≡ core.old.queue
-        → IsFrontNext period mode logs state.taken state.queue → AreTaken period mode logs state.taken collector.old
-        → AreTaken period mode logs (take_front state).taken collector.new }
+        → IsFrontNext period mode logs state.taken state.queue
+        → CameUnlessRefused period mode logs state.taken collector.old
+        → CameUnlessRefused period mode logs (take_front state).taken collector.new }
     ensures lacks { (period : ℕ) (mode : Mode) (logs : List ProgramLog) (state : Funnel) → state.queue ≡ core.old.queue
-        → IsFrontNext period mode logs state.taken state.queue → AreTaken period mode logs state.taken collector.old
+        → IsFrontNext period mode logs state.taken state.queue
+        → CameUnlessRefused period mode logs state.taken collector.old
         → LacksSome state.taken collector.old → LacksSome (take_front state).taken collector.new }
     ensures names { NamesRefusedHart stop.old collector.old → NamesRefusedHart stop.new collector.new }
 {

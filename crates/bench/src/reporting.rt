@@ -5,7 +5,7 @@ ghost use Rattle.std.specs.Io.KnownBytes.{Appends};
 ghost use Rattle.output.specs.Begun.{AppendsBeginning};
 ghost use Rattle.legalpath.specs.ProgramLog.{ProgramLog};
 ghost use Rattle.bench.specs.Got.{got_of};
-ghost use Rattle.bench.specs.Report.{are_whole, hart_line, hart_lines, is_whole, is_whole_verdict, report_text};
+ghost use Rattle.bench.specs.Report.{are_whole, report_line, report_lines, is_whole, is_whole_verdict, report_text};
 ghost use Rattle.bench.specs.Report.{result_line, stop_line};
 ghost use Rattle.bench.specs.Verdict.{verdict};
 
@@ -77,7 +77,7 @@ fn verdict_of<A: Allocator, B: Allocator>(
     compare(outcome.closed, outcome.decoded.as_slice(), log.events())
 }
 
-/// Writes a line for each hart, and answers whether every log came back whole.
+/// Writes a line for each hart, and returns whether every log came back whole.
 fn write_harts<W: Write, A: Allocator, B: Allocator>(
     harts: &[HartOutcome<A>],
     logs: &[LegalLog<'_, B>],
@@ -86,8 +86,8 @@ fn write_harts<W: Write, A: Allocator, B: Allocator>(
     requires { length logs.now ≡ length harts.now }
     ensures whole { IfOk result (λ whole. whole ≡ are_whole (map got_of harts.now) logs.now) }
     ensures text { OnOk result (Appends (W.contents sink.old) (W.contents sink.new)
-        (hart_lines 0 (map got_of harts.now) logs.now)) }
-    ensures begun { AppendsBeginning (hart_lines 0 (map got_of harts.now) logs.now)
+        (report_lines 0 (map got_of harts.now) logs.now)) }
+    ensures begun { AppendsBeginning (report_lines 0 (map got_of harts.now) logs.now)
         (W.contents sink.old) (W.contents sink.new) }
     ensures fault { IfErr result (λ fault. fault ≡ WriteFault.Write) }
 {
@@ -101,7 +101,7 @@ fn write_harts<W: Write, A: Allocator, B: Allocator>(
     Ok(whole)
 }
 
-/// Writes the line of a hart, and answers whether its log came back whole.
+/// Writes the line of a hart, and returns whether its log came back whole.
 fn write_hart<W: Write, A: Allocator, B: Allocator>(
     hart: usize,
     outcome: &HartOutcome<A>,
@@ -111,8 +111,8 @@ fn write_hart<W: Write, A: Allocator, B: Allocator>(
     ensures whole { IfOk result (λ whole.
         whole ≡ is_whole_verdict (verdict outcome.now.closed outcome.now.decoded.items log.now.events)) }
     ensures text { OnOk result (Appends (W.contents sink.old) (W.contents sink.new)
-        (hart_line hart (got_of outcome.now) log.now)) }
-    ensures begun { AppendsBeginning (hart_line hart (got_of outcome.now) log.now)
+        (report_line hart (got_of outcome.now) log.now)) }
+    ensures begun { AppendsBeginning (report_line hart (got_of outcome.now) log.now)
         (W.contents sink.old) (W.contents sink.new) }
     ensures fault { IfErr result (λ fault. fault ≡ WriteFault.Write) }
 {

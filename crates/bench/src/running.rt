@@ -27,14 +27,16 @@ use std::thread::{Scope, Threads};
 /// Sends the payloads of logs through a funnel, each log's in a thread of its own, and decodes what is taken of it in
 /// the caller's thread.
 ///
-/// Each send waits for the gate, and for room in the funnel. The caller's thread takes until the closing message of
-/// every hart came whose thread was started, or the channel ended. A hart whose thread was not started is refused, as
-/// is one for which memory is refused; the others go on. The stop tells of a payload that was handed back before it
-/// tells of a channel that ended, and of that before memory; of each kind it names the first hart.
+/// Each send waits for the gate, and for room in the funnel. The caller's thread takes messages until the closing
+/// message came of every hart whose thread was started, or the channel ended. Where memory or its thread is refused for
+/// a hart, the others go on.
 ///
-/// The funnel takes its memory of `global`, and all else is of `alloc`. A fault says why nothing is sent at all: the
-/// count of logs, the capacity or the period, in this order and before memory is taken, or want of memory that is for
-/// no single hart.
+/// The stop names a hart that is not closed. A payload that was handed back comes before a channel that ended, and that
+/// before memory or a thread that was refused. Of each kind the stop names the first hart.
+///
+/// The funnel takes its memory from `global`, and all else is taken from `alloc`. A fault says why nothing is sent at
+/// all: the count of logs, the capacity or the period, in this order and before memory is taken, or memory that was
+/// refused and is for no single hart.
 pub fn run<A: Allocator + Copy, G: Gate, R: Threads + Wait + Sync>(
     alloc: A,
     global: Global,
@@ -65,10 +67,11 @@ pub fn run<A: Allocator + Copy, G: Gate, R: Threads + Wait + Sync>(
     }
 }
 
-/// The same over the ends of a funnel that was opened for as many harts, through which nothing was sent. The period is
-/// 1 or more; the configuration's capacity is not looked at.
+/// The same over the ends of a funnel that was opened for as many harts and through which nothing was sent. The period
+/// is 1 or more; the configuration's capacity is not looked at.
 ///
-/// Where memory is refused that is for no single hart nothing is taken, and the ports are dropped.
+/// An error comes where memory is refused that is for no single hart. Then nothing is taken of the funnel, and the
+/// ports are dropped.
 pub fn run_on<A: Allocator + Copy, G: Gate, R: Threads + Wait + Sync>(
     alloc: A,
     logs: &[LegalLog<'_>],
@@ -83,15 +86,15 @@ pub fn run_on<A: Allocator + Copy, G: Gate, R: Threads + Wait + Sync>(
     requires outlet { (outlet.old.taken ≡ []) × (outlet.old.made ≡ length logs.now) }
     requires count { length logs.now ≤ most_ports }
     ensures beginnings { IfOk result (λ outcome. AreBeginnings config logs.now outcome.harts.items) }
-    // As many messages came of each hart as were taken of it, but where memory for it was refused.
+    // As many messages came of each hart as were taken of it, unless memory or its thread was refused for it.
     ensures taken { IfOk result (λ outcome. AreThoseTaken config logs.now outlet.new.taken outcome.harts.items) }
-    // They carry the first payloads of the hart's log, but where memory for it was refused.
+    // They carry the first payloads of the hart's log, unless memory or its thread was refused for it.
     ensures carried { IfOk result (λ outcome. AreCarried config logs.now outlet.new.taken outcome.harts.items) }
-    // Of a hart that is refused fewer came than were taken, where any were.
+    // Where memory or its thread was refused for a hart, and messages of it were taken, fewer came.
     ensures lacks { IfOk result (λ outcome. LackSomeTaken outlet.new.taken outcome.harts.items) }
     ensures stop { IfOk result (λ outcome. NamesOpen outcome.stop outcome.harts.items) }
     ensures refused_harts { IfOk result (λ outcome. NoRefusedIsClosed outcome.harts.items) }
-    // Where a payload of a hart was handed back, as the stop tells, not all payloads of its log were taken.
+    // Where the stop says that a payload was handed back, not all payloads of that hart's log were taken.
     ensures handed_back { IfOk result (λ outcome.
         IfHandedBack (LacksPayloads config.period config.mode logs.now outlet.new.taken) outcome.stop) }
     ensures untouched { OnErr result (outlet.new ≡ outlet.old) }

@@ -6,7 +6,7 @@ ghost use Rattle.bench.specs.SetupText.{setup_text};
 use std::error::Error;
 use std::fmt;
 
-/// Why nothing is sent at all. Where several apply, the first of them is told.
+/// Why nothing is sent at all. Where several apply, the first of them is returned.
 #[derive(Clone, Copy, Debug, PartialEq, Eq)]
 pub enum Setup {
     /// There is no log.

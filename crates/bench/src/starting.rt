@@ -18,8 +18,8 @@ use std::alloc::Allocator;
 use std::sync::Wait;
 use std::thread::Scope;
 
-/// Starts the worker of each hart, the last first, and notes at each hart's place whether it was started. A hart whose
-/// worker was not is refused.
+/// Starts the worker of each hart, the last first, and notes at each hart's place whether it was started. Where the
+/// thread of a worker is refused, the collector notes it.
 pub(crate) fn start_all<'s, 'p, E, A: Allocator + Copy, G: Gate, R: Wait + Sync>(
     scope: &Scope<'s, E>,
     rt: &'s R,

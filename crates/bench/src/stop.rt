@@ -5,14 +5,14 @@ ghost use Rattle.bench.specs.Report.{stop_text};
 
 use std::fmt;
 
-/// Why some hart's packets were not all decoded. Where several stops arose, one of them is told.
+/// Why some hart's packets were not all decoded. Where several stops arose, one of them is returned.
 #[derive(Clone, Copy, Debug, PartialEq, Eq)]
 pub enum Stop {
-    /// Memory for this hart was refused, or the start of its worker.
+    /// Memory for this hart, or the thread of its worker, was refused.
     Memory(u16),
     /// The channel handed a payload of this hart back.
     HandedBack(u16),
-    /// The channel ended before this hart's closing message.
+    /// The channel ended before this hart's closing message came.
     Ended(u16),
 }
 

@@ -2,18 +2,19 @@
 
 ghost use Rattle.std.specs.Prelude.{◌≡◌, ◌≤◌, IfNone, IfSome, Some, length, slice_get, true};
 ghost use Rattle.funnel.specs.Limits.{most_ports};
-ghost use Rattle.bench.specs.Stopping.{AreClosed, IfHandedBack, IsEndedHart, IsFirst, IsOpenHart, NamesOpen, NoneEnded};
-ghost use Rattle.bench.specs.steps.Stopping.{IsHandedBack, IsOfNone, IsTold};
+ghost use Rattle.bench.specs.Stopping.{AreClosed, ClosedUnlessRefused, IfHandedBack, IsFirst, IsOpenHart};
+ghost use Rattle.bench.specs.Stopping.{IsOpenNotRefused, NamesOpen};
+ghost use Rattle.bench.specs.steps.Stopping.{IsHandedBack, IsOfNone, NamesFirst};
 
 use crate::outcome::HartOutcome;
 use crate::stop::Stop;
 use std::alloc::Allocator;
 
-/// Why some hart is not closed, where one is not: a payload that was handed back, before a channel that ended, before
-/// memory that was refused.
+/// Why some hart is not closed, where one is not. A payload that was handed back comes before a channel that ended, and
+/// that before memory or a thread that was refused.
 pub(crate) fn stop_of<A: Allocator>(harts: &[HartOutcome<A>], handed_back: &[bool]) -> Option<Stop>
     requires { (length harts.now ≡ length handed_back.now) × (length harts.now ≤ most_ports) }
-    ensures told { IsTold harts.now handed_back.now result }
+    ensures first { NamesFirst harts.now handed_back.now result }
     ensures names { NamesOpen result harts.now }
     ensures back { IfHandedBack (λ hart. slice_get handed_back.now hart ≡ Some true) result }
 {
@@ -29,7 +30,7 @@ pub(crate) fn stop_of<A: Allocator>(harts: &[HartOutcome<A>], handed_back: &[boo
     }
 }
 
-/// The first hart that is not closed and of which a payload was handed back.
+/// The first hart that is not closed and whose payload was handed back.
 fn first_handed_back<A: Allocator>(harts: &[HartOutcome<A>], handed_back: &[bool]) -> Option<usize>
     requires { length harts.now ≡ length handed_back.now }
     ensures some { IfSome result (IsFirst (IsHandedBack harts.now handed_back.now)) }
@@ -43,10 +44,10 @@ fn first_handed_back<A: Allocator>(harts: &[HartOutcome<A>], handed_back: &[bool
     None
 }
 
-/// The first hart that is not closed although memory for it was not refused.
+/// The first hart that is not closed although neither memory nor its thread was refused for it.
 fn first_ended<A: Allocator>(harts: &[HartOutcome<A>]) -> Option<usize>
-    ensures some { IfSome result (IsFirst (IsEndedHart harts.now)) }
-    ensures none { IfNone result (NoneEnded harts.now) }
+    ensures some { IfSome result (IsFirst (IsOpenNotRefused harts.now)) }
+    ensures none { IfNone result (ClosedUnlessRefused harts.now) }
 {
     for hart in 0..harts.len() {
         if !harts[hart].closed && !harts[hart].refused {

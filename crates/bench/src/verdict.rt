@@ -10,11 +10,11 @@ use std::fmt;
 /// How what was decoded of a hart compares with its log.
 #[derive(Clone, Copy, Debug, PartialEq, Eq)]
 pub enum Verdict {
-    /// The closing packet came, and the whole log was decoded.
+    /// The closing packet was decoded, and the whole log.
     Whole,
-    /// A beginning of the log was decoded.
+    /// A beginning of the log, or all of it, was decoded.
     Beginning,
-    /// In this row, counted from 1, another event was decoded than the log has, or one where the log has ended.
+    /// In this row, counted from 1, the decoded event is another than the log's, or the log has no such row.
     Differs(u64),
 }
 
@@ -53,7 +53,7 @@ pub fn compare(closed: bool, decoded: &[Event], log: &[Event]) -> Verdict
     }
 }
 
-/// How many events come before the first place where the lists differ or one has ended.
+/// How many events come before the first place where the lists differ or one of them has no event.
 fn count_alike(decoded: &[Event], log: &[Event]) -> usize
     ensures count { result ≡ count_alike decoded.now log.now }
     ensures within { result ≤ length decoded.now }

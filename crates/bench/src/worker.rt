@@ -16,18 +16,19 @@ use std::snapshot::Snapshot;
 use std::sync::Wait;
 use std::thread::{Promise, PromisedHandle, Scope};
 
-/// What a worker gives back.
+/// What a worker returns.
 #[derive(Drop)]
 pub(crate) struct Work {
     /// What its port leaves.
     pub(crate) receipt: Receipt,
-    /// Whether the port gave a payload back: the channel did so, since no source gives one behind its closing payload.
+    /// Whether the port gave a payload back. It does so only where the channel handed the message back, since no source
+    /// gives a payload behind its closing one.
     pub(crate) handed_back: bool,
 }
 
 /// Payloads of a log, one at a time, which a worker sends.
 ///
-/// A thread's closure tells what it promises of a type that it does not know, and not of one with lifetimes.
+/// The promise of a thread's closure can speak of a type parameter, and not of a type with lifetimes: hence this trait.
 pub(crate) trait Payloads: Send + Drop {
     ghost at: { Self → SourceAt };
 
@@ -49,8 +50,8 @@ impl<'l, 'p> Payloads for Source<'l, 'p> {
     }
 }
 
-/// What a worker promises: the receipt of its port, through which the first payloads of its log went, and where one was
-/// handed back not all of them.
+/// What a worker promises: the receipt of its port. What was sent through it carries the first payloads of the worker's
+/// log, and not all of them where a payload was handed back.
 #[derive(Drop)]
 pub(crate) struct Sending<S> {
     pub(crate) port: Snapshot<Port>,
@@ -67,7 +68,7 @@ impl<S: Payloads> Promise<Work> for Sending<S> {
 /// A worker that was started.
 pub(crate) type Worker<S> = PromisedHandle<Work, Sending<S>>;
 
-/// Starts the worker of a hart, which sends at most so many payloads; `None` where no thread could be made.
+/// Starts the worker of a hart, which sends at most `most` payloads; `None` where the thread was refused.
 pub(crate) fn start<'s, E, S: Payloads + 's, G: Gate, R: Wait + Sync>(
     scope: &Scope<'s, E>,
     rt: &'s R,
@@ -96,7 +97,7 @@ pub(crate) fn start<'s, E, S: Payloads + 's, G: Gate, R: Wait + Sync>(
         .ok()
 }
 
-/// Sends the payloads of a source through a port, at most so many and as far as the channel takes them.
+/// Sends the payloads of a source through a port, at most `most`, and until the channel hands one back.
 fn send_all<S: Payloads, G: Gate, R: Wait>(
     rt: &R,
     gate: &G,
@@ -126,7 +127,7 @@ fn send_all<S: Payloads, G: Gate, R: Wait>(
     }
 }
 
-/// Sends a payload with the gate round it, and tells whether the channel took it.
+/// Sends a payload with the gate round it, and returns whether the channel took it.
 fn send_one<G: Gate, R: Wait>(
     rt: &R,
     gate: &G,

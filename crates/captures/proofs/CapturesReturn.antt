@@ -10,7 +10,7 @@ use Rattle.retire.specs.declared.event.Event.{Event}
 use Rattle.rvclass.proofs.WordsLemmas.{words_of-IsProgram}
 use Rattle.rvclass.specs.Fetch.{words_of}
 use Rattle.rvclass.specs.Image.{Image}
-use Rattle.legalpath.specs.ProgramLog.{ProgramLog, IsLegalLog, log_of}
+use Rattle.legalpath.specs.ProgramLog.{ProgramLog, IsLegalLog, program_log}
 use Rattle.payload.specs.declared.mode.Mode.{Mode}
 use Rattle.payload.specs.declared.packet.Packet.{Packet}
 use Rattle.decoder.proofs.UniqueLemmas.{one_log}
@@ -43,20 +43,20 @@ use Rattle.captures.specs.Versions.{header_of}
 use Rattle.captures.specs.declared.outcome.CaptureFault.{CaptureFault}
 use Rattle.captures.specs.declared.outcome.CaptureFault.TheVariants as fault
 
--- The mode that was told before, if one was, is this one.
-abbrev IsToldOf : Mode → Option Mode → Type 0
-IsToldOf mode None = Unit {0}
-IsToldOf mode (Some told) = told ≡ mode
+-- The announced mode, if there is one, is this one.
+abbrev IsAnnouncedIfAny : Mode → Option Mode → Type 0
+IsAnnouncedIfAny mode None = Unit {0}
+IsAnnouncedIfAny mode (Some announced) = announced ≡ mode
 
--- Where a packet opens no trace in another mode than this one, it agrees with what was told.
-agrees_told : (mode : Mode) (told : Option Mode) (p : Packet) → IsToldOf mode told → opens_another (Some mode) p ≡ false
-    → opens_another told p ≡ false
-agrees_told mode None p its agrees = refl
-agrees_told mode (Some told) p its agrees = subst (λ t. opens_another (Some t) p ≡ false) (sym its) agrees
+-- Where a packet opens no trace in another mode than this one, it agrees with the announced mode.
+agrees_announced : (mode : Mode) (announced : Option Mode) (p : Packet) → IsAnnouncedIfAny mode announced
+    → opens_another (Some mode) p ≡ false → opens_another announced p ≡ false
+agrees_announced mode None p its agrees = refl
+agrees_announced mode (Some announced) p its agrees = subst (λ t. opens_another (Some t) p ≡ false) (sym its) agrees
 
 module _ (program : Image) (period : ℕ) (mode : Mode) (logs : List ProgramLog)
     (legal : All IsLegalLog logs) (all_same : All (λ (log : ProgramLog). log.program ≡ program) logs)
-    (few : length logs ≤ 2 ^ 16) (told : Option Mode) (its : IsToldOf mode told) where
+    (few : length logs ≤ 2 ^ 16) (announced : Option Mode) (its : IsAnnouncedIfAny mode announced) where
   abbrev all : List Message
   all = messages_of_harts period mode 0 logs
 
@@ -70,16 +70,16 @@ module _ (program : Image) (period : ℕ) (mode : Mode) (logs : List ProgramLog)
       same_lists lists (map events logs) (count ∙ sym (length-map logs events))
       (λ k d within.
       let known : k < length logs = omega (arith, within, count) in
-      let log = get_or logs k (log_of program d) in
+      let log = get_or logs k (program_log program d) in
       let list = get_or lists k d in
       let image =
-      program_image program period mode logs legal all_same few k log (slice_get-get_or logs k (log_of program d)
+      program_image program period mode logs legal all_same few k log (slice_get-get_or logs k (program_log program d)
       known) in
       one_log (words_of program) (words_of-IsProgram program image) _ list log.events
       (decoded.described k list (slice_get-get_or lists k d within))
-      (log_described program period mode logs legal all_same few k log (slice_get-get_or logs k (log_of program d)
+      (log_described program period mode logs legal all_same few k log (slice_get-get_or logs k (program_log program d)
       known))
-      ∙ sym (get_or-map events logs k (log_of program d) d known))
+      ∙ sym (get_or-map events logs k (program_log program d) d known))
 
   -- And every hart is closed.
   closed_same : (lists : List (List Event)) (closed : List Bool)
@@ -89,15 +89,16 @@ module _ (program : Image) (period : ℕ) (mode : Mode) (logs : List ProgramLog)
       same_lists closed (replicate (length logs) true) (count ∙ sym (length-replicate (length logs) true))
       (λ k d within.
       let known : k < length logs = omega (arith, within, count) in
-      let log = get_or logs k (log_of program []) in
-      decoded.ended k (get_or closed k d) (slice_get-get_or closed k d within)
-      ∙ log_ended program period mode logs legal all_same few k log (slice_get-get_or logs k (log_of program []) known)
+      let log = get_or logs k (program_log program []) in
+      decoded.are_closed k (get_or closed k d) (slice_get-get_or closed k d within)
+      ∙ log_ended program period mode logs legal all_same few k log
+      (slice_get-get_or logs k (program_log program []) known)
       ∙ sym (get_or-replicate (length logs) k true d known))
 
   -- No message behind the first ones is refused.
   not_refused : (messages later : List Message) (rest : List ℕ) (why : DemuxFault) → all ≡ messages ++ later
       → rest ≡ capture later → All IsMessage later
-      → BeginsRefused (words_of program) (length logs) told messages rest (receiving.Demux why)
+      → BeginsRefused (words_of program) (length logs) announced messages rest (receiving.Demux why)
       → AreAccepted (newcomers (length logs)) messages → ⊥
   not_refused messages later rest why whole same ranges refused accepted =
       let first = capture_first later refused.message refused.rest ranges refused.ranges (sym same ∙ refused.begins) in
@@ -111,7 +112,7 @@ module _ (program : Image) (period : ℕ) (mode : Mode) (logs : List ProgramLog)
   -- A packet of theirs that is not decoded lacks memory.
   not_decoded : (messages later : List Message) (rest : List ℕ) (why : DecodeFault) → all ≡ messages ++ later
       → rest ≡ capture later → All IsMessage later
-      → BeginsRefused (words_of program) (length logs) told messages rest (receiving.Decode why)
+      → BeginsRefused (words_of program) (length logs) announced messages rest (receiving.Decode why)
       → AreAccepted (newcomers (length logs)) messages → why ≡ Memory
   not_decoded messages later rest why whole same ranges left accepted =
       let first = capture_first later left.message left.rest ranges left.ranges (sym same ∙ left.begins) in
@@ -129,7 +130,7 @@ module _ (program : Image) (period : ℕ) (mode : Mode) (logs : List ProgramLog)
   -- No packet of theirs opens a trace in another mode.
   not_another : (messages later : List Message) (rest : List ℕ) → all ≡ messages ++ later → rest ≡ capture later
       → All IsMessage later
-      → BeginsRefused (words_of program) (length logs) told messages rest receiving.Mode
+      → BeginsRefused (words_of program) (length logs) announced messages rest receiving.Mode
       → AreAccepted (newcomers (length logs)) messages → ⊥
   not_another messages later rest whole same ranges left accepted =
       let first = capture_first later left.message left.rest ranges left.ranges (sym same ∙ left.begins) in
@@ -139,8 +140,8 @@ module _ (program : Image) (period : ℕ) (mode : Mode) (logs : List ProgramLog)
       let one = next.taken accepted in
       let other = left.refused.accepted in
       let packet : next.packet ≡ left.refused.packet = cc in
-      let agrees = subst (λ p. opens_another told p ≡ false) packet
-      (agrees_told mode told next.packet its next.agrees) in
+      let agrees = subst (λ p. opens_another announced p ≡ false) packet
+      (agrees_announced mode announced next.packet its next.agrees) in
       let another = left.refused.another in
       cc
 
@@ -149,7 +150,8 @@ module _ (program : Image) (period : ℕ) (mode : Mode) (logs : List ProgramLog)
       (messages later : List Message) (rest : List ℕ) → all ≡ messages ++ later → rest ≡ capture later
       → All IsMessage later
       → AreDecoded (λ hart. words_of program) (length logs) messages lists closed
-      → AreAccepted (newcomers (length logs)) messages → Stops (words_of program) (length logs) told messages rest stop
+      → AreAccepted (newcomers (length logs)) messages
+      → Stops (words_of program) (length logs) announced messages rest stop
       → AreReturned logs lists closed stop
   returned lists closed None messages later rest whole same ranges decoded accepted stops =
       let none = capture_none later (sym same ∙ stops) in
@@ -175,7 +177,7 @@ module _ (program : Image) (period : ℕ) (mode : Mode) (logs : List ProgramLog)
 
   -- What is decoded of the capture of all messages.
   pub all_returned : (lists : List (List Event)) (closed : List Bool) (stop : Option (ℕ × CaptureFault))
-      → AreMessagesDecoded (words_of program) (length logs) told (capture all) lists closed stop
+      → AreMessagesDecoded (words_of program) (length logs) announced (capture all) lists closed stop
       → AreReturned logs lists closed stop
   all_returned lists closed stop here =
       let ranges = all_ranges program period mode logs legal all_same few in

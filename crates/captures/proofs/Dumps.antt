@@ -17,8 +17,8 @@ use Rattle.message.specs.declared.fault.MessageFault.{MessageFault}
 use Rattle.message.specs.declared.fault.MessageFault.TheVariants as fault
 use Rattle.message.specs.declared.message.Message.{Message}
 use Rattle.message.specs.steps.Filling.{AreBytes}
-use Rattle.captures.proofs.ToldMessages.{HasTold}
-use Rattle.captures.specs.Dump.{AreMessagesDumped, BeginsDump, Ends, dump_text, is_refused, line_of}
+use Rattle.captures.proofs.DumpedMessages.{HasDumped}
+use Rattle.captures.specs.Dump.{AreMessagesDumped, BeginsDump, Ends, dump_text, has_bad_payload, dump_line}
 use Rattle.captures.specs.NoMessage.{BeginsNone}
 
 -- Bytes end, or begin no message.
@@ -95,42 +95,43 @@ capture_joined (m ∷ front) back =
     ap (λ (l : List ℕ). message_bytes m ++ l) (capture_joined front back)
     ∙ sym (append_assoc (message_bytes m) (capture front) (capture back))
 
--- Messages were told, and a beginning of the line of the next.
+-- Messages were dumped, and a beginning of the line of the next.
 pub dump_begun : (mode : Mode) (bytes left next : List ℕ) (count : ℕ) (bad : Bool) (m : Message)
     (old mid new : Option (List ℕ))
-    → AreBytes bytes → HasTold mode bytes left count bad old mid → IsMessage m → left ≡ message_bytes m ++ next
-    → AppendsBeginning (line_of mode m) mid new
+    → AreBytes bytes → HasDumped mode bytes left count bad old mid → IsMessage m → left ≡ message_bytes m ++ next
+    → AppendsBeginning (dump_line mode m) mid new
     → BeginsDump (AreMessagesDumped mode bytes) old new
-dump_begun mode bytes left next count bad m old mid new are told is begins begun =
+dump_begun mode bytes left next count bad m old mid new are so_far is begins begun =
     let behind : AreBytes next =
     AreBytes-behind (message_bytes m) next (subst AreBytes begins
-    (AreBytes-behind (capture told.messages) left (subst AreBytes told.whole are))) in
+    (AreBytes-behind (capture so_far.messages) left (subst AreBytes so_far.whole are))) in
     let later = parted (length next) next (omega arith) behind in
-    let all = told.messages ++ m ∷ later.messages in
-    let text : dump_text mode all ≡ dump_text mode told.messages ++ (line_of mode m ++ dump_text mode later.messages) =
-    flat_map-append (line_of mode) told.messages (m ∷ later.messages) in
+    let all = so_far.messages ++ m ∷ later.messages in
+    let text : dump_text mode all
+    ≡ dump_text mode so_far.messages ++ (dump_line mode m ++ dump_text mode later.messages) =
+    flat_map-append (dump_line mode) so_far.messages (m ∷ later.messages) in
     record {
       text = dump_text mode all;
-      bad = list_any is_refused all;
+      bad = list_any has_bad_payload all;
       fault = stop_at (length all) later.why;
       dumped = record {
         messages = all;
         rest = later.rest;
-        ranges = All-append IsMessage told.messages (m ∷ later.messages) told.ranges
+        ranges = All-append IsMessage so_far.messages (m ∷ later.messages) so_far.ranges
             (All-cons IsMessage m later.messages is later.ranges);
-        whole = told.whole
-            ∙ ap (λ (l : List ℕ). capture told.messages ++ l)
+        whole = so_far.whole
+            ∙ ap (λ (l : List ℕ). capture so_far.messages ++ l)
             (begins ∙ ap (λ (l : List ℕ). message_bytes m ++ l) later.whole
             ∙ sym (append_assoc (message_bytes m) (capture later.messages) later.rest))
-            ∙ sym (append_assoc (capture told.messages) (capture (m ∷ later.messages)) later.rest)
-            ∙ ap (λ (l : List ℕ). l ++ later.rest) (sym (capture_joined told.messages (m ∷ later.messages)));
-        refused = refl;
+            ∙ sym (append_assoc (capture so_far.messages) (capture (m ∷ later.messages)) later.rest)
+            ∙ ap (λ (l : List ℕ). l ++ later.rest) (sym (capture_joined so_far.messages (m ∷ later.messages)));
+        flag = refl;
         lines = refl;
         ends = ends_at (length all) later.rest later.why later.ends;
       };
       begun = subst (λ (l : List ℕ). AppendsBeginning l old new) (sym text)
-          (begun_between (dump_text mode told.messages) (line_of mode m) (dump_text mode later.messages) old mid new
-          told.text begun);
+          (begun_between (dump_text mode so_far.messages) (dump_line mode m) (dump_text mode later.messages) old mid new
+          so_far.text begun);
     }
 
 -- Some text is the dump of any bytes.
@@ -145,14 +146,14 @@ has_dump mode bytes are =
     let all = parted (length bytes) bytes (omega arith) are in
     record {
       text = dump_text mode all.messages;
-      bad = list_any is_refused all.messages;
+      bad = list_any has_bad_payload all.messages;
       fault = stop_at (length all.messages) all.why;
       dumped = record {
         messages = all.messages;
         rest = all.rest;
         ranges = all.ranges;
         whole = all.whole;
-        refused = refl;
+        flag = refl;
         lines = refl;
         ends = ends_at (length all.messages) all.rest all.why all.ends;
       };

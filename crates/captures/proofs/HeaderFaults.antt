@@ -6,7 +6,7 @@ use Rattle.message.specs.declared.fault.MessageFault.TheVariants as fault
 use Rattle.message.specs.declared.header.Header.{Header}
 use Rattle.captures.specs.NoMessage.{BeginsNoHeader}
 
--- The fault of a header tells why.
+-- The fault of a header says why.
 pub no_header : (bytes : List ℕ) (why : MessageFault) → (why ≡ fault.Short) ⊎ (why ≡ fault.BadHeader)
     → (why ≡ fault.Short → IsCutHeader bytes) → (why ≡ fault.BadHeader → HasBadHeader bytes)
     → BeginsNoHeader bytes why

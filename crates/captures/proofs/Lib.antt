@@ -7,7 +7,7 @@ pub mod OneMode
 pub mod NextMessages
 pub mod CapturesReturn
 pub mod Reaching
-pub mod ToldMessages
+pub mod DumpedMessages
 pub mod Dumps
 pub mod NothingDecoded
 pub mod HeaderFaults

@@ -11,7 +11,7 @@ use Rattle.rvclass.specs.Fetch.{words_of}
 use Rattle.rvclass.specs.Image.{Image, IsImage}
 use Rattle.rvclass.specs.Words.{Words}
 use Rattle.legalpath.specs.Legal.{Legal}
-use Rattle.legalpath.specs.ProgramLog.{ProgramLog, IsLegalLog, log_of}
+use Rattle.legalpath.specs.ProgramLog.{ProgramLog, IsLegalLog, program_log}
 use Rattle.payload.specs.Reading.{reading}
 use Rattle.payload.specs.declared.mode.Mode.{Mode}
 use Rattle.payload.specs.declared.packet.Packet.{Packet}
@@ -19,7 +19,7 @@ use Rattle.encoder.specs.Packets.{packets}
 use Rattle.decoder.proofs.ExtendingLemmas.{front_describes}
 use Rattle.decoder.specs.Describes.{Describes}
 use Rattle.decoder.specs.ModeOf.{mode_of}
-use Rattle.payload.specs.Ended.{has_ended}
+use Rattle.payload.specs.ClosedTrace.{last_is_closing}
 use Rattle.decoder.specs.Pieces.{reported_after, Pieces}
 use Rattle.message.proofs.AcceptedLemmas.{accepted_counted}
 use Rattle.message.proofs.Answering.{answer-next}
@@ -44,7 +44,7 @@ use Rattle.encoder.specs.Payloads.{payloads}
 -- Packets with another behind them have not ended.
 not_ended : (words : Words) (mode : Mode) (before : Option Event) (reported : ℕ) (front : List Packet) (packet : Packet)
     (rest : List Packet) (next : Option Packet) (pieces : List (List Event))
-    → Pieces words mode before reported (front ++ packet ∷ rest) next pieces → has_ended front ≡ false
+    → Pieces words mode before reported (front ++ packet ∷ rest) next pieces → last_is_closing front ≡ false
 not_ended words mode before reported [] packet rest next pieces each = refl
 not_ended words mode before reported (p ∷ front) packet rest next [] each = absurd each
 not_ended words mode before reported (p ∷ []) packet rest next (piece ∷ pieces) each = each.0.0
@@ -107,20 +107,21 @@ module _ (program : Image) (period : ℕ) (mode : Mode) (logs : List ProgramLog)
 
   -- They end its trace.
   pub log_ended : (hart : ℕ) (log : ProgramLog) → slice_get logs hart ≡ Some log
-      → has_ended (packets_of hart all) ≡ true
-  log_ended hart log at = ap has_ended (packets_at hart log at) ∙ packets_end (words_of program) period mode log.events
+      → last_is_closing (packets_of hart all) ≡ true
+  log_ended hart log at =
+      ap last_is_closing (packets_at hart log at) ∙ packets_end (words_of program) period mode log.events
 
   -- A demultiplexer that accepted the messages before takes the one behind them.
   takes : (messages : List Message) (message : Message) (later : List Message) (packet : Packet)
       → all ≡ messages ++ message ∷ later
       → IsSent (length logs) message → reading message.payload ≡ Ok packet
-      → has_ended (packets_of message.hart messages) ≡ false
+      → last_is_closing (packets_of message.hart messages) ≡ false
       → AreAccepted (newcomers (length logs)) messages
       → accepting (expected_after (newcomers (length logs)) messages) message ≡ Ok packet
   takes messages message later packet whole is read going accepted =
       let hart = message.hart in
-      let log = get_or logs hart (log_of program []) in
-      let at = slice_get-get_or logs hart (log_of program []) is.known in
+      let log = get_or logs hart (program_log program []) in
+      let at = slice_get-get_or logs hart (program_log program []) is.known in
       let own = sym (of_hart-log period mode 0 hart hart logs log (omega arith) at) ∙ ap (of_hart hart) whole
       ∙ of_hart-append hart messages (message ∷ later)
       ∙ ap (λ l. of_hart hart messages ++ l) (of_hart-own message later) in
@@ -139,8 +140,8 @@ module _ (program : Image) (period : ℕ) (mode : Mode) (logs : List ProgramLog)
       let hart = message.hart in
       let is =
       All-middle (IsSent (length logs)) messages message later (subst (All (IsSent (length logs))) whole as_sent) in
-      let log = get_or logs hart (log_of program []) in
-      let at = slice_get-get_or logs hart (log_of program []) is.known in
+      let log = get_or logs hart (program_log program []) in
+      let at = slice_get-get_or logs hart (program_log program []) is.known in
       let before = packets_of hart messages in
       let rest = packets_of hart later in
       let split : packets_of hart all ≡ before ++ is.packet ∷ rest = ap (packets_of hart) whole

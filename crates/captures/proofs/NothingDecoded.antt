@@ -38,5 +38,5 @@ module _ (words : Words) (harts : ℕ) (lists : List (List Event)) (closed : Lis
       same_lists closed (replicate harts false) (count ∙ sym (length-replicate harts false))
       (λ k d within.
       let known : k < harts = omega (arith, within, count) in
-      decoded.ended k (get_or closed k d) (slice_get-get_or closed k d within)
+      decoded.are_closed k (get_or closed k d) (slice_get-get_or closed k d within)
       ∙ sym (get_or-replicate harts k false d known))

@@ -30,24 +30,24 @@ trap_agrees : (mode : Mode) (event : Event) (taken : Bool) (level : ℕ) (handle
 trap_agrees mode (Retire addr itype priv) taken level handler address = refl
 trap_agrees mode (Trap priv interrupt cause epc tval) taken level handler address = refl
 
-report_agrees : (told mode : Mode) (reported : ℕ) (front : List Event) (last : Event) (rule : Rule)
-    → AgreesWith told (packet_by mode reported front last rule)
-report_agrees told mode reported front last (by.Trap handler) = trap_agrees told last _ _ _ _
-report_agrees told mode reported front last by.Handler = trap_agrees told (first_or last front) _ _ _ _
-report_agrees told mode reported front last by.Sync = refl
-report_agrees told mode reported front last (by.Target cut_off) = refl
-report_agrees told mode reported front last by.Explicit = refl
-report_agrees told mode reported front last by.Notify = refl
-report_agrees told mode reported front last by.FullMap = refl
+report_agrees : (announced mode : Mode) (reported : ℕ) (front : List Event) (last : Event) (rule : Rule)
+    → AgreesWith announced (packet_by mode reported front last rule)
+report_agrees announced mode reported front last (by.Trap handler) = trap_agrees announced last _ _ _ _
+report_agrees announced mode reported front last by.Handler = trap_agrees announced (first_or last front) _ _ _ _
+report_agrees announced mode reported front last by.Sync = refl
+report_agrees announced mode reported front last (by.Target cut_off) = refl
+report_agrees announced mode reported front last by.Explicit = refl
+report_agrees announced mode reported front last by.Notify = refl
+report_agrees announced mode reported front last by.MapOrNothing = refl
 
-reports_agree : (told mode : Mode) (reported : ℕ) (pieces : List Piece)
-    → All (AgreesWith told) (reports mode reported pieces)
-reports_agree told mode reported [] = All-nil (AgreesWith told)
-reports_agree told mode reported (piece ∷ pieces) =
-    All-cons (AgreesWith told) (packet_by mode reported piece.front piece.last piece.by)
+reports_agree : (announced mode : Mode) (reported : ℕ) (pieces : List Piece)
+    → All (AgreesWith announced) (reports mode reported pieces)
+reports_agree announced mode reported [] = All-nil (AgreesWith announced)
+reports_agree announced mode reported (piece ∷ pieces) =
+    All-cons (AgreesWith announced) (packet_by mode reported piece.front piece.last piece.by)
     (reports mode (reported_by piece.by reported piece.last) pieces)
-    (report_agrees told mode reported piece.front piece.last piece.by)
-    (reports_agree told mode (reported_by piece.by reported piece.last) pieces)
+    (report_agrees announced mode reported piece.front piece.last piece.by)
+    (reports_agree announced mode (reported_by piece.by reported piece.last) pieces)
 
 closing_agrees : (mode : Mode) (rule : Rule) → AgreesWith mode (packet.Support (closing rule))
 closing_agrees mode (by.Trap handler) = refl
@@ -56,7 +56,7 @@ closing_agrees mode by.Sync = refl
 closing_agrees mode (by.Target cut_off) = refl
 closing_agrees mode by.Explicit = refl
 closing_agrees mode by.Notify = refl
-closing_agrees mode by.FullMap = refl
+closing_agrees mode by.MapOrNothing = refl
 
 -- None of them opens a trace in another mode.
 pub packets_agree : (words : Words) (period : ℕ) (mode : Mode) (log : List Event)
@@ -66,5 +66,5 @@ packets_agree words period mode log =
     let end = closing_packet words period log in
     All-cons (AgreesWith mode) (packet.Support (Open mode)) (reports mode 0 pieces ++ end ∷ []) (open_agrees mode)
     (All-append (AgreesWith mode) (reports mode 0 pieces) (end ∷ []) (reports_agree mode mode 0 pieces)
-    (All-cons (AgreesWith mode) end [] (closing_agrees mode (last_rule by.FullMap pieces))
+    (All-cons (AgreesWith mode) end [] (closing_agrees mode (last_rule by.MapOrNothing pieces))
     (All-nil (AgreesWith mode))))

@@ -12,54 +12,57 @@ use Rattle.message.specs.declared.header.Header.{Header}
 use Rattle.message.specs.declared.message.Message.{Message}
 use Rattle.receiver.specs.Agreeing.{Agrees}
 use Rattle.receiver.specs.Holds.{AreDecoded}
-use Rattle.receiver.specs.Refused.{IsRefused}
+use Rattle.receiver.specs.NotReceived.{IsNotReceived}
 use Rattle.receiver.specs.declared.fault.ReceiveFault.{ReceiveFault}
 use Rattle.receiver.specs.declared.fault.ReceiveFault.TheVariants as receiving
 use Rattle.captures.specs.NoMessage.{BeginsNone, BeginsNoHeader}
 use Rattle.captures.specs.declared.outcome.CaptureFault.{CaptureFault}
 use Rattle.captures.specs.declared.outcome.CaptureFault.TheVariants as fault
 
--- After these messages, of so many harts and after this mode was told, the bytes begin with one that is not received.
-pub record BeginsRefused (words : Words) (harts : ℕ) (told : Option Mode) (messages : List Message) (bytes : List ℕ)
-    (why : ReceiveFault) : Type 0 where
+-- The bytes begin with a message that is refused after these messages, for this reason. There are so many harts, and
+-- the header announces this mode, if there is a header.
+pub record BeginsRefused (words : Words) (harts : ℕ) (announced : Option Mode) (messages : List Message)
+    (bytes : List ℕ) (why : ReceiveFault) : Type 0 where
   pub message : Message
   pub rest : List ℕ
   pub ranges : IsMessage message
   pub begins : bytes ≡ message_bytes message ++ rest
-  pub refused : IsRefused words harts told messages message why
+  pub refused : IsNotReceived words harts announced messages message why
 
--- Why decoding stops before these bytes, after these messages.
-abbrev pub StopsBy : Words → ℕ → Option Mode → List Message → List ℕ → CaptureFault → Type 0
-StopsBy words harts told messages bytes (fault.Message why) = BeginsNone bytes why
-StopsBy words harts told messages bytes (fault.Demux why) =
-    BeginsRefused words harts told messages bytes (receiving.Demux why)
-StopsBy words harts told messages bytes (fault.Decode why) =
-    BeginsRefused words harts told messages bytes (receiving.Decode why)
-StopsBy words harts told messages bytes fault.Mode = BeginsRefused words harts told messages bytes receiving.Mode
+-- Why decoding stops after these messages, before these bytes: no whole message stands there, or one that is refused.
+abbrev pub StopsDecoding : Words → ℕ → Option Mode → List Message → List ℕ → CaptureFault → Type 0
+StopsDecoding words harts announced messages bytes (fault.Message why) = BeginsNone bytes why
+StopsDecoding words harts announced messages bytes (fault.Demux why) =
+    BeginsRefused words harts announced messages bytes (receiving.Demux why)
+StopsDecoding words harts announced messages bytes (fault.Decode why) =
+    BeginsRefused words harts announced messages bytes (receiving.Decode why)
+StopsDecoding words harts announced messages bytes fault.Mode =
+    BeginsRefused words harts announced messages bytes receiving.Mode
 
--- Where decoding stops: at the end of the bytes, or before the message with this number, counted from 0.
+-- Where decoding stops, and why: at the end of the bytes, or before the message with this number, counted from 0 over
+-- all harts.
 abbrev pub Stops : Words → ℕ → Option Mode → List Message → List ℕ → Option (ℕ × CaptureFault) → Type 0
-Stops words harts told messages bytes None = bytes ≡ []
-Stops words harts told messages bytes (Some stop) =
-    (stop.0 ≡ length messages) × StopsBy words harts told messages bytes stop.1
+Stops words harts announced messages bytes None = bytes ≡ []
+Stops words harts announced messages bytes (Some stop) =
+    (stop.0 ≡ length messages) × StopsDecoding words harts announced messages bytes stop.1
 
 -- The bytes are those of messages and some rest. A demultiplexer of so many harts accepts the messages, each in its
--- turn, and none opens a trace in another mode than was told; the lists are what they describe; and decoding stops
--- before the rest.
-pub record AreMessagesDecoded (words : Words) (harts : ℕ) (told : Option Mode) (bytes : List ℕ)
+-- turn, and none of them opens a trace in another mode than the announced one, if one is announced. Lists and flags are
+-- what the messages decode to. Decoding stops before the rest.
+pub record AreMessagesDecoded (words : Words) (harts : ℕ) (announced : Option Mode) (bytes : List ℕ)
     (lists : List (List Event)) (closed : List Bool) (stop : Option (ℕ × CaptureFault)) : Type 0 where
   pub messages : List Message
   pub rest : List ℕ
   pub ranges : All IsMessage messages
   pub whole : bytes ≡ capture messages ++ rest
   pub accepted : AreAccepted (newcomers harts) messages
-  pub agree : All (Agrees told) messages
+  pub agree : All (Agrees announced) messages
   pub decoded : AreDecoded (λ hart. words) harts messages lists closed
-  pub stops : Stops words harts told messages rest stop
+  pub stops : Stops words harts announced messages rest stop
 
--- The bytes of a capture decode to these lists. Those of version 1, which do not begin with the mark, are messages of
--- so many harts; those of version 2 are a header and messages of as many harts as it counts, which open in its mode;
--- and where the header is cut short or bad, nothing is decoded.
+-- The bytes of a capture decode to these lists and flags. Bytes of version 1, which do not begin with the mark, are
+-- messages of so many harts. Bytes of version 2 are a header, which announces the mode, and messages of as many harts
+-- as it counts. Where the header is cut short or bad, nothing is decoded of so many harts, and decoding stops at once.
 pub data IsDecoded (words : Words) (harts : ℕ) (bytes : List ℕ) (lists : List (List Event)) (closed : List Bool)
     (stop : Option (ℕ × CaptureFault)) : Type 0 where
   Version1 : ¬ IsMarked bytes → AreMessagesDecoded words harts None bytes lists closed stop

@@ -21,27 +21,28 @@ use Rattle.captures.specs.NoMessage.{BeginsNone, BeginsNoHeader}
 use Rattle.captures.specs.PacketText.{reading_text}
 
 -- The payload of a message is no packet.
-abbrev pub is_refused : Message → Bool
-is_refused message = is_err (reading message.payload)
+abbrev pub has_bad_payload : Message → Bool
+has_bad_payload message = is_err (reading message.payload)
 
--- A dump ends at the end of the bytes, or after so many messages, before bytes that begin none.
+-- A dump ends at the end of the bytes; or, with this fault, after so many messages, where no whole message stands.
 abbrev pub Ends : ℕ → List ℕ → Option (ℕ × MessageFault) → Type 0
 Ends count rest None = rest ≡ []
 Ends count rest (Some fault) = (fault.0 ≡ count) × BeginsNone rest fault.1
 
--- The line of a message whose payload gives this: the hart's number, the message's, and what the payload is.
+-- The line of a message whose payload unpacks to this: the hart's number, the message's, and the text of the payload,
+-- whose address field is named by this mode.
 abbrev pub line_with : Mode → Message → Result Packet PackFault → List ℕ
-line_with told message read =
+line_with mode message read =
     decimal message.hart ++
-    (codes " " ++ (decimal message.number ++ (codes " " ++ (reading_text told read ++ codes "\n"))))
+    (codes " " ++ (decimal message.number ++ (codes " " ++ (reading_text mode read ++ codes "\n"))))
 
--- The line of a message.
-abbrev pub line_of : Mode → Message → List ℕ
-line_of told message = line_with told message (reading message.payload)
+-- The line of a message, whose address field is named by this mode.
+abbrev pub dump_line : Mode → Message → List ℕ
+dump_line mode message = line_with mode message (reading message.payload)
 
--- The lines of messages.
+-- The lines of messages, in order.
 abbrev pub dump_text : Mode → List Message → List ℕ
-dump_text told messages = flat_map (line_of told) messages
+dump_text mode messages = flat_map (dump_line mode) messages
 
 -- The name of a mode.
 abbrev pub mode_text : Mode → List ℕ
@@ -55,21 +56,21 @@ header_line header =
     (mode_text header.mode ++
     (codes " period=" ++ (decimal header.period ++ (codes " harts=" ++ (decimal header.harts ++ codes "\n")))))
 
--- The bytes are those of messages and some rest, before which the dump ends. The text is the lines of the messages,
--- whose address fields are named by the mode that was told, and it is told whether a payload is bad.
-pub record AreMessagesDumped (told : Mode) (bytes : List ℕ) (bad : Bool) (fault : Option (ℕ × MessageFault))
+-- The bytes are those of messages and some rest, before which the dump ends, for this fault if there is one. The text
+-- is the lines of the messages, whose address fields are named by this mode. The flag says whether a payload is bad.
+pub record AreMessagesDumped (mode : Mode) (bytes : List ℕ) (bad : Bool) (fault : Option (ℕ × MessageFault))
     (text : List ℕ) : Type 0 where
   pub messages : List Message
   pub rest : List ℕ
   pub ranges : All IsMessage messages
   pub whole : bytes ≡ capture messages ++ rest
-  pub refused : bad ≡ list_any is_refused messages
-  pub lines : text ≡ dump_text told messages
+  pub flag : bad ≡ list_any has_bad_payload messages
+  pub lines : text ≡ dump_text mode messages
   pub ends : Ends (length messages) rest fault
 
--- The text is the dump of a capture. Bytes of version 1, which do not begin with the mark, are messages; those of
--- version 2 are a header, which has a line of its own, and messages; and where the header is cut short or bad, there is
--- no line.
+-- The text is the dump of a capture. Bytes of version 1, which do not begin with the mark, are messages, whose address
+-- fields are named as differences. Bytes of version 2 are a header, which has a line of its own, and messages, whose
+-- address fields are named by the header's mode. Where the header is cut short or bad, there is no line.
 pub data IsDump (bytes : List ℕ) (bad : Bool) (fault : Option (ℕ × MessageFault)) (text : List ℕ) : Type 0 where
   Version1 : ¬ IsMarked bytes → AreMessagesDumped Differential bytes bad fault text → IsDump bytes bad fault text
   Version2 : (header : Header) (rest lines : List ℕ) → IsHeader header → bytes ≡ header_bytes header ++ rest
@@ -78,14 +79,14 @@ pub data IsDump (bytes : List ℕ) (bad : Bool) (fault : Option (ℕ × MessageF
   NoHeader : (why : MessageFault) → BeginsNoHeader bytes why → fault ≡ Some (0, why) → bad ≡ false → text ≡ []
       → IsDump bytes bad fault text
 
--- A text was appended that is a dump by this relation.
+-- A text was appended. By this relation it is a dump with this flag and this fault.
 pub record AppendsDump (IsText : Bool → Option (ℕ × MessageFault) → List ℕ → Type 0) (bad : Bool)
     (fault : Option (ℕ × MessageFault)) (old new : Option (List ℕ)) : Type 0 where
   pub text : List ℕ
   pub dumped : IsText bad fault text
   pub appended : Appends old new text
 
--- A beginning was appended of such a text.
+-- A beginning of a dump by this relation was appended.
 pub record BeginsDump (IsText : Bool → Option (ℕ × MessageFault) → List ℕ → Type 0) (old new : Option (List ℕ))
     : Type 0 where
   pub text : List ℕ

@@ -6,7 +6,8 @@ use Rattle.message.specs.Numbered.{messages_from}
 use Rattle.message.specs.declared.message.Message.{Message}
 use Rattle.encoder.specs.Payloads.{payloads}
 
--- The messages of harts' logs, at this period and in this mode, one hart after the other, the first of them this one.
+-- The messages of harts' logs, at this period and in this mode, one hart after the other. The first hart has this
+-- number.
 abbrev pub messages_of_harts : ℕ → Mode → ℕ → List ProgramLog → List Message
 messages_of_harts period mode hart [] = []
 messages_of_harts period mode hart (log ∷ logs) =

@@ -22,57 +22,59 @@ branch_text false = codes "1"
 abbrev pub map_text : List Bool → List ℕ
 map_text outcomes = if length outcomes == 0 then codes "-" else flat_map branch_text outcomes
 
--- The mode of a trace that opens.
+-- The words for the packet that opens a trace in this mode.
 abbrev pub open_text : Mode → List ℕ
 open_text Differential = codes "open"
 open_text Full = codes "open full"
 
--- What a support packet tells.
+-- The words for a support packet.
 abbrev pub support_text : Support → List ℕ
 support_text (support.Open mode) = open_text mode
 support_text support.EndedRep = codes "close ended_rep"
 support_text support.EndedNtr = codes "close ended_ntr"
 
--- Why an address is reported.
-abbrev pub report_text : Report → List ℕ
-report_text report.Plain = codes "plain"
-report_text report.Updiscon = codes "updiscon"
-report_text report.Notify = codes "notify"
+-- The word for why an address is reported.
+abbrev pub address_report_text : Report → List ℕ
+address_report_text report.Plain = codes "plain"
+address_report_text report.Updiscon = codes "updiscon"
+address_report_text report.Notify = codes "notify"
 
 -- The cause of a trap, and of an exception its value.
 abbrev pub cause_text : Bool → ℕ → ℕ → List ℕ
 cause_text true cause tval = codes "interrupt cause=" ++ hex cause
 cause_text false cause tval = codes "exception cause=" ++ (hex cause ++ (codes " tval=" ++ hex tval))
 
--- Whether an address is the handler's or the trap's.
-abbrev pub place_text : Bool → List ℕ
-place_text true = codes "handler"
-place_text false = codes "epc"
+-- The name of a trap packet's address: that of the handler, or the exception program counter.
+abbrev pub trap_address_text : Bool → List ℕ
+trap_address_text true = codes "handler"
+trap_address_text false = codes "epc"
 
--- The privilege and the bit of the branch that the address holds.
+-- An address, its privilege, and the branch bit, which is 0 where a taken branch stands there.
 abbrev pub where_text : ℕ → ℕ → Bool → List ℕ
 where_text address privilege taken =
     codes "=" ++ (hex address ++ (codes " priv=" ++ (hex privilege ++ (codes " branch=" ++ branch_text taken))))
 
--- The name of an address field, by the mode that is told before all messages.
+-- The name of an address field in this mode: a difference, or an address.
 abbrev pub field_text : Mode → List ℕ
 field_text Differential = codes "diff"
 field_text Full = codes "addr"
 
--- The kind of a packet, and its fields by name, where this mode is told before all messages.
+-- The kind of a packet, and its fields by name. The address field is named by this mode.
 abbrev pub packet_text : Mode → Packet → List ℕ
-packet_text told (packet.Sync taken privilege address) = codes "sync addr" ++ where_text address privilege taken
-packet_text told (packet.Trap taken privilege cause interrupt handler address tval) =
+packet_text mode (packet.Sync taken privilege address) = codes "sync addr" ++ where_text address privilege taken
+packet_text mode (packet.Trap taken privilege cause interrupt handler address tval) =
     codes "trap " ++
-    (cause_text interrupt cause tval ++ (codes " " ++ (place_text handler ++ where_text address privilege taken)))
-packet_text told (packet.Support kind) = support_text kind
-packet_text told (packet.Address outcomes delta why) =
+    (cause_text interrupt cause tval ++
+    (codes " " ++ (trap_address_text handler ++ where_text address privilege taken)))
+packet_text mode (packet.Support kind) = support_text kind
+packet_text mode (packet.Address outcomes delta why) =
     codes "address " ++
-    (field_text told ++
-    (codes "=" ++ (hex delta ++ (codes " map=" ++ (map_text outcomes ++ (codes " " ++ report_text why))))))
-packet_text told (packet.Map outcomes) = codes "map " ++ map_text outcomes
+    (field_text mode ++
+    (codes "=" ++ (hex delta ++ (codes " map=" ++ (map_text outcomes ++ (codes " " ++ address_report_text why))))))
+packet_text mode (packet.Map outcomes) = codes "map " ++ map_text outcomes
 
--- The text of what a payload is, where this mode is told before all messages: that of its packet, or why it is none.
+-- The text of what a payload unpacks to: that of its packet, or why it is no packet. The address field is named by this
+-- mode.
 abbrev pub reading_text : Mode → Result Packet PackFault → List ℕ
-reading_text told (Ok packet) = packet_text told packet
-reading_text told (Err why) = codes "bad " ++ pack_fault_text why
+reading_text mode (Ok packet) = packet_text mode packet
+reading_text mode (Err why) = codes "bad " ++ pack_fault_text why

@@ -11,8 +11,9 @@ use Rattle.captures.specs.Versions.{MayStart, capture_of, header_of}
 use Rattle.captures.specs.declared.outcome.CaptureFault.{CaptureFault}
 use Rattle.captures.specs.declared.outcome.CaptureFault.TheVariants as fault
 
--- The bytes are the capture of this version of all messages of legal logs of a program, of one hart after the other, at
--- this period and in this mode.
+-- The logs are legal, and all of this program. The bytes are the capture, in this version, of all their messages at
+-- this period and in this mode, one hart after the other. What stands before the messages has numbers within their
+-- ranges.
 pub record IsCaptureOf (program : Image) (version : Version) (period : ℕ) (mode : Mode) (logs : List ProgramLog)
     (bytes : List ℕ) : Type 0 where
   pub legal : All IsLegalLog logs
@@ -20,7 +21,7 @@ pub record IsCaptureOf (program : Image) (version : Version) (period : ℕ) (mod
   pub start : MayStart version (header_of period mode logs)
   pub whole : bytes ≡ capture_of version period mode logs
 
--- The harts that are asked for are those of the logs. Captures of version 2 tell of themselves how many there are.
+-- In version 1 as many harts are asked for as there are logs. In version 2 any number may be: the header has the count.
 abbrev pub AreAskedFor : Version → ℕ → List ProgramLog → Type 0
 AreAskedFor One harts logs = length logs ≡ harts
 AreAskedFor Two harts logs = Unit {0}
@@ -30,7 +31,8 @@ abbrev pub IsMemory : CaptureFault → Type 0
 IsMemory (fault.Decode why) = why ≡ Memory
 IsMemory other = ⊥
 
--- Decoding stopped for want of memory, or the lists are the logs, and every hart is closed.
+-- Decoding stopped for want of memory; or it came to the end, the lists are the events of the logs, and every hart is
+-- closed.
 abbrev pub AreReturned : List ProgramLog → List (List Event) → List Bool → Option (ℕ × CaptureFault) → Type 0
 AreReturned logs lists closed None =
     (lists ≡ map (λ (log : ProgramLog). log.events) logs) × (closed ≡ replicate (length logs) true)

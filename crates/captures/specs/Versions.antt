@@ -9,16 +9,16 @@ use Rattle.message.specs.declared.header.Version.{Version}
 use Rattle.message.specs.declared.header.Version.TheVariants.{One, Two}
 use Rattle.captures.specs.Messages.{messages_of_harts}
 
--- What is told of all messages of these logs, at this period and in this mode.
+-- The header of the capture of these logs, at this period and in this mode.
 abbrev pub header_of : ℕ → Mode → List ProgramLog → Header
 header_of period mode logs = record { mode = mode; period = period; harts = length logs }
 
--- What stands before the messages: a header in version 2.
+-- What stands before the messages: nothing in version 1, and the header in version 2.
 abbrev pub start_bytes : Version → Header → List ℕ
 start_bytes One header = []
 start_bytes Two header = header_bytes header
 
--- The numbers of what stands before the messages are within their ranges.
+-- What stands before the messages has numbers within their ranges: in version 2 those of the header.
 abbrev pub MayStart : Version → Header → Type 0
 MayStart One header = Unit {0}
 MayStart Two header = IsHeader header

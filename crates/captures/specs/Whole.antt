@@ -1,4 +1,4 @@
--- What the bytes of a capture hold, where all of them are read before any is judged.
+-- What the bytes of a capture hold, where all messages are read before one is judged.
 use Rattle.std.specs.Prelude.{ℕ, ◌≡◌, ◌++◌, All, List, Option, Some, None, length}
 use Rattle.message.specs.Capture.{capture}
 use Rattle.message.specs.Cut.{IsMessage}
@@ -10,8 +10,8 @@ use Rattle.captures.specs.NoMessage.{BeginsNone, BeginsNoHeader}
 use Rattle.captures.specs.declared.capture_reading.ReadFault.{ReadFault}
 use Rattle.captures.specs.declared.capture_reading.ReadFault.TheVariants as fault
 
--- What stands in front of these bytes in a capture: this header in version 2, and nothing in version 1, where they do
--- not begin with the mark.
+-- The bytes of a capture are a header and the rest, in version 2. In version 1 there is no header: the bytes do not
+-- begin with the mark, and are all rest.
 abbrev pub BeginsWith : Option Header → List ℕ → List ℕ → Type 0
 BeginsWith None bytes rest = (¬ IsMarked bytes) × (bytes ≡ rest)
 BeginsWith (Some header) bytes rest = IsHeader header × (bytes ≡ header_bytes header ++ rest)
@@ -21,7 +21,7 @@ pub record IsWhole (bytes : List ℕ) (header : Option Header) (messages : List 
   pub ranges : All IsMessage messages
   pub whole : BeginsWith header bytes (capture messages)
 
--- The bytes are a header, or none, and so many messages, and behind them none stands.
+-- The bytes are a header, or none, and so many messages, behind which no whole message stands, for this reason.
 pub record IsUnread (bytes : List ℕ) (number : ℕ) (why : MessageFault) : Type 0 where
   pub header : Option Header
   pub messages : List Message
@@ -31,7 +31,8 @@ pub record IsUnread (bytes : List ℕ) (number : ℕ) (why : MessageFault) : Typ
   pub counted : number ≡ length messages
   pub stops : BeginsNone rest why
 
--- The bytes begin with no header though they begin as a capture of version 2 does, before any message.
+-- The bytes begin as a capture of version 2 does, and their header is cut short or out of range: the reason says
+-- which. No message was read: the number is 0.
 pub record IsHeaderless (bytes : List ℕ) (number : ℕ) (why : MessageFault) : Type 0 where
   pub first : number ≡ 0
   pub none : BeginsNoHeader bytes why

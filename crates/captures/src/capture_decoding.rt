@@ -9,7 +9,7 @@ ghost use Rattle.receiver.specs.Holds.{HasReceived};
 ghost use Rattle.receiver.specs.Received.{events_in};
 ghost use Rattle.captures.specs.Decoded.{AreMessagesDecoded, IsDecoded};
 ghost use Rattle.captures.specs.Returned.{AreAskedFor, AreReturned, IsCaptureOf};
-ghost use Rattle.captures.specs.steps.Collecting.{HasCollected, told_as};
+ghost use Rattle.captures.specs.steps.Collecting.{HasReceivedUpTo, as_capture_fault};
 
 use crate::outcome::{CaptureFault, CaptureOutcome};
 use message::Messages;
@@ -20,10 +20,10 @@ use std::alloc::{AllocError, Allocator};
 
 /// Reads the messages of a capture, parts them by hart, and decodes each hart's, up to the first fault.
 ///
-/// The harts are those below the count that the header of a capture of version 2 tells, and else those below `harts`.
-/// No packet of version 2 opens a trace in another mode than its header tells. After a fault the outcome holds what was
-/// decoded before, of every hart, which is nothing where the header is cut short or bad; a packet for whose events room
-/// was refused is such a fault too. An error comes only where room for the outcome itself was refused.
+/// The harts are those below the count in the header of a capture of version 2, and else those below `harts`. In
+/// version 2 a packet that opens a trace in another mode than the header's is a fault. Room that is refused for the
+/// events of a packet is a fault too. After a fault the outcome holds what was decoded before, of every hart; where the
+/// header is cut short or bad, that is nothing. An error comes only where room for the outcome itself was refused.
 pub fn decode_capture<A: Allocator + Copy>(
     alloc: A,
     program: &Program,
@@ -51,23 +51,23 @@ pub fn decode_capture<A: Allocator + Copy>(
     }
 }
 
-/// What messages of so many harts decode to, where this mode is told before them.
+/// What messages of so many harts decode to, where the header announces this mode, if there is a header.
 fn decode_messages<A: Allocator + Copy>(
     alloc: A,
     program: &Program,
     harts: u16,
-    told: Option<Mode>,
+    announced: Option<Mode>,
     messages: Messages<'_>,
 ) -> Result<CaptureOutcome<A>, AllocError>
     ensures { IfOk result (λ outcome.
-        AreMessagesDecoded (words_of program.now) harts told messages.entry (events_in outcome.harts.items)
+        AreMessagesDecoded (words_of program.now) harts announced messages.entry (events_in outcome.harts.items)
         outcome.closed.items outcome.fault) }
 {
     let mut receiver = match Receiver::new(alloc, harts) {
         Ok(receiver) => receiver,
         Err(fault) => return Err(fault),
     };
-    let fault = collect(&mut receiver, program, told, messages);
+    let fault = collect(&mut receiver, program, announced, messages);
     let (harts, closed) = receiver.into_parts();
     Ok(CaptureOutcome {
         harts,
@@ -76,7 +76,7 @@ fn decode_messages<A: Allocator + Copy>(
     })
 }
 
-/// The outcome of so many harts of which nothing is decoded.
+/// The outcome where nothing of so many harts is decoded, for this fault.
 fn decode_nothing<A: Allocator + Copy>(
     alloc: A,
     harts: u16,
@@ -98,15 +98,16 @@ fn decode_nothing<A: Allocator + Copy>(
     })
 }
 
-/// Receives messages, where this mode is told before them, and tells where that stops before their end.
+/// Receives messages, where the header announces this mode, if there is a header. Returns where that stops before their
+/// end, and why.
 fn collect<A: Allocator + Copy>(
     receiver: &mut Receiver<A>,
     program: &Program,
-    told: Option<Mode>,
+    announced: Option<Mode>,
     mut messages: Messages<'_>,
 ) -> Option<(u64, CaptureFault)>
     ensures { (harts : ℕ) → HasReceived (λ hart. words_of program.now) harts [] receiver.old
-        → HasCollected (words_of program.now) harts told messages.entry receiver.new result }
+        → HasReceivedUpTo (words_of program.now) harts announced messages.entry receiver.new result }
 {
     let mut number = 0;
     loop {
@@ -115,16 +116,16 @@ fn collect<A: Allocator + Copy>(
             Ok(None) => return None,
             Err(fault) => return Some((number, CaptureFault::Message(fault))),
         };
-        match receiver.receive(program, told, &message) {
+        match receiver.receive(program, announced, &message) {
             Ok(()) => number += 1,
-            Err(fault) => return Some((number, told_as(fault))),
+            Err(fault) => return Some((number, as_capture_fault(fault))),
         }
     }
 }
 
-/// What is told of a capture whose next message is not received.
-fn told_as(fault: ReceiveFault) -> CaptureFault
-    ensures { result ≡ told_as fault }
+/// The fault of a capture of which the next message is refused.
+fn as_capture_fault(fault: ReceiveFault) -> CaptureFault
+    ensures { result ≡ as_capture_fault fault }
 {
     match fault {
         ReceiveFault::Demux(why) => CaptureFault::Demux(why),

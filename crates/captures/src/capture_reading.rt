@@ -15,7 +15,7 @@ use std::fmt;
 /// All that a capture holds.
 #[derive(Debug, Drop)]
 pub struct WholeCapture<A: Allocator = Global> {
-    /// What is told of all messages. A capture of version 1 has none.
+    /// The header. A capture of version 1 has none.
     pub header: Option<Header>,
     /// The messages of all harts, in the order of the capture. None is judged.
     pub messages: Vec<Message, A>,
@@ -24,7 +24,8 @@ pub struct WholeCapture<A: Allocator = Global> {
 /// Why a capture is not read whole.
 #[derive(Clone, Copy, Debug, PartialEq, Eq)]
 pub enum ReadFault {
-    /// Behind so many messages no whole message stands; behind none of them also where the header is cut short or bad.
+    /// Behind so many messages no whole message stands, for this reason. The number is 0 where the header is cut short
+    /// or bad.
     Message(u64, MessageFault),
     /// Memory was refused.
     Memory,
@@ -45,9 +46,9 @@ impl Error for ReadFault {}
 
 /// Reads all messages of a capture, of either version, and the header where it has one.
 ///
-/// No message is judged: a hart may be unknown, a number wrong, a payload no packet. The first place where no message
-/// stands is a fault of the whole; nothing of what was read before is left then. The time and the memory that are taken
-/// grow with the capture.
+/// No message is judged: a hart may be unknown, a number wrong, a payload no packet. Where the capture ends inside its
+/// header or a message, or the header or a payload's length is bad, that is the fault, and nothing of what was read
+/// before is returned. The time and the memory that are taken grow with the capture.
 pub fn read_messages<A: Allocator>(alloc: A, bytes: &[u8]) -> Result<WholeCapture<A>, ReadFault>
     ensures read { IfOk result (λ whole. IsWhole bytes.now whole.header whole.messages.items) }
     ensures fault { IfErr result (IsReadFault bytes.now) }

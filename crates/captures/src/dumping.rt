@@ -4,8 +4,8 @@ ghost use Rattle.std.specs.Prelude.{◌≡◌, IfErr, IfOk, OnErr, OnOk};
 ghost use Rattle.std.specs.Io.KnownBytes.{Appends};
 ghost use Rattle.output.specs.Begun.{AppendsBeginning};
 ghost use Rattle.message.specs.steps.Filling.{AreBytes};
-ghost use Rattle.captures.specs.Dump.{AppendsDump, AreMessagesDumped, BeginsDump, IsDump, header_line, is_refused};
-ghost use Rattle.captures.specs.Dump.{line_of, mode_text};
+ghost use Rattle.captures.specs.Dump.{AppendsDump, AreMessagesDumped, BeginsDump, IsDump, header_line, has_bad_payload};
+ghost use Rattle.captures.specs.Dump.{dump_line, mode_text};
 
 use crate::packet_text::ReadingText;
 use message::{Header, Message, MessageFault, Messages};
@@ -17,21 +17,22 @@ use std::io::Write;
 /// What was found in a capture that was dumped.
 #[derive(Clone, Copy, Debug, PartialEq, Eq)]
 pub struct Dumped {
-    /// The payload of some message is no packet.
+    /// Whether the payload of some message is no packet.
     pub bad: bool,
-    /// Where no message stands before the end of the capture: how many messages come before, and why.
+    /// Where the lines end before the capture does: how many messages come before that place, and why no message stands
+    /// there. At a header that is cut short or bad the number is 0.
     pub fault: Option<(u64, MessageFault)>,
 }
 
-/// Writes a capture as text. A capture of version 2 begins with a line that tells its header, the numbers decimal:
+/// Writes a capture as text. Of a capture of version 2 the first line is that of its header, the numbers decimal:
 /// `capture 2 mode=diff period=N harts=N`, or `mode=full`. Then comes a line for each message: the hart's number and
 /// the message's, both decimal, and the text of its packet, whose numbers are in lower-case hexadecimal, or `bad` and
-/// the reason where the payload is no packet. An address field is named `addr` where the header tells full addresses,
-/// and else `diff`.
+/// the reason where the payload is no packet. An address field is named `addr` where the header's mode is full, and
+/// else `diff`.
 ///
 /// The lines stand in the order of the capture, and go on behind a bad payload. They end at the first place where no
-/// message stands; there are none where the header is cut short or bad. The only fault is [`WriteFault::Write`], where
-/// the writer failed; what was written then is a beginning of the text. No memory is taken.
+/// whole message stands. There are none where the header is cut short or bad. The only fault is [`WriteFault::Write`],
+/// where the writer failed; what was written then is a beginning of the text. No memory is taken.
 pub fn dump_capture<W: Write>(capture: &[u8], sink: &mut W) -> Result<Dumped, WriteFault>
     ensures dumped { IfOk result (λ dumped.
         AppendsDump (IsDump capture.now) dumped.bad dumped.fault (W.contents sink.old) (W.contents sink.new)) }
@@ -83,17 +84,17 @@ fn mode_text(mode: Mode) -> &'static str
     }
 }
 
-/// Writes a line for each message, where this mode is told before all of them.
+/// Writes a line for each message, its address field named by this mode.
 fn dump_messages<W: Write>(
     all: Messages<'_>,
-    told: Mode,
+    mode: Mode,
     sink: &mut W,
 ) -> Result<Dumped, WriteFault>
     requires { AreBytes all }
-    ensures dumped { IfOk result (λ dumped. AppendsDump (AreMessagesDumped told all.entry) dumped.bad dumped.fault
+    ensures dumped { IfOk result (λ dumped. AppendsDump (AreMessagesDumped mode all.entry) dumped.bad dumped.fault
         (W.contents sink.old) (W.contents sink.new)) }
     ensures begun { OnErr result
-        (BeginsDump (AreMessagesDumped told all.entry) (W.contents sink.old) (W.contents sink.new)) }
+        (BeginsDump (AreMessagesDumped mode all.entry) (W.contents sink.old) (W.contents sink.new)) }
     ensures fault { IfErr result (λ fault. fault ≡ WriteFault.Write) }
 {
     let mut messages = all;
@@ -102,8 +103,8 @@ fn dump_messages<W: Write>(
     loop {
         match messages.next() {
             Ok(Some(message)) => {
-                match write_message_line(sink, told, &message) {
-                    Ok(refused) => bad |= refused,
+                match write_message_line(sink, mode, &message) {
+                    Ok(is_bad) => bad |= is_bad,
                     Err(fault) => return Err(fault),
                 }
                 count += 1;
@@ -119,23 +120,22 @@ fn dump_messages<W: Write>(
     }
 }
 
-/// Writes the line of a message, where this mode is told before all of them, and answers whether its payload is no
-/// packet.
+/// Writes the line of a message, its address field named by this mode, and returns whether its payload is no packet.
 fn write_message_line<W: Write>(
     sink: &mut W,
-    told: Mode,
+    mode: Mode,
     message: &Message,
 ) -> Result<bool, WriteFault>
-    ensures refused { IfOk result (λ refused. refused ≡ is_refused message.now) }
-    ensures text { OnOk result (Appends (W.contents sink.old) (W.contents sink.new) (line_of told message.now)) }
-    ensures begun { AppendsBeginning (line_of told message.now) (W.contents sink.old) (W.contents sink.new) }
+    ensures bad { IfOk result (λ bad. bad ≡ has_bad_payload message.now) }
+    ensures text { OnOk result (Appends (W.contents sink.old) (W.contents sink.new) (dump_line mode message.now)) }
+    ensures begun { AppendsBeginning (dump_line mode message.now) (W.contents sink.old) (W.contents sink.new) }
     ensures fault { IfErr result (λ fault. fault ≡ WriteFault.Write) }
 {
     let hart = message.hart;
     let number = message.number;
     let unpacked = unpack(message.payload.bytes());
     let text = ReadingText {
-        told,
+        mode,
         read: &unpacked,
     };
     match write_text(sink, format_args!("{hart} {number} {text}\n")) {

@@ -18,13 +18,13 @@ use payload::Mode;
 use std::alloc::Allocator;
 use std::io::Write;
 
-/// Writes the capture of the messages of each hart's log, hart 0 first, numbered from 0 on. A capture of version 2
-/// begins with a header, which tells the mode, the period and the count of logs.
+/// Writes the capture of the messages of each hart's log, hart 0 first. Each hart's messages are numbered from 0 on. A
+/// capture of version 2 begins with a header, which has the mode, the period and the count of logs.
 ///
-/// The payloads are the shortest of the packets of the log, with a synchronisation at each retirement whose number the
-/// period divides. What their address fields hold, the mode says, which each hart's first message tells. The only fault
-/// is [`MessageFault::Write`], where the writer failed; what was written then is a beginning of the capture. No memory
-/// is taken, and the writer is not flushed.
+/// Each packet has its shortest payload. A log's packets synchronise at each retirement whose number, from 0, the
+/// period divides. The mode says what the address fields hold, and each hart's first message announces it. The only
+/// fault is [`MessageFault::Write`], where the writer failed; what was written then is a beginning of the capture. No
+/// memory is taken, and the writer is not flushed.
 pub fn encode_capture<W: Write, A: Allocator>(
     logs: &[LegalLog<'_, A>],
     period: u16,
@@ -50,7 +50,7 @@ pub fn encode_capture<W: Write, A: Allocator>(
     encode::<Capture, W, A>(logs, period, mode, sink)
 }
 
-/// Writes what stands before the messages in this version, where this is told of all of them.
+/// Writes what stands before the messages in this version: nothing, or this header.
 fn write_start<W: Write>(
     sink: &mut W,
     version: Version,
@@ -67,8 +67,8 @@ fn write_start<W: Write>(
     }
 }
 
-/// Writes the same messages as [`encode_capture`], a line each: the hart's number and the message's, both decimal, and
-/// the payload's bytes in lower-case hexadecimal, parted by spaces.
+/// Writes the same messages as [`encode_capture`], a line each. A line has the hart's number and the message's, both
+/// decimal, and the payload's bytes in lower-case hexadecimal. The three are parted by single spaces.
 ///
 /// The only fault is [`MessageFault::Write`], where the writer failed; what was written then is a beginning of the
 /// text. No memory is taken, and the writer is not flushed.

@@ -1,9 +1,8 @@
 //! Whole captures: from the logs of harts to the bytes of a capture, and from such bytes to text and to logs.
 //!
-//! [`encode_capture`] writes the messages of logs as a capture, and [`encode_hex`] as lines of hexadecimal; [`hex_lines`]
-//! writes those of a hart's payloads as such lines.
-//! [`decode_capture`] gives the events of each hart of a capture, [`read_messages`] its messages as they are, and
-//! [`dump_capture`] writes what they tell, a line each.
+//! [`encode_capture`] writes the messages of logs as a capture, and [`encode_hex`] as lines of hexadecimal;
+//! [`hex_lines`] writes those of a hart's payloads as such lines. [`decode_capture`] returns the events of each hart of
+//! a capture, [`read_messages`] its messages as they are. [`dump_capture`] writes a line of text for each message.
 #![tactic(auto)]
 
 mod capture_decoding;

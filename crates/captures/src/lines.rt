@@ -12,8 +12,9 @@ use payload::Payload;
 use retire::WriteFault;
 use std::io::Write;
 
-/// Writes the messages of a hart with these payloads, numbered from 0 on, a line each, as [`encode_hex`] does: the
-/// hart's number and the message's, both decimal, and the payload's bytes in lower-case hexadecimal, parted by spaces.
+/// Writes the messages of a hart with these payloads, numbered from 0 on, a line each, as [`encode_hex`] does. A line
+/// has the hart's number and the message's, both decimal, and the payload's bytes in lower-case hexadecimal. The three
+/// are parted by single spaces.
 ///
 /// The payloads need not stand for packets. The only fault is [`WriteFault::Write`], where the writer failed; what was
 /// written then is a beginning of the text. No memory is taken, and the writer is not flushed.

@@ -13,13 +13,13 @@ use std::fmt;
 /// Why decoding a capture stops before its end.
 #[derive(Clone, Copy, Debug, PartialEq, Eq)]
 pub enum CaptureFault {
-    /// No whole message stands there.
+    /// No whole message stands there, or at the beginning no header though the capture begins as one of version 2 does.
     Message(MessageFault),
     /// The demultiplexer refuses the message.
     Demux(DemuxFault),
-    /// The packet of the message is not decoded.
+    /// The message is accepted, and its packet is not decoded.
     Decode(DecodeFault),
-    /// The packet of the message opens a trace in another mode than the header tells.
+    /// The message is accepted, and its packet opens a trace in another mode than the header's.
     Mode,
 }
 
@@ -41,10 +41,11 @@ impl Error for CaptureFault {}
 /// What the messages of a capture decode to.
 #[derive(Debug, Drop)]
 pub struct CaptureOutcome<A: Allocator = Global> {
-    /// The events of each hart, as far as its messages tell them.
+    /// The events of each hart, as far as its messages settle them.
     pub harts: Vec<Vec<Event, A>, A>,
-    /// Of each hart whether its closing packet came.
+    /// Whether the closing packet of each hart was decoded.
     pub closed: Vec<bool, A>,
-    /// Where decoding stopped before the end: at which message, counted from 0 over all harts, and why.
+    /// Where decoding stopped before the end: at which message, counted from 0 over all harts, and why. At a header
+    /// that is cut short or bad the number is 0.
     pub fault: Option<(u64, CaptureFault)>,
 }

@@ -2,7 +2,7 @@
 
 ghost use Rattle.std.specs.Prelude.{◌≡◌, Some, codes};
 ghost use Rattle.captures.specs.PacketText.{branch_text, cause_text, field_text, map_text, packet_text};
-ghost use Rattle.captures.specs.PacketText.{place_text, reading_text, report_text, support_text};
+ghost use Rattle.captures.specs.PacketText.{trap_address_text, reading_text, address_report_text, support_text};
 
 use payload::{Mode, Outcomes, PackFault, Packet, Report, Support};
 use std::fmt;
@@ -10,18 +10,18 @@ use std::fmt;
 /// The text of what a payload is: that of its packet, or `bad` and why it is none.
 #[derive(Clone, Copy)]
 pub(crate) struct ReadingText<'a> {
-    /// The mode that is told before all messages.
-    pub(crate) told: Mode,
+    /// The mode that names the address field.
+    pub(crate) mode: Mode,
     pub(crate) read: &'a Result<Packet, PackFault>,
 }
 
 impl fmt::Display for ReadingText<'_> {
-    ghost output = { λ text. Some (reading_text text.told text.read.now) };
+    ghost output = { λ text. Some (reading_text text.mode text.read.now) };
 
     fn fmt<W: fmt::Write>(&self, f: &mut fmt::Formatter<W>) -> fmt::Result {
-        let told = self.told;
+        let mode = self.mode;
         match self.read {
-            Ok(packet) => write!(f, "{}", PacketText { told, packet }),
+            Ok(packet) => write!(f, "{}", PacketText { mode, packet }),
             Err(why) => write!(f, "bad {why}"),
         }
     }
@@ -30,13 +30,13 @@ impl fmt::Display for ReadingText<'_> {
 /// The text of a packet: its kind and its fields by name, their numbers in lower-case hexadecimal.
 #[derive(Clone, Copy)]
 struct PacketText<'a> {
-    /// The mode that is told before all messages.
-    told: Mode,
+    /// The mode that names the address field.
+    mode: Mode,
     packet: &'a Packet,
 }
 
 impl fmt::Display for PacketText<'_> {
-    ghost output = { λ text. Some (packet_text text.told text.packet.now) };
+    ghost output = { λ text. Some (packet_text text.mode text.packet.now) };
 
     fn fmt<W: fmt::Write>(&self, f: &mut fmt::Formatter<W>) -> fmt::Result {
         match *self.packet {
@@ -65,7 +65,7 @@ impl fmt::Display for PacketText<'_> {
                     cause,
                     tval,
                 };
-                let place = place_text(handler);
+                let place = trap_address_text(handler);
                 let branch = branch_text(taken);
                 write!(
                     f,
@@ -79,8 +79,8 @@ impl fmt::Display for PacketText<'_> {
                 report,
             } => {
                 let map = MapText(outcomes);
-                let report = report_text(report);
-                let field = field_text(self.told);
+                let report = address_report_text(report);
+                let field = field_text(self.mode);
                 write!(f, "address {field}={delta:x} map={map} {report}")
             }
             Packet::Map(ref outcomes) => write!(f, "map {}", MapText(outcomes)),
@@ -137,18 +137,18 @@ fn branch_text(taken: bool) -> &'static str
     if taken { "0" } else { "1" }
 }
 
-/// Whose address a trap packet has.
-fn place_text(handler: bool) -> &'static str
-    ensures { result.now ≡ place_text handler }
+/// The name of a trap packet's address: that of the handler, or the exception program counter.
+fn trap_address_text(handler: bool) -> &'static str
+    ensures { result.now ≡ trap_address_text handler }
 {
     if handler { "handler" } else { "epc" }
 }
 
-/// The name of an address field, by the mode that is told before all messages.
-fn field_text(told: Mode) -> &'static str
-    ensures { result.now ≡ field_text told }
+/// The name of an address field in this mode.
+fn field_text(mode: Mode) -> &'static str
+    ensures { result.now ≡ field_text mode }
 {
-    match told {
+    match mode {
         Mode::Differential => "diff",
         Mode::Full => "addr",
     }
@@ -166,9 +166,9 @@ fn support_text(support: Support) -> &'static str
     }
 }
 
-/// The word for what an address packet reports beside its address.
-fn report_text(report: Report) -> &'static str
-    ensures { result.now ≡ report_text report }
+/// The word for why an address is reported.
+fn address_report_text(report: Report) -> &'static str
+    ensures { result.now ≡ address_report_text report }
 {
     match report {
         Report::Plain => "plain",

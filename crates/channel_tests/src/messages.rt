@@ -1,4 +1,4 @@
-//! Messages, captures of them, and what tells a capture apart from other bytes.
+//! Messages, captures of them, and the header with which a capture of version 2 begins.
 
 mod demultiplexing;
 mod devices;

@@ -1,4 +1,4 @@
-//! What the faults are told as.
+//! The texts of the faults.
 
 use super::same::same_at;
 use funnel::OpenFault;
@@ -31,7 +31,7 @@ const OPEN_FAULTS: [(OpenFault, &'static str); 4] = [
 ];
 
 /// Ends the test unless each fault has its text.
-fn are_told<F: Display, R: Abort + AllocGlobal>(rt: &R, table: &[(F, &'static str)]) {
+fn have_texts<F: Display, R: Abort + AllocGlobal>(rt: &R, table: &[(F, &'static str)]) {
     for (place, (fault, want)) in table.iter().enumerate() {
         let text = format!(in rt.alloc(); "{fault}").expect(rt, "memory");
         same_at(rt, place, text.as_str(), *want);
@@ -40,7 +40,7 @@ fn are_told<F: Display, R: Abort + AllocGlobal>(rt: &R, table: &[(F, &'static st
 
 #[test]
 fn texts_of_faults(rt: HostRuntime) {
-    are_told(&rt, &MESSAGE_FAULTS);
-    are_told(&rt, &DEMUX_FAULTS);
-    are_told(&rt, &OPEN_FAULTS);
+    have_texts(&rt, &MESSAGE_FAULTS);
+    have_texts(&rt, &DEMUX_FAULTS);
+    have_texts(&rt, &OPEN_FAULTS);
 }

@@ -28,7 +28,7 @@ abbrev pub IsFlag : Option Text → Bool → Type 0
 IsFlag value is_set = (value ≡ Some (codes "true") → is_set ≡ true)
     × (value ≡ Some (codes "false") → is_set ≡ false) × (value ≡ None → is_set ≡ false)
 
--- Addresses are named in full.
+-- Whether a mode is the one that names addresses in full.
 abbrev pub is_full : Mode → Bool
 is_full Differential = false
 is_full Full = true
@@ -37,7 +37,7 @@ is_full Full = true
 abbrev pub IsMode : Option Text → Mode → Type 0
 IsMode value mode = IsFlag value (is_full mode)
 
--- A capture has no header.
+-- Whether a version is the first, whose captures have no header.
 abbrev pub is_one : Version → Bool
 is_one One = true
 is_one Two = false
@@ -46,18 +46,18 @@ is_one Two = false
 abbrev pub IsVersion : Option Text → Version → Type 0
 IsVersion value version = IsFlag value (is_one version)
 
--- The number that a decimal text is.
+-- The number that a decimal text spells, which may begin with a plus sign.
 abbrev pub decimal : Text → ℕ
 decimal text = digits_value 10 (without_leading_plus text)
 
 -- The text is a decimal number from 1 to `most`.
-abbrev pub TellsUpTo : ℕ → Text → Type 0
-TellsUpTo most text = IsNumeral 10 (without_leading_plus text) × (1 ≤ decimal text) × (decimal text ≤ most)
+abbrev pub IsDecimalUpTo : ℕ → Text → Type 0
+IsDecimalUpTo most text = IsNumeral 10 (without_leading_plus text) × (1 ≤ decimal text) × (decimal text ≤ most)
 
--- A number is from 1 to `most`, and the one that the text tells, where it tells one of these.
+-- A number is from 1 to `most`. Where the argument's text spells such a number, it is that one.
 abbrev pub IsUpTo : ℕ → Option Text → ℕ → Type 0
 IsUpTo most value number = (1 ≤ number) × (number ≤ most)
-    × ((text : Text) → value ≡ Some text → TellsUpTo most text → number ≡ decimal text)
+    × ((text : Text) → value ≡ Some text → IsDecimalUpTo most text → number ≡ decimal text)
 
 -- A period is 1 to 65535 retirements.
 abbrev pub IsPeriod : Option Text → ℕ → Type 0
@@ -71,7 +71,7 @@ IsCapacity = IsUpTo most_capacity
 abbrev pub IsHarts : Option Text → ℕ → Type 0
 IsHarts = IsUpTo (most_harts Two)
 
--- A subcommand of this name with these rows is what is asked.
+-- What is asked is the subcommand of this name, with the values that these rows have for its arguments.
 abbrev pub Asks : Text → List Row → Asked → Type 0
 Asks name rows (Check asked) = (name ≡ codes "check")
     × (asked.base.now ≡ text_of (codes "base") rows) × (asked.image.now ≡ text_of (codes "IMAGE") rows)
@@ -99,7 +99,7 @@ Asks name rows (Bench asked) = (name ≡ codes "bench")
     × (asked.image.now ≡ text_of (codes "IMAGE") rows)
     × (map (λ log. log.now) asked.logs.items ≡ texts_of (codes "LOG") rows)
 
--- What was found of a subcommand is what is asked.
+-- A subcommand with its rows was found, and it is what is asked.
 abbrev pub AsksFound : Option (Text × List Row) → Asked → Type 0
 AsksFound None asked = ⊥
 AsksFound (Some found) asked = Asks found.0 found.1 asked

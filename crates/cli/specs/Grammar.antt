@@ -36,7 +36,7 @@ abbrev pub bench_app : App
 bench_app = with_rule (with_rule (with_rule (with_rule (with_rule (with_rule (new_app (codes "bench")) base_rule)
     period_rule) full_rule) capacity_rule) image_rule) logs_rule
 
--- The program by itself, which wants a subcommand.
+-- The program without its subcommands, one of which has to be there.
 abbrev pub bare_program : App
 bare_program =
     on_top (λ s. record s { subcommand_required = true }) (new_app (codes "tracebench"))
@@ -46,12 +46,12 @@ abbrev pub program_app : App
 program_app = with_subcommand (with_subcommand (with_subcommand (with_subcommand (with_subcommand (with_subcommand
     bare_program check_app.top) encode_app.top) dump_app.top) decode_app.top) replay_app.top) bench_app.top
 
--- The names of the program's subcommands.
+-- The text is the name of one of the program's subcommands.
 abbrev pub IsSubcommand : Text → Type 0
 IsSubcommand name = (name ≡ codes "check")
     ⊎ ((name ≡ codes "encode") ⊎ ((name ≡ codes "dump") ⊎ ((name ≡ codes "decode")
     ⊎ ((name ≡ codes "replay") ⊎ (name ≡ codes "bench")))))
 
--- The command takes these words, with no argument that its subcommands share.
+-- The command has this grammar, and no argument that its subcommands share.
 abbrev pub HasGrammar : App → Command → Type 0
 HasGrammar app c = (app_of c ≡ app) × ((fields_of c).has_globals ≡ false)

@@ -26,14 +26,14 @@ const DEFAULT_CAPACITY: u32 = 16;
 /// The count of harts where the words give none.
 const DEFAULT_HARTS: u16 = 1;
 
-/// The value of an argument, which a parse that succeeds has where the argument is required.
+/// The value of an argument. A parse that succeeds has one where the argument is required.
 fn text<'a>(given: &ArgMatches<'a>, id: &str) -> &'a str
     ensures { result.now ≡ unwrap_or (first_value (found_of given.now) id.now) [] }
 {
     given.get_str(id).unwrap_or("")
 }
 
-/// The values of an argument, of which a parse that succeeds has one at least where it is required.
+/// The values of an argument. A parse that succeeds has at least one where the argument is required.
 fn texts<'a>(alloc: Global, given: &ArgMatches<'a>, id: &str) -> Result<Vec<&'a str>, AllocError>
     ensures { IfOk result (λ values.
         map (λ value. value.now) values.items ≡ texts_of id.now (rows_of (found_of given.now))) }
@@ -196,20 +196,20 @@ fn asked_of<'a>(alloc: Global, name: &str, given: &ArgMatches<'a>) -> Result<Ask
     }
 }
 
-/// What the words ask for, the program's name first among them.
+/// What the words ask for. The program's name is the first word.
 ///
-/// `Ok` comes where `clap` finds no fault in the words by the program's grammar, and holds the texts of
-/// the subcommand's arguments as the words give them: a base is not yet a number, and no file was
-/// looked at. A period is a number from 1 to 65535, a count of harts one from 1 to 1024, and a capacity one
-/// from 1 to 65536; the number is the one in the words, or 1024, 1 and 16 where they give none. A capture is
-/// of version 2 but for `--v1`. An error
-/// is `clap`'s own, calls for help among them: its `Display` is the text for the user, and its kind is
-/// `ErrorKind::OutOfMemory` where memory ran out.
+/// `Ok` comes where `clap` finds no fault in the words by the program's grammar. It holds the texts of the subcommand's
+/// arguments as the words give them: a base is not yet a number, and no file was looked at. A period is a number from 1
+/// to 65535, a count of harts one from 1 to 1024, and a capacity one from 1 to 65536. Where the words give no such
+/// number, it is 1024, 1 or 16. A capture is of version 1 with `--v1`, and else of version 2.
+///
+/// An error is `clap`'s own. A call for help is one. Its `Display` is the text for the user, and its kind is
+/// `ErrorKind::OutOfMemory` where memory was refused.
 pub fn asked<'a>(alloc: Global, words: &'a [String]) -> Result<Asked<'a>, Error>
     ensures found { IfOk result (WordsAsk (map string_bytes words.now)) }
     ensures limits { IfOk result IsWithinLimits }
     ensures refused { FailsBy (fault_of program_app (map string_bytes words.now)) result }
-    // The same of an error, in words that need no `clap`.
+    // When an error comes, said without `clap`.
     ensures fault { IfErr result
         (λ error. (kind_of error ≡ kind.OutOfMemory) ⊎ AreRefused (map string_bytes words.now)) }
 {

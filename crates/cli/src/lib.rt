@@ -1,5 +1,5 @@
-//! What a command line of `tracebench` asks for. The words are read by `clap` here, by the arguments that `arguments`
-//! has, and nowhere else, so that its part of a check is paid in these two crates alone.
+//! What a command line of `tracebench` asks for. `clap` reads the words here, by the arguments of the crate
+//! `arguments`. No other crate uses `clap`, so its part of a check is paid in these two crates alone.
 #![tactic(auto)]
 
 mod asking;

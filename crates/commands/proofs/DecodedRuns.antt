@@ -9,10 +9,10 @@ use Rattle.subcommands.specs.declared.words.Decode.{Decode}
 use Rattle.commands.proofs.Beginnings.{cut_leads}
 use Rattle.commands.proofs.Runs.{leads_on}
 use Rattle.commands.specs.Begun.{IsCutOf}
-use Rattle.commands.specs.Decoded.{Decodes, WritesDecoded, WritesTold, harts_text}
+use Rattle.commands.specs.Decoded.{Decodes, WritesDecoded, WritesLogs, harts_text}
 use Rattle.commands.specs.Decoding.{end_of_capture}
-use Rattle.commands.specs.Found.{IsBase, IsProgram, IsRead}
-use Rattle.commands.specs.Inputs.{CanDecode, CanTell}
+use Rattle.commands.specs.Found.{IsBase, IsProgramAt, IsRead}
+use Rattle.commands.specs.Inputs.{CanDecode, CanWriteLogs}
 use Rattle.commands.specs.Known.{Content}
 use Rattle.commands.specs.Printed.{Printed, PrintsUnlessDenied}
 use Rattle.commands.specs.declared.fault.Fault.{Fault}
@@ -32,38 +32,39 @@ decodes harts program bytes lists closed stop decoded = record {
 }
 
 module _ (content : Content) (asked : Decode) (base : ℕ) (program : Image) (bytes : List ℕ)
-    (based : IsBase asked.base.now (Ok base)) (found : IsProgram content base asked.image (Ok program))
+    (based : IsBase asked.base.now (Ok base)) (found : IsProgramAt content base asked.image (Ok program))
     (read : IsRead content asked.capture (Ok bytes)) where
-  -- What the capture tells is what is printed.
-  told_leads : (lossy : Bool) → asked.lossy ≡ lossy → (printed : Printed)
-      → WritesTold lossy asked.harts program bytes printed → Decodes content asked printed
-  told_leads lossy is printed writes = (
+  -- What is written of the capture is what `decode` prints.
+  logs_lead : (lossy : Bool) → asked.lossy ≡ lossy → (printed : Printed)
+      → WritesLogs lossy asked.harts program bytes printed → Decodes content asked printed
+  logs_lead lossy is printed writes = (
     Ok base,
     based,
     (
       Ok program,
       found,
-      (Ok bytes, read, subst (λ l. WritesTold l asked.harts program bytes printed) (sym is) writes),
+      (Ok bytes, read, subst (λ l. WritesLogs l asked.harts program bytes printed) (sym is) writes),
     ),
   )
 
   -- And once that can be written, `decode` writes.
-  can_lead : (lossy : Bool) → asked.lossy ≡ lossy → CanTell lossy asked.harts program bytes → CanDecode content asked
+  can_lead : (lossy : Bool) → asked.lossy ≡ lossy → CanWriteLogs lossy asked.harts program bytes
+      → CanDecode content asked
   can_lead lossy is can =
-      (base, based, (program, found, (bytes, read, subst (λ l. CanTell l asked.harts program bytes) (sym is) can)))
+      (base, based, (program, found, (bytes, read, subst (λ l. CanWriteLogs l asked.harts program bytes) (sym is) can)))
 
   -- What is printed of the capture is what `decode` prints.
-  pub told_printed : (lossy : Bool) (ended : Result Status Fault) (old new : Option (List ℕ)) → asked.lossy ≡ lossy
-      → PrintsUnlessDenied (WritesTold lossy asked.harts program bytes) (CanTell lossy asked.harts program bytes) ended
-      old new
+  pub logs_printed : (lossy : Bool) (ended : Result Status Fault) (old new : Option (List ℕ)) → asked.lossy ≡ lossy
+      → PrintsUnlessDenied (WritesLogs lossy asked.harts program bytes)
+      (CanWriteLogs lossy asked.harts program bytes) ended old new
       → PrintsUnlessDenied (Decodes content asked) (CanDecode content asked) ended old new
-  told_printed lossy ended old new is =
-      leads_on (WritesTold lossy asked.harts program bytes) (Decodes content asked)
-      (CanTell lossy asked.harts program bytes) (CanDecode content asked) ended old new (told_leads lossy is)
+  logs_printed lossy ended old new is =
+      leads_on (WritesLogs lossy asked.harts program bytes) (Decodes content asked)
+      (CanWriteLogs lossy asked.harts program bytes) (CanDecode content asked) ended old new (logs_lead lossy is)
       (can_lead lossy is)
 
   -- And a cut of it is one of that.
-  pub told_cut : (lossy : Bool) (old new : Option (List ℕ)) → asked.lossy ≡ lossy
-      → IsCutOf (WritesTold lossy asked.harts program bytes) old new → IsCutOf (Decodes content asked) old new
-  told_cut lossy old new is =
-      cut_leads (WritesTold lossy asked.harts program bytes) (Decodes content asked) old new (told_leads lossy is)
+  pub logs_cut : (lossy : Bool) (old new : Option (List ℕ)) → asked.lossy ≡ lossy
+      → IsCutOf (WritesLogs lossy asked.harts program bytes) old new → IsCutOf (Decodes content asked) old new
+  logs_cut lossy old new is =
+      cut_leads (WritesLogs lossy asked.harts program bytes) (Decodes content asked) old new (logs_lead lossy is)

@@ -14,7 +14,8 @@ use Rattle.bench.specs.declared.stop.Stop.{Stop}
 use Rattle.bench.specs.declared.stop.Stop.TheVariants as stop
 use Rattle.commands.specs.Replaying.{AreGot, AreGotOfSome, gots_after}
 
--- Of each hart, the first of them this one, came the first packets of its log, as many as that many messages tell.
+-- Of each hart, the first of them this one, came the first packets of its log: as many as messages of it were taken, or
+-- at most that many where memory for it was refused.
 abbrev pub AreEach : {A : Type 0} → ℕ → ℕ → Mode → List ProgramLog → List Message → List (HartOutcome A) → Type 0
 AreEach {A} hart period mode logs taken harts =
     (place : ℕ) (log : ProgramLog) (came : HartOutcome A) → slice_get logs place ≡ Some log
@@ -77,7 +78,7 @@ gots_of_some hart period mode (log ∷ logs) taken (came ∷ harts) count each =
           (behind hart period mode log logs taken came harts each),
     )
 
--- What the funnel's contract tells of each hart, in the order of the harts.
+-- What the funnel's contract says of each hart, in the order of the harts.
 pub each_taken : {A : Type 0} (config : Config) (logs : List ProgramLog) (taken : List Message)
     (harts : List (HartOutcome A))
     → config.keep ≡ false → AreThoseTaken config logs taken harts

@@ -13,7 +13,7 @@ may_start One header some_period period some_harts harts = tt
 may_start Two header some_period period some_harts harts =
     record { some_period = some_period; period = period; some_harts = some_harts; harts = harts }
 
--- No version has more harts than a hart's number can tell.
+-- No version has more harts than 16 bits can number.
 pub few_harts : (version : Version) (count : ℕ) → count ≤ most_harts version → count ≤ 2 ^ 16
 few_harts One count few = omega (arith, few)
 few_harts Two count few = omega (arith, few)

@@ -18,7 +18,7 @@ use Rattle.output.specs.Begun.{AppendsBeginning}
 use Rattle.output.proofs.Beginnings.{begun_behind, whole_begun}
 use Rattle.commands.proofs.LegalLogs.{paths_at}
 use Rattle.commands.specs.Begun.{BeginsPrinted, WritesFirstLines}
-use Rattle.commands.specs.Checking.{IsJudgedAt, IsVerdict, Judged, WritesLines, is_illegal, line_of, status_with}
+use Rattle.commands.specs.Checking.{IsJudgedAt, IsVerdict, Judged, WritesLines, check_line, is_illegal, status_with}
 use Rattle.commands.specs.Checking.{verdict_line}
 use Rattle.commands.specs.Faults.{Path}
 use Rattle.commands.specs.Found.{IsLog}
@@ -76,7 +76,7 @@ module _ (content : Content) (program : Image) (paths : List Path) (i : ℕ) (d 
             (sym (take_more paths i d within))
             (all_zipped_more (IsJudgedAt content program) (take i paths) logs (get_or paths i d) log
             before.prints.judged is);
-        lines = ap (λ text. text ++ line_of log) before.prints.lines ∙ flat_map_more line_of [] logs log;
+        lines = ap (λ text. text ++ check_line log) before.prints.lines ∙ flat_map_more check_line [] logs log;
         ended = ap (λ status. if is_some illegal then Refused else status) before.prints.ended
             ∙ sym (status_more (list_any is_illegal logs) (is_some illegal))
             ∙ ap status_with (ap (λ b. list_any is_illegal logs || b) (sym (or-false (is_some illegal)))

@@ -33,11 +33,11 @@ ends_silently Prints CanWrite Finds why old (inr finds) prints =
 pub written : (Prints : Printed → Type 0) (CanWrite : Type 0) (text : List ℕ) (status : Status)
     (ended : Result Status Fault)
     (old new : Option (List ℕ)) → Prints (record { text = text; ended = Ok status }) → CanWrite
-    → IfErr ended (λ why. why ≡ fault.Output) → IfOk ended (λ told. told ≡ status) → OnOk ended (Appends old new text)
+    → IfErr ended (λ why. why ≡ fault.Output) → IfOk ended (λ done. done ≡ status) → OnOk ended (Appends old new text)
     → PrintsUnlessDenied Prints CanWrite ended old new
-written Prints CanWrite text status (Ok told) old new prints can failed same appended = record {
+written Prints CanWrite text status (Ok done) old new prints can failed same appended = record {
   text = text;
-  prints = subst (λ told. Prints (record { text = text; ended = Ok told })) (sym same) prints;
+  prints = subst (λ done. Prints (record { text = text; ended = Ok done })) (sym same) prints;
   appended = appended;
 }
 written Prints CanWrite text status (Err why) old new prints can failed same appended = inl (inr (failed, can))

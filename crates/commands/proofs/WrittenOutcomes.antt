@@ -17,7 +17,7 @@ use Rattle.commands.proofs.Runs.{prints}
 use Rattle.commands.specs.Decoded.{WritesDecoded, harts_text}
 use Rattle.commands.specs.EachHart.{hart_line}
 use Rattle.commands.specs.Faults.{write_fault}
-use Rattle.commands.specs.Printed.{IsDenied, PrintsUnlessDenied}
+use Rattle.commands.specs.Printed.{IsPrintingDenied, PrintsUnlessDenied}
 use Rattle.commands.specs.declared.fault.Fault.{Fault}
 use Rattle.commands.specs.declared.fault.Fault.TheVariants as fault
 use Rattle.commands.specs.declared.status.Status.{Status}
@@ -45,7 +45,7 @@ ends_printed harts program bytes lists closed stop ended old new decoded (inr (i
 
 -- Where writing the logs was refused memory or the output failed, the writing ended so.
 pub refused_writing : (lists : List (List Event)) (closed : List Bool) (stop : Option (ℕ × CaptureFault)) (why : Fault)
-    (old new : Option (List ℕ)) → IsDenied ⊤ why → (why ≡ fault.Memory → StopsBehindLine lists old new)
+    (old new : Option (List ℕ)) → IsPrintingDenied ⊤ why → (why ≡ fault.Memory → StopsBehindLine lists old new)
     → EndsWriting lists closed stop (Err why) old new
 refused_writing lists closed stop why old new (inl memory) stops = inr (inr (ap Err memory, stops memory))
 refused_writing lists closed stop why old new (inr output) stops = inr (inl (ap Err output.0))

@@ -21,7 +21,7 @@ use Rattle.commands.specs.Replaying.{Replays}
 use Rattle.commands.specs.Finding.{Once}
 use Rattle.commands.specs.declared.status.Status.{Status}
 
--- The lines of some first ones of the logs at these paths were appended.
+-- All logs at a front part of these paths were read, perhaps at none or at all of them, and their lines were appended.
 pub record AppendsFirstLines (content : Content) (program : Image) (paths : List Path) (old new : Option (List ℕ))
     : Type 0 where
   pub front : List Path
@@ -30,26 +30,26 @@ pub record AppendsFirstLines (content : Content) (program : Image) (paths : List
   pub whole : paths ≡ front ++ rest
   pub lines : IsPrinted (WritesLines content program front) (Ok status) old new
 
--- The program was found, and the lines of some first logs were appended.
+-- The program was found, and the lines of the first logs were appended, perhaps of none.
 abbrev pub BeginsLines : Content → CheckWords → Option (List ℕ) → Option (List ℕ) → Type 0
 BeginsLines content asked old new =
     Once (IsAskedProgram content (most_harts Two) asked.base.now asked.image asked.logs.items) (λ program.
     AppendsFirstLines content program asked.logs.items old new)
 
--- A beginning of a text was appended that may be printed.
+-- What was appended is a beginning of a text that may be printed.
 pub record BeginsPrinted (Prints : Printed → Type 0) (old new : Option (List ℕ)) : Type 0 where
   pub printed : Printed
   pub prints : Prints printed
   pub begun : AppendsBeginning printed.text old new
 
--- Of what is asked a part may be written before memory is refused.
+-- What is asked is a run of `check` or `decode`. These may write a part of their text before memory is refused.
 abbrev pub WritesInParts : Asked → Type 0
 WritesInParts (Check asked) = ⊤
 WritesInParts (Decode asked) = ⊤
 WritesInParts _ = ⊥
 
--- Nothing was written of what is asked, or a beginning: `check` has the lines of some first logs, `decode` a beginning
--- of a text that it may print, and the others nothing.
+-- What may have been written where memory is refused: by `check` nothing or the lines of the first logs, by `decode`
+-- nothing or a beginning of a text that it may print, and by the others nothing.
 abbrev pub IsBegun : Content → Asked → Option (List ℕ) → Option (List ℕ) → Type 0
 IsBegun content (Check asked) old new = Keeps old new ⊎ BeginsLines content asked old new
 IsBegun content (Encode asked) old new = Keeps old new
@@ -58,14 +58,14 @@ IsBegun content (Decode asked) old new = Keeps old new ⊎ BeginsPrinted (Decode
 IsBegun content (Replay asked) old new = Keeps old new
 IsBegun content (Bench asked) old new = Keeps old new
 
--- The lines of some first ones of the logs at these paths are written.
+-- The lines of the logs at a front part of these paths are written.
 pub record WritesFirstLines (content : Content) (program : Image) (paths : List Path) (printed : Printed) : Type 0 where
   pub front : List Path
   pub rest : List Path
   pub whole : paths ≡ front ++ rest
   pub lines : WritesLines content program front printed
 
--- The program was found, and the lines of some first logs are written.
+-- The program was found, and the lines of the first logs are written.
 abbrev pub ChecksFirst : Content → CheckWords → Printed → Type 0
 ChecksFirst content asked printed =
     Once (IsAskedProgram content (most_harts Two) asked.base.now asked.image asked.logs.items) (λ program.
@@ -75,12 +75,12 @@ ChecksFirst content asked printed =
 abbrev pub IsCutOf : (Printed → Type 0) → Option (List ℕ) → Option (List ℕ) → Type 0
 IsCutOf Prints old new = Keeps old new ⊎ BeginsPrinted Prints old new
 
--- Nothing was written of what is asked, or a beginning of a text that it may print: of `check`, of the lines of some
--- first logs.
-abbrev pub IsCut : Content → Asked → Option (List ℕ) → Option (List ℕ) → Type 0
-IsCut content (Check asked) = IsCutOf (ChecksFirst content asked)
-IsCut content (Encode asked) = IsCutOf (Encodes content asked)
-IsCut content (Dump asked) = IsCutOf (Dumps content asked)
-IsCut content (Decode asked) = IsCutOf (Decodes content asked)
-IsCut content (Replay asked) = IsCutOf (Replays content asked)
-IsCut content (Bench asked) = IsCutOf (Benches content asked)
+-- Nothing was written, or a beginning of a text that the run may print. For `check` that text may also be the lines of
+-- the first logs alone.
+abbrev pub IsCutOutput : Content → Asked → Option (List ℕ) → Option (List ℕ) → Type 0
+IsCutOutput content (Check asked) = IsCutOf (ChecksFirst content asked)
+IsCutOutput content (Encode asked) = IsCutOf (Encodes content asked)
+IsCutOutput content (Dump asked) = IsCutOf (Dumps content asked)
+IsCutOutput content (Decode asked) = IsCutOf (Decodes content asked)
+IsCutOutput content (Replay asked) = IsCutOf (Replays content asked)
+IsCutOutput content (Bench asked) = IsCutOf (Benches content asked)

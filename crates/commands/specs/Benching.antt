@@ -16,8 +16,8 @@ use Rattle.commands.specs.Known.{Content}
 use Rattle.commands.specs.Printed.{First, Printed}
 use Rattle.commands.specs.Sending.{IsSetting, config_at, end_of_report}
 
--- The report is of harts of each of which came what comes of a beginning of its packets, with no stop exactly where the
--- closing packet of every hart came.
+-- The report of some harts is written. What came of each hart is what comes of a beginning of its log's packets. There
+-- is no stop exactly where every closing packet came, and else the stop names a hart whose closing packet did not.
 pub record WritesOutcome (config : Config) (logs : List ProgramLog) (printed : Printed) : Type 0 where
   pub stop : Option Stop
   pub harts : List (HartOutcome Global)
@@ -26,13 +26,13 @@ pub record WritesOutcome (config : Config) (logs : List ProgramLog) (printed : P
   pub text : printed.text ≡ report_text stop (map got_of harts) logs
   pub ended : printed.ended ≡ Ok (end_of_report stop (is_whole stop (map got_of harts) logs))
 
--- Where nothing stands against sending these logs, the report of what came of them is written.
+-- Where the logs may be sent with these settings, the report of what came of them is written.
 abbrev pub BenchesLogs : Bench → List ProgramLog → Printed → Type 0
 BenchesLogs asked logs =
     First (IsSetting most_ports (length logs) (config_at asked.period asked.mode asked.capacity)) (λ _.
     WritesOutcome (config_at asked.period asked.mode asked.capacity) logs)
 
--- The base is looked at first, then the count of logs, the image and each log; where there is no fault, the logs are
+-- The base is looked at first, then the count of logs, the image and each log. Where there is no fault, the logs are
 -- sent, and a report is written.
 abbrev pub Benches : Content → Bench → Printed → Type 0
 Benches content asked =

@@ -1,4 +1,4 @@
--- What is printed of what is asked.
+-- What a run prints for what is asked, and how it ends.
 use Rattle.std.specs.Prelude.{ℕ, List, Option, Result}
 use Rattle.subcommands.specs.declared.words.Asked.{Asked}
 use Rattle.subcommands.specs.declared.words.Asked.TheVariants.{Bench, Check, Decode, Dump, Encode, Replay}
@@ -14,8 +14,8 @@ use Rattle.commands.specs.Replaying.{Replays}
 use Rattle.commands.specs.declared.fault.Fault.{Fault}
 use Rattle.commands.specs.declared.status.Status.{Status}
 
--- What is asked for was printed, and was the end, unless memory was refused, or, once all inputs were found, the output
--- failed.
+-- The run printed what its subcommand prints, and ended as that says. The exceptions: memory was refused, or the output
+-- failed once the run had found what it writes from.
 abbrev pub IsCarriedOut : Content → Asked → Result Status Fault → Option (List ℕ) → Option (List ℕ) → Type 0
 IsCarriedOut content (Check asked) ended old new = PrintsUnlessDenied (Checks content asked) (CanCheck content asked)
     ended old new

@@ -27,44 +27,45 @@ abbrev pub IsVerdict : Words → List Event → Option PathFault → Type 0
 IsVerdict words events None = Legal words events
 IsVerdict words events (Some illegal) = IsFirstFault words events illegal
 
--- A log that was read and judged: its path, its events, and its first illegal row, where it has one.
+-- A log that was read and judged: its path, its events, and its first illegal row, if it has one.
 pub record Judged : Type 0 where
   pub path : List ℕ
   pub events : List Event
   pub illegal : Option PathFault
 
--- The log at a path was read, and judged so.
+-- The log at a path was read, and this is its judgement by the program.
 pub record IsJudgedAt (content : Content) (program : Image) (path : Path) (log : Judged) : Type 0 where
   pub named : log.path ≡ path.now
   pub read : IsLog content path (Ok log.events)
   pub verdict : IsVerdict (words_of program) log.events log.illegal
 
--- The line of a log at a path: that it is legal, and how many events it has, or its first illegal row.
+-- The line of a log at a path. It says that the log is legal and how many events it has, or which row is the first
+-- illegal one and why.
 abbrev pub verdict_line : List ℕ → ℕ → Option PathFault → List ℕ
 verdict_line path count None = path ++ (codes ": legal, " ++ (decimal count ++ codes " events\n"))
 verdict_line path count (Some illegal) = path ++ (codes ": " ++ (path_fault_text illegal ++ codes "\n"))
 
 -- The line of a log that was judged.
-abbrev pub line_of : Judged → List ℕ
-line_of log = verdict_line log.path (length log.events) log.illegal
+abbrev pub check_line : Judged → List ℕ
+check_line log = verdict_line log.path (length log.events) log.illegal
 
 -- A log that was judged is illegal.
 abbrev pub is_illegal : Judged → Bool
 is_illegal log = is_some log.illegal
 
--- Input is refused where a log is illegal.
+-- The status of a run that read every log: input is refused where some log is illegal.
 abbrev pub status_with : Bool → Status
 status_with some_illegal = if some_illegal then Refused else Whole
 
--- Every log was read: each has its line, and the status tells whether one is illegal.
+-- Every log was read. Each has its line, and the status says whether one is illegal.
 pub record ChecksAll (content : Content) (program : Image) (paths : List Path) (text : List ℕ) (status : Status)
     : Type 0 where
   pub logs : List Judged
   pub judged : AllZip (IsJudgedAt content program) paths logs
-  pub lines : text ≡ flat_map line_of logs
+  pub lines : text ≡ flat_map check_line logs
   pub ended : status ≡ status_with (list_any is_illegal logs)
 
--- The logs before this path were read, each of which has its line, and the log at this path was not, for this reason.
+-- The logs before some path were read, and each has its line. The log at that path was not read, for this reason.
 pub record ChecksUpTo (content : Content) (program : Image) (paths : List Path) (text : List ℕ) (why : Fault)
     : Type 0 where
   pub front : List Path
@@ -73,10 +74,11 @@ pub record ChecksUpTo (content : Content) (program : Image) (paths : List Path) 
   pub logs : List Judged
   pub whole : paths ≡ front ++ path ∷ rest
   pub judged : AllZip (IsJudgedAt content program) front logs
-  pub lines : text ≡ flat_map line_of logs
+  pub lines : text ≡ flat_map check_line logs
   pub unread : IsLog content path (Err why)
 
--- The lines of the logs at these paths, up to the first that is not read, and the end that goes with them.
+-- The text is the lines of the logs at these paths, up to the first that is not read, and this is the end that goes
+-- with it.
 abbrev pub EndsLines : Content → Image → List Path → List ℕ → Result Status Fault → Type 0
 EndsLines content program paths text (Ok status) = ChecksAll content program paths text status
 EndsLines content program paths text (Err why) = ChecksUpTo content program paths text why
@@ -85,7 +87,7 @@ EndsLines content program paths text (Err why) = ChecksUpTo content program path
 abbrev pub WritesLines : Content → Image → List Path → Printed → Type 0
 WritesLines content program paths printed = EndsLines content program paths printed.text printed.ended
 
--- The program is found first, by the base, the count of logs and the image; where there is no fault, the lines of the
+-- The program is found first, by the base, the count of logs and the image. Where there is no fault, the lines of the
 -- logs are written.
 abbrev pub Checks : Content → Check → Printed → Type 0
 Checks content asked =

@@ -9,16 +9,16 @@ use Rattle.rvclass.specs.Image.{Image}
 use Rattle.subcommands.specs.declared.words.Decode.{Decode}
 use Rattle.commands.specs.Decoding.{end_of_capture}
 use Rattle.commands.specs.EachHart.{each_hart}
-use Rattle.commands.specs.Found.{IsBase, IsProgram, IsRead}
+use Rattle.commands.specs.Found.{IsBase, IsProgramAt, IsRead}
 use Rattle.commands.specs.Known.{Content}
 use Rattle.commands.specs.Pieces.{WritesPieces}
 use Rattle.commands.specs.Printed.{First, Printed}
 
--- The texts of the harts' logs, the first of them this one's.
+-- For each hart, from this one on, its line and the text of its log.
 abbrev pub harts_text : ℕ → List (List Event) → List ℕ
 harts_text hart lists = each_hart log_text hart lists
 
--- The logs that a capture's bytes decode to are written, and the end is that of decoding.
+-- The logs that a capture's bytes decode to are written, and the run ends as decoding does.
 pub record WritesDecoded (harts : ℕ) (program : Image) (bytes : List ℕ) (printed : Printed) : Type 0 where
   pub lists : List (List Event)
   pub closed : List Bool
@@ -27,15 +27,16 @@ pub record WritesDecoded (harts : ℕ) (program : Image) (bytes : List ℕ) (pri
   pub text : printed.text ≡ harts_text 0 lists
   pub ended : printed.ended ≡ end_of_capture stop closed
 
--- What a capture's bytes tell is written: what is left of the logs where messages may be missing, and else the logs.
-abbrev pub WritesTold : Bool → ℕ → Image → List ℕ → Printed → Type 0
-WritesTold true harts program bytes = WritesPieces harts program bytes
-WritesTold false harts program bytes = WritesDecoded harts program bytes
+-- What a capture has of the logs is written: where messages may be lost, what is left of each log, and else the logs
+-- that its bytes decode to.
+abbrev pub WritesLogs : Bool → ℕ → Image → List ℕ → Printed → Type 0
+WritesLogs true harts program bytes = WritesPieces harts program bytes
+WritesLogs false harts program bytes = WritesDecoded harts program bytes
 
--- The base is looked at first, then the image and the capture; where there is no fault, that is written which the
--- messages of the capture tell.
+-- The base is looked at first, then the image and the capture. Where there is no fault, what the capture has of the
+-- logs is written.
 abbrev pub Decodes : Content → Decode → Printed → Type 0
 Decodes content asked =
     First (IsBase asked.base.now) (λ base.
-    First (IsProgram content base asked.image) (λ program.
-    First (IsRead content asked.capture) (WritesTold asked.lossy asked.harts program)))
+    First (IsProgramAt content base asked.image) (λ program.
+    First (IsRead content asked.capture) (WritesLogs asked.lossy asked.harts program)))

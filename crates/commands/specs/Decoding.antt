@@ -7,13 +7,14 @@ use Rattle.commands.specs.declared.fault.Fault.TheVariants as fault
 use Rattle.commands.specs.declared.status.Status.{Status}
 use Rattle.commands.specs.declared.status.Status.TheVariants.{Whole}
 
--- Every hart is closed, from this one on, or the first one that is not is told.
+-- The end by the flags of harts, from this hart on: all is done where each is closed, and else the fault names the
+-- first hart that is not.
 abbrev pub end_of_harts : ℕ → List Bool → Result Status Fault
 end_of_harts hart [] = Ok Whole
 end_of_harts hart (true ∷ closed) = end_of_harts (hart + 1) closed
 end_of_harts hart (false ∷ closed) = Err (fault.Unclosed hart)
 
--- A fault of a message is told, and else the first hart that is not closed.
+-- The fault at which decoding stopped, if there is one, and else the end by the flags of the harts.
 abbrev pub end_of_capture : Option (ℕ × CaptureFault) → List Bool → Result Status Fault
 end_of_capture (Some stop) closed = Err (capture_fault stop.0 stop.1)
 end_of_capture None closed = end_of_harts 0 closed

@@ -12,19 +12,20 @@ use Rattle.commands.specs.declared.fault.Fault.{Fault}
 use Rattle.commands.specs.declared.status.Status.{Status}
 use Rattle.commands.specs.declared.status.Status.TheVariants.{NotWhole, Whole}
 
--- The place where no message, or no header, stands is told, and else whether a payload is bad.
+-- The fault of the place where no whole message, or no header, stands, if there is one; else the end by whether a
+-- payload is bad.
 abbrev pub end_of_dump : Bool → Option (ℕ × MessageFault) → Result Status Fault
 end_of_dump bad (Some stop) = Err (capture_fault stop.0 (capture.Message stop.1))
 end_of_dump true None = Ok NotWhole
 end_of_dump false None = Ok Whole
 
--- The dump of a capture is written, and the end is that of the dump.
+-- The dump of a capture is written, and the run ends as the dump does.
 pub record WritesDump (bytes : List ℕ) (printed : Printed) : Type 0 where
   pub bad : Bool
   pub stop : Option (ℕ × MessageFault)
   pub dumped : IsDump bytes bad stop printed.text
   pub ended : printed.ended ≡ end_of_dump bad stop
 
--- The capture is read; where that is no fault, its dump is written.
+-- The capture is read. Where there is no fault, its dump is written.
 abbrev pub Dumps : Content → Dump → Printed → Type 0
 Dumps content asked = First (IsRead content asked.capture) WritesDump

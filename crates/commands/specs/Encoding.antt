@@ -11,18 +11,18 @@ use Rattle.commands.specs.Known.{Content}
 use Rattle.commands.specs.Printed.{First, Printed}
 use Rattle.commands.specs.declared.status.Status.TheVariants.{Whole}
 
--- The messages of legal logs, each log one hart's, in order: as lines of hexadecimal, or as a capture of the version
--- that is asked for.
+-- The text of the messages of legal logs, hart after hart: lines of hexadecimal, or a capture of the version that is
+-- asked for.
 abbrev pub written : Encode → List ProgramLog → List ℕ
 written asked logs =
     if asked.hex then hex_text (messages_of_harts asked.period asked.mode 0 logs)
     else capture_of asked.version asked.period asked.mode logs
 
--- The messages of legal logs are written.
+-- The messages of legal logs are written, and all is done.
 abbrev pub WritesMessages : Encode → List ProgramLog → Printed → Type 0
 WritesMessages asked logs printed = printed ≡ record { text = written asked logs; ended = Ok Whole }
 
--- The base is looked at first, then the count of logs, the image and each log; where there is no fault, the messages of
+-- The base is looked at first, then the count of logs, the image and each log. Where there is no fault, the messages of
 -- the logs are written.
 abbrev pub Encodes : Content → Encode → Printed → Type 0
 Encodes content asked =

@@ -12,12 +12,12 @@ use Rattle.schedule.specs.FaultText.{schedule_fault_text}
 use Rattle.commands.specs.declared.fault.Fault.{Fault}
 use Rattle.commands.specs.declared.fault.Fault.TheVariants as fault
 
--- The path of the file that a fault is of, and a colon; nothing where it is of no file.
-abbrev pub place_text : Fault → List ℕ
-place_text (fault.Unreadable path) = path.now ++ codes ": "
-place_text (fault.Log path why) = path.now ++ codes ": "
-place_text (fault.Illegal path why) = path.now ++ codes ": "
-place_text _ = []
+-- The path of the file that a fault names, and a colon; nothing where the fault names no file.
+abbrev pub fault_place_text : Fault → List ℕ
+fault_place_text (fault.Unreadable path) = path.now ++ codes ": "
+fault_place_text (fault.Log path why) = path.now ++ codes ": "
+fault_place_text (fault.Illegal path why) = path.now ++ codes ": "
+fault_place_text _ = []
 
 -- What is wrong, without the file's path.
 abbrev pub reason_text : Fault → List ℕ
@@ -39,8 +39,8 @@ reason_text fault.Memory = codes "out of memory"
 
 -- Why a command stops, as a line of text.
 abbrev pub fault_text : Fault → List ℕ
-fault_text why = place_text why ++ reason_text why
+fault_text why = fault_place_text why ++ reason_text why
 
--- The line that is told on standard error.
+-- The line that a fault has on standard error.
 abbrev pub error_line : Fault → List ℕ
 error_line why = codes "tracebench: " ++ (fault_text why ++ codes "\n")

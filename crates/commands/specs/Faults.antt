@@ -1,4 +1,4 @@
--- What is told at each fault, and how a command ends there.
+-- The fault of a command for each fault of what it calls, and how the command ends at it.
 use Rattle.std.specs.Prelude.{ℕ, List, Result, Ok, Err}
 use Rattle.std.specs.Borrow.{Bor}
 use Rattle.bench.specs.declared.setup.Setup.{Setup}
@@ -28,51 +28,52 @@ use Rattle.commands.specs.declared.status.Status.TheVariants.{NotWhole, Refused,
 abbrev pub Path : Type 0
 Path = Bor (List ℕ)
 
--- What is told of a file with no content.
+-- The fault of a file that has no content.
 abbrev pub file_fault : Path → FileFault → Fault
 file_fault path file.CannotRead = fault.Unreadable path
 file_fault path file.Memory = fault.Memory
 
--- What is told of a log that was not read.
+-- The fault of a log that was not read.
 abbrev pub log_fault : Path → LogFault → Fault
 log_fault path log.Read = fault.Unreadable path
 log_fault path log.Memory = fault.Memory
 log_fault path why = fault.Log path why
 
--- What is told of a text that is no schedule.
+-- The fault of a text that is no schedule.
 abbrev pub schedule_fault : ScheduleFault → Fault
 schedule_fault schedule.Memory = fault.Memory
 schedule_fault why = fault.Schedule why
 
--- What is told where nothing is sent at all.
+-- The fault of a run that sends nothing at all.
 abbrev pub unsent_fault : Setup → Fault
 unsent_fault setup.Memory = fault.Memory
 unsent_fault why = fault.Unsent why
 
--- What is told of output that was not written.
+-- The fault of output that was not written.
 abbrev pub write_fault : WriteFault → Fault
 write_fault write.Write = fault.Output
 write_fault write.Memory = fault.Memory
 
--- What is told of a message at which reading a capture stopped. A bad header is no message's.
+-- The fault of a capture at the message with this number. That of a bad header names no message.
 abbrev pub capture_fault : ℕ → CaptureFault → Fault
 capture_fault number (capture.Message BadHeader) = fault.Header
 capture_fault number (capture.Decode decode.Memory) = fault.Memory
 capture_fault number why = fault.Message number why
 
--- What is told of a capture that is not read whole.
+-- The fault of a capture that is not read whole.
 abbrev pub reading_fault : ReadFault → Fault
 reading_fault (reading.Message number why) = capture_fault number (capture.Message why)
 reading_fault reading.Memory = fault.Memory
 
--- What is told of messages of which nothing is collected.
+-- The fault of messages from which nothing is collected.
 abbrev pub lossy_fault : LossyFault → Fault
 lossy_fault (lossy.Demux place why) = fault.Message place (capture.Demux why)
 lossy_fault (lossy.Decode place why) = capture_fault place (capture.Decode why)
 lossy_fault lossy.Memory = fault.Memory
 
--- Files, the output and memory are the machine's, the header and messages are the capture's, and every other fault is
--- one of the input.
+-- The status at a fault. At faults of files, of the output and of memory it is that of the machine. At faults of a
+-- capture's header, of its messages and of a hart that is not closed, the capture is not good. At every other fault
+-- the input is refused.
 abbrev pub status_of : Fault → Status
 status_of (fault.Unreadable path) = Machine
 status_of fault.Output = Machine
@@ -82,7 +83,7 @@ status_of (fault.Message number why) = NotWhole
 status_of (fault.Unclosed hart) = NotWhole
 status_of _ = Refused
 
--- How a command ended, by its answer or by its fault.
-abbrev pub end_of : Result Status Fault → Status
-end_of (Ok status) = status
-end_of (Err fault) = status_of fault
+-- The status that a command ended with: the one that it returned, or the one of its fault.
+abbrev pub final_status : Result Status Fault → Status
+final_status (Ok status) = status
+final_status (Err fault) = status_of fault

@@ -23,29 +23,29 @@ use Rattle.commands.specs.Printed.{First, Printed}
 use Rattle.commands.specs.Sending.{IsSetting, config_at, end_of_report}
 use Rattle.commands.specs.declared.fault.Fault.{Fault}
 
--- The turns that a schedule's bytes tell, where there are so many harts, or why they tell none.
+-- The turns that a schedule's bytes spell for this many harts, or the fault where they are no schedule.
 abbrev pub schedule_at : ℕ → Result (List ℕ) Fault → Result (List Turn) Fault
 schedule_at harts (Err why) = Err why
 schedule_at harts (Ok bytes) = result_map_both (λ turns. turns) schedule_fault (schedule_of harts bytes)
 
--- The turns of the schedule at a path are found, where there are so many harts.
+-- The turns of the schedule at a path are found, for this many harts.
 pub record IsSchedule (content : Content) (harts : ℕ) (path : Path) (found : Result (List Turn) Fault) : Type 0 where
   pub bytes : Result (List ℕ) Fault
   pub read : IsRead content path bytes
   pub made : found ≡ schedule_at harts bytes
 
--- What comes of each hart, the first of them this one, where these messages were taken: as many packets of its log as
--- the messages are that were taken of it.
+-- What comes of each hart, from this hart on, where these messages were taken. Of each hart's log as many packets came
+-- as there are messages of that hart.
 abbrev pub gots_after : ℕ → ℕ → Mode → List ProgramLog → List Message → List Got
 gots_after hart period mode [] taken = []
 gots_after hart period mode (log ∷ logs) taken =
     kept false (got_after period mode log (length (of_hart hart taken))) ∷ gots_after (hart + 1) period mode logs taken
 
--- This came of a hart of whose messages so many were taken, and it came of the first of them.
+-- This is what comes of a hart where the first packets of its log were taken, at most `taken` of them.
 abbrev pub IsGotOfSome : ℕ → Mode → ProgramLog → ℕ → Got → Type 0
 IsGotOfSome period mode log taken got = (count : ℕ) × (count ≤ taken) × HasGot period mode false log count got
 
--- It is so of each hart, the first of them this one.
+-- That holds of each hart, from this hart on, with the messages of it that were taken.
 abbrev pub AreGotOfSome : ℕ → ℕ → Mode → List ProgramLog → List Message → List Got → Type 0
 AreGotOfSome hart period mode [] taken [] = ⊤
 AreGotOfSome hart period mode [] taken (got ∷ gots) = ⊥
@@ -53,8 +53,9 @@ AreGotOfSome hart period mode (log ∷ logs) taken [] = ⊥
 AreGotOfSome hart period mode (log ∷ logs) taken (got ∷ gots) =
     IsGotOfSome period mode log (length (of_hart hart taken)) got × AreGotOfSome (hart + 1) period mode logs taken gots
 
--- Where there is no stop, this came of all that was taken; the one stop is that memory for a hart was refused, of which
--- fewer packets came than were taken, the closing one not among them, and then this came of some of what was taken.
+-- Where there is no stop, this came of all messages that were taken. The only stop is that memory for a hart was
+-- refused. Then fewer packets came of that hart than messages of it were taken, and its closing packet did not come;
+-- and what came of each hart is what comes of the first messages that were taken of it.
 abbrev pub AreGot : ℕ → Mode → List ProgramLog → List Message → Option Stop → List Got → Type 0
 AreGot period mode logs taken None gots = gots ≡ gots_after 0 period mode logs taken
 AreGot period mode logs taken (Some (stop.Memory hart)) gots =
@@ -62,7 +63,8 @@ AreGot period mode logs taken (Some (stop.Memory hart)) gots =
     × AreGotOfSome 0 period mode logs taken gots
 AreGot period mode logs taken (Some why) gots = ⊥
 
--- The logs went through the funnel, whose machine made these turns, and the report of what came of them is written.
+-- The logs went through the funnel by these turns of the funnel machine, and the report of what came of them is
+-- written.
 pub record WritesReport (asked : Replay) (logs : List ProgramLog) (turns : List Turn) (printed : Printed) : Type 0 where
   pub stop : Option Stop
   pub gots : List Got
@@ -71,15 +73,15 @@ pub record WritesReport (asked : Replay) (logs : List ProgramLog) (turns : List 
   pub text : printed.text ≡ report_text stop gots logs
   pub ended : printed.ended ≡ Ok (end_of_report stop (is_whole stop gots logs))
 
--- The turns of the schedule are found; where there is no fault, and nothing stands against sending, the report is
--- written of what they let through of these logs.
+-- The turns of the schedule are found, and then whether the logs may be sent. Where there is no fault, the report of
+-- what came of these logs by these turns is written.
 abbrev pub ReplaysLogs : Content → Replay → List ProgramLog → Printed → Type 0
 ReplaysLogs content asked logs =
     First (IsSchedule content (length logs) asked.schedule) (λ turns.
     First (IsSetting (most_harts Two) (length logs) (config_at asked.period asked.mode asked.capacity)) (λ _.
     WritesReport asked logs turns))
 
--- The base is looked at first, then the count of logs, the image and each log; where there is no fault, the logs are
+-- The base is looked at first, then the count of logs, the image and each log. Where there is no fault, the logs are
 -- replayed.
 abbrev pub Replays : Content → Replay → Printed → Type 0
 Replays content asked =

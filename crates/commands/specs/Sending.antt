@@ -10,21 +10,21 @@ use Rattle.commands.specs.declared.fault.Fault.{Fault}
 use Rattle.commands.specs.declared.status.Status.{Status}
 use Rattle.commands.specs.declared.status.Status.TheVariants.{Whole, NotWhole, Machine}
 
--- Logs are sent at this period, in this mode and at this capacity, and no packets are kept.
+-- The settings with which logs are sent: this period, this mode and this capacity. No packets are kept.
 abbrev pub config_at : ℕ → Mode → ℕ → Config
 config_at period mode capacity = record { period = period; mode = mode; capacity = capacity; keep = false }
 
--- Nothing stands against sending, or what does is told.
+-- The fault of settings with which nothing is sent at all, or none where the logs may be sent.
 abbrev pub setting_at : Option Setup → Result (Unit {0}) Fault
 setting_at None = Ok tt
 setting_at (Some why) = Err (unsent_fault why)
 
--- It is found whether anything stands against sending the logs of so many harts in this way, where there may be so many
--- at most.
+-- It is found whether the logs of `harts` harts may be sent with these settings, where there may be `most` harts.
 abbrev pub IsSetting : ℕ → ℕ → Config → Result (Unit {0}) Fault → Type 0
 IsSetting most harts config found = found ≡ setting_at (setup_fault most harts config)
 
--- All logs came back whole, or not, or there was a stop.
+-- The status of a run that writes a report: the machine's where there was a stop, else by whether all logs came back
+-- whole.
 abbrev pub end_of_report : Option Stop → Bool → Status
 end_of_report None true = Whole
 end_of_report None false = NotWhole

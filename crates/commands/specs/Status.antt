@@ -3,8 +3,8 @@ use Rattle.std.specs.Prelude.{ℕ}
 use Rattle.commands.specs.declared.status.Status.{Status}
 use Rattle.commands.specs.declared.status.Status.TheVariants.{Whole, NotWhole, Refused, Machine}
 
--- 0 where all is done, 1 where a capture is not good or a log did not come back whole, 2 where input is refused, 3
--- where the machine failed.
+-- The exit status is 0 where all is done, 1 where a capture is not good or a log did not come back whole, 2 where the
+-- input is refused, and 3 where the machine failed.
 abbrev pub code_of : Status → ℕ
 code_of Whole = 0
 code_of NotWhole = 1

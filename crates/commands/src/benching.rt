@@ -7,7 +7,7 @@ ghost use Rattle.bench.specs.Beginnings.{AreBeginnings};
 ghost use Rattle.bench.specs.Stopping.{NamesOpen};
 ghost use Rattle.commands.specs.Begun.{IsCutOf};
 ghost use Rattle.commands.specs.Benching.{Benches, BenchesLogs};
-ghost use Rattle.commands.specs.Faults.{end_of};
+ghost use Rattle.commands.specs.Faults.{final_status};
 ghost use Rattle.commands.specs.Inputs.{CanBench, CanBenchLogs};
 ghost use Rattle.commands.specs.Order.{logs_fault};
 ghost use Rattle.commands.specs.Printed.{PrintsUnlessDenied};
@@ -28,8 +28,8 @@ use std::thread::Threads;
 use subcommands::Bench;
 
 /// Sends each hart's log through the funnel from a thread of its own, once all logs are found legal, and writes the
-/// report of what comes of them. All is done where each log comes back whole. A stop, which is told in the report, ends
-/// it as a fault of the machine.
+/// report of what comes of them. All is done where each log comes back whole. A stop is printed in the report, and the
+/// status is then that of the machine.
 pub fn bench<'a, F: Files, O: Write, R: Threads + Wait + Sync>(
     alloc: Global,
     rt: &R,
@@ -39,7 +39,7 @@ pub fn bench<'a, F: Files, O: Write, R: Threads + Wait + Sync>(
 ) -> Result<Status, Fault<'a>>
     ensures early { IfSome (logs_fault most_ports (number_of asked.now.base.now) (length asked.now.logs.items))
         (λ fault. result ≡ Err fault) }
-    ensures refused { end_of result ≡ Status.Refused → out.new ≡ out.old }
+    ensures refused { final_status result ≡ Status.Refused → out.new ≡ out.old }
     ensures untouched { result ≡ Err Fault.Memory → out.new ≡ out.old }
     ensures printed { PrintsUnlessDenied (Benches (F.content files.old) asked.now)
         (CanBench (F.content files.old) asked.now) result
@@ -65,7 +65,7 @@ fn bench_logs<'a, O: Write, R: Threads + Wait + Sync>(
     logs: &[LegalLog<'_>],
     out: &mut O,
 ) -> Result<Status, Fault<'a>>
-    ensures refused { end_of result ≡ Status.Refused → out.new ≡ out.old }
+    ensures refused { final_status result ≡ Status.Refused → out.new ≡ out.old }
     ensures untouched { result ≡ Err Fault.Memory → out.new ≡ out.old }
     ensures printed { PrintsUnlessDenied (BenchesLogs asked.now logs.now) (CanBenchLogs asked.now logs.now) result
         (O.contents out.old) (O.contents out.new) }
@@ -75,7 +75,7 @@ fn bench_logs<'a, O: Write, R: Threads + Wait + Sync>(
     end_with_report(&outcome, logs, out)
 }
 
-/// What comes of the logs, which keep no packets.
+/// What comes of the logs. No packets are kept.
 fn outcome_of<'a, R: Threads + Wait + Sync>(
     alloc: Global,
     rt: &R,

@@ -28,8 +28,8 @@ use std::alloc::Global;
 use std::io::Write;
 use subcommands::Check;
 
-/// Writes a line for each log, whether it is legal, and answers that all is done where all are, and
-/// else that input is refused. A log that is not read ends it, after the lines of the logs before.
+/// Writes a line for each log, which says whether it is legal. Returns that all is done where all logs are legal, and
+/// else that the input is refused. A log that is not read ends the run, after the lines of the logs before it.
 pub fn check<'a, F: Files, O: Write>(
     alloc: Global,
     files: &mut F,
@@ -90,7 +90,7 @@ fn judge_all<'a, F: Files, O: Write>(
     Ok(status)
 }
 
-/// The first illegal row of a log, where it has one.
+/// The first illegal row of a log, if it has one.
 fn illegal_row(program: &Program, log: &[Event]) -> Option<PathFault>
     requires { length log.now ≤ most_rows }
     ensures { IsVerdict (words_of program.now) log.now result }

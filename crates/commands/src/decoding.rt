@@ -7,10 +7,10 @@ ghost use Rattle.output.specs.Begun.{AppendsBeginning};
 ghost use Rattle.commands.specs.Begun.{BeginsPrinted, IsCutOf};
 ghost use Rattle.commands.specs.Decoded.{Decodes, WritesDecoded, harts_text};
 ghost use Rattle.commands.specs.Inputs.{CanDecode};
-ghost use Rattle.commands.specs.Printed.{IsDenied, PrintsUnlessDenied};
+ghost use Rattle.commands.specs.Printed.{IsPrintingDenied, PrintsUnlessDenied};
 ghost use Rattle.retire.specs.Number.{number_of};
 ghost use Rattle.commands.specs.Decoding.{end_of_capture};
-ghost use Rattle.commands.specs.Faults.{end_of, status_of};
+ghost use Rattle.commands.specs.Faults.{final_status, status_of};
 ghost use Rattle.commands.specs.Order.{base_fault};
 ghost use Rattle.commands.specs.steps.Writing.{EndsWriting, StopsBehindLine};
 
@@ -27,13 +27,14 @@ use std::alloc::Global;
 use std::io::Write;
 use subcommands::Decode;
 
-/// Writes the log of each hart, as far as the messages of a capture tell it, and answers that all is
-/// done where its header, if it has one, is valid, no message is refused and each hart's closing packet came.
+/// Writes the log of each hart, as far as the messages of a capture settle it. Returns that all is done where the
+/// capture's header, if it has one, is valid, no message is refused, every packet is decoded and each hart's closing
+/// packet came.
 ///
-/// Where messages may be missing, what is left of each hart's log is written instead: a line for each gap, and one
-/// before each stretch with its log. All is done then where no message is missing before one that came and each hart's
-/// closing packet came; a gap alone is no fault. Where the capture is not read whole, a message is refused or its
-/// packet not decoded, nothing is written.
+/// Where messages may be lost, what is left of each hart's log is written instead: a line for each gap, and for each
+/// stretch a line and its log. All is done then where there is no gap and each hart's closing packet came. A gap alone
+/// is no fault, but the status is then that the capture is not good. Where the capture is not read whole, a message is
+/// refused or its packet is not decoded, nothing is written.
 pub fn decode<'a, F: Files, O: Write>(
     alloc: Global,
     files: &mut F,
@@ -41,7 +42,7 @@ pub fn decode<'a, F: Files, O: Write>(
     out: &mut O,
 ) -> Result<Status, Fault<'a>>
     ensures early { IfSome (base_fault (number_of asked.now.base.now)) (λ fault. result ≡ Err fault) }
-    ensures refused { end_of result ≡ Status.Refused → out.new ≡ out.old }
+    ensures refused { final_status result ≡ Status.Refused → out.new ≡ out.old }
     ensures printed { PrintsUnlessDenied (Decodes (F.content files.old) asked.now)
         (CanDecode (F.content files.old) asked.now) result
         (O.contents out.old) (O.contents out.new) }
@@ -69,7 +70,7 @@ pub fn decode<'a, F: Files, O: Write>(
     }
 }
 
-/// Writes the log of each hart, as far as the messages of these bytes tell it, where none may be missing.
+/// Writes the log of each hart, as far as the messages of these bytes settle it, where no message may be lost.
 fn decode_whole<'a, O: Write>(
     alloc: Global,
     program: &Program,
@@ -77,7 +78,7 @@ fn decode_whole<'a, O: Write>(
     bytes: &[u8],
     out: &mut O,
 ) -> Result<Status, Fault<'a>>
-    ensures never_refused { end_of result ≢ Status.Refused }
+    ensures never_refused { final_status result ≢ Status.Refused }
     ensures printed { PrintsUnlessDenied (WritesDecoded harts program.now bytes.now) ⊤ result
         (O.contents out.old) (O.contents out.new) }
     ensures cut { IsCutOf (WritesDecoded harts program.now bytes.now) (O.contents out.old) (O.contents out.new) }
@@ -86,15 +87,15 @@ fn decode_whole<'a, O: Write>(
     write_outcome(alloc, &outcome, out)
 }
 
-/// Writes the log of each hart, as far as it was decoded, and answers how decoding ended. What was decoded before a fault
-/// is written whole, also where the fault is that a decoder was refused memory, unless the output fails or memory for a
-/// log's text is refused.
+/// Writes the log of each hart, as far as it was decoded, and returns how decoding ended. What was decoded before a
+/// fault is written whole, also where the fault is that a decoder was refused memory. The exceptions: the output fails,
+/// or memory for a log's text is refused.
 fn write_outcome<'a, O: Write>(
     alloc: Global,
     outcome: &CaptureOutcome,
     out: &mut O,
 ) -> Result<Status, Fault<'a>>
-    ensures never_refused { end_of result ≢ Status.Refused }
+    ensures never_refused { final_status result ≢ Status.Refused }
     ensures written { EndsWriting (events_in outcome.now.harts.items) outcome.now.closed.items outcome.now.fault
         result (O.contents out.old) (O.contents out.new) }
     ensures begun { AppendsBeginning (harts_text 0 (events_in outcome.now.harts.items))
@@ -113,7 +114,7 @@ fn write_logs<'a, O: Write>(
     out: &mut O,
 ) -> Result<(), Fault<'a>>
     ensures machine { IfErr result (λ fault. status_of fault ≡ Status.Machine) }
-    ensures denied { IfErr result (IsDenied ⊤) }
+    ensures denied { IfErr result (IsPrintingDenied ⊤) }
     ensures memory { result ≡ Err Fault.Memory
         → StopsBehindLine (events_in logs.now) (O.contents out.old) (O.contents out.new) }
     ensures text { OnOk result (Appends (O.contents out.old) (O.contents out.new) (harts_text 0 (events_in logs.now))) }
@@ -126,10 +127,10 @@ fn write_logs<'a, O: Write>(
     Ok(())
 }
 
-/// How decoding ended: at its fault, or else at the first hart whose closing packet did not come.
+/// How decoding ended: at its fault, if there is one, or at the first hart whose closing packet did not come.
 fn ended<'a>(outcome: &CaptureOutcome) -> Result<Status, Fault<'a>>
     ensures value { result ≡ end_of_capture outcome.now.fault outcome.now.closed.items }
-    ensures never_refused { end_of result ≢ Status.Refused }
+    ensures never_refused { final_status result ≢ Status.Refused }
 {
     if let Some((number, why)) = outcome.fault {
         return Err(Fault::of_capture(number, why));

@@ -1,9 +1,9 @@
 //! Whichever subcommand is asked for.
 
 ghost use Rattle.std.specs.Prelude.{◌≡◌, Err, IfSome};
-ghost use Rattle.commands.specs.Begun.{IsBegun, IsCut, WritesInParts};
+ghost use Rattle.commands.specs.Begun.{IsBegun, IsCutOutput, WritesInParts};
 ghost use Rattle.commands.specs.CarriedOut.{IsCarriedOut};
-ghost use Rattle.commands.specs.Faults.{end_of};
+ghost use Rattle.commands.specs.Faults.{final_status};
 ghost use Rattle.commands.specs.Order.{early_fault};
 ghost use Rattle.subcommands.specs.Kind.{IsCheck};
 ghost use Rattle.subcommands.specs.Limits.{IsWithinLimits};
@@ -23,8 +23,8 @@ use std::sync::Wait;
 use std::thread::Threads;
 use subcommands::Asked;
 
-/// Does what is asked, and answers how that ended: by a status, or at the first fault in the order base, count of logs,
-/// image, each log in turn, schedule, capture.
+/// Does what is asked, and returns how that ended: with a status, or at the first fault in the order base, count of
+/// logs, image, each log in turn, schedule, capture.
 ///
 /// Illegal logs are no fault of `check`, which has a line for each log on `out`.
 pub fn carry_out<'a, F: Files, O: Write, R: Threads + Wait + Sync>(
@@ -35,17 +35,17 @@ pub fn carry_out<'a, F: Files, O: Write, R: Threads + Wait + Sync>(
     out: &mut O,
 ) -> Result<Status, Fault<'a>>
     requires { IsWithinLimits asked.now }
-    // However it ends, also where the output fails, what was written is a beginning of the text.
-    ensures cut { IsCut (F.content files.old) asked.now (O.contents out.old) (O.contents out.new) }
+    // However it ends, also where the output fails, nothing or a beginning of the text was written.
+    ensures cut { IsCutOutput (F.content files.old) asked.now (O.contents out.old) (O.contents out.new) }
     ensures early { IfSome (early_fault asked.now) (λ fault. result ≡ Err fault) }
     ensures printed { IsCarriedOut (F.content files.old) asked.now result (O.contents out.old) (O.contents out.new) }
-    // Where memory is refused, a beginning of the text was written.
+    // Where memory is refused, nothing or a beginning of the text was written.
     ensures begun { result ≡ Err Fault.Memory
         → IsBegun (F.content files.old) asked.now (O.contents out.old) (O.contents out.new) }
-    // Then nothing is written but by `check` and `decode`.
+    // Where memory is refused, only `check` and `decode` may have written anything.
     ensures untouched { ¬ WritesInParts asked.now → result ≡ Err Fault.Memory → out.new ≡ out.old }
     // Where the input is refused, nothing is written, but for the lines of `check`.
-    ensures refused { ¬ IsCheck asked.now → end_of result ≡ Status.Refused → out.new ≡ out.old }
+    ensures refused { ¬ IsCheck asked.now → final_status result ≡ Status.Refused → out.new ≡ out.old }
 {
     match asked {
         Asked::Check(asked) => check(alloc, files, asked, out),

@@ -3,7 +3,7 @@
 ghost use Rattle.std.specs.Prelude.{◌≡◌, ◌≢◌, Err};
 ghost use Rattle.commands.specs.Begun.{IsCutOf};
 ghost use Rattle.commands.specs.Dumping.{Dumps, end_of_dump};
-ghost use Rattle.commands.specs.Faults.{end_of};
+ghost use Rattle.commands.specs.Faults.{final_status};
 ghost use Rattle.commands.specs.Inputs.{CanDump};
 ghost use Rattle.commands.specs.Printed.{PrintsUnlessDenied};
 
@@ -15,14 +15,15 @@ use captures::{CaptureFault, Dumped, dump_capture};
 use std::io::Write;
 use subcommands::Dump;
 
-/// Writes the line of a capture's header, where it has one, and a line for each message, up to the first place where
-/// none stands, and answers whether all messages have packets.
+/// Writes the line of a capture's header, if it has one, and a line for each message, up to the first place where no
+/// whole message stands. Returns that all is done where every payload is a packet, and else that the capture is not
+/// good.
 pub fn dump<'a, F: Files, O: Write>(
     files: &mut F,
     asked: &Dump<'a>,
     out: &mut O,
 ) -> Result<Status, Fault<'a>>
-    ensures refused { end_of result ≢ Status.Refused }
+    ensures refused { final_status result ≢ Status.Refused }
     ensures untouched { result ≡ Err Fault.Memory → out.new ≡ out.old }
     ensures printed { PrintsUnlessDenied (Dumps (F.content files.old) asked.now)
         (CanDump (F.content files.old) asked.now) result
@@ -35,10 +36,11 @@ pub fn dump<'a, F: Files, O: Write>(
     ended(&dumped)
 }
 
-/// How a dump ended: at the place where no message, or no header, stands, or else by whether a payload is bad.
+/// How a dump ended: at the place where no whole message, or no header, stands, if there is one, or else by whether a
+/// payload is bad.
 fn ended<'a>(dumped: &Dumped) -> Result<Status, Fault<'a>>
     ensures value { result ≡ end_of_dump dumped.now.bad dumped.now.fault }
-    ensures never_refused { end_of result ≢ Status.Refused }
+    ensures never_refused { final_status result ≢ Status.Refused }
 {
     match dumped.fault {
         Some((number, why)) => Err(Fault::of_capture(number, CaptureFault::Message(why))),

@@ -6,7 +6,7 @@ ghost use Rattle.message.specs.Version.{most_harts};
 ghost use Rattle.output.specs.Begun.{AppendsBeginning};
 ghost use Rattle.commands.specs.Begun.{IsCutOf};
 ghost use Rattle.commands.specs.Encoding.{Encodes, written};
-ghost use Rattle.commands.specs.Faults.{end_of};
+ghost use Rattle.commands.specs.Faults.{final_status};
 ghost use Rattle.commands.specs.Order.{logs_fault};
 ghost use Rattle.commands.specs.Inputs.{CanEncode};
 ghost use Rattle.commands.specs.Printed.{PrintsUnlessDenied};
@@ -23,7 +23,7 @@ use std::io::Write;
 use subcommands::Encode;
 
 /// Writes the messages of each hart's log, once all logs are found legal: as a capture of the version that is asked
-/// for, which limits the count of logs, or as lines.
+/// for, or as lines of hexadecimal. The version limits the count of logs in both cases.
 pub fn encode<'a, F: Files, O: Write>(
     alloc: Global,
     files: &mut F,
@@ -34,7 +34,7 @@ pub fn encode<'a, F: Files, O: Write>(
     ensures early { IfSome
         (logs_fault (most_harts asked.now.version) (number_of asked.now.base.now) (length asked.now.logs.items))
         (λ fault. result ≡ Err fault) }
-    ensures refused { end_of result ≡ Status.Refused → out.new ≡ out.old }
+    ensures refused { final_status result ≡ Status.Refused → out.new ≡ out.old }
     ensures untouched { result ≡ Err Fault.Memory → out.new ≡ out.old }
     ensures printed { PrintsUnlessDenied (Encodes (F.content files.old) asked.now)
         (CanEncode (F.content files.old) asked.now) result
@@ -53,7 +53,7 @@ pub fn encode<'a, F: Files, O: Write>(
     }
 }
 
-/// Writes the messages of legal logs to the end, and answers that all is done.
+/// Writes the messages of legal logs, flushes the output, and returns that all is done.
 fn encode_logs<'a, O: Write>(
     asked: &Encode<'a>,
     logs: &[LegalLog<'_>],

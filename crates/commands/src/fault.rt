@@ -1,7 +1,7 @@
 //! Why a command stops.
 
 ghost use Rattle.std.specs.Prelude.{◌≡◌, ◌≢◌, ◌++◌, codes, IfOk, Some};
-ghost use Rattle.commands.specs.FaultText.{fault_text, place_text, reason_text};
+ghost use Rattle.commands.specs.FaultText.{fault_place_text, fault_text, reason_text};
 ghost use Rattle.commands.specs.declared.fault.Fault.TheVariants as fault;
 ghost use Rattle.commands.specs.Faults.{capture_fault, file_fault, log_fault, lossy_fault, reading_fault};
 ghost use Rattle.commands.specs.Faults.{schedule_fault, status_of, unsent_fault, write_fault};
@@ -23,34 +23,34 @@ use std::error::Error;
 use std::fmt::Write;
 use std::{fmt, io};
 
-/// Why a command stops. Its text is the line that is told, without the program's name.
+/// Why a command stops. Its text is the error line without the program's name and the line's end.
 #[derive(Clone, Copy, Debug, PartialEq, Eq)]
 pub enum Fault<'a> {
-    /// The words were not given as text.
+    /// The words are no text.
     Words,
-    /// The base is not spelt as a number of a log.
+    /// The base is not spelt as a number of a log is.
     Base,
-    /// No log is given. Words come to no such fault.
+    /// No log is given. A command line that `cli` reads leads to no such fault.
     NoLogs,
-    /// More logs are given than this, which is how many harts there may be.
+    /// More logs are given than this many, the most harts that there may be.
     ManyLogs(u16),
     /// The file at this path was not read.
     Unreadable(&'a str),
     /// The image makes no program at the base.
     Image(ProgramFault),
-    /// The log at this path is none.
+    /// The file at this path is no log.
     Log(&'a str, LogFault),
     /// The log at this path is not legal for the program.
     Illegal(&'a str, PathFault),
-    /// The schedule is none.
+    /// The text of the schedule is no schedule.
     Schedule(ScheduleFault),
-    /// Nothing is sent through the funnel. Words within their limits come to no such fault.
+    /// Nothing is sent through the funnel. A command line that `cli` reads leads to no such fault.
     Unsent(Setup),
-    /// The capture begins as one of version 2 does, with a header that is not valid.
+    /// The capture begins as one of version 2 does, and its header is not valid.
     Header,
-    /// The message of the capture with this number, counted from 0 over all harts, is refused.
+    /// Reading or decoding a capture stopped at the message with this number, counted from 0 over all harts.
     Message(u64, CaptureFault),
-    /// The capture ends before the closing packet of this hart.
+    /// The closing packet of this hart did not come.
     Unclosed(usize),
     /// The output was not written whole.
     Output,
@@ -80,7 +80,7 @@ impl<'a> Fault<'a> {
         }
     }
 
-    /// Why reading a capture stops at this message.
+    /// Why reading or decoding a capture stopped at this message.
     pub(crate) fn of_capture(number: u64, why: CaptureFault) -> Fault<'a>
         ensures value { result ≡ capture_fault number why }
         ensures never_refused { status_of result ≢ Status.Refused }
@@ -105,7 +105,7 @@ impl<'a> Fault<'a> {
         }
     }
 
-    /// Why nothing is collected of messages some of which may be missing.
+    /// Why nothing is collected from messages of which some may be lost.
     pub(crate) fn of_losses(why: LossyFault) -> Fault<'a>
         ensures value { result ≡ lossy_fault why }
         ensures never_refused { status_of result ≢ Status.Refused }
@@ -141,9 +141,9 @@ impl<'a> Fault<'a> {
         }
     }
 
-    /// The path of the file that the fault is of, and a colon; nothing where it is of no file.
+    /// The path of the file that the fault names, and a colon; nothing where it names no file.
     pub(crate) fn place(&self) -> (&'a str, &'static str)
-        ensures { result.0.now ++ result.1.now ≡ place_text self.now }
+        ensures { result.0.now ++ result.1.now ≡ fault_place_text self.now }
     {
         match *self {
             Fault::Unreadable(path) | Fault::Log(path, _) | Fault::Illegal(path, _) => (path, ": "),
@@ -151,7 +151,7 @@ impl<'a> Fault<'a> {
         }
     }
 
-    /// The rest of a line behind this text: what is wrong, without the file's path, and the line's end.
+    /// The rest of an error line: this text, then what is wrong without the file's path, and the line's end.
     pub(crate) fn rest(&self, text: &str) -> Result<ArrayString<LONGEST_REST>, fmt::Error>
         ensures { IfOk result (λ rest. rest.bytes ≡ text.now ++ (reason_text self.now ++ codes "\n")) }
     {
@@ -225,7 +225,7 @@ impl fmt::Display for Fault<'_> {
 impl Error for Fault<'_> {}
 
 impl From<ProgramFault> for Fault<'_> {
-    ghost from_gives = { λ why told. told ≡ fault.Image why };
+    ghost from_gives = { λ why made. made ≡ fault.Image why };
 
     fn from(why: ProgramFault) -> Self {
         Fault::Image(why)
@@ -233,16 +233,16 @@ impl From<ProgramFault> for Fault<'_> {
 }
 
 impl From<AllocError> for Fault<'_> {
-    ghost from_gives = { λ _ told. told ≡ fault.Memory };
+    ghost from_gives = { λ _ made. made ≡ fault.Memory };
 
     fn from(_: AllocError) -> Self {
         Fault::Memory
     }
 }
 
-/// The output alone has such errors: what is read has a fault of its own.
+/// Only the output has such errors. Each input has a fault of its own.
 impl From<io::Error> for Fault<'_> {
-    ghost from_gives = { λ _ told. told ≡ fault.Output };
+    ghost from_gives = { λ _ made. made ≡ fault.Output };
 
     fn from(_: io::Error) -> Self {
         Fault::Output
@@ -250,7 +250,7 @@ impl From<io::Error> for Fault<'_> {
 }
 
 impl From<WriteFault> for Fault<'_> {
-    ghost from_gives = { λ why told. told ≡ write_fault why };
+    ghost from_gives = { λ why made. made ≡ write_fault why };
 
     fn from(why: WriteFault) -> Self {
         match why {

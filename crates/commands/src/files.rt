@@ -1,7 +1,7 @@
 //! Where the content of files comes from.
 
 ghost use Rattle.std.specs.Prelude.{◌≡◌, ◌⊎◌, ℕ, List, IfErr, IfOk};
-ghost use Rattle.commands.specs.Known.{Known, MayHold, MayLack, Untold};
+ghost use Rattle.commands.specs.Known.{Known, MayHold, MayLack, Unknown};
 
 use thiserror::Error;
 
@@ -18,8 +18,8 @@ pub enum FileFault {
 
 /// A place that files are read from.
 pub trait Files {
-    /// What is known of the file at each path: files in memory tell it, the machine's tell nothing.
-    ghost content: { Self → List ℕ → Known } = { λ _ _. Untold };
+    /// What is known of the file at each path. Of files in memory the bytes are known, of the machine's files nothing.
+    ghost content: { Self → List ℕ → Known } = { λ _ _. Unknown };
 
     /// The whole content of the file at this path.
     fn read(&mut self, path: &str) -> Result<Vec<u8>, FileFault>

@@ -1,9 +1,9 @@
-//! What a command is given: a base, an image and logs.
+//! The inputs of a command: a base, an image and logs.
 
 ghost use Rattle.std.specs.Prelude.{◌≡◌, ◌⊎◌, ◌≤◌, ◌<◌, IfErr, IfOk, IfSome, Err, Ok, length, vec_len};
 ghost use Rattle.commands.specs.Faults.{status_of};
 ghost use Rattle.commands.specs.declared.fault.Fault.TheVariants as fault;
-ghost use Rattle.commands.specs.Found.{AreFew, AreLegalLogs, IsAskedProgram, IsBase, IsLegalLogAt, IsLog, IsProgram};
+ghost use Rattle.commands.specs.Found.{AreFew, AreLegalLogs, IsAskedProgram, IsBase, IsLegalLogAt, IsLog, IsProgramAt};
 ghost use Rattle.commands.specs.Found.{IsRead};
 ghost use Rattle.commands.specs.Order.{logs_fault};
 ghost use Rattle.retire.specs.Log.{most_rows};
@@ -26,7 +26,7 @@ pub(crate) fn base_of<'a>(text: &str) -> Result<u64, Fault<'a>>
     number(text.as_bytes()).ok_or(Fault::Base)
 }
 
-/// Refuses no logs, and more than so many.
+/// Refuses a count of logs that is 0 or more than this many.
 fn check_count<'a>(logs: &[&'a str], most: u16) -> Result<(), Fault<'a>>
     ensures found { AreFew most logs.now result }
     ensures some { IfOk result (λ _. 1 ≤ length logs.now) }
@@ -62,17 +62,17 @@ pub(crate) fn program_of<'a, F: Files>(
     base: u64,
     image: &'a str,
 ) -> Result<Program, Fault<'a>>
-    ensures program { IfOk result (λ program. IsProgram (F.content files.old) base image.entry (Ok program)) }
+    ensures program { IfOk result (λ program. IsProgramAt (F.content files.old) base image.entry (Ok program)) }
     ensures fault { IfErr result
-        (λ why. (why ≡ Fault.Memory) ⊎ IsProgram (F.content files.old) base image.entry (Err why)) }
+        (λ why. (why ≡ Fault.Memory) ⊎ IsProgramAt (F.content files.old) base image.entry (Err why)) }
     ensures kept { F.content files.new ≡ F.content files.old }
 {
     let bytes = content_of(files, image)?;
     Ok(Program::new(base, bytes)?)
 }
 
-/// The program that is asked for with logs: the base is looked at first, then that there are logs, and no more than so
-/// many, then the image.
+/// The program that is asked for together with logs. The base is looked at first, then the count of logs, then the
+/// image.
 pub(crate) fn asked_program<'a, F: Files>(
     files: &mut F,
     most: u16,
@@ -131,7 +131,7 @@ pub(crate) fn legal_log_of<'a, 'p, F: Files>(
     }
 }
 
-/// The logs at these paths, in turn, where each is legal for the program.
+/// The logs at these paths, in order, where each is legal for the program.
 pub(crate) fn legal_logs_of<'a, 'p, F: Files>(
     alloc: Global,
     files: &mut F,

@@ -1,7 +1,7 @@
 //! The subcommands of `tracebench`, each over a place that files are read from, an output, and what is asked of it.
 //!
-//! [`carry_out`] does what is asked, whichever subcommand that is, and [`tell`] writes the line of the fault that ended
-//! it. How words ask for a subcommand is no matter of this crate.
+//! [`carry_out`] does what is asked, whichever subcommand that is. [`report_error`] writes the line of the fault that
+//! ended it. How words ask for a subcommand is no matter of this crate.
 #![tactic(auto)]
 
 mod benching;
@@ -10,6 +10,7 @@ mod decoding;
 mod dispatch;
 mod dumping;
 mod encoding;
+mod error_reporting;
 mod fault;
 mod files;
 mod inputs;
@@ -17,7 +18,6 @@ mod lossy_decoding;
 mod replaying;
 mod reporting;
 mod status;
-mod telling;
 
 pub use benching::bench;
 pub use checking::check;
@@ -25,8 +25,8 @@ pub use decoding::decode;
 pub use dispatch::carry_out;
 pub use dumping::dump;
 pub use encoding::encode;
+pub use error_reporting::report_error;
 pub use fault::Fault;
 pub use files::{FileFault, Files};
 pub use replaying::replay;
 pub use status::Status;
-pub use telling::tell;

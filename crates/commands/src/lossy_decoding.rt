@@ -1,4 +1,4 @@
-//! The subcommand `decode` where messages may be missing.
+//! The subcommand `decode` where messages may be lost.
 
 ghost use Rattle.std.specs.Prelude.{⊤, ◌≡◌, ◌≢◌, Ok, Err, IfErr, IfOk, OnOk};
 ghost use Rattle.std.specs.Io.KnownBytes.{Appends};
@@ -9,10 +9,11 @@ ghost use Rattle.output.specs.Begun.{AppendsBeginning};
 ghost use Rattle.commands.specs.Begun.{IsCutOf};
 ghost use Rattle.commands.specs.Decoding.{end_of_harts};
 ghost use Rattle.commands.specs.EachHart.{each_hart};
-ghost use Rattle.commands.specs.Faults.{end_of, status_of};
+ghost use Rattle.commands.specs.Faults.{final_status, status_of};
 ghost use Rattle.commands.specs.Pieces.{ArePieces, HasPieces, WritesPieces, closed_of, end_of_pieces};
-ghost use Rattle.commands.specs.Pieces.{harts_by, have_gaps, is_gap, mode_by, part_text, parts_of, parts_text};
-ghost use Rattle.commands.specs.Printed.{IsDenied, PrintsUnlessDenied};
+ghost use Rattle.commands.specs.Pieces.{harts_counted, have_gaps, is_gap, mode_of_header, part_text, parts_of};
+ghost use Rattle.commands.specs.Pieces.{parts_text};
+ghost use Rattle.commands.specs.Printed.{IsPrintingDenied, PrintsUnlessDenied};
 
 use crate::fault::Fault;
 use crate::status::Status;
@@ -26,9 +27,9 @@ use rvclass::Program;
 use std::alloc::Global;
 use std::io::Write;
 
-/// Writes what is left of the log of each hart, and answers that all is done where each hart's closing packet came and
-/// no messages are missing before one that came. Where the capture is not read whole, a message is refused or its
-/// packet not decoded, nothing is written.
+/// Writes what is left of the log of each hart. Returns that all is done where each hart's closing packet came and
+/// there is no gap. Where the capture is not read whole, a message is refused or its packet is not decoded, nothing is
+/// written.
 pub(crate) fn decode_lossy<'a, O: Write>(
     alloc: Global,
     program: &Program,
@@ -36,7 +37,7 @@ pub(crate) fn decode_lossy<'a, O: Write>(
     bytes: &[u8],
     out: &mut O,
 ) -> Result<Status, Fault<'a>>
-    ensures never_refused { end_of result ≢ Status.Refused }
+    ensures never_refused { final_status result ≢ Status.Refused }
     ensures printed { PrintsUnlessDenied (WritesPieces harts program.now bytes.now)
         (HasPieces harts program.now bytes.now) result (O.contents out.old) (O.contents out.new) }
     ensures cut { IsCutOf (WritesPieces harts program.now bytes.now) (O.contents out.old) (O.contents out.new) }
@@ -73,8 +74,8 @@ fn pieces_of<'a>(
     match collect_lossy(
         alloc,
         program,
-        harts_by(harts, whole.header),
-        mode_by(whole.header),
+        harts_counted(harts, whole.header),
+        mode_of_header(whole.header),
         whole.messages.as_slice(),
     ) {
         Ok(pieces) => Ok(pieces),
@@ -82,9 +83,9 @@ fn pieces_of<'a>(
     }
 }
 
-/// How many harts a capture has: as many as its header counts, or else this many.
-fn harts_by(harts: u16, header: Option<Header>) -> u16
-    ensures { result ≡ harts_by harts header }
+/// How many harts a capture has: as many as its header counts, or without a header this many.
+fn harts_counted(harts: u16, header: Option<Header>) -> u16
+    ensures { result ≡ harts_counted harts header }
 {
     match header {
         Some(header) => header.harts,
@@ -92,9 +93,10 @@ fn harts_by(harts: u16, header: Option<Header>) -> u16
     }
 }
 
-/// The mode of harts whose packet that opens the trace is lost: the header's, or else the differential one.
-fn mode_by(header: Option<Header>) -> Mode
-    ensures { result ≡ mode_by header }
+/// The mode of a hart whose packet that opens the trace is lost: the header's, or without a header the differential
+/// one.
+fn mode_of_header(header: Option<Header>) -> Mode
+    ensures { result ≡ mode_of_header header }
 {
     match header {
         Some(header) => header.mode,
@@ -109,7 +111,7 @@ fn write_pieces<'a, O: Write>(
     out: &mut O,
 ) -> Result<(), Fault<'a>>
     ensures machine { IfErr result (λ fault. status_of fault ≡ Status.Machine) }
-    ensures denied { IfErr result (IsDenied ⊤) }
+    ensures denied { IfErr result (IsPrintingDenied ⊤) }
     ensures text { OnOk result
         (Appends (O.contents out.old) (O.contents out.new) (each_hart parts_text 0 (parts_of harts.now))) }
     ensures begun { AppendsBeginning (each_hart parts_text 0 (parts_of harts.now)) (O.contents out.old)
@@ -125,7 +127,7 @@ fn write_pieces<'a, O: Write>(
 /// Writes the parts of a hart's log.
 fn write_parts<'a, O: Write>(alloc: Global, parts: &[Part], out: &mut O) -> Result<(), Fault<'a>>
     ensures machine { IfErr result (λ fault. status_of fault ≡ Status.Machine) }
-    ensures denied { IfErr result (IsDenied ⊤) }
+    ensures denied { IfErr result (IsPrintingDenied ⊤) }
     ensures text { OnOk result (Appends (O.contents out.old) (O.contents out.new) (parts_text (parts_in parts.now))) }
     ensures begun { AppendsBeginning (parts_text (parts_in parts.now)) (O.contents out.old) (O.contents out.new) }
 {
@@ -135,10 +137,10 @@ fn write_parts<'a, O: Write>(alloc: Global, parts: &[Part], out: &mut O) -> Resu
     Ok(())
 }
 
-/// Writes how many messages are missing, or how many events there are and their log.
+/// Writes the line of a gap, or the line of a stretch and its log.
 fn write_part<'a, O: Write>(alloc: Global, part: &Part, out: &mut O) -> Result<(), Fault<'a>>
     ensures machine { IfErr result (λ fault. status_of fault ≡ Status.Machine) }
-    ensures denied { IfErr result (IsDenied ⊤) }
+    ensures denied { IfErr result (IsPrintingDenied ⊤) }
     ensures text { OnOk result (Appends (O.contents out.old) (O.contents out.new) (part_text (part_of part.now))) }
     ensures begun { AppendsBeginning (part_text (part_of part.now)) (O.contents out.old) (O.contents out.new) }
 {
@@ -148,10 +150,10 @@ fn write_part<'a, O: Write>(alloc: Global, part: &Part, out: &mut O) -> Result<(
     }
 }
 
-/// Writes how many messages are missing.
+/// Writes the line of a gap, with how many numbers are missing.
 fn write_gap<'a, O: Write>(missing: u64, out: &mut O) -> Result<(), Fault<'a>>
     ensures machine { IfErr result (λ fault. status_of fault ≡ Status.Machine) }
-    ensures denied { IfErr result (IsDenied ⊤) }
+    ensures denied { IfErr result (IsPrintingDenied ⊤) }
     ensures text { OnOk result (Appends (O.contents out.old) (O.contents out.new) (part_text (Missing missing))) }
     ensures begun { AppendsBeginning (part_text (Missing missing)) (O.contents out.old) (O.contents out.new) }
 {
@@ -159,14 +161,14 @@ fn write_gap<'a, O: Write>(missing: u64, out: &mut O) -> Result<(), Fault<'a>>
     Ok(())
 }
 
-/// Writes how many events there are, and their log.
+/// Writes the line of a stretch, with how many events it has, and their log.
 fn write_stretch<'a, O: Write>(
     alloc: Global,
     events: &[Event],
     out: &mut O,
 ) -> Result<(), Fault<'a>>
     ensures machine { IfErr result (λ fault. status_of fault ≡ Status.Machine) }
-    ensures denied { IfErr result (IsDenied ⊤) }
+    ensures denied { IfErr result (IsPrintingDenied ⊤) }
     ensures text { OnOk result (Appends (O.contents out.old) (O.contents out.new) (part_text (Events events.now))) }
     ensures begun { AppendsBeginning (part_text (Events events.now)) (O.contents out.old) (O.contents out.new) }
 {
@@ -176,10 +178,10 @@ fn write_stretch<'a, O: Write>(
     Ok(())
 }
 
-/// How this ended: at the first hart whose closing packet did not come, or else by whether messages are missing.
+/// How this ended: at the first hart whose closing packet did not come, or else by whether there are gaps.
 fn ended<'a>(harts: &[HartPieces]) -> Result<Status, Fault<'a>>
     ensures value { result ≡ end_of_pieces harts.now }
-    ensures never_refused { end_of result ≢ Status.Refused }
+    ensures never_refused { final_status result ≢ Status.Refused }
 {
     match closed(harts) {
         Ok(_) if have_gaps(harts) => Ok(Status::NotWhole),
@@ -187,10 +189,10 @@ fn ended<'a>(harts: &[HartPieces]) -> Result<Status, Fault<'a>>
     }
 }
 
-/// Whether each hart's closing packet came, or else the first whose did not.
+/// That all is done where each hart's closing packet came, or else the fault of the first hart whose did not.
 fn closed<'a>(harts: &[HartPieces]) -> Result<Status, Fault<'a>>
     ensures value { result ≡ end_of_harts 0 (closed_of harts.now) }
-    ensures never_refused { end_of result ≢ Status.Refused }
+    ensures never_refused { final_status result ≢ Status.Refused }
 {
     for (hart, pieces) in harts.iter().enumerate() {
         if !pieces.closed {
@@ -200,7 +202,7 @@ fn closed<'a>(harts: &[HartPieces]) -> Result<Status, Fault<'a>>
     Ok(Status::Whole)
 }
 
-/// Whether messages of some hart are missing.
+/// Whether some hart's log has a gap.
 fn have_gaps(harts: &[HartPieces]) -> bool
     ensures { result ≡ have_gaps (parts_of harts.now) }
 {
@@ -212,7 +214,7 @@ fn have_gaps(harts: &[HartPieces]) -> bool
     false
 }
 
-/// Whether messages are missing among these parts.
+/// Whether one of these parts is a gap.
 fn has_gap(parts: &[Part]) -> bool
     ensures { result ≡ list_any is_gap (parts_in parts.now) }
 {

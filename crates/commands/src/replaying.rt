@@ -7,7 +7,7 @@ ghost use Rattle.message.specs.declared.header.Version.TheVariants.{Two};
 ghost use Rattle.bench.specs.Got.{got_of};
 ghost use Rattle.bench.specs.Replayed.{replayed};
 ghost use Rattle.commands.specs.Begun.{IsCutOf};
-ghost use Rattle.commands.specs.Faults.{end_of};
+ghost use Rattle.commands.specs.Faults.{final_status};
 ghost use Rattle.commands.specs.Order.{logs_fault};
 ghost use Rattle.commands.specs.Inputs.{CanReplay, CanReplayLogs};
 ghost use Rattle.commands.specs.Printed.{PrintsUnlessDenied};
@@ -29,8 +29,8 @@ use std::io::Write;
 use subcommands::Replay;
 
 /// Sends each hart's log through the funnel as the schedule says, once all logs are found legal, and writes the report
-/// of what comes of them. All is done where each log comes back whole. A stop, which is told in the report, ends it as
-/// a fault of the machine.
+/// of what comes of them. All is done where each log comes back whole. A stop is printed in the report, and the status
+/// is then that of the machine.
 pub fn replay<'a, F: Files, O: Write>(
     alloc: Global,
     files: &mut F,
@@ -39,7 +39,7 @@ pub fn replay<'a, F: Files, O: Write>(
 ) -> Result<Status, Fault<'a>>
     ensures early { IfSome (logs_fault (most_harts Two) (number_of asked.now.base.now) (length asked.now.logs.items))
         (λ fault. result ≡ Err fault) }
-    ensures refused { end_of result ≡ Status.Refused → out.new ≡ out.old }
+    ensures refused { final_status result ≡ Status.Refused → out.new ≡ out.old }
     ensures untouched { result ≡ Err Fault.Memory → out.new ≡ out.old }
     ensures printed { PrintsUnlessDenied (Replays (F.content files.old) asked.now)
         (CanReplay (F.content files.old) asked.now) result
@@ -66,7 +66,7 @@ fn replay_logs<'a, F: Files, O: Write>(
     out: &mut O,
 ) -> Result<Status, Fault<'a>>
     requires { length logs.now ≤ most_harts Two }
-    ensures refused { end_of result ≡ Status.Refused → out.new ≡ out.old }
+    ensures refused { final_status result ≡ Status.Refused → out.new ≡ out.old }
     ensures untouched { result ≡ Err Fault.Memory → out.new ≡ out.old }
     ensures printed { PrintsUnlessDenied (ReplaysLogs (F.content files.old) asked.now logs.now)
         (CanReplayLogs (F.content files.old) asked.now logs.now) result (O.contents out.old) (O.contents out.new) }
@@ -78,7 +78,7 @@ fn replay_logs<'a, F: Files, O: Write>(
     end_with_report(&outcome, logs, out)
 }
 
-/// The turns of the schedule at a path, of this many harts.
+/// The turns of the schedule at a path, for this many harts.
 fn turns_of<'a, F: Files>(
     alloc: Global,
     files: &mut F,
@@ -96,7 +96,7 @@ fn turns_of<'a, F: Files>(
     }
 }
 
-/// What comes of the logs, which keep no packets.
+/// What comes of the logs. No packets are kept.
 fn outcome_of<'a>(
     alloc: Global,
     logs: &[LegalLog<'_>],

@@ -13,7 +13,7 @@ use bench::{Outcome, is_whole, report};
 use legalpath::LegalLog;
 use std::io::Write;
 
-/// Writes the report of what came of the logs, and answers how that ends the run.
+/// Writes the report of what came of the logs, and returns how the run ends by it.
 pub(crate) fn end_with_report<'a, O: Write>(
     outcome: &Outcome,
     logs: &[LegalLog<'_>],
@@ -33,7 +33,7 @@ pub(crate) fn end_with_report<'a, O: Write>(
     Ok(status_of(outcome, logs))
 }
 
-/// How a run of which this came ends.
+/// How a run ends that has this outcome.
 fn status_of(outcome: &Outcome, logs: &[LegalLog<'_>]) -> Status
     requires { length logs.now ≡ length outcome.now.harts.items }
     ensures { result ≡ end_of_report outcome.now.stop

@@ -3,12 +3,13 @@
 ghost use Rattle.std.specs.Prelude.{◌≡◌};
 ghost use Rattle.commands.specs.Status.{code_of};
 
-/// How a command ended, as its exit status tells.
+/// How a command ended, which decides its exit status.
 #[derive(Clone, Copy, Debug, PartialEq, Eq)]
 pub enum Status {
     /// All that was asked for is done.
     Whole,
-    /// A capture was read to its first fault, not all of it is good, or not every log came back whole.
+    /// Reading or decoding a capture stopped at a fault, a payload of it is bad, a hart's closing packet did not come
+    /// or there are gaps; or not every log came back whole.
     NotWhole,
     /// The words, the image, a log or the schedule is refused.
     Refused,

@@ -13,7 +13,7 @@ use Rattle.payload.specs.declared.mode.Mode.{Mode}
 use Rattle.payload.specs.declared.packet.Packet.{Packet}
 use Rattle.payload.specs.declared.packet.Packet.TheVariants.{Address}
 use Rattle.payload.specs.declared.packet.Report.TheVariants.{Plain}
-use Rattle.decoder.proofs.ModeTold.{mode_of-behind}
+use Rattle.decoder.proofs.ModeAnnounced.{mode_of-behind}
 use Rattle.decoder.proofs.OnePacketMore.{join-append, pieces_split, pieces_join}
 use Rattle.decoder.proofs.UniqueLemmas.{pieces_same}
 use Rattle.decoder.specs.Describes.{Describes}
@@ -27,7 +27,7 @@ module _ (words : Words) (mode : Mode) where
   -- What is known while this address packet waits: the mode, and the pieces of the packets before it.
   pub record Waiting (packets : List Packet) (taken : List Bool) (delta : ℕ) (log : List Event) : Type 0 where
     pub begins : Begins (packets ++ Address taken delta Plain ∷ [])
-    pub told : mode ≡ mode_of (packets ++ Address taken delta Plain ∷ [])
+    pub announced : mode ≡ mode_of (packets ++ Address taken delta Plain ∷ [])
     pub pieces : List (List Event)
     pub whole : log ≡ join pieces
     pub legal : Legal words log
@@ -35,10 +35,11 @@ module _ (words : Words) (mode : Mode) where
     pub after : AfterRetirement (last_or None log)
 
   -- It is the mode of the packets with one more, too.
-  pub all_told : (packets : List Packet) (taken : List Bool) (delta : ℕ) (p : Packet) →
+  pub all_announced : (packets : List Packet) (taken : List Bool) (delta : ℕ) (p : Packet) →
       mode ≡ mode_of (packets ++ Address taken delta Plain ∷ []) →
       mode ≡ mode_of (packets ++ Address taken delta Plain ∷ p ∷ [])
-  all_told packets taken delta p told = told ∙ sym (mode_of-behind packets (Address taken delta Plain) (p ∷ []))
+  all_announced packets taken delta p announced =
+      announced ∙ sym (mode_of-behind packets (Address taken delta Plain) (p ∷ []))
 
   -- The log that the waiting packet and one more describe, with the pieces of both.
   abbrev pub settle : (packets : List Packet) (taken : List Bool) (delta : ℕ) (p : Packet)
@@ -65,7 +66,7 @@ module _ (words : Words) (mode : Mode) where
             ∙ sym (join-append w.pieces (piece ∷ more ∷ []));
         legal = follow_on_join words None log (piece ++ more) w.legal follows;
         each = subst (λ m. Pieces words m None 0 (packets ++ Address taken delta Plain ∷ p ∷ []) None
-            (w.pieces ++ piece ∷ more ∷ [])) (all_told packets taken delta p w.told)
+            (w.pieces ++ piece ∷ more ∷ [])) (all_announced packets taken delta p w.announced)
             (pieces_join words mode None 0 packets (Address taken delta Plain ∷ p ∷ []) None w.pieces
             (piece ∷ more ∷ []) w.each (may, first_fits, (tt, then_fits, tt)));
       }
@@ -89,7 +90,7 @@ module _ (words : Words) (mode : Mode) where
       Describes words (packets ++ Address taken delta Plain ∷ p ∷ []) other → AddedTwo packets taken delta p log w other
   waiting_only program packets taken delta p log other w all =
       let each = subst (λ m. Pieces words m None 0 (packets ++ Address taken delta Plain ∷ p ∷ []) None all.pieces)
-      (sym (all_told packets taken delta p w.told)) all.each in
+      (sym (all_announced packets taken delta p w.announced)) all.each in
       let parts = pieces_split words mode None 0 packets (Address taken delta Plain ∷ p ∷ []) None all.pieces each in
       take_two parts.front parts.back (all.whole ∙ ap join parts.is ∙ join-append parts.front parts.back) parts.early
       parts.late

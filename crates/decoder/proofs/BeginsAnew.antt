@@ -9,9 +9,9 @@ use Rattle.payload.specs.declared.packet.Packet.TheVariants as packet
 use Rattle.decoder.proofs.StandsForOneMore.{stands_more, stands_only, stands_right}
 use Rattle.decoder.proofs.StretchEnds.{stretch_count-gives}
 use Rattle.decoder.specs.Describes.{Describes}
-use Rattle.decoder.specs.Order.{opening}
+use Rattle.decoder.specs.Order.{open_packet}
 use Rattle.decoder.specs.Resuming.{IsSync, PassesOver}
-use Rattle.decoder.specs.Stands.{Stands}
+use Rattle.decoder.specs.DecoderStands.{DecoderStands}
 use Rattle.decoder.specs.steps.Planning.{CanFollowAt, admitted, decoder_after}
 use Rattle.decoder.specs.steps.Stretches.{Gives, RightBefore, stretch_count}
 use Rattle.decoder.specs.declared.decoding.Decoder.{Decoder}
@@ -24,7 +24,7 @@ opened decoder = record decoder { phase = Running }
 
 module _ (words : Words) (mode : Mode) (d : Decoder) (over : PassesOver mode d) where
   -- A decoder that passes over packets remembers what one does that a trace was opened for.
-  stands_opened : Stands words (opening mode ∷ []) [] (opened d)
+  stands_opened : DecoderStands words (open_packet mode ∷ []) [] (opened d)
   stands_opened = record {
     described = record { begins = tt; pieces = [] ∷ []; whole = refl; legal = tt; each = (tt, refl, tt) };
     phase = refl;
@@ -60,31 +60,31 @@ module _ (words : Words) (mode : Mode) (d : Decoder) (over : PassesOver mode d) 
   after_passing other piece more sync can = absurd sync
 
   pub passing_right : RightBefore words d.last
-  passing_right = stands_right words (opening mode ∷ []) [] (opened d) stands_opened
+  passing_right = stands_right words (open_packet mode ∷ []) [] (opened d) stands_opened
 
   -- After the synchronisation the decoder stands for it behind a packet that opens the trace.
-  pub begins_stretch : (p : Packet) (settled own : Stretch) (piece more : List Event) → IsSync p →
-      Gives words settled piece → Gives words own more → CanFollowAt words d p piece more →
-      Stands words (opening mode ∷ p ∷ []) (piece ++ more) (decoder_after d p settled own)
-  begins_stretch p settled own piece more sync one two can =
-      stands_more words (opening mode ∷ []) [] (opened d) p settled own piece more stands_opened one two
+  pub begins_stretch : (p : Packet) (settled of_packet : Stretch) (piece more : List Event) → IsSync p →
+      Gives words settled piece → Gives words of_packet more → CanFollowAt words d p piece more →
+      DecoderStands words (open_packet mode ∷ p ∷ []) (piece ++ more) (decoder_after d p settled of_packet)
+  begins_stretch p settled of_packet piece more sync one two can =
+      stands_more words (open_packet mode ∷ []) [] (opened d) p settled of_packet piece more stands_opened one two
       (after_opening p piece more sync can)
 
   -- Where there is too little room, a log is described for which there is too little behind the events before.
-  pub begins_longer : (p : Packet) (settled own : Stretch) (piece more : List Event) (before room : ℕ) → IsSync p →
-      Gives words settled piece → Gives words own more → CanFollowAt words d p piece more →
-      room < before + (stretch_count settled + stretch_count own) →
-      (other : List Event) × Describes words (opening mode ∷ p ∷ []) other × (room < before + length other)
-  begins_longer p settled own piece more before room sync one two can full =
-      let new = begins_stretch p settled own piece more sync one two can in
+  pub begins_longer : (p : Packet) (settled of_packet : Stretch) (piece more : List Event) (before room : ℕ) →
+      IsSync p → Gives words settled piece → Gives words of_packet more → CanFollowAt words d p piece more →
+      room < before + (stretch_count settled + stretch_count of_packet) →
+      (other : List Event) × Describes words (open_packet mode ∷ p ∷ []) other × (room < before + length other)
+  begins_longer p settled of_packet piece more before room sync one two can full =
+      let new = begins_stretch p settled of_packet piece more sync one two can in
       let counted = stretch_count-gives words settled piece one in
-      let counted' = stretch_count-gives words own more two in
+      let counted' = stretch_count-gives words of_packet more two in
       (piece ++ more, new.described, omega (arith, full, counted, counted', length-append piece more))
 
   -- What can follow, if the packets describe any log.
   pub begins_only : IsProgram words → (p : Packet) (other : List Event) → IsSync p →
-      Describes words (opening mode ∷ p ∷ []) other →
+      Describes words (open_packet mode ∷ p ∷ []) other →
       (piece : List Event) × (more : List Event) × CanFollowAt words d p piece more
   begins_only program p other sync all =
-      let one = stands_only words program (opening mode ∷ []) [] (opened d) p other stands_opened all in
+      let one = stands_only words program (open_packet mode ∷ []) [] (opened d) p other stands_opened all in
       (one.piece, one.more, after_passing p one.piece one.more sync one.can)

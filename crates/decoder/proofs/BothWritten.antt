@@ -69,28 +69,28 @@ module _ (words : Words) where
           let same : left_of (Walk walk) ≡ Walk walk = ap (λ p. if_pending p (Walk walk)) is in
           pending ahead (Walk walk) events old new same gives adds (λ h. let no : Pending ≡ Written = sym is ∙ h in cc)
 
-  module _ (first second : Stretch) (settled own : List Event) (gives : Gives words first settled)
-      (gives' : Gives words second own) (old new : List Event) (adds : AddsBoth words first second old new) where
+  module _ (first second : Stretch) (settled of_packet : List Event) (gives : Gives words first settled)
+      (gives' : Gives words second of_packet) (old new : List Event) (adds : AddsBoth words first second old new) where
     one : Parts words Written first settled old adds.0
     one = parts Written first settled old adds.0 gives adds.1
 
-    two : Parts words (stretch_progress first) second own adds.0 new
-    two = parts (stretch_progress first) second own adds.0 new gives' adds.2
+    two : Parts words (stretch_progress first) second of_packet adds.0 new
+    two = parts (stretch_progress first) second of_packet adds.0 new gives' adds.2
 
     -- What is written of both, and then what is left of both, is all of it in its order.
-    in_order : (one.made ++ two.made) ++ (one.left ++ two.left) ≡ settled ++ own
+    in_order : (one.made ++ two.made) ++ (one.left ++ two.left) ≡ settled ++ of_packet
     in_order = by_progress (stretch_progress first) refl
       where
         by_progress : (progress : Progress) → stretch_progress first ≡ progress →
-            (one.made ++ two.made) ++ (one.left ++ two.left) ≡ settled ++ own
+            (one.made ++ two.made) ++ (one.left ++ two.left) ≡ settled ++ of_packet
         by_progress Written is =
             let none = one.none_left is in
             let all : settled ≡ one.made = one.whole ∙ ap (λ l. one.made ++ l) none ∙ append-nil one.made in
             ap (λ l. (one.made ++ two.made) ++ (l ++ two.left)) none ∙ append_assoc one.made two.made two.left
-            ∙ ap (λ l. one.made ++ l) (sym two.whole) ∙ ap (λ l. l ++ own) (sym all)
+            ∙ ap (λ l. one.made ++ l) (sym two.whole) ∙ ap (λ l. l ++ of_packet) (sym all)
         by_progress Pending is =
             let none = two.none_made is in
-            let all : own ≡ two.left = two.whole ∙ ap (λ l. l ++ two.left) none in
+            let all : of_packet ≡ two.left = two.whole ∙ ap (λ l. l ++ two.left) none in
             ap (λ l. (one.made ++ l) ++ (one.left ++ two.left)) none
             ∙ ap (λ l. l ++ (one.left ++ two.left)) (append-nil one.made)
             ∙ sym (append_assoc one.made one.left two.left) ∙ ap (λ l. l ++ two.left) (sym one.whole)
@@ -105,14 +105,14 @@ module _ (words : Words) where
         (stretch_count first + stretch_count second)
     both_counted =
         let a = stretch_count-gives words first settled gives in
-        let b = stretch_count-gives words second own gives' in
+        let b = stretch_count-gives words second of_packet gives' in
         let c = stretch_count-gives words (left_of first) one.left one.gives in
         let d = stretch_count-gives words (left_of second) two.left two.gives in
         let e = made_counted in
         let f = ap length in_order in
         let g = length-append (one.made ++ two.made) (one.left ++ two.left) in
         let h = length-append one.left two.left in
-        let i = length-append settled own in
+        let i = length-append settled of_packet in
         omega (arith, a, b, c, d, e, f, g, h, i)
 
     -- There is room for what is left of the first.
@@ -138,7 +138,7 @@ module _ (words : Words) where
 
       -- All of it was added.
       pub both_added : (last : List Event) → AddsStretch words (left_of second) after last →
-          last ≡ old ++ (settled ++ own)
+          last ≡ old ++ (settled ++ of_packet)
       both_added last adds_second =
           adds_second two.left two.gives ∙ ap (λ l. l ++ two.left) after_first
           ∙ append_assoc new one.left two.left

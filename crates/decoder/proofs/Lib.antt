@@ -7,9 +7,9 @@ pub mod Retraces
 pub mod WritesAsFound
 pub mod WalkBound
 pub mod PassesFindWalks
-pub mod FoundAsTold
+pub mod FoundAsReturned
 pub mod UniqueLemmas
-pub mod ModeTold
+pub mod ModeAnnounced
 pub mod ExtendingLemmas
 pub mod OnePacketMore
 pub mod AfterWaiting
@@ -19,5 +19,5 @@ pub mod PlanFollows
 pub mod BothWritten
 pub mod NextPacket
 pub mod StandsForOneMore
-pub mod NotOpenedTold
+pub mod NotOpenedReturned
 pub mod BeginsAnew

@@ -7,10 +7,10 @@ use Rattle.legalpath.proofs.EventLemmas.{stand_together, keep_privilege}
 use Rattle.legalpath.specs.Legal.{FollowOn}
 use Rattle.decoder.specs.Fits.{FitsSync}
 use Rattle.decoder.specs.steps.Stretches.{SuitsOne, SuitsNone}
-use Rattle.decoder.specs.steps.Reporting.{FitsTold, IsHandled}
+use Rattle.decoder.specs.steps.Reporting.{FitsReported, IsHandled}
 use Rattle.decoder.specs.declared.fault.DecodeFault.{DecodeFault}
 use Rattle.decoder.specs.declared.reporting.Cause.{Cause}
-use Rattle.decoder.specs.declared.reporting.Told.{Told}
+use Rattle.decoder.specs.declared.reporting.Reported.{Reported}
 
 -- Traps with one cause after one retirement that leads to one address are the same.
 same_trap : (words : Words) (before : Option Event) (cause : Cause) (trap : Event) (epc from : ℕ) →
@@ -29,13 +29,13 @@ same_trap words (Some before) cause trap epc from (after, epc', from', is) follo
     ∙ sym (keep_privilege words before there after.0 after.1 ran.1) in
     cc
 
-module _ (words : Words) (before : Option Event) (told : Told) (cause : Cause) where
+module _ (words : Words) (before : Option Event) (reported : Reported) (cause : Cause) where
   pub no_trap : (fault : DecodeFault) → SuitsNone words before (IsHandled words before cause) fault →
-      SuitsNone words before (FitsTold words before told cause true) fault
+      SuitsNone words before (FitsReported words before reported cause true) fault
   no_trap fault none = record {
     named = none.named;
     none = λ right events fits follows.
-        let (after, epc, from, event, is, reported) = fits in
+        let (after, epc, from, event, is, is_reported) = fits in
         let ran : FollowOn words before (Trap from cause.interrupt cause.cause epc cause.tval ∷ event ∷ []) =
         subst (FollowOn words before) is follows in
         none.none right (Trap from cause.interrupt cause.cause epc cause.tval ∷ []) (after, epc, from, refl)
@@ -43,16 +43,16 @@ module _ (words : Words) (before : Option Event) (told : Told) (cause : Cause) w
   }
 
   pub no_handler : (trap : Event) (fault : DecodeFault) → SuitsOne words before (IsHandled words before cause)
-      (trap ∷ []) → SuitsNone words (Some trap) (FitsSync told.taken told.privilege told.addr) fault →
-      SuitsNone words before (FitsTold words before told cause true) fault
+      (trap ∷ []) → SuitsNone words (Some trap) (FitsSync reported.taken reported.privilege reported.addr) fault →
+      SuitsNone words before (FitsReported words before reported cause true) fault
   no_handler trap fault one none = record {
     named = none.named;
     none = λ right events fits follows.
-        let (after, epc, from, event, is, reported) = fits in
+        let (after, epc, from, event, is, is_reported) = fits in
         let found = one right in
         let ran : FollowOn words before (Trap from cause.interrupt cause.cause epc cause.tval ∷ event ∷ []) =
         subst (FollowOn words before) is follows in
         let same = same_trap words before cause trap epc from found.0 found.1 (ran.0, ran.1, tt) in
-        none.none found.1.0 (event ∷ []) (event, refl, reported)
+        none.none found.1.0 (event ∷ []) (event, refl, is_reported)
         (subst (λ e. FollowOn words (Some e) (event ∷ [])) same ran.2);
   }

@@ -12,7 +12,7 @@ use Rattle.payload.specs.declared.mode.Mode.{Mode}
 use Rattle.payload.specs.declared.packet.Packet.{Packet}
 use Rattle.payload.specs.declared.packet.Packet.TheVariants as packet
 use Rattle.payload.specs.declared.packet.Report.TheVariants as report
-use Rattle.decoder.proofs.ModeTold.{pieces_with, fits_with}
+use Rattle.decoder.proofs.ModeAnnounced.{pieces_with, fits_with}
 use Rattle.decoder.proofs.UniqueLemmas.{pieces_same}
 use Rattle.decoder.specs.Describes.{Describes}
 use Rattle.decoder.specs.Fits.{Fits}
@@ -153,13 +153,13 @@ module _ (words : Words) (mode : Mode) where
       Takes (last_or None packets) p →
       Fits words mode (last_or None log) (reported_end 0 packets d.pieces) p None piece →
       FollowOn words (last_or None log) piece → Describes words (packets ++ p ∷ []) (log ++ piece)
-  feed_more packets p log piece d told begins takes fits follows =
+  feed_more packets p log piece d announced begins takes fits follows =
       let after = mode_of (packets ++ p ∷ []) in
       let r = reported_end 0 packets d.pieces in
       let each = (pieces_with words packets (p ∷ []) None d.pieces).0 d.each in
       let known = next_known words after None 0 packets p d.pieces takes each in
       let here = (fits_with words packets p (last_or None log) r None piece begins).0
-      (subst (λ m. Fits words m (last_or None log) r p None piece) told fits) in
+      (subst (λ m. Fits words m (last_or None log) r p None piece) announced fits) in
       let last = subst (λ l. Fits words after (last_or None l) r p None piece) d.whole here in
       record {
         begins = begins;
@@ -183,7 +183,7 @@ module _ (words : Words) (mode : Mode) where
   pub feed_only : IsProgram words → (packets : List Packet) (p : Packet) (log other : List Event) →
       (d : Describes words packets log) → mode ≡ mode_of packets → Takes (last_or None packets) p →
       Describes words (packets ++ p ∷ []) other → Added packets p log d other
-  feed_only program packets p log other d told takes all =
+  feed_only program packets p log other d announced takes all =
       let parts = pieces_split words (mode_of (packets ++ p ∷ [])) None 0 packets (p ∷ []) None all.pieces all.each in
       let known = next_unknown words (mode_of (packets ++ p ∷ [])) None 0 packets p parts.front takes parts.early in
       let early = (pieces_with words packets (p ∷ []) None parts.front).1 known in
@@ -205,7 +205,7 @@ module _ (words : Words) (mode : Mode) where
           let here = (fits_with words packets p (last_or None (join front)) (reported_end 0 packets front) None piece
           all.begins).1 late.1 in
           let there = subst (λ m. Fits words m (last_or None (join front)) (reported_end 0 packets front) p None piece)
-          (sym told) here in
+          (sym announced) here in
           let fits = subst (λ l. Fits words mode (last_or None l) (reported_end 0 packets front) p None piece)
           (sym logs) there in
           record {

@@ -6,7 +6,7 @@ use Rattle.retire.specs.declared.event.Event.{Event}
 use Rattle.rvclass.specs.Words.{Words}
 use Rattle.decoder.specs.Walk.{End}
 use Rattle.decoder.specs.steps.Retracing.{Retraces, HasRoomWithin, AddsWithin, IsAhead, Adding}
-use Rattle.decoder.specs.steps.WalkSteps.{Move, Stop, Last, On, advance, follow, behind, walk_within, summary, plus}
+use Rattle.decoder.specs.steps.WalkSteps.{Move, Stop, Last, On, advance, follow, event_then, walk_within, summary, plus}
 use Rattle.decoder.specs.steps.Walks.{event_of, Carries}
 use Rattle.decoder.specs.declared.stepping.Here.{Here}
 
@@ -22,7 +22,7 @@ unfolding walk_within
 none_within words zero e taken end h = refl
 none_within words (suc n) e taken end h = absurd (omega (arith, h))
 
-plus_one : (i : ℕ) (e f : Event) (o : Option (List Event)) → plus i (summary e (behind f o)) ≡ plus (i + 1)
+plus_one : (i : ℕ) (e f : Event) (o : Option (List Event)) → plus i (summary e (event_then f o)) ≡ plus (i + 1)
     (summary f o)
 plus_one i e f None = refl
 plus_one i e f (Some w) = let more : i + suc (length w) ≡ i + 1 + length w = omega arith in
@@ -66,7 +66,7 @@ record Cut (rest : Option (List Event)) (f : Event) (back : List Event) : Type 0
   is : back ≡ f ∷ tail
   later : rest ≡ Some tail
 
-cut_of : (rest : Option (List Event)) (f : Event) (back : List Event) → behind f rest ≡ Some back → Cut rest f back
+cut_of : (rest : Option (List Event)) (f : Event) (back : List Event) → event_then f rest ≡ Some back → Cut rest f back
 cut_of None f back h = cc
 cut_of (Some w) f back h = record { tail = w; is = cc; later = refl }
 
@@ -167,10 +167,10 @@ module _ (words : Words) (end : End) where
     pub write_has_room : done < count → len < capacity
     write_has_room lt = let more = some_left lt in omega (arith, more, inv.room)
 
-    pub write_lost : (outcomes : List Bool) (there : Here) (used : ℕ) (told : Bool) → done < count →
-        Retraces words outcomes there used told (advance words (event_of here) left end) → told ≡ false →
+    pub write_lost : (outcomes : List Bool) (there : Here) (used : ℕ) (goes : Bool) → done < count →
+        Retraces words outcomes there used goes (advance words (event_of here) left end) → goes ≡ false →
         AddsWithin words limit from taken end old new
-    write_lost outcomes there used told lt retraces lost =
+    write_lost outcomes there used goes lt retraces lost =
         absurd (not_lost outcomes there used here left inv.back inv.later (some_left lt)
         (subst (λ t. Retraces words outcomes there used t (advance words (event_of here) left end)) lost retraces))
 
@@ -181,12 +181,12 @@ module _ (words : Words) (end : End) where
         rest [] h = append-nil new
         rest (f ∷ back) h = absurd (omega (arith, h))
 
-    pub write_goes : (outcomes : List Bool) (there : Here) (used : ℕ) (told : Bool) (e : Event) (after : List Event)
-        (len_after capacity_after : ℕ) → done < count → Retraces words outcomes there used told
-        (advance words (event_of here) left end) → told ≡ true → e ≡ event_of there → after ≡ new ++ e ∷ [] →
+    pub write_goes : (outcomes : List Bool) (there : Here) (used : ℕ) (goes : Bool) (e : Event) (after : List Event)
+        (len_after capacity_after : ℕ) → done < count → Retraces words outcomes there used goes
+        (advance words (event_of here) left end) → goes ≡ true → e ≡ event_of there → after ≡ new ++ e ∷ [] →
         len_after ≡ len + 1 → capacity_after ≡ capacity → Adding words limit from taken end old (count - (done + 1))
         there (drop used outcomes) after len_after capacity_after
-    write_goes outcomes there used told e after len_after capacity_after lt retraces found is added m q =
+    write_goes outcomes there used goes e after len_after capacity_after lt retraces found is added m q =
         let next = reached outcomes there used here left inv.back inv.later (some_left lt)
         (subst (λ t. Retraces words outcomes there used t (advance words (event_of here) left end)) found
         retraces) in

@@ -11,7 +11,7 @@ use Rattle.decoder.proofs.WalkFinding.{walk_sound, walk_complete}
 use Rattle.decoder.specs.Walk.{End}
 use Rattle.decoder.specs.steps.Retracing.{HasRoomWithin, AddsWithin}
 use Rattle.decoder.specs.steps.WalkSteps.{walk_within, summary, summary_of}
-use Rattle.decoder.specs.steps.Walks.{event_of, end_of, IsHere, WalksOn, Finds, FindsNone, HasRoom, Adds}
+use Rattle.decoder.specs.steps.Walks.{event_of, goal_end, IsHere, WalksOn, Finds, FindsNone, HasRoom, Adds}
 use Rattle.decoder.specs.declared.fault.DecodeFault.{DecodeFault}
 use Rattle.decoder.specs.declared.stepping.Goal.{Goal}
 use Rattle.decoder.specs.declared.stepping.Here.{Here}
@@ -19,24 +19,24 @@ use Rattle.decoder.specs.declared.walking.Walked.{Walked}
 
 -- The same outcomes, goal and limit give the same walk.
 pub same_walk : (words : Words) (e : Event) (limit other : ℕ) (taken more : List Bool) (goal aim : Goal) →
-    limit ≡ other → taken ≡ more → goal ≡ aim → walk_within words limit e taken (end_of goal) ≡ walk_within words other
-    e more (end_of aim)
+    limit ≡ other → taken ≡ more → goal ≡ aim →
+    walk_within words limit e taken (goal_end goal) ≡ walk_within words other e more (goal_end aim)
 same_walk words e limit other taken more goal aim l t g = cc
 
 module _ (words : Words) (good : IsProgram words) (from : Here) (right : IsHere words from) (taken : List Bool)
     (end : End) where
   pub measure_finds : (steps : ℕ) (r : Result Walked DecodeFault) → summary_of r ≡ summary (event_of from)
       (walk_within words steps (event_of from) taken end) → IfOk r (λ walked. Finds words from taken end walked)
-  measure_finds steps (Err fault) told = tt
-  measure_finds steps (Ok walked) told = go (walk_within words steps (event_of from) taken end) refl told
+  measure_finds steps (Err fault) summed = tt
+  measure_finds steps (Ok walked) summed = go (walk_within words steps (event_of from) taken end) refl summed
     where
       go : (o : Option (List Event)) → walk_within words steps (event_of from) taken end ≡ o →
           Some (walked.count, Some walked.last) ≡ summary (event_of from) o → Finds words from taken end walked
-      go None is told = cc
-      go (Some w) is told =
+      go None is summed = cc
+      go (Some w) is summed =
           let walks = walk_sound words good steps (event_of from) taken end w refl right.1 is in
           let parts = some_pair_parts walked.count (length w) (Some walked.last) (last_or (Some (event_of from)) w)
-          told in
+          summed in
           record {
             walk = w;
             walks = walks;
@@ -64,9 +64,9 @@ module _ (words : Words) (good : IsProgram words) (from : Here) (right : IsHere 
     pub measure_none : (r : Result Walked DecodeFault) → summary_of r ≡ summary (event_of from)
         (walk_within words (32 * (count / 2)) (event_of from) taken end) →
         IfErr r (λ fault. FindsNone words from taken end)
-    measure_none (Ok walked) told = tt
-    measure_none (Err fault) told = λ w walks. let found = told ∙ ap (summary (event_of from)) (within_limit w walks) in
-        cc
+    measure_none (Ok walked) summed = tt
+    measure_none (Err fault) summed = λ w walks.
+        let found = summed ∙ ap (summary (event_of from)) (within_limit w walks) in cc
 
     pub write_room : (walked len capacity : ℕ) → HasRoom words from taken end walked len capacity →
         HasRoomWithin words (32 * (count / 2)) (event_of from) taken end walked len capacity

@@ -31,20 +31,20 @@ waiting_same words program mode before reported (Some waiting) p piece other fit
     other fits fits' follows follows'
 
 module _ (words : Words) (d : Decoder) (p : Packet) where
-  pub plans : (settled own : Stretch) (r : Result Unit DecodeFault) → admitted d.phase p ≡ Ok tt →
+  pub plans : (settled of_packet : Stretch) (r : Result Unit DecodeFault) → admitted d.phase p ≡ Ok tt →
       MayCome d.phase d.waiting p → Suits words d.last (FitsWaiting words d.mode d.last d.reported d.waiting p) settled
       → OnOk r (Suits words (stretch_last d.last settled)
-      (Fits words d.mode (stretch_last d.last settled) (stretch_place d.reported settled) p None) own) →
-      OnOk r (Plans words d p settled own)
-  plans settled own (Err fault) admits comes first second = tt
-  plans settled own (Ok done) admits comes first second =
+      (Fits words d.mode (stretch_last d.last settled) (stretch_place d.reported settled) p None) of_packet) →
+      OnOk r (Plans words d p settled of_packet)
+  plans settled of_packet (Err fault) admits comes first second = tt
+  plans settled of_packet (Ok done) admits comes first second =
       let last = stretch_last-gives words d.last settled first.events first.gives in
       let at = stretch_place-gives words d.reported settled first.events first.gives in
       record {
         settled = first.events;
-        own = second.events;
+        of_packet = second.events;
         gives_settled = first.gives;
-        gives_own = second.gives;
+        gives_of_packet = second.gives;
         can = λ right.
             let one = first.fits right in
             let two = second.fits (subst (RightBefore words) (sym last)
@@ -72,15 +72,16 @@ module _ (words : Words) (d : Decoder) (p : Packet) where
       let at = stretch_place-gives words d.reported settled first.events first.gives in
       record {
         named = subst (λ a. IsNamed a fault) (sym admits) none.named;
-        none = λ right piece own can.
+        none = λ right piece of_packet can.
             let one = first.fits right in
             let same : piece ≡ first.events = waiting_same words program d.mode d.last d.reported d.waiting p piece
             first.events can.settles one.0 can.settled_follows one.1 in
             let before : last_or d.last piece ≡ stretch_last d.last settled = ap (last_or d.last) same ∙ sym last in
             let reported : last_place d.reported piece ≡ stretch_place d.reported settled =
             ap (last_place d.reported) same ∙ sym at in
-            let fits = subst (λ l. Fits words d.mode l (last_place d.reported piece) p None own) before can.fits in
-            none.none (subst (RightBefore words) (sym last) (right_after words d.last first.events right one.1)) own
-            (subst (λ r. Fits words d.mode (stretch_last d.last settled) r p None own) reported fits)
-            (subst (λ l. FollowOn words l own) before can.follows);
+            let fits = subst (λ l. Fits words d.mode l (last_place d.reported piece) p None of_packet) before
+            can.fits in
+            none.none (subst (RightBefore words) (sym last) (right_after words d.last first.events right one.1))
+            of_packet (subst (λ r. Fits words d.mode (stretch_last d.last settled) r p None of_packet) reported fits)
+            (subst (λ l. FollowOn words l of_packet) before can.follows);
       }

@@ -15,7 +15,7 @@ use Rattle.decoder.specs.steps.Retracing.{Reaches, Retraces}
 use Rattle.decoder.specs.Walk.{End, AtTarget}
 use Rattle.decoder.specs.steps.WalkSteps.{Stop, Last, On, retire_on, stops, next_move, last_move, target_move, move_to}
 use Rattle.decoder.specs.steps.WalkSteps.{advance, retirement, type_on}
-use Rattle.decoder.specs.steps.Walks.{event_of, end_of, Carries}
+use Rattle.decoder.specs.steps.Walks.{event_of, goal_end, Carries}
 use Rattle.decoder.specs.declared.stepping.Goal.{Goal}
 use Rattle.decoder.specs.declared.stepping.Goal.TheVariants.{Address, Target, Branch as GoalBranch}
 use Rattle.decoder.specs.declared.stepping.Here.{Here}
@@ -41,13 +41,13 @@ module _ (words : Words) (taken : List Bool) (here : Here) (used : ℕ) where
   pub reaches_there : (addr priv itype : ℕ) (word : Word) (left : List Bool) → Some word ≡ words addr →
       Some (itype, drop used taken) ≡ type_on word.0 left → event_of here ≡ Retire addr itype priv →
       Carries words here → Reaches words taken here used true (retire_on addr priv (words addr) left)
-  reaches_there addr priv itype word left at told is carries =
+  reaches_there addr priv itype word left at typed is carries =
       subst (λ w. Reaches words taken here used true (retire_on addr priv w left)) at
       (by_level (may_retire_at word.0 priv))
     where
       by_level : (b : Bool) →
           Reaches words taken here used true (cond b (retirement addr priv (type_on word.0 left)) None)
-      by_level true = subst (λ t. Reaches words taken here used true (retirement addr priv t)) told (is, refl, carries)
+      by_level true = subst (λ t. Reaches words taken here used true (retirement addr priv t)) typed (is, refl, carries)
       by_level false = tt
 
   retraces_next : (done : Bool) (end : End) (r : Option (Event × List Bool)) → Reaches words taken here used done r →
@@ -105,21 +105,22 @@ module _ (words : Words) (taken : List Bool) (here : Here) (used : ℕ) where
 
     pub retraces_any : (goal : Goal) (addr : ℕ) → Carries words from → from.next ≡ Any → goal ≡ Target addr →
         Reaches words taken here used done (retire_on addr from.privilege (words addr) left) →
-        Retraces words taken here used done (advance words (event_of from) left (end_of goal))
+        Retraces words taken here used done (advance words (event_of from) left (goal_end goal))
     retraces_any goal addr carries is aim reached =
         let there = retraces_target done (words from.addr) from.privilege addr left reached in
-        stepped (end_of goal) Any (carries.0 ∙ is)
+        stepped (goal_end goal) Any (carries.0 ∙ is)
         (subst (λ g. Retraces words taken here used done
-        (target_move words (words from.addr) from.privilege left (end_of g))) (sym aim) there)
+        (target_move words (words from.addr) from.privilege left (goal_end g))) (sym aim) there)
 
     -- No walk goes on elsewhere from a discontinuity, and none goes on from a word that does not retire.
     pub retraces_nothing : (goal : Goal) → Carries words from → from.next ≡ Any →
         ((addr : ℕ) → goal ≡ Target addr → ⊥) →
-        Retraces words taken here used done (advance words (event_of from) left (end_of goal))
-    retraces_nothing goal carries is other = stepped (end_of goal) Any (carries.0 ∙ is) (by_goal goal other)
+        Retraces words taken here used done (advance words (event_of from) left (goal_end goal))
+    retraces_nothing goal carries is other = stepped (goal_end goal) Any (carries.0 ∙ is) (by_goal goal other)
       where
         by_goal : (goal : Goal) → ((addr : ℕ) → goal ≡ Target addr → ⊥) →
-            Retraces words taken here used done (target_move words (words from.addr) from.privilege left (end_of goal))
+            Retraces words taken here used done
+            (target_move words (words from.addr) from.privilege left (goal_end goal))
         by_goal GoalBranch other = stopped done
         by_goal (Address to) other = stopped done
         by_goal (Target to) other = absurd (other to refl)

@@ -15,7 +15,7 @@ use Rattle.payload.specs.declared.mode.Mode.{Mode}
 use Rattle.payload.specs.declared.packet.Packet.{Packet}
 use Rattle.payload.specs.declared.packet.Packet.TheVariants as packet
 use Rattle.payload.specs.declared.packet.Report.TheVariants as report
-use Rattle.decoder.proofs.ModeTold.{mode_of-behind, mode_past-first, mode_past-later}
+use Rattle.decoder.proofs.ModeAnnounced.{mode_of-behind, mode_past-first, mode_past-later}
 use Rattle.decoder.proofs.OnePacketMore.{Takes, feed_more, feed_only, pieces_split, join-append, begins_more}
 use Rattle.decoder.proofs.OnePacketMore.{reported_end-append}
 use Rattle.decoder.proofs.StretchEnds.{last_or-last, stretch_count-gives, stretch_last-gives, stretch_place-gives}
@@ -23,14 +23,14 @@ use Rattle.decoder.proofs.StretchEnds.{right_after}
 use Rattle.decoder.proofs.AfterWaiting.{Waiting as Held, settle, waiting_only}
 use Rattle.decoder.specs.Describes.{Describes}
 use Rattle.decoder.specs.Fits.{AfterRetirement, FitsAddress, Fits}
-use Rattle.decoder.specs.ModeOf.{mode_by, mode_of}
+use Rattle.decoder.specs.ModeOf.{mode_announced_by, mode_of}
 use Rattle.decoder.specs.Order.{MayPrecede, IsOpen, Begins}
 use Rattle.decoder.specs.steps.Stretches.{stretch_count, stretch_last, stretch_place, Gives, RightBefore}
 use Rattle.decoder.specs.Pieces.{reported_after, reported_end, Pieces}
 use Rattle.decoder.specs.steps.Planning.{MayCome, FitsWaiting, CanFollow, CanFollowAt, admitted}
 use Rattle.decoder.specs.steps.Planning.{decoder_after, mode_past, reported_past}
 use Rattle.decoder.specs.Settling.{settled_by}
-use Rattle.decoder.specs.Stands.{Stands, phase_after, waiting_after}
+use Rattle.decoder.specs.DecoderStands.{DecoderStands, phase_after, waiting_after}
 use Rattle.decoder.specs.declared.decoding.Decoder.{Decoder}
 use Rattle.decoder.specs.declared.stretch.Stretch.{Stretch}
 use Rattle.decoder.specs.declared.settling.Waiting.{Waiting}
@@ -39,14 +39,14 @@ use Rattle.decoder.proofs.NextPacket.{reported_past-after}
 
 module _ (words : Words) where
   -- The last event of a log that a decoder stands for is right.
-  pub stands_right : (packets : List Packet) (log : List Event) (d : Decoder) → Stands words packets log d →
+  pub stands_right : (packets : List Packet) (log : List Event) (d : Decoder) → DecoderStands words packets log d →
       RightBefore words d.last
   stands_right packets log d s = subst (RightBefore words) (sym s.last)
       (right_after words None log tt s.described.legal)
 
   -- What follows what a decoder remembers follows what it stands for.
   recalled : {packets : List Packet} {log : List Event} {d : Decoder} {p : Packet} {piece more : List Event} →
-      (s : Stands words packets log d) → CanFollowAt words d p piece more →
+      (s : DecoderStands words packets log d) → CanFollowAt words d p piece more →
       CanFollow words d.mode (phase_after (last_or None packets)) (waiting_after (last_or None packets))
       (last_or None log) (reported_end 0 packets s.described.pieces) p piece more
   recalled {packets} {log} {d} {p} {piece} {more} s can =
@@ -60,7 +60,7 @@ module _ (words : Words) where
 
   -- And the other way round.
   kept_in_mind : {packets : List Packet} {log : List Event} {d : Decoder} {p : Packet} {piece more : List Event} →
-      (s : Stands words packets log d) → CanFollow words d.mode (phase_after (last_or None packets))
+      (s : DecoderStands words packets log d) → CanFollow words d.mode (phase_after (last_or None packets))
       (waiting_after (last_or None packets)) (last_or None log) (reported_end 0 packets s.described.pieces) p piece
       more → CanFollowAt words d p piece more
   kept_in_mind {packets} {log} {d} {p} {piece} {more} s can =
@@ -73,26 +73,27 @@ module _ (words : Words) where
       subst (λ x. CanFollow words d.mode d.phase d.waiting d.last x p piece more) (sym s.reported) three
 
   -- What the decoder remembers after one packet more is what is to be remembered of it.
-  remembered : (packets after : List Packet) (log : List Event) (d : Decoder) (p : Packet) (settled own : Stretch)
-      (piece more : List Event) → Stands words packets log d → Gives words settled piece → Gives words own more →
-      last_or None after ≡ Some p → mode_past p d.mode ≡ mode_of after →
+  remembered : (packets after : List Packet) (log : List Event) (d : Decoder) (p : Packet) (settled of_packet : Stretch)
+      (piece more : List Event) → DecoderStands words packets log d → Gives words settled piece →
+      Gives words of_packet more → last_or None after ≡ Some p → mode_past p d.mode ≡ mode_of after →
       (new : Describes words after (log ++ (piece ++ more))) →
       reported_end 0 after new.pieces ≡ reported_after p (last_place d.reported piece) more →
-      Stands words after (log ++ (piece ++ more)) (decoder_after d p settled own)
-  remembered packets after log d p settled own piece more s one two last told new reported =
+      DecoderStands words after (log ++ (piece ++ more)) (decoder_after d p settled of_packet)
+  remembered packets after log d p settled of_packet piece more s one two last announced new reported =
       let at = stretch_place-gives words d.reported settled piece one in
       let before = stretch_last-gives words d.last settled piece one in
       record {
         described = new;
         phase = ap phase_after (sym last);
         waiting = ap waiting_after (sym last);
-        last = ap (λ b. stretch_last b own) before ∙ stretch_last-gives words (last_or d.last piece) own more two
+        last = ap (λ b. stretch_last b of_packet) before
+            ∙ stretch_last-gives words (last_or d.last piece) of_packet more two
             ∙ sym (last_or-append d.last piece more) ∙ ap (λ b. last_or b (piece ++ more)) s.last
             ∙ sym (last_or-append None log (piece ++ more));
-        mode = told;
-        reported = ap (λ r. reported_past p r (stretch_place r own)) at
+        mode = announced;
+        reported = ap (λ r. reported_past p r (stretch_place r of_packet)) at
             ∙ ap (λ r. reported_past p (last_place d.reported piece) r)
-            (stretch_place-gives words (last_place d.reported piece) own more two)
+            (stretch_place-gives words (last_place d.reported piece) of_packet more two)
             ∙ reported_past-after p (last_place d.reported piece) more ∙ sym reported;
       }
 
@@ -107,31 +108,31 @@ module _ (words : Words) where
   begins_with [] p begins admits = opens_only p admits
   begins_with (q ∷ packets) p begins admits = begins_more q packets (p ∷ []) begins
 
-  -- The mode after the packet is the one that all of them tell.
+  -- The mode after the packet is the one that all of them announce.
   mode_settled : (packets : List Packet) (p : Packet) → Takes (last_or None packets) p →
       mode_past p (mode_of packets) ≡ mode_of (packets ++ p ∷ [])
   mode_settled [] p takes = mode_past-first p
   mode_settled (q ∷ packets) p takes = behind_last q packets takes
     where
       behind_last : (r : Packet) (rest : List Packet) → Takes (last_or (Some r) rest) p →
-          mode_past p (mode_by q) ≡ mode_by q
-      behind_last r [] takes = mode_past-later r p (mode_by q) takes.1.1
+          mode_past p (mode_announced_by q) ≡ mode_announced_by q
+      behind_last r [] takes = mode_past-later r p (mode_announced_by q) takes.1.1
       behind_last r (next ∷ rest) takes = behind_last next rest takes
 
-  more_settled : (packets : List Packet) (log : List Event) (d : Decoder) (p : Packet) (settled own : Stretch)
-      (more : List Event) → Stands words packets log d → waiting_after (last_or None packets) ≡ None →
-      Gives words settled [] → Gives words own more → CanFollowAt words d p [] more →
-      Stands words (packets ++ p ∷ []) (log ++ more) (decoder_after d p settled own)
-  more_settled packets log d p settled own more s none one two can =
+  more_settled : (packets : List Packet) (log : List Event) (d : Decoder) (p : Packet) (settled of_packet : Stretch)
+      (more : List Event) → DecoderStands words packets log d → waiting_after (last_or None packets) ≡ None →
+      Gives words settled [] → Gives words of_packet more → CanFollowAt words d p [] more →
+      DecoderStands words (packets ++ p ∷ []) (log ++ more) (decoder_after d p settled of_packet)
+  more_settled packets log d p settled of_packet more s none one two can =
       let c = recalled s can in
       let takes_it = takes (last_or None packets) p c.admits c.comes none in
       let new = feed_more words d.mode packets p log more s.described s.mode
       (begins_with packets p s.described.begins c.admits) takes_it c.fits c.follows in
-      let told = ap (mode_past p) s.mode ∙ mode_settled packets p takes_it in
+      let announced = ap (mode_past p) s.mode ∙ mode_settled packets p takes_it in
       let end = reported_end-append words (mode_of packets) None 0 packets (p ∷ []) None s.described.pieces (more ∷ [])
       s.described.each in
-      remembered packets (packets ++ p ∷ []) log d p settled own [] more s one two (last_or-last None packets p)
-      told new (end ∙ ap (λ r. reported_after p r more) (sym s.reported))
+      remembered packets (packets ++ p ∷ []) log d p settled of_packet [] more s one two (last_or-last None packets p)
+      announced new (end ∙ ap (λ r. reported_after p r more) (sym s.reported))
 
   abbrev plain : Waiting → Packet
   plain waiting = packet.Address waiting.outcomes waiting.delta report.Plain
@@ -142,7 +143,7 @@ module _ (words : Words) where
     reported : d.reported ≡ reported_end 0 front held.pieces
 
   behind : (front : List Packet) (waiting : Waiting) (log : List Event) (d : Decoder) →
-      Stands words (front ++ plain waiting ∷ []) log d → Behind front waiting log d
+      DecoderStands words (front ++ plain waiting ∷ []) log d → Behind front waiting log d
   behind front waiting log d s =
       let all = s.described in
       let each = subst (λ m. Pieces words m None 0 (front ++ plain waiting ∷ []) None all.pieces) (sym s.mode)
@@ -168,7 +169,7 @@ module _ (words : Words) where
           record {
             held = record {
               begins = all.begins;
-              told = s.mode;
+              announced = s.mode;
               pieces = pieces;
               whole = whole;
               legal = all.legal;
@@ -184,7 +185,7 @@ module _ (words : Words) where
 
   -- What follows after a packet that waits, said of that packet.
   after_waiting : (front : List Packet) {log : List Event} {d : Decoder} {p : Packet} {piece more : List Event}
-      (waiting : Waiting) → Stands words (front ++ plain waiting ∷ []) log d → CanFollowAt words d p piece more →
+      (waiting : Waiting) → DecoderStands words (front ++ plain waiting ∷ []) log d → CanFollowAt words d p piece more →
       CanFollow words d.mode (phase_after (Some (plain waiting))) (Some waiting) d.last d.reported p piece more
   after_waiting front {log} {d} {p} {piece} {more} waiting s can =
       let last = last_or-last None front (plain waiting) in
@@ -194,7 +195,7 @@ module _ (words : Words) where
       (s.waiting ∙ ap waiting_after last) one
 
   before_waiting : (front : List Packet) {log : List Event} {d : Decoder} {p : Packet} {piece more : List Event}
-      (waiting : Waiting) → Stands words (front ++ plain waiting ∷ []) log d →
+      (waiting : Waiting) → DecoderStands words (front ++ plain waiting ∷ []) log d →
       CanFollow words d.mode (phase_after (Some (plain waiting))) (Some waiting) d.last d.reported p piece more →
       CanFollowAt words d p piece more
   before_waiting front {log} {d} {p} {piece} {more} waiting s can =
@@ -205,10 +206,12 @@ module _ (words : Words) where
       (sym (s.waiting ∙ ap waiting_after last)) one
 
   more_waiting : (front : List Packet) (waiting : Waiting) (log : List Event) (d : Decoder) (p : Packet)
-      (settled own : Stretch) (piece more : List Event) → Stands words (front ++ plain waiting ∷ []) log d →
-      Gives words settled piece → Gives words own more → CanFollowAt words d p piece more →
-      Stands words ((front ++ plain waiting ∷ []) ++ p ∷ []) (log ++ (piece ++ more)) (decoder_after d p settled own)
-  more_waiting front waiting log d p settled own piece more s one two can =
+      (settled of_packet : Stretch) (piece more : List Event) →
+      DecoderStands words (front ++ plain waiting ∷ []) log d → Gives words settled piece →
+      Gives words of_packet more → CanFollowAt words d p piece more →
+      DecoderStands words ((front ++ plain waiting ∷ []) ++ p ∷ []) (log ++ (piece ++ more))
+      (decoder_after d p settled of_packet)
+  more_waiting front waiting log d p settled of_packet piece more s one two can =
       let c = after_waiting front waiting s can in
       let b = behind front waiting log d s in
       let h = b.held in
@@ -225,7 +228,7 @@ module _ (words : Words) where
       let follows = subst (λ x. FollowOn words x (piece ++ more)) s.last
       (follow_on_join words d.last piece more c.settled_follows c.follows) in
       let may = precedes (plain waiting) p c.admits c.comes in
-      let told = mode_past-later (plain waiting) p d.mode may.1 ∙ s.mode
+      let announced = mode_past-later (plain waiting) p d.mode may.1 ∙ s.mode
       ∙ sym (mode_of-behind front (plain waiting) (p ∷ [])) in
       let new = settle words d.mode front waiting.outcomes waiting.delta p log piece more h
       may first_fits then_fits follows
@@ -233,48 +236,52 @@ module _ (words : Words) where
       let end = reported_end-append words d.mode None 0 front (plain waiting ∷ p ∷ []) (Some (plain waiting)) h.pieces
       (piece ∷ more ∷ []) h.each in
       let last = ap (last_or None) (sym assoc) ∙ last_or-last None (front ++ plain waiting ∷ []) p in
-      let stands = remembered (front ++ plain waiting ∷ []) (front ++ plain waiting ∷ p ∷ []) log d p settled own piece
-      more s one two last told new (end ∙ ap (λ x. reported_after p (last_place x piece) more) (sym b.reported)) in
-      subst (λ l. Stands words l (log ++ (piece ++ more)) (decoder_after d p settled own)) (sym assoc) stands
+      let stands = remembered (front ++ plain waiting ∷ []) (front ++ plain waiting ∷ p ∷ []) log d p settled of_packet
+      piece more s one two last announced new
+      (end ∙ ap (λ x. reported_after p (last_place x piece) more) (sym b.reported)) in
+      subst (λ l. DecoderStands words l (log ++ (piece ++ more)) (decoder_after d p settled of_packet)) (sym assoc)
+      stands
 
   -- A decoder stands for one packet more with the events that can follow.
-  pub stands_more : (packets : List Packet) (log : List Event) (d : Decoder) (p : Packet) (settled own : Stretch)
-      (piece more : List Event) → Stands words packets log d → Gives words settled piece → Gives words own more →
-      CanFollowAt words d p piece more → Stands words (packets ++ p ∷ []) (log ++ (piece ++ more))
-      (decoder_after d p settled own)
-  stands_more packets log d p settled own piece more s one two can = by_waiting (waiting_after (last_or None packets))
-      refl (ending packets)
+  pub stands_more : (packets : List Packet) (log : List Event) (d : Decoder) (p : Packet) (settled of_packet : Stretch)
+      (piece more : List Event) → DecoderStands words packets log d → Gives words settled piece →
+      Gives words of_packet more → CanFollowAt words d p piece more →
+      DecoderStands words (packets ++ p ∷ []) (log ++ (piece ++ more)) (decoder_after d p settled of_packet)
+  stands_more packets log d p settled of_packet piece more s one two can =
+      by_waiting (waiting_after (last_or None packets)) refl (ending packets)
     where
       by_waiting : (waiting : Option Waiting) → waiting_after (last_or None packets) ≡ waiting →
-          (packets ≡ []) ⊎ Ending packets → Stands words (packets ++ p ∷ []) (log ++ (piece ++ more))
-          (decoder_after d p settled own)
+          (packets ≡ []) ⊎ Ending packets → DecoderStands words (packets ++ p ∷ []) (log ++ (piece ++ more))
+          (decoder_after d p settled of_packet)
       by_waiting None none e =
           let empty : piece ≡ [] = subst (λ x. FitsWaiting words d.mode d.last d.reported x p piece) (s.waiting ∙ none)
           can.settles in
           let one' = subst (Gives words settled) empty one in
           let can' = subst (λ x. CanFollowAt words d p x more) empty can in
-          subst (λ x. Stands words (packets ++ p ∷ []) (log ++ (x ++ more)) (decoder_after d p settled own)) (sym empty)
-          (more_settled packets log d p settled own more s none one' two can')
+          subst (λ x. DecoderStands words (packets ++ p ∷ []) (log ++ (x ++ more))
+          (decoder_after d p settled of_packet)) (sym empty)
+          (more_settled packets log d p settled of_packet more s none one' two can')
       by_waiting (Some waiting) some (inl is) = let no : None ≡ Some waiting =
           sym (ap (λ l. waiting_after (last_or None l)) is) ∙ some in cc
       by_waiting (Some waiting) some (inr e) =
           let last = ap (last_or None) e.is ∙ last_or-last None e.front e.last in
           let q = waits_plain e.last waiting (sym (ap waiting_after last) ∙ some) in
           let whole : packets ≡ e.front ++ plain waiting ∷ [] = e.is ∙ ap (λ x. e.front ++ x ∷ []) q in
-          subst (λ l. Stands words (l ++ p ∷ []) (log ++ (piece ++ more)) (decoder_after d p settled own)) (sym whole)
-          (more_waiting e.front waiting log d p settled own piece more (subst (λ l. Stands words l log d) whole s)
-          one two can)
+          subst (λ l. DecoderStands words (l ++ p ∷ []) (log ++ (piece ++ more)) (decoder_after d p settled of_packet))
+          (sym whole)
+          (more_waiting e.front waiting log d p settled of_packet piece more
+          (subst (λ l. DecoderStands words l log d) whole s) one two can)
 
   -- Where they do not fit behind the log, a log is described that is longer than what there is room for.
-  pub stands_longer : (packets : List Packet) (log : List Event) (d : Decoder) (p : Packet) (settled own : Stretch)
-      (piece more : List Event) (room : ℕ) → Stands words packets log d → Gives words settled piece →
-      Gives words own more → CanFollowAt words d p piece more → room < length log +
-      (stretch_count settled + stretch_count own) → (other : List Event) × Describes words (packets ++ p ∷ []) other ×
-      (room < length other)
-  stands_longer packets log d p settled own piece more room s one two can full =
-      let new = stands_more packets log d p settled own piece more s one two can in
+  pub stands_longer : (packets : List Packet) (log : List Event) (d : Decoder) (p : Packet)
+      (settled of_packet : Stretch) (piece more : List Event) (room : ℕ) →
+      DecoderStands words packets log d → Gives words settled piece → Gives words of_packet more →
+      CanFollowAt words d p piece more → room < length log + (stretch_count settled + stretch_count of_packet) →
+      (other : List Event) × Describes words (packets ++ p ∷ []) other × (room < length other)
+  stands_longer packets log d p settled of_packet piece more room s one two can full =
+      let new = stands_more packets log d p settled of_packet piece more s one two can in
       let counted = stretch_count-gives words settled piece one in
-      let counted' = stretch_count-gives words own more two in
+      let counted' = stretch_count-gives words of_packet more two in
       let long : room < length (log ++ (piece ++ more)) =
       omega (arith, full, counted, counted', length-append log (piece ++ more), length-append piece more) in
       (log ++ (piece ++ more), new.described, long)
@@ -319,7 +326,7 @@ module _ (words : Words) where
     pub can : CanFollowAt words d p piece more
 
   only_settled : IsProgram words → (packets : List Packet) (log : List Event) (d : Decoder) (p : Packet)
-      (other : List Event) → (s : Stands words packets log d) → waiting_after (last_or None packets) ≡ None →
+      (other : List Event) → (s : DecoderStands words packets log d) → waiting_after (last_or None packets) ≡ None →
       Describes words (packets ++ p ∷ []) other → Followed d p
   only_settled program packets log d p other s none all =
       let next = next_admitted packets p other all in
@@ -338,7 +345,7 @@ module _ (words : Words) where
       record { piece = []; more = added.piece; can = kept_in_mind s can }
 
   only_waiting : IsProgram words → (front : List Packet) (waiting : Waiting) (log : List Event) (d : Decoder)
-      (p : Packet) (other : List Event) → (s : Stands words (front ++ plain waiting ∷ []) log d) →
+      (p : Packet) (other : List Event) → (s : DecoderStands words (front ++ plain waiting ∷ []) log d) →
       Describes words ((front ++ plain waiting ∷ []) ++ p ∷ []) other → Followed d p
   only_waiting program front waiting log d p other s all =
       let b = behind front waiting log d s in
@@ -363,7 +370,8 @@ module _ (words : Words) where
       record { piece = added.piece; more = added.more; can = before_waiting front waiting s there }
 
   pub stands_only : IsProgram words → (packets : List Packet) (log : List Event) (d : Decoder) (p : Packet)
-      (other : List Event) → Stands words packets log d → Describes words (packets ++ p ∷ []) other → Followed d p
+      (other : List Event) → DecoderStands words packets log d → Describes words (packets ++ p ∷ []) other →
+      Followed d p
   stands_only program packets log d p other s all = by_waiting (waiting_after (last_or None packets)) refl
       (ending packets)
     where
@@ -376,5 +384,5 @@ module _ (words : Words) where
           let last = ap (last_or None) e.is ∙ last_or-last None e.front e.last in
           let q = waits_plain e.last waiting (sym (ap waiting_after last) ∙ some) in
           let whole : packets ≡ e.front ++ plain waiting ∷ [] = e.is ∙ ap (λ x. e.front ++ x ∷ []) q in
-          only_waiting program e.front waiting log d p other (subst (λ l. Stands words l log d) whole s)
+          only_waiting program e.front waiting log d p other (subst (λ l. DecoderStands words l log d) whole s)
           (subst (λ l. Describes words (l ++ p ∷ []) other) whole all)

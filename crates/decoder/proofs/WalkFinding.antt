@@ -21,7 +21,7 @@ use Rattle.decoder.proofs.OneWalk.{Side, no_longer, side, straight, further}
 use Rattle.decoder.specs.steps.Leads.{may_stay_on}
 use Rattle.decoder.specs.Walk.{End, AtBranch, AtAddress, AtTarget, EndsAt, RetiresAt}
 use Rattle.decoder.specs.steps.WalkSteps.{retire_on, is_empty, stops, Move, Stop, Last, On, next_move, last_move}
-use Rattle.decoder.specs.steps.WalkSteps.{target_move, move_to, advance, behind, follow, walk_within}
+use Rattle.decoder.specs.steps.WalkSteps.{target_move, move_to, advance, event_then, follow, walk_within}
 use Rattle.decoder.specs.steps.Walks.{WalksOn}
 use Rattle.decoder.proofs.OnOneWord.{retire_on-finds, retire_on-found, empty_is, same_front, leads_one}
 use Rattle.decoder.proofs.OnOneWord.{leads_any, one_stays, any_leaves, stays, kept, kept_stays}
@@ -139,7 +139,7 @@ module _ (words : Words) (good : IsProgram words) where
       next_finds p e f (front ++ l ∷ []) end s.before s.retirements.0 d s.follows.0 s.follows.1
       ∙ rw (not_yet p end e f front l s, s.forward.0) refl in
       within_more (suc n) e (outcomes (f ∷ front ++ l ∷ [])) end (On f (outcomes (front ++ l ∷ []))) moves
-      ∙ ap (behind f) (side_finds p end front f l n (further words good s) (omega arith))
+      ∙ ap (event_then f) (side_finds p end front f l n (further words good s) (omega arith))
 
   -- Each walk that follows on is found, in as many steps as it is long or more.
   pub walk_complete : (e : Event) (taken : List Bool) (end : End) (w : List Event) (n : ℕ) →
@@ -222,16 +222,16 @@ module _ (words : Words) (good : IsProgram words) where
       (((d, tt), grind (arith, nat_tests, k.0)), empty_is left k.1)
   stop_sound (AtTarget a) e f left d h = cc
 
-  -- What a step tells of the walks from e.
-  abbrev Tells : Event → List Bool → End → Move → Type 0
-  Tells e taken end Stop = Unit {0}
-  Tells e taken end (Last f) = WalksOn words e taken end (f ∷ [])
-  Tells e taken end (On f left) = (is_discontinuity words e ≡ false) × (is_backward words f ≡ false) ×
+  -- What a step shows of the walks from e.
+  abbrev Shows : Event → List Bool → End → Move → Type 0
+  Shows e taken end Stop = Unit {0}
+  Shows e taken end (Last f) = WalksOn words e taken end (f ∷ [])
+  Shows e taken end (On f left) = (is_discontinuity words e ≡ false) × (is_backward words f ≡ false) ×
       Stepped e taken f left
 
   next_sound : (e : Event) (taken : List Bool) (end : End) (x : ℕ) → is_retirement e ≡ true →
       IsPrivilege (privilege e) → is_discontinuity words e ≡ false → successor words e ≡ One x →
-      Tells e taken end (next_move words end (retire_on x (privilege e) (words x) taken))
+      Shows e taken end (next_move words end (retire_on x (privilege e) (words x) taken))
   next_sound e taken end x r p d at = go (retire_on x (privilege e) (words x) taken) refl
     where
       there : MayStandAt (successor words e) x
@@ -243,7 +243,7 @@ module _ (words : Words) (good : IsProgram words) where
       level (Trap q i c y v) r d = cc
 
       on_tests : (f : Event) (left : List Bool) → Stepped e taken f left → (stop back : Bool) →
-          stops end f left ≡ stop → is_backward words f ≡ back → Tells e taken end
+          stops end f left ≡ stop → is_backward words f ≡ back → Shows e taken end
           (cond stop (Last f) (cond back Stop (On f left)))
       on_tests f left s true back h b =
           let stop = stop_sound end e f left d h in
@@ -252,13 +252,13 @@ module _ (words : Words) (good : IsProgram words) where
       on_tests f left s false false h b = (d, b, s)
 
       go : (o : Option (Event × List Bool)) → retire_on x (privilege e) (words x) taken ≡ o →
-          Tells e taken end (next_move words end o)
+          Shows e taken end (next_move words end o)
       go None h = tt
       go (Some (f, left)) h = on_tests f left (stepped e x taken f left r p there (level e r d) h) (stops end f left)
           (is_backward words f) refl refl
 
   target_sound : (e : Event) (taken : List Bool) (end : End) → is_retirement e ≡ true → IsPrivilege (privilege e) →
-      is_discontinuity words e ≡ true → Tells e taken end (target_move words (word_of words e) (privilege e) taken end)
+      is_discontinuity words e ≡ true → Shows e taken end (target_move words (word_of words e) (privilege e) taken end)
   target_sound e taken AtBranch r p d = tt
   target_sound e taken (AtAddress a) r p d = tt
   target_sound (Trap q i c y v) taken (AtTarget a) r p d = cc
@@ -271,7 +271,7 @@ module _ (words : Words) (good : IsProgram words) where
       there = subst (λ n. MayStandAt n a) (sym (leads_any (words y) y t d)) tt
 
       only : (o : Option (Event × List Bool)) → retire_on a q (words a) taken ≡ o → may_stay_on (words y) q ≡ true →
-          Tells e taken (AtTarget a) (last_move o)
+          Shows e taken (AtTarget a) (last_move o)
       only None h m = tt
       only (Some (f, o ∷ left)) h m = tt
       only (Some (f, [])) h m =
@@ -279,18 +279,18 @@ module _ (words : Words) (good : IsProgram words) where
           let at : place f ≡ a = ap place (retire_on-found a q (words a) taken (f, []) h).is in
           walk_one e f taken (AtTarget a) r s (d, at)
 
-      go : (b : Bool) → may_stay_on (words y) q ≡ b → Tells e taken (AtTarget a)
+      go : (b : Bool) → may_stay_on (words y) q ≡ b → Shows e taken (AtTarget a)
           (cond b (last_move (retire_on a q (words a) taken)) Stop)
       go false m = tt
       go true m = only (retire_on a q (words a) taken) refl m
 
   advance_sound : (e : Event) (taken : List Bool) (end : End) → is_retirement e ≡ true → IsPrivilege (privilege e) →
-      Tells e taken end (advance words e taken end)
+      Shows e taken end (advance words e taken end)
   unfolding advance
   advance_sound (Trap q i c y v) taken end r p = cc
   advance_sound (Retire a t q) taken end r p = go (leads_from a t (words a)) refl
     where
-      go : (n : Next) → leads_from a t (words a) ≡ n → Tells (Retire a t q) taken end
+      go : (n : Next) → leads_from a t (words a) ≡ n → Shows (Retire a t q) taken end
           (move_to words (Retire a t q) taken end n)
       go (One x) h = next_sound (Retire a t q) taken end x r p (one_stays (words a) a t x h) h
       go Any h = target_sound (Retire a t q) taken end r p (any_leaves (words a) a t h)
@@ -310,7 +310,7 @@ module _ (words : Words) (good : IsProgram words) where
 
       on_rest : (f : Event) (left : List Bool) → (is_discontinuity words e ≡ false) × (is_backward words f ≡ false) ×
           Stepped e taken f left → (o : Option (List Event)) → walk_within words n f left end ≡ o →
-          behind f o ≡ Some w → Later → WalksOn words e taken end w
+          event_then f o ≡ Some w → Later → WalksOn words e taken end w
       on_rest f left s None k h later = cc
       on_rest f left s (Some v) k h later =
           let q : IsPrivilege (privilege f) = subst IsPrivilege (sym s.2.here.1) p in
@@ -318,7 +318,7 @@ module _ (words : Words) (good : IsProgram words) where
           let is : f ∷ v ≡ w = cc in
           subst (WalksOn words e taken end) is (walk_more e f taken left end v r s.0 s.1 s.2 rest)
 
-      go : (mv : Move) → Tells e taken end mv → follow mv (λ f left. walk_within words n f left end) ≡ Some w → Later →
+      go : (mv : Move) → Shows e taken end mv → follow mv (λ f left. walk_within words n f left end) ≡ Some w → Later →
           WalksOn words e taken end w
       go Stop s h later = cc
       go (Last f) s h later = let is : f ∷ [] ≡ w = cc in subst (WalksOn words e taken end) is s

@@ -8,14 +8,14 @@ use Rattle.decoder.proofs.PassesByStep.{one_move, one_less}
 use Rattle.decoder.proofs.StretchEnds.{last_or-last}
 use Rattle.decoder.specs.Walk.{End}
 use Rattle.decoder.specs.steps.Retracing.{AddsWithin}
-use Rattle.decoder.specs.steps.WalkSteps.{Move, Stop, Last, On, advance, follow, behind, walk_within, summary}
-use Rattle.decoder.specs.steps.WritingAsFound.{behind_all, Writing}
+use Rattle.decoder.specs.steps.WalkSteps.{Move, Stop, Last, On, advance, follow, event_then, walk_within, summary}
+use Rattle.decoder.specs.steps.WritingAsFound.{events_then, Writing}
 
-nothing_made : (o : Option (List Event)) → o ≡ behind_all [] o
+nothing_made : (o : Option (List Event)) → o ≡ events_then [] o
 nothing_made None = refl
 nothing_made (Some w) = refl
 
-one_made : (made : List Event) (f : Event) (o : Option (List Event)) → behind_all made (behind f o) ≡ behind_all
+one_made : (made : List Event) (f : Event) (o : Option (List Event)) → events_then made (event_then f o) ≡ events_then
     (made ++ f ∷ []) o
 one_made made f None = refl
 one_made made f (Some w) = ap Some (sym (append_assoc made (f ∷ []) w))
@@ -30,18 +30,18 @@ module _ (words : Words) (end : End) (from : Event) (taken : List Bool) (limit :
         joined = sym (append-nil old);
         counted = refl;
         leads = nothing_made (walk_within words limit from taken end)
-            ∙ ap (λ n. behind_all [] (walk_within words n from taken end)) all;
+            ∙ ap (λ n. events_then [] (walk_within words n from taken end)) all;
       }
 
   module _ (done : ℕ) (here : Event) (left : List Bool) (new : List Event)
       (inv : Writing words limit from taken end old done here left new) (lt : done < limit) where
     opened : (mv : Move) → mv ≡ advance words here left end →
-        walk_within words limit from taken end ≡ behind_all inv.made
+        walk_within words limit from taken end ≡ events_then inv.made
         (follow mv (λ f rest. walk_within words (limit - (done + 1)) f rest end))
     opened mv h =
         inv.leads
-        ∙ ap (λ n. behind_all inv.made (walk_within words n here left end)) (one_less done limit lt)
-        ∙ ap (behind_all inv.made) (one_move words (limit - (done + 1)) here left end mv h)
+        ∙ ap (λ n. events_then inv.made (walk_within words n here left end)) (one_less done limit lt)
+        ∙ ap (events_then inv.made) (one_move words (limit - (done + 1)) here left end mv h)
 
     pub writing_stops : Stop ≡ advance words here left end →
         None ≡ summary from (walk_within words limit from taken end)
@@ -56,9 +56,9 @@ module _ (words : Words) (end : End) (from : Event) (taken : List Bool) (limit :
           ∙ ap (λ x. old ++ (inv.made ++ x ∷ [])) is,
     )
 
-    pub writing_told : (f e : Event) → Last f ≡ advance words here left end → e ≡ f →
+    pub writing_returns : (f e : Event) → Last f ≡ advance words here left end → e ≡ f →
         Some (done + 1, Some e) ≡ summary from (walk_within words limit from taken end)
-    writing_told f e h is =
+    writing_returns f e h is =
         let counted : length (inv.made ++ f ∷ []) ≡ done + 1 =
         length-append inv.made (f ∷ []) ∙ ap (λ n. n + 1) inv.counted in
         let last = last_or-last (Some from) inv.made f in

@@ -9,8 +9,8 @@ use Rattle.decoder.specs.ModeOf.{mode_of}
 use Rattle.decoder.specs.Order.{Begins}
 use Rattle.decoder.specs.Pieces.{Pieces}
 
--- The packets describe the log: the first of them opens the trace and tells its mode, the log is legal, and it is
--- pieces, one for each packet, joined.
+-- The packets describe the log. The first of them opens the trace and announces its mode. The log is legal, and it is
+-- the pieces of the packets joined, one piece for each packet.
 pub record Describes (words : Words) (packets : List Packet) (log : List Event) : Type 0 where
   pub begins : Begins packets
   pub pieces : List (List Event)

@@ -17,14 +17,13 @@ abbrev pub AfterRetirement : Option Event → Type 0
 AfterRetirement None = ⊥
 AfterRetirement (Some before) = is_retirement before ≡ true
 
--- The event before is a retirement that leads to one address: it is no uninferable discontinuity.
+-- The event before is a retirement, and no uninferable discontinuity: it leads to one address.
 abbrev pub AfterInferable : Words → Option Event → Type 0
 AfterInferable words None = ⊥
 AfterInferable words (Some before) =
     (is_retirement before ≡ true) × (is_discontinuity words before ≡ false)
 
--- The event is a retirement at this address and privilege, and it is a taken branch exactly where this
--- says so.
+-- The event is a retirement at this address and privilege, and it is a taken branch exactly where `taken` is true.
 abbrev pub IsReported : Bool → ℕ → ℕ → Event → Type 0
 IsReported taken priv address event =
     (itype : ℕ) × (event ≡ Retire address itype priv) × (is_taken event ≡ taken)
@@ -34,9 +33,10 @@ abbrev pub FitsSync : Bool → ℕ → ℕ → List Event → Type 0
 FitsSync taken priv address piece =
     (event : Event) × (piece ≡ event ∷ []) × IsReported taken priv address event
 
--- The events of a trap packet. With the handler's address they are the trap, whose exception program
--- counter is where the retirement before it leads, and the first retirement of the handler; else they
--- are the trap alone, and the branch bit is 1, as where no branch is taken.
+-- The events of a trap packet. Without the handler's address they are the trap alone, and the packet reports no taken
+-- branch (its branch bit is 1). With it they are a trap and the first retirement of its handler, after a retirement
+-- that leads to one address. The packet does not report the exception program counter and the privilege of that trap.
+-- In a legal log both follow from the retirement before.
 abbrev pub FitsTrap : Words → Option Event → Bool → ℕ → ℕ → Bool → Bool → ℕ → ℕ → List Event → Type 0
 FitsTrap words before taken priv cause interrupt false epc tval piece =
     (piece ≡ Trap priv interrupt cause epc tval ∷ []) × (taken ≡ false)
@@ -44,15 +44,15 @@ FitsTrap words before taken priv cause interrupt true address tval piece =
     AfterInferable words before × (epc : ℕ) × (from : ℕ) × (event : Event) ×
     (piece ≡ Trap from interrupt cause epc tval ∷ event ∷ []) × IsReported taken priv address event
 
--- The events of an address packet with these outcomes and this address: a walk, or none as long as it
--- is not settled how the walk ends.
+-- The events of an address packet with these outcomes and this address. They are a walk to the address, explicit or a
+-- target. As long as it is not known which it is, there are none, and the event before is a retirement.
 abbrev pub FitsAddress : Words → Option Event → List Bool → ℕ → AddressKind → List Event → Type 0
 FitsAddress words before taken addr Explicit piece = IsWalkFrom words before taken (AtAddress addr) piece
 FitsAddress words before taken addr Target piece = IsWalkFrom words before taken (AtTarget addr) piece
 FitsAddress words before taken addr Unknown piece = AfterRetirement before × (piece ≡ [])
 
--- The events of a packet of a trace in this mode, after this event and this last reported address, and before this
--- packet. A support packet has none.
+-- The events of a packet of a trace in this mode. The event `before` comes before them, and `reported` is the last
+-- reported address before the packet. The packet `next` follows it, if one does. A support packet has no events.
 abbrev pub Fits : Words → Mode → Option Event → ℕ → Packet → Option Packet → List Event → Type 0
 Fits words mode before reported (packet.Sync taken priv address) next piece =
     FitsSync taken priv address piece

@@ -6,7 +6,7 @@ pub mod ModeOf
 pub mod Pieces
 pub mod Describes
 pub mod SettledPieces
-pub mod Stands
+pub mod DecoderStands
 pub mod Resuming
 pub mod FaultText
 pub mod steps

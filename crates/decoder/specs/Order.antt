@@ -7,26 +7,26 @@ use Rattle.payload.specs.declared.packet.Packet.TheVariants as packet
 use Rattle.payload.specs.declared.packet.Support.TheVariants as support
 use Rattle.decoder.specs.Settling.{waits}
 
--- The support packet that opens a trace comes nowhere but first, and the one that tells that the last
--- instruction was reported follows an address packet with plain bits.
+-- The second packet may follow the first. The support packet that opens a trace follows no packet. The support packet
+-- `EndedRep`, which says that the last instruction was reported, follows only an address packet with plain bits.
 abbrev pub MayFollow : Packet → Packet → Type 0
 MayFollow before (packet.Support (support.Open mode)) = ⊥
 MayFollow before (packet.Support support.EndedRep) = waits before ≡ true
 MayFollow before other = Unit {0}
 
--- Nothing follows a packet that closes a trace.
+-- The packet `next`, if there is one, may follow this packet, which then does not close the trace.
 abbrev pub MayPrecede : Packet → Option Packet → Type 0
 MayPrecede packet None = Unit {0}
 MayPrecede packet (Some next) = (is_closing_packet packet ≡ false) × MayFollow packet next
 
--- The first of these packets, or else this one.
+-- The first of these packets, or `next` where there are none.
 abbrev pub first : List Packet → Option Packet → Option Packet
 first [] next = next
 first (packet ∷ packets) next = Some packet
 
 -- The packet that opens a trace in this mode.
-abbrev pub opening : Mode → Packet
-opening mode = packet.Support (support.Open mode)
+abbrev pub open_packet : Mode → Packet
+open_packet mode = packet.Support (support.Open mode)
 
 -- The packet opens a trace.
 abbrev pub IsOpen : Packet → Type 0

@@ -10,14 +10,14 @@ use Rattle.payload.specs.declared.packet.Packet.TheVariants as packet
 use Rattle.decoder.specs.Fits.{Fits}
 use Rattle.decoder.specs.Order.{MayPrecede, first}
 
--- The last reported address after a packet with this piece: the place of its last event, where it has
--- an event. A full branch map reports no address.
+-- The last reported address after a packet with this piece: the place of the piece's last event, or the address before
+-- where it has no event. A full branch map reports no address.
 abbrev pub reported_after : Packet → ℕ → List Event → ℕ
 reported_after (packet.Map outcomes) reported piece = reported
 reported_after other reported piece = last_place reported piece
 
--- Each packet of a trace in this mode has its piece, in order. The first comes after this event and this last
--- reported address, the last before this packet.
+-- Each packet of a trace in this mode has its piece, in order. The first packet comes after the event `before` and the
+-- last reported address `reported`. The packet `next`, if there is one, comes after the last.
 abbrev pub Pieces : Words → Mode → Option Event → ℕ → List Packet → Option Packet → List (List Event) → Type 0
 Pieces words mode before reported [] next [] = Unit {0}
 Pieces words mode before reported [] next (piece ∷ pieces) = ⊥
@@ -26,7 +26,7 @@ Pieces words mode before reported (packet ∷ packets) next (piece ∷ pieces) =
     MayPrecede packet (first packets next) × Fits words mode before reported packet (first packets next) piece ×
     Pieces words mode (last_or before piece) (reported_after packet reported piece) packets next pieces
 
--- The last reported address after these packets with these pieces.
+-- The last reported address after these packets with these pieces, where `reported` was the last before them.
 abbrev pub reported_end : ℕ → List Packet → List (List Event) → ℕ
 reported_end reported [] pieces = reported
 reported_end reported (packet ∷ packets) [] = reported

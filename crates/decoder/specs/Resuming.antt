@@ -11,8 +11,8 @@ abbrev pub IsSync : Packet → Type 0
 IsSync (packet.Sync taken priv address) = Unit {0}
 IsSync other = ⊥
 
--- The decoder passes over packets until a synchronisation comes. It remembers nothing of those before but the mode that
--- the stretch which begins there is read in.
+-- The decoder passes over packets until a synchronisation comes, and reads from there on in this mode. No packet waits,
+-- there is no event before, and the last reported address is 0.
 pub record PassesOver (mode : Mode) (decoder : Decoder) : Type 0 where
   pub phase : decoder.phase ≡ PassingOver
   pub waiting : decoder.waiting ≡ None
@@ -24,6 +24,6 @@ pub record PassesOver (mode : Mode) (decoder : Decoder) : Type 0 where
 abbrev pub IsClosed : Decoder → Type 0
 IsClosed decoder = decoder.phase ≡ Closed
 
--- The packet that opens the trace came and told this mode, or it did not come.
+-- The packet that opens the trace announced this mode, or, where this is `None`, it did not come.
 abbrev pub HasMode : Option Mode → Decoder → Type 0
-HasMode told decoder = decoder.told ≡ told
+HasMode announced decoder = decoder.announced ≡ announced

@@ -4,13 +4,13 @@ use Rattle.retire.specs.declared.event.Event.{Event}
 use Rattle.payload.specs.declared.packet.Packet.{Packet}
 use Rattle.decoder.specs.Settling.{waits}
 
--- The piece of a last packet, which has none as long as it waits.
+-- The piece of a last packet: empty where the packet waits, and else this one.
 abbrev pub piece_unless : Bool → List Event → List Event
 piece_unless true piece = []
 piece_unless false piece = piece
 
--- The pieces of these packets by themselves, from those that they have before further packets: the
--- last of them has none where it waits.
+-- The pieces of these packets where no more packets follow, from the pieces that they have where more follow. Where the
+-- last packet waits, its piece is empty.
 abbrev pub settled_pieces : List Packet → List (List Event) → List (List Event)
 settled_pieces [] pieces = []
 settled_pieces (packet ∷ packets) [] = []

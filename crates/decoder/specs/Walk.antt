@@ -16,7 +16,9 @@ pub data End : Type 0 where
   AtAddress : ℕ → End
   AtTarget : ℕ → End
 
--- After this event, these retirements and then the last one end so.
+-- The retirements `front` and then `last`, after the event `before`, end so: `last` is a branch, or stands at the
+-- address. No event ahead of `last` is an uninferable discontinuity, but where they end at a target the one right
+-- before it is.
 abbrev pub EndsAt : Words → End → Event → List Event → Event → Type 0
 EndsAt words AtBranch before front last =
     NoneOf (is_discontinuity words) (before ∷ front) × (is_branch last ≡ true)
@@ -29,8 +31,8 @@ EndsAt words (AtTarget addr) before front last =
 abbrev pub RetiresAt : ℕ → Event → Type 0
 RetiresAt priv event = (is_retirement event ≡ true) × (privilege event ≡ priv)
 
--- A walk from this event: one or more retirements at its privilege, whose branches have these
--- outcomes, of which none but the last is a backward jump, and that end so.
+-- A walk from this event, which is a retirement: one or more retirements at its privilege. Their branches have these
+-- outcomes, none but the last of them is a backward jump, and they end so.
 pub record IsWalk (words : Words) (before : Event) (taken : List Bool) (end : End) (walk : List Event) : Type 0 where
   pub front : List Event
   pub last : Event
@@ -40,7 +42,7 @@ pub record IsWalk (words : Words) (before : Event) (taken : List Bool) (end : En
   pub forward : NoneOf (is_backward words) front
   pub ends : EndsAt words end before front last
 
--- A walk from this event, if there is one.
+-- A walk from the event before. Where there is none before, there is no walk.
 abbrev pub IsWalkFrom : Words → Option Event → List Bool → End → List Event → Type 0
 IsWalkFrom words None taken end walk = ⊥
 IsWalkFrom words (Some before) taken end walk = IsWalk words before taken end walk

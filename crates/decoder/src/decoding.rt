@@ -7,22 +7,22 @@ ghost use Rattle.retire.specs.declared.event.Event.{Event};
 ghost use Rattle.rvclass.specs.Fetch.{words_of};
 ghost use Rattle.rvclass.specs.Words.{Words, IsProgram};
 ghost use Rattle.payload.specs.Closing.{is_closing_packet};
-ghost use Rattle.payload.specs.Ended.{has_ended};
+ghost use Rattle.payload.specs.ClosedTrace.{last_is_closing};
 ghost use Rattle.payload.specs.declared.mode.Mode.{Mode as AnyMode};
 ghost use Rattle.payload.specs.declared.packet.Packet.{Packet};
 ghost use Rattle.decoder.specs.Describes.{Describes};
-ghost use Rattle.decoder.specs.Order.{IsOpen, opening};
+ghost use Rattle.decoder.specs.Order.{IsOpen, open_packet};
 ghost use Rattle.decoder.specs.Resuming.{IsSync, PassesOver, IsClosed, HasMode};
 ghost use Rattle.decoder.specs.steps.Longest.{IsLongest};
 ghost use Rattle.decoder.specs.steps.Stretches.{stretch_count, Suits, SuitsNone, AddsSoFar, AddsBoth};
 ghost use Rattle.decoder.specs.steps.Planning.{MayCome, FitsWaiting, Plans, PlansNone, admitted, decoder_after};
 ghost use Rattle.decoder.specs.steps.Planning.{passed_over};
-ghost use Rattle.decoder.specs.Stands.{Stands};
+ghost use Rattle.decoder.specs.DecoderStands.{DecoderStands};
 ghost use Rattle.decoder.specs.declared.fault.DecodeFault.TheVariants.{NotOpened, AfterClose, Memory};
 
 use crate::fault::DecodeFault;
-use crate::remembering::{mode_past, phase_after, reported_past, told_past, waiting_after};
-use crate::settling::{Waiting, own, settle};
+use crate::remembering::{announced_past, mode_past, phase_after, reported_past, waiting_after};
+use crate::settling::{Waiting, events_of_packet, settle};
 use crate::stretch::Stretch;
 use crate::walking::{Progress, longest};
 use payload::{Mode, Packet, Support};
@@ -45,21 +45,22 @@ pub(crate) enum Phase {
 
 /// A decoder of one hart's trace: it takes the packets in their order, and adds to a log the events that they describe.
 ///
-/// An address packet with plain bits is not settled before the next packet, so the events of such a packet come with
-/// the one that follows it. The events of all other packets come at once. What address fields hold, the packet that
-/// opens the trace tells.
+/// An address packet with plain bits is not settled before the next packet, so its events come with the packet that
+/// follows it. The events of all other packets come at once. The packet that opens the trace announces the mode, and so
+/// what address fields hold.
 ///
-/// Where packets were lost, [`Decoder::resume`] lets the decoder go on with a stretch by itself: it passes over packets
-/// until a synchronisation comes, and from there on stands for the packets that a trace would have which began with it.
+/// Where packets were lost, [`Decoder::resume`] lets the decoder go on with a stretch by itself. It passes over packets
+/// until a synchronisation comes. From there on it stands for the packets of a trace that would begin with this
+/// synchronisation.
 #[derive(Clone, Copy, Debug)]
 pub struct Decoder {
     phase: Phase,
     waiting: Option<Waiting>,
     last: Option<Event>,
-    /// What address fields hold.
+    /// The mode in which address fields are read.
     mode: Mode,
-    /// What the packet told that opened the trace, where it came.
-    told: Option<Mode>,
+    /// The mode that the packet announced which opened the trace, where that packet came.
+    announced: Option<Mode>,
     reported: u64,
 }
 
@@ -80,39 +81,40 @@ fn is_sync(packet: &Packet) -> bool
 impl Decoder {
     /// A decoder before the first packet.
     pub fn new() -> Decoder
-        ensures stands { (words : Words) → Stands words [] [] result }
-        ensures untold { HasMode None result }
+        ensures stands { (words : Words) → DecoderStands words [] [] result }
+        ensures unannounced { HasMode None result }
     {
         Decoder {
             phase: Phase::Unopened,
             waiting: None,
             last: None,
             mode: Mode::Differential,
-            told: None,
+            announced: None,
             reported: 0,
         }
     }
 
     /// Whether the packet that closes the trace came.
     pub fn is_closed(&self) -> bool
-        ensures ended { (words : Words) (packets : List Packet) (log : List Event) → Stands words packets log self.now
-            → result ≡ has_ended packets }
+        ensures last_closes { (words : Words) (packets : List Packet) (log : List Event)
+            → DecoderStands words packets log self.now → result ≡ last_is_closing packets }
         ensures closed { IsTrue result ↔ IsClosed self.now }
     {
         self.phase == Phase::Closed
     }
 
-    /// Goes on after packets that were lost: a packet that waits is dropped and the last event forgotten, and until the
-    /// next synchronisation each packet is Ok and adds nothing, but one that closes the trace closes it. The
-    /// synchronisation begins a stretch as if it came right after the packet that opens a trace. Hand in an empty list
-    /// for each stretch, since events that a list has already belong to none of its packets.
+    /// Goes on after packets that were lost. A packet that waits is dropped, and the last event is forgotten. Until the
+    /// next synchronisation each packet is Ok and adds nothing, but a packet that closes the trace closes the decoder.
     ///
-    /// The stretch is read in the mode that the packet told which opened the trace, or, where this packet did not come,
-    /// in the mode handed in. A decoder that is closed stays as it is. Takes no memory.
+    /// The synchronisation begins a stretch as if it came right after the packet that opens a trace. Hand in an empty
+    /// list for each stretch, since events that a list has already belong to none of its packets.
+    ///
+    /// The stretch is read in the mode that the packet announced which opened the trace. Where that packet did not
+    /// come, it is read in the mode handed in. A decoder that is closed stays as it is. Takes no memory.
     pub fn resume(&mut self, mode: Mode)
-        ensures passes_over { (told : Option AnyMode) → HasMode told self.old → ¬ IsClosed self.old
-            → PassesOver (unwrap_or told mode) self.new }
-        ensures mode_kept { (told : Option AnyMode) → HasMode told self.old → HasMode told self.new }
+        ensures passes_over { (announced : Option AnyMode) → HasMode announced self.old → ¬ IsClosed self.old
+            → PassesOver (unwrap_or announced mode) self.new }
+        ensures mode_kept { (announced : Option AnyMode) → HasMode announced self.old → HasMode announced self.new }
         ensures stays_closed { IsClosed self.old → self.new ≡ self.old }
     {
         if self.phase != Phase::Closed {
@@ -120,15 +122,15 @@ impl Decoder {
                 phase: Phase::PassingOver,
                 waiting: None,
                 last: None,
-                mode: self.told.unwrap_or(mode),
-                told: self.told,
+                mode: self.announced.unwrap_or(mode),
+                announced: self.announced,
                 reported: 0,
             };
         }
     }
 
-    /// Takes the next packet, and adds to the log the events that are known by it. The program is the one of the
-    /// packets before, and the log the one that they gave.
+    /// Takes the next packet, and adds the events that it settles to the log. Hand in the same program at each call,
+    /// and the log with the events of the packets before.
     ///
     /// A fault leaves the decoder and the log as they were: the packet may be fed again where memory was refused. What
     /// was written by then is cut off again, and the log grows only where it lacks the room.
@@ -138,35 +140,36 @@ impl Decoder {
         packet: &Packet,
         log: &mut Vec<Event, A>,
     ) -> Result<(), DecodeFault>
-        ensures stands { (packets : List Packet) → Stands (words_of program.now) packets log.old.items self.old
-            → OnOk result (Stands (words_of program.now) (packets ++ packet.now ∷ []) log.new.items self.new) }
+        ensures stands { (packets : List Packet) → DecoderStands (words_of program.now) packets log.old.items self.old
+            → OnOk result (DecoderStands (words_of program.now) (packets ++ packet.now ∷ []) log.new.items self.new) }
         ensures goes_on { (rest : List Event) × (log.new.items ≡ log.old.items ++ rest) }
-        ensures only { (packets : List Packet) → Stands (words_of program.now) packets log.old.items self.old
+        ensures only { (packets : List Packet) → DecoderStands (words_of program.now) packets log.old.items self.old
             → OnOk result ((other : List Event) → Describes (words_of program.now) (packets ++ packet.now ∷ []) other
             → other ≡ log.new.items) }
-        ensures none { (packets : List Packet) → Stands (words_of program.now) packets log.old.items self.old
+        ensures none { (packets : List Packet) → DecoderStands (words_of program.now) packets log.old.items self.old
             → IfErr result (λ fault. (fault ≡ Memory)
             ⊎ ((other : List Event) → ¬ Describes (words_of program.now) (packets ++ packet.now ∷ []) other)) }
         ensures kept { IfErr result (λ fault. self.new ≡ self.old) }
         ensures list_kept { IfErr result (λ fault. log.new.items ≡ log.old.items) }
-        ensures closed { (packets : List Packet) → Stands (words_of program.now) packets log.old.items self.old
-            → (result ≡ Err AfterClose) ↔ (has_ended packets ≡ true) }
-        ensures not_opened { (packets : List Packet) → Stands (words_of program.now) packets log.old.items self.old
+        ensures closed { (packets : List Packet) → DecoderStands (words_of program.now) packets log.old.items self.old
+            → (result ≡ Err AfterClose) ↔ (last_is_closing packets ≡ true) }
+        ensures not_opened { (packets : List Packet)
+            → DecoderStands (words_of program.now) packets log.old.items self.old
             → (result ≡ Err NotOpened) ↔ ((packets ≡ []) × ¬ IsOpen packet.now) }
-        ensures memory { (packets : List Packet) → Stands (words_of program.now) packets log.old.items self.old
+        ensures memory { (packets : List Packet) → DecoderStands (words_of program.now) packets log.old.items self.old
             → result ≡ Err Memory
             → (other : List Event) × Describes (words_of program.now) (packets ++ packet.now ∷ []) other
             × (vec_capacity log.old < length other) }
         ensures short { vec_len log.new ≤ vec_len log.old + 2 * (32 * (length program.now.bytes / 2)) + 2 }
 
-        // Of a decoder that is closed, and of the mode that the packet tells which opens the trace.
+        // A closed decoder, and the mode that the packet announces which opens the trace.
         ensures after_close { (result ≡ Err AfterClose) ↔ IsClosed self.old }
-        ensures told { (mode : AnyMode) → packet.now ≡ opening mode
-            → Stands (words_of program.now) [] [] self.old → OnOk result (HasMode (Some mode) self.new) }
+        ensures announced { (mode : AnyMode) → packet.now ≡ open_packet mode
+            → DecoderStands (words_of program.now) [] [] self.old → OnOk result (HasMode (Some mode) self.new) }
         ensures mode_kept { (mode : Option AnyMode) → HasMode mode self.old → ¬ IsOpen packet.now
             → HasMode mode self.new }
 
-        // Of a decoder that passes over packets. The events of the synchronisation come behind those that the list has.
+        // A decoder that passes over packets. The events of the synchronisation come behind those that the list has.
         ensures passed_over { (mode : AnyMode) → PassesOver mode self.old → ¬ IsSync packet.now
             → is_closing_packet packet.now ≡ false
             → (result ≡ Ok tt) × (self.new ≡ self.old) × (log.new.items ≡ log.old.items) }
@@ -174,14 +177,14 @@ impl Decoder {
             → (result ≡ Ok tt) × IsClosed self.new × (log.new.items ≡ log.old.items) }
         ensures begins { (mode : AnyMode) → PassesOver mode self.old → IsSync packet.now
             → (stretch : List Event) → log.new.items ≡ log.old.items ++ stretch
-            → OnOk result (Stands (words_of program.now) (opening mode ∷ packet.now ∷ []) stretch
+            → OnOk result (DecoderStands (words_of program.now) (open_packet mode ∷ packet.now ∷ []) stretch
             self.new) }
         ensures begins_none { (mode : AnyMode) → PassesOver mode self.old → IsSync packet.now
             → IfErr result (λ fault. (fault ≡ Memory) ⊎ ((other : List Event)
-            → ¬ Describes (words_of program.now) (opening mode ∷ packet.now ∷ []) other)) }
+            → ¬ Describes (words_of program.now) (open_packet mode ∷ packet.now ∷ []) other)) }
         ensures begins_memory { (mode : AnyMode) → PassesOver mode self.old → IsSync packet.now
             → result ≡ Err Memory → (other : List Event)
-            × Describes (words_of program.now) (opening mode ∷ packet.now ∷ []) other
+            × Describes (words_of program.now) (open_packet mode ∷ packet.now ∷ []) other
             × (vec_capacity log.old < vec_len log.old + length other) }
         ensures never_unopened { (mode : AnyMode) → PassesOver mode self.old → ¬ (result ≡ Err NotOpened) }
     {
@@ -191,22 +194,22 @@ impl Decoder {
         }
         let count = log.len();
         let mut settled = Stretch::Nothing;
-        let mut own = Stretch::Nothing;
-        if let Err(fault) = self.plan(program, packet, &mut settled, &mut own, log) {
+        let mut of_packet = Stretch::Nothing;
+        if let Err(fault) = self.plan(program, packet, &mut settled, &mut of_packet, log) {
             log.truncate(count);
             return Err(fault);
         }
-        if log.reserve(settled.left() + own.left()).is_err() {
+        if log.reserve(settled.left() + of_packet.left()).is_err() {
             log.truncate(count);
             return Err(DecodeFault::Memory);
         }
         settled.write(program, log);
-        own.write(program, log);
-        *self = self.after(packet, &settled, &own);
+        of_packet.write(program, log);
+        *self = self.after(packet, &settled, &of_packet);
         Ok(())
     }
 
-    /// Passes over a packet that is no synchronisation: one that closes the trace closes it.
+    /// Passes over a packet that is no synchronisation: one that closes the trace closes the decoder.
     fn pass_over(&mut self, packet: &Packet)
         ensures { self.new ≡ passed_over self.old packet.now }
     {
@@ -215,8 +218,9 @@ impl Decoder {
         }
     }
 
-    /// Finds what the next packet adds to a log: first the events of the packet that waited, then its own. Walks are
-    /// written as they are found, as far as there is room, and are not taken back at a fault.
+    /// Finds what the next packet adds to a log: first the events of the packet that waits, if one does, then those of
+    /// the packet itself. Walks are written as they are found, as far as there is room, and are not taken back at a
+    /// fault.
     #[inline]
     fn plan<A: Allocator>(
         &self,
@@ -250,7 +254,7 @@ impl Decoder {
         }
         let last = first.last(&self.last);
         let reported = first.place(self.reported);
-        own(
+        events_of_packet(
             program,
             longest,
             self.mode,
@@ -281,8 +285,8 @@ impl Decoder {
         }
     }
 
-    /// Whether the packet may come next by its kind: the packet that opens the trace comes first alone, and the one
-    /// that tells that the last instruction was reported follows an address packet that waits.
+    /// Whether the packet may come next by its kind. The packet that opens the trace comes only first. The packet
+    /// `EndedRep`, which says that the last instruction was reported, follows only an address packet that waits.
     #[inline]
     fn may_come(&self, packet: &Packet) -> bool
         ensures { IsTrue result ↔ MayCome self.now.phase self.now.waiting packet.now }
@@ -294,7 +298,7 @@ impl Decoder {
         }
     }
 
-    /// The events of the packet that waits, if one does, before this packet.
+    /// The events of the packet that waits, if one does, where this packet follows it.
     #[inline]
     fn settled<A: Allocator>(
         &self,
@@ -340,19 +344,19 @@ impl Decoder {
         }
     }
 
-    /// The decoder after the packet, with the events that it adds.
+    /// The decoder after the packet, where it adds these events.
     #[inline]
-    fn after(&self, packet: &Packet, settled: &Stretch, own: &Stretch) -> Decoder
-        ensures { result ≡ decoder_after self.now packet.now settled.now own.now }
+    fn after(&self, packet: &Packet, settled: &Stretch, of_packet: &Stretch) -> Decoder
+        ensures { result ≡ decoder_after self.now packet.now settled.now of_packet.now }
     {
         let reported = settled.place(self.reported);
         Decoder {
             phase: phase_after(packet),
             waiting: waiting_after(packet),
-            last: own.last(&settled.last(&self.last)),
+            last: of_packet.last(&settled.last(&self.last)),
             mode: mode_past(packet, self.mode),
-            told: told_past(packet, self.told),
-            reported: reported_past(packet, reported, own.place(reported)),
+            announced: announced_past(packet, self.announced),
+            reported: reported_past(packet, reported, of_packet.place(reported)),
         }
     }
 }
@@ -360,8 +364,8 @@ impl Decoder {
 impl Default for Decoder {
     /// A decoder before the first packet.
     fn default() -> Decoder
-        ensures stands { (words : Words) → Stands words [] [] result }
-        ensures untold { HasMode None result }
+        ensures stands { (words : Words) → DecoderStands words [] [] result }
+        ensures unannounced { HasMode None result }
     {
         Decoder::new()
     }

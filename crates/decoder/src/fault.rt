@@ -6,10 +6,10 @@ ghost use Rattle.decoder.specs.FaultText.{decode_fault_text};
 use std::error::Error;
 use std::fmt;
 
-/// Why a packet is not decoded. Each leaves the decoder and the list of events as they were.
+/// Why a packet is not decoded. Each fault leaves the decoder and the list of events as they were.
 ///
-/// Where a packet opens no trace or comes after its end, that is told. Else it is the first thing on the way, the
-/// events of a packet that waited before those of the new one; and at one event the first in this order that applies.
+/// `NotOpened` and `AfterClose` come before all others. Then the fault is the first thing on the way, where the events
+/// of a packet that waits come before those of the new packet. At one event it is the first in this order that applies.
 #[derive(Clone, Copy, Debug, PartialEq, Eq)]
 pub enum DecodeFault {
     /// Another packet than Open comes first.
@@ -18,12 +18,19 @@ pub enum DecodeFault {
     OffProgram,
     /// A walk would go on after a backward jump that no packet reported.
     MissedNotify,
-    /// A branch has no outcome left, or outcomes are left over at an uninferable discontinuity; or a branch is told as
-    /// taken where none stands, or by a trap packet without a handler.
+    /// One of these:
+    /// - A branch has no outcome left.
+    /// - Outcomes are left over at an uninferable discontinuity.
+    /// - A packet reports a taken branch where no branch stands.
+    /// - A trap packet without a handler reports a taken branch.
     Branches,
-    /// Open comes again; or an address or a full map follows no retirement; or a handler's trap follows no retirement
-    /// that leads to one address; or EndedRep follows no address packet that waits; or a walk that is no target's meets
-    /// an uninferable discontinuity; or a synchronisation or a trap stands where the event before does not lead.
+    /// One of these:
+    /// - Open comes again.
+    /// - An address or a full map follows no retirement.
+    /// - A trap with its handler follows no retirement that leads to one address.
+    /// - EndedRep follows no address packet that waits.
+    /// - A walk meets an uninferable discontinuity, and does not end at its target.
+    /// - A synchronisation or a trap stands where the event before does not lead.
     WrongPlace,
     /// A word does not retire at the privilege, or the event before does not lead to it.
     WrongPrivilege,

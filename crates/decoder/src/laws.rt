@@ -3,7 +3,7 @@
 ghost use Rattle.std.specs.Prelude.{ℕ, ◌≡◌, ◌↔◌, ◌≤◌, ◌*◌, ◌/◌, ◌++◌, Bool, true, List, Some, length};
 ghost use Rattle.retire.specs.declared.event.Event.{Event};
 ghost use Rattle.rvclass.specs.Words.{Words, IsProgram, LiesIn};
-ghost use Rattle.payload.specs.Ended.{has_ended};
+ghost use Rattle.payload.specs.ClosedTrace.{last_is_closing};
 ghost use Rattle.payload.specs.declared.mode.Mode.{Mode};
 ghost use Rattle.payload.specs.declared.packet.Packet.{Packet};
 ghost use Rattle.legalpath.specs.Join.{join};
@@ -12,7 +12,7 @@ ghost use Rattle.decoder.specs.declared.decoding.Decoder.{Decoder};
 ghost use Rattle.decoder.specs.Describes.{Describes};
 ghost use Rattle.decoder.specs.Resuming.{PassesOver, IsClosed};
 ghost use Rattle.decoder.specs.SettledPieces.{settled_pieces};
-ghost use Rattle.decoder.specs.Stands.{Stands};
+ghost use Rattle.decoder.specs.DecoderStands.{DecoderStands};
 ghost use Rattle.decoder.specs.Walk.{End, IsWalk};
 
 /// The same packets describe one log at most.
@@ -36,7 +36,7 @@ pub fn first_packets_describe_a_beginning()
         ((rest : List Event) × (log ≡ join (settled_pieces packets all.pieces) ++ rest)) }
 {}
 
-/// A walk of at most 31 branches has at most 32 times half as many retirements as the program has bytes.
+/// A walk of at most 31 branches has at most 32 retirements for each two bytes of the program.
 pub fn walks_are_short()
     ensures { (words : Words) (base count : ℕ) (before : Event) (taken : List Bool) (end : End) (walk : List Event) →
         IsProgram words → LiesIn words base count → length taken ≤ 31 →
@@ -44,15 +44,15 @@ pub fn walks_are_short()
         length walk ≤ 32 * (count / 2) }
 {}
 
-/// A decoder that stands for packets is closed exactly where they have ended.
-pub fn closed_where_packets_ended()
+/// A decoder that stands for packets is closed exactly where the last of them closes the trace.
+pub fn closed_where_last_closes()
     ensures { (words : Words) (packets : List Packet) (log : List Event) (decoder : Decoder) →
-        Stands words packets log decoder → IsClosed decoder ↔ (has_ended packets ≡ true) }
+        DecoderStands words packets log decoder → IsClosed decoder ↔ (last_is_closing packets ≡ true) }
 {}
 
 /// A decoder that passes over packets is not closed, and stands for nothing.
 pub fn passing_over_stands_for_nothing()
     ensures { (mode : Mode) (decoder : Decoder) → PassesOver mode decoder →
         (¬ IsClosed decoder) ×
-        ((words : Words) (packets : List Packet) (log : List Event) → ¬ Stands words packets log decoder) }
+        ((words : Words) (packets : List Packet) (log : List Event) → ¬ DecoderStands words packets log decoder) }
 {}

@@ -1,5 +1,5 @@
-//! The log that the packets of an instruction trace describe. Where the retirements of a packet end is as the E-Trace
-//! specification's decoder algorithm says, with the choices of this project's profile.
+//! Decodes the packets of an instruction trace to the log that they describe. Where the retirements of a packet end is
+//! as the decoder algorithm of the E-Trace specification says, with the choices of this project's profile.
 #![tactic(auto)]
 
 mod decoding;
@@ -16,7 +16,7 @@ mod walking;
 pub use decoding::Decoder;
 pub use fault::DecodeFault;
 pub use laws::{
-    closed_where_packets_ended, first_packets_describe_a_beginning,
+    closed_where_last_closes, first_packets_describe_a_beginning,
     more_packets_describe_a_longer_log, one_log_is_described, passing_over_stands_for_nothing,
     walks_are_short,
 };

@@ -1,8 +1,8 @@
 //! What a decoder remembers of a packet that it took.
 
 ghost use Rattle.std.specs.Prelude.{◌≡◌, Some};
-ghost use Rattle.decoder.specs.steps.Planning.{mode_past, told_past, reported_past};
-ghost use Rattle.decoder.specs.Stands.{phase_after, waiting_after};
+ghost use Rattle.decoder.specs.steps.Planning.{mode_past, announced_past, reported_past};
+ghost use Rattle.decoder.specs.DecoderStands.{phase_after, waiting_after};
 
 use crate::decoding::Phase;
 use crate::settling::Waiting;
@@ -36,24 +36,24 @@ pub(crate) fn waiting_after(packet: &Packet) -> Option<Waiting>
     }
 }
 
-/// The mode after a packet: the one that it tells, where it opens a trace, or else this one.
+/// The mode after a packet: the one that it announces, where it opens a trace, or else this one.
 pub(crate) fn mode_past(packet: &Packet, mode: Mode) -> Mode
     ensures { result ≡ mode_past packet.now mode }
 {
     match packet {
-        Packet::Support(Support::Open(told)) => *told,
+        Packet::Support(Support::Open(announced)) => *announced,
         _ => mode,
     }
 }
 
-/// What the packet told that opened the trace, after a packet: the mode that this one tells, where it opens the trace,
-/// or else what was told before.
-pub(crate) fn told_past(packet: &Packet, told: Option<Mode>) -> Option<Mode>
-    ensures { result ≡ told_past packet.now told }
+/// The announced mode after a packet: the one that it announces, where it opens the trace, or else the one that was
+/// announced before, if one was.
+pub(crate) fn announced_past(packet: &Packet, announced: Option<Mode>) -> Option<Mode>
+    ensures { result ≡ announced_past packet.now announced }
 {
     match packet {
         Packet::Support(Support::Open(mode)) => Some(*mode),
-        _ => told,
+        _ => announced,
     }
 }
 

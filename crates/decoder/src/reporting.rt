@@ -22,7 +22,7 @@ use payload::Outcomes;
 use retire::Event;
 use rvclass::Program;
 
-/// What a reason why an event is illegal says of the decoding.
+/// The fault of decoding where an event is illegal for this reason.
 fn fault_of(why: Why) -> DecodeFault
     ensures { result ≡ reporting.fault_of why }
 {
@@ -83,23 +83,23 @@ pub fn start(program: &Program, before: &Option<Event>) -> Result<Here, DecodeFa
     })
 }
 
-/// What a packet tells of the event at the address that it reports.
+/// What a packet reports of the event at its address.
 #[derive(Clone, Copy)]
-pub struct Told {
-    /// It is a taken branch.
+pub struct Reported {
+    /// Whether it is a taken branch.
     pub taken: bool,
     /// Its privilege.
     pub privilege: u8,
-    /// The address.
+    /// Its address.
     pub addr: u64,
 }
 
-impl Told {
-    /// What a packet with these fields tells.
-    pub fn new(taken: bool, privilege: u8, addr: u64) -> Told
+impl Reported {
+    /// What a packet with these fields reports.
+    pub fn new(taken: bool, privilege: u8, addr: u64) -> Reported
         ensures { result ≡ record { taken = taken; privilege = privilege; addr = addr } }
     {
-        Told {
+        Reported {
             taken,
             privilege,
             addr,
@@ -107,7 +107,7 @@ impl Told {
     }
 }
 
-/// What a packet tells of why a trap was taken.
+/// What a packet reports of why a trap was taken.
 #[derive(Clone, Copy)]
 pub struct Cause {
     /// Whether it was an interrupt.
@@ -119,7 +119,7 @@ pub struct Cause {
 }
 
 impl Cause {
-    /// The cause that a packet with these fields tells.
+    /// The cause that a packet with these fields reports.
     pub fn new(interrupt: bool, cause: u8, tval: u64) -> Cause
         ensures { result ≡ record { interrupt = interrupt; cause = cause; tval = tval } }
     {
@@ -144,40 +144,44 @@ impl Cause {
     }
 }
 
-/// The retirement that a packet reports, by the word at its address. What the packet tells of a branch is the one
-/// outcome that there is; where it tells of a taken one, a branch has to use it.
-fn retirement(program: &Program, told: Told) -> Result<Event, DecodeFault>
-    ensures { result ≡ reporting.retirement_of told.addr told.privilege
-        (reporting.type_at (words_of program.now told.addr) told.taken) }
+/// The retirement that a packet reports, by the word at its address. The packet reports one outcome, which a branch
+/// uses. Where the outcome is taken, the word has to be a branch.
+fn retirement(program: &Program, reported: Reported) -> Result<Event, DecodeFault>
+    ensures { result ≡ reporting.retirement_with_type reported.addr reported.privilege
+        (reporting.type_at (words_of program.now reported.addr) reported.taken) }
 {
-    let Some((class, _)) = program.at(told.addr) else {
+    let Some((class, _)) = program.at(reported.addr) else {
         return Err(DecodeFault::OffProgram);
     };
     let mut outcomes = Outcomes::new();
-    outcomes.push(told.taken);
+    outcomes.push(reported.taken);
     let mut used = 0;
-    let course = Course::new(&outcomes, Goal::Address(told.addr));
+    let course = Course::new(&outcomes, Goal::Address(reported.addr));
     let Ok(itype) = type_of(class, &mut used, &course) else {
         return Err(DecodeFault::OffProgram);
     };
-    if told.taken && used == 0 {
+    if reported.taken && used == 0 {
         return Err(DecodeFault::Branches);
     }
     Ok(Event::Retire {
-        addr: told.addr,
+        addr: reported.addr,
         itype,
-        privilege: told.privilege,
+        privilege: reported.privilege,
     })
 }
 
 /// The retirement that a packet reports, after the event before.
-pub fn reported(program: &Program, before: Option<Event>, told: Told) -> Result<Event, DecodeFault>
+pub fn reported_retirement(
+    program: &Program,
+    before: Option<Event>,
+    reported: Reported,
+) -> Result<Event, DecodeFault>
     ensures found { IfOk result (λ event. SuitsOne (words_of program.now) before
-        (FitsSync told.taken told.privilege told.addr) (event ∷ [])) }
+        (FitsSync reported.taken reported.privilege reported.addr) (event ∷ [])) }
     ensures none { IfErr result (λ fault. SuitsNone (words_of program.now) before
-        (FitsSync told.taken told.privilege told.addr) fault) }
+        (FitsSync reported.taken reported.privilege reported.addr) fault) }
 {
-    let event = match retirement(program, told) {
+    let event = match retirement(program, reported) {
         Ok(event) => event,
         Err(fault) => return Err(fault),
     };
@@ -201,30 +205,30 @@ fn may_stand(program: &Program, before: Option<Event>, at: u64) -> bool
 fn trap_alone(
     program: &Program,
     before: Option<Event>,
-    told: Told,
+    reported: Reported,
     cause: Cause,
 ) -> Result<Stretch, DecodeFault>
     ensures found { IfOk result (λ stretch. Suits (words_of program.now) before
-        (reporting.FitsTold (words_of program.now) before told cause false) stretch) }
+        (reporting.FitsReported (words_of program.now) before reported cause false) stretch) }
     ensures none { IfErr result (λ fault. SuitsNone (words_of program.now) before
-        (reporting.FitsTold (words_of program.now) before told cause false) fault) }
+        (reporting.FitsReported (words_of program.now) before reported cause false) fault) }
     ensures short { IfOk result (λ stretch. stretch_count stretch ≤ 2) }
     ensures pending { IfOk result (λ stretch. stretch_progress stretch ≡ Progress.Pending) }
 {
-    if told.taken {
+    if reported.taken {
         return Err(DecodeFault::Branches);
     }
-    if !may_stand(program, before, told.addr) {
+    if !may_stand(program, before, reported.addr) {
         return Err(DecodeFault::WrongPlace);
     }
-    let trap = cause.trap(told.addr, told.privilege);
+    let trap = cause.trap(reported.addr, reported.privilege);
     match follows(program, before, trap) {
         Ok(()) => Ok(Stretch::One(trap)),
         Err(fault) => Err(fault),
     }
 }
 
-/// The trap that a packet reports by its handler, after the event before: it was taken where that event leads.
+/// The trap of a packet that reports its handler, after the event before: it was taken where that event leads.
 fn trap_handled(
     program: &Program,
     before: Option<Event>,
@@ -255,13 +259,13 @@ fn trap_handled(
 fn trap_and_handler(
     program: &Program,
     before: Option<Event>,
-    told: Told,
+    reported: Reported,
     cause: Cause,
 ) -> Result<Stretch, DecodeFault>
     ensures found { IfOk result (λ stretch. Suits (words_of program.now) before
-        (reporting.FitsTold (words_of program.now) before told cause true) stretch) }
+        (reporting.FitsReported (words_of program.now) before reported cause true) stretch) }
     ensures none { IfErr result (λ fault. SuitsNone (words_of program.now) before
-        (reporting.FitsTold (words_of program.now) before told cause true) fault) }
+        (reporting.FitsReported (words_of program.now) before reported cause true) fault) }
     ensures short { IfOk result (λ stretch. stretch_count stretch ≤ 2) }
     ensures pending { IfOk result (λ stretch. stretch_progress stretch ≡ Progress.Pending) }
 {
@@ -269,7 +273,7 @@ fn trap_and_handler(
         Ok(trap) => trap,
         Err(fault) => return Err(fault),
     };
-    match reported(program, Some(trap), told) {
+    match reported_retirement(program, Some(trap), reported) {
         Ok(event) => Ok(Stretch::Two(trap, event)),
         Err(fault) => Err(fault),
     }
@@ -279,22 +283,22 @@ fn trap_and_handler(
 pub fn trap(
     program: &Program,
     before: &Option<Event>,
-    told: Told,
+    reported: Reported,
     cause: Cause,
     handler: bool,
     stretch: &mut Stretch,
 ) -> Result<(), DecodeFault>
     ensures found { OnOk result (Suits (words_of program.now) before.now
-        (reporting.FitsTold (words_of program.now) before.now told cause handler) stretch.new) }
+        (reporting.FitsReported (words_of program.now) before.now reported cause handler) stretch.new) }
     ensures none { IfErr result (λ fault. SuitsNone (words_of program.now) before.now
-        (reporting.FitsTold (words_of program.now) before.now told cause handler) fault) }
+        (reporting.FitsReported (words_of program.now) before.now reported cause handler) fault) }
     ensures short { OnOk result (stretch_count stretch.new ≤ 2) }
     ensures pending { OnOk result (stretch_progress stretch.new ≡ Progress.Pending) }
 {
     let found = if handler {
-        trap_and_handler(program, *before, told, cause)
+        trap_and_handler(program, *before, reported, cause)
     } else {
-        trap_alone(program, *before, told, cause)
+        trap_alone(program, *before, reported, cause)
     };
     match found {
         Ok(found) => {

@@ -4,21 +4,21 @@ ghost use Rattle.std.specs.Prelude.{drop};
 ghost use Rattle.rvclass.specs.Fetch.{words_of};
 ghost use Rattle.decoder.specs.steps.WalkSteps as steps;
 ghost use Rattle.decoder.specs.steps.Retracing.{Reaches, Retraces};
-ghost use Rattle.decoder.specs.steps.Walks.{event_of, end_of, Carries};
+ghost use Rattle.decoder.specs.steps.Walks.{event_of, goal_end, Carries};
 
 use crate::stepping::{Course, Goal, Here, may_stay, type_of};
 use legalpath::{Next, leads};
 use rvclass::Program;
 
-/// A step from a retirement, where so many outcomes are used, to the next one of a walk that was measured. It answers
-/// whether there is one.
+/// Takes a step of a walk that was measured, from a retirement to the next one, where `used` outcomes are used before
+/// it. `false` means that the step leads to no retirement.
 #[inline(always)]
 pub fn retrace(program: &Program, here: &mut Here, used: &mut usize, course: &Course) -> bool
     requires here { Carries (words_of program.now) here.old }
     requires course { steps.IsCourse course.now }
     ensures { Retraces (words_of program.now) course.now.outcomes here.new used.new result
         (steps.advance (words_of program.now) (event_of here.old) (drop used.old course.now.outcomes)
-        (end_of course.now.goal)) }
+        (goal_end course.now.goal)) }
 {
     match here.next {
         Next::One(addr) => reach(program, addr, here, used, course),

@@ -8,10 +8,10 @@ ghost use Rattle.decoder.specs.steps.Longest.{IsLongest};
 ghost use Rattle.decoder.specs.steps.Stretches.{AddsSoFar, Suits, SuitsNone, stretch_count, stretch_progress};
 ghost use Rattle.decoder.specs.Settling.{makes_explicit, settled, settled_by};
 ghost use Rattle.decoder.specs.Walk.{IsWalkFrom};
-ghost use Rattle.decoder.specs.steps.Walks.{end_of};
+ghost use Rattle.decoder.specs.steps.Walks.{goal_end};
 
 use crate::fault::DecodeFault;
-use crate::reporting::{Cause, Told, reported, start, trap};
+use crate::reporting::{Cause, Reported, reported_retirement, start, trap};
 use crate::stepping::Goal;
 use crate::stretch::{FoundWalk, Stretch};
 use crate::walking::{Progress, measure, write_found};
@@ -43,9 +43,9 @@ fn walk<A: Allocator>(
 ) -> Result<(), DecodeFault>
     requires { IsLongest program.now longest }
     ensures found { OnOk result (Suits (words_of program.now) before.now
-        (IsWalkFrom (words_of program.now) before.now outcomes.now (end_of goal)) stretch.new) }
+        (IsWalkFrom (words_of program.now) before.now outcomes.now (goal_end goal)) stretch.new) }
     ensures none { IfErr result (λ fault. SuitsNone (words_of program.now) before.now
-        (IsWalkFrom (words_of program.now) before.now outcomes.now (end_of goal)) fault) }
+        (IsWalkFrom (words_of program.now) before.now outcomes.now (goal_end goal)) fault) }
     ensures short { OnOk result (stretch_count stretch.new ≤ 32 * (length program.now.bytes / 2)) }
     ensures written { OnOk result (AddsSoFar (words_of program.now) ahead stretch.new log.old.items log.new.items) }
     ensures behind { (rest : List AnyEvent) × (log.new.items ≡ log.old.items ++ rest) }
@@ -85,7 +85,7 @@ fn walk<A: Allocator>(
     }
 }
 
-/// Whether an address packet with plain bits is explicit before this packet.
+/// Whether an address packet with plain bits is explicit where this packet follows it.
 fn makes_explicit(packet: &Packet) -> bool
     ensures { result ≡ makes_explicit packet.now }
 {
@@ -95,7 +95,7 @@ fn makes_explicit(packet: &Packet) -> bool
     )
 }
 
-/// The events of a packet that waits, with these outcomes and this address, before the packet that settles it.
+/// The events of a packet that waits, with these outcomes and this address. The packet that follows settles it.
 #[inline(always)]
 pub fn settle<A: Allocator>(
     program: &Program,
@@ -136,7 +136,7 @@ pub fn settle<A: Allocator>(
     )
 }
 
-/// The events of an address packet at its address, as long as no other follows.
+/// The events of an address packet at its address, as long as no packet follows.
 #[inline]
 fn address<A: Allocator>(
     program: &Program,
@@ -194,17 +194,17 @@ fn address<A: Allocator>(
 fn sync(
     program: &Program,
     before: &Option<Event>,
-    told: Told,
+    reported: Reported,
     stretch: &mut Stretch,
 ) -> Result<(), DecodeFault>
     ensures found { OnOk result (Suits (words_of program.now) before.now
-        (FitsSync told.taken told.privilege told.addr) stretch.new) }
+        (FitsSync reported.taken reported.privilege reported.addr) stretch.new) }
     ensures none { IfErr result (λ fault. SuitsNone (words_of program.now) before.now
-        (FitsSync told.taken told.privilege told.addr) fault) }
+        (FitsSync reported.taken reported.privilege reported.addr) fault) }
     ensures short { OnOk result (stretch_count stretch.new ≤ 2) }
     ensures pending { OnOk result (stretch_progress stretch.new ≡ Progress.Pending) }
 {
-    match reported(program, *before, told) {
+    match reported_retirement(program, *before, reported) {
         Ok(event) => {
             *stretch = Stretch::One(event);
             Ok(())
@@ -213,9 +213,9 @@ fn sync(
     }
 }
 
-/// The events of a packet of a trace in this mode, as long as no other follows.
+/// The events of a packet itself in a trace of this mode, as long as no packet follows.
 #[inline(always)]
-pub fn own<A: Allocator>(
+pub fn events_of_packet<A: Allocator>(
     program: &Program,
     longest: usize,
     mode: Mode,
@@ -244,7 +244,7 @@ pub fn own<A: Allocator>(
         } => sync(
             program,
             before,
-            Told::new(*taken, *privilege, *address),
+            Reported::new(*taken, *privilege, *address),
             stretch,
         ),
         Packet::Trap {
@@ -256,9 +256,9 @@ pub fn own<A: Allocator>(
             address,
             tval,
         } => {
-            let told = Told::new(*taken, *privilege, *address);
+            let reported = Reported::new(*taken, *privilege, *address);
             let cause = Cause::new(*interrupt, *cause, *tval);
-            trap(program, before, told, cause, *handler, stretch)
+            trap(program, before, reported, cause, *handler, stretch)
         }
         Packet::Support(_) => {
             *stretch = Stretch::Nothing;

@@ -9,7 +9,7 @@ ghost use Rattle.rvclass.specs.declared.class.Class.TheVariants.{Plain};
 ghost use Rattle.decoder.specs.steps.Faults.{IsOnTheWay};
 ghost use Rattle.decoder.specs.steps.Leads.{may_stay, may_stay_on};
 ghost use Rattle.decoder.specs.steps.WalkSteps as steps;
-ghost use Rattle.decoder.specs.steps.Walks.{event_of, end_of, Carries};
+ghost use Rattle.decoder.specs.steps.Walks.{event_of, goal_end, Carries};
 
 use crate::fault::DecodeFault;
 use legalpath::{Next, greatest_after, leads, may_retire_at};
@@ -43,7 +43,7 @@ pub enum Goal {
     Target(u64),
 }
 
-/// What a packet tells of its walk: the outcomes of the branches, how many they are, and where it ends.
+/// What a packet reports of its walk: the outcomes of the branches, how many they are, and where it ends.
 #[derive(Clone, Copy)]
 pub struct Course {
     /// The outcomes, the oldest first.
@@ -80,7 +80,7 @@ pub enum Step {
     Fails(DecodeFault),
 }
 
-/// A step from a retirement, where so many outcomes are used, to the next one.
+/// A step from a retirement, where `used` outcomes are used, to the next one.
 #[inline(always)]
 #[tactic(auto, unfolding(crate::specs::steps::WalkSteps::advance))]
 pub fn step_from(program: &Program, here: &mut Here, used: &mut usize, course: &Course) -> Step
@@ -89,7 +89,7 @@ pub fn step_from(program: &Program, here: &mut Here, used: &mut usize, course: &
     requires course { steps.IsCourse course.now }
     ensures step { steps.move_of course.now.outcomes here.new used.new result
         ≡ steps.advance (words_of program.now) (event_of here.old) (drop used.old course.now.outcomes)
-        (end_of course.now.goal) }
+        (goal_end course.now.goal) }
     ensures carries { steps.StepCarries (words_of program.now) here.new result }
 {
     match here.next {
@@ -104,7 +104,7 @@ pub fn step_from(program: &Program, here: &mut Here, used: &mut usize, course: &
 fn step_on(program: &Program, addr: u64, here: &mut Here, used: &mut usize, course: &Course) -> Step
     requires { steps.IsCourse course.now }
     ensures step { steps.move_of course.now.outcomes here.new used.new result
-        ≡ steps.next_move (words_of program.now) (end_of course.now.goal)
+        ≡ steps.next_move (words_of program.now) (goal_end course.now.goal)
         (steps.retire_on addr here.old.privilege (words_of program.now addr) (drop used.old course.now.outcomes)) }
     ensures carries { steps.StepCarries (words_of program.now) here.new result }
 {
@@ -140,7 +140,7 @@ fn step_plain(addr: u64, length: u8, here: &mut Here, used: usize, course: &Cour
     requires below { addr + length < 2 ^ 64 }
     ensures step { (words : Words) → words addr ≡ Some (Plain, length)
         → steps.move_of course.now.outcomes here.new used result
-        ≡ steps.next_move words (end_of course.now.goal)
+        ≡ steps.next_move words (goal_end course.now.goal)
         (steps.retire_on addr here.old.privilege (words addr) (drop used course.now.outcomes)) }
     ensures carries { (words : Words) → words addr ≡ Some (Plain, length) → steps.StepCarries words here.new result }
 {
@@ -162,7 +162,7 @@ fn step_last(program: &Program, here: &mut Here, used: &mut usize, course: &Cour
     ensures step { (word : Option Word) → may_stay_on word here.old.privilege ≡ here.old.stays
         → steps.move_of course.now.outcomes here.new used.new result
         ≡ steps.target_move (words_of program.now) word here.old.privilege
-        (drop used.old course.now.outcomes) (end_of course.now.goal) }
+        (drop used.old course.now.outcomes) (goal_end course.now.goal) }
     ensures carries { steps.StepCarries (words_of program.now) here.new result }
 {
     let Goal::Target(addr) = course.goal else {
@@ -190,7 +190,7 @@ fn step_last(program: &Program, here: &mut Here, used: &mut usize, course: &Cour
 #[inline]
 pub fn type_of(class: Class, used: &mut usize, course: &Course) -> Result<u8, DecodeFault>
     requires { steps.IsCourse course.now }
-    ensures told { steps.type_told course.now.outcomes used.new result ≡ steps.type_on class
+    ensures returned { steps.type_returned course.now.outcomes used.new result ≡ steps.type_on class
         (drop used.old course.now.outcomes) }
     ensures named { IfErr result IsOnTheWay }
 {
@@ -230,11 +230,11 @@ fn are_used(used: usize, course: &Course) -> bool
     used >= course.count
 }
 
-/// Whether a walk ends at a retirement at this address and of this type, where so many outcomes are used.
+/// Whether a walk ends at a retirement at this address and of this type, where `used` outcomes are used.
 #[inline]
 fn ends(addr: u64, itype: u8, used: usize, course: &Course) -> bool
     requires { steps.IsCourse course.now }
-    ensures { (priv : ℕ) → result ≡ steps.stops (end_of course.now.goal) (Retire addr itype priv)
+    ensures { (priv : ℕ) → result ≡ steps.stops (goal_end course.now.goal) (Retire addr itype priv)
         (drop used course.now.outcomes) }
 {
     match course.goal {

@@ -26,7 +26,7 @@ pub struct FoundWalk {
     pub walked: Walked,
 }
 
-/// Events that a packet adds to a log. What finds a stretch writes it in place, since it is large to hand back.
+/// Events that a packet adds to a log. What finds a stretch writes it in place, since it is large to return.
 #[derive(Clone, Copy)]
 pub enum Stretch {
     /// None.
@@ -92,7 +92,7 @@ impl Stretch {
         }
     }
 
-    /// Writes those that are to be written into room that was reserved.
+    /// Writes the events that are not in the list yet. The room for them was reserved.
     #[inline]
     pub fn write<A: Allocator>(&self, program: &Program, log: &mut Vec<Event, A>)
         requires program { IsProgram (words_of program.now) }

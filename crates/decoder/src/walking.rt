@@ -9,8 +9,9 @@ ghost use Rattle.decoder.specs.steps.Faults.{IsOnTheWay};
 ghost use Rattle.decoder.specs.steps.Longest.{IsLongest};
 ghost use Rattle.decoder.specs.steps.Retracing.{HasRoomWithin, AddsWithin};
 ghost use Rattle.decoder.specs.steps.WalkSteps as steps;
-ghost use Rattle.decoder.specs.steps.WritingAsFound.{AddsTold, FindsTold, IsTold, NoneTold, ShortTold, KeptTold};
-ghost use Rattle.decoder.specs.steps.Walks.{event_of, end_of, Carries, IsHere, Finds, FindsNone, HasRoom, Adds};
+ghost use Rattle.decoder.specs.steps.WritingAsFound.{AddsReturned, FindsReturned, KeptWithoutRoom, NoneAtFault};
+ghost use Rattle.decoder.specs.steps.WritingAsFound.{ReturnsSummary, ShortReturned};
+ghost use Rattle.decoder.specs.steps.Walks.{event_of, goal_end, Carries, IsHere, Finds, FindsNone, HasRoom, Adds};
 
 use crate::fault::DecodeFault;
 use crate::retracing::retrace;
@@ -40,8 +41,8 @@ pub struct Walked {
     pub progress: Progress,
 }
 
-/// Writes the walk from a retirement as it is found; or tells the first thing on the way that no walk has, behind what
-/// was written up to it. There is none where the room is too small, and the list is as it was.
+/// Writes the walk from a retirement as it is found. A fault is the first thing on the way that no walk has, and what
+/// was written up to it stays. Where the room is too small, the call returns no walk, and the list is as it was.
 #[inline(always)]
 pub fn write_found<A: Allocator>(
     program: &Program,
@@ -53,12 +54,12 @@ pub fn write_found<A: Allocator>(
 ) -> Result<Option<Walked>, DecodeFault>
     requires longest { IsLongest program.now longest }
     requires from { IsHere (words_of program.now) from }
-    ensures found { FindsTold (words_of program.now) from outcomes.now (end_of goal) result }
-    ensures adds { AddsTold (Adds (words_of program.now) from outcomes.now (end_of goal) log.old.items log.new.items)
-        result }
-    ensures kept { KeptTold log.old.items log.new.items result }
-    ensures short { ShortTold (32 * (length program.now.bytes / 2)) result }
-    ensures none { NoneTold (words_of program.now) from outcomes.now (end_of goal) result }
+    ensures found { FindsReturned (words_of program.now) from outcomes.now (goal_end goal) result }
+    ensures adds { AddsReturned
+        (Adds (words_of program.now) from outcomes.now (goal_end goal) log.old.items log.new.items) result }
+    ensures kept { KeptWithoutRoom log.old.items log.new.items result }
+    ensures short { ShortReturned (32 * (length program.now.bytes / 2)) result }
+    ensures none { NoneAtFault (words_of program.now) from outcomes.now (goal_end goal) result }
     ensures named { IfErr result IsOnTheWay }
     ensures behind { (rest : List AnyEvent) × (log.new.items ≡ log.old.items ++ rest) }
     ensures room { vec_capacity log.new ≡ vec_capacity log.old }
@@ -67,7 +68,7 @@ pub fn write_found<A: Allocator>(
     write_found_within(program, longest, from, &course, log)
 }
 
-/// The walk from a retirement, measured; or the first thing on the way that no walk has.
+/// The walk from a retirement, measured. A fault is the first thing on the way that no walk has.
 #[inline(never)]
 pub fn measure(
     program: &Program,
@@ -79,17 +80,17 @@ pub fn measure(
     requires longest { IsLongest program.now longest }
     requires from { IsHere (words_of program.now) from }
     ensures found { IfOk result
-        (λ walked. Finds (words_of program.now) from outcomes.now (end_of goal) walked) }
+        (λ walked. Finds (words_of program.now) from outcomes.now (goal_end goal) walked) }
     ensures short { IfOk result (λ walked. walked.count ≤ 32 * (length program.now.bytes / 2)) }
     ensures pending { IfOk result (λ walked. walked.progress ≡ Progress.Pending) }
     ensures none { IfErr result
-        (λ fault. FindsNone (words_of program.now) from outcomes.now (end_of goal)) }
+        (λ fault. FindsNone (words_of program.now) from outcomes.now (goal_end goal)) }
     ensures named { IfErr result IsOnTheWay }
 {
     measure_within(program, longest, from, &Course::new(outcomes, goal))
 }
 
-/// Writes a walk of so many retirements, which was measured, into room that was reserved.
+/// Writes a walk of `count` retirements, which was measured, into room that was reserved.
 #[inline(never)]
 pub fn write<A: Allocator>(
     program: &Program,
@@ -101,9 +102,9 @@ pub fn write<A: Allocator>(
 )
     requires program { IsProgram (words_of program.now) }
     requires from { IsHere (words_of program.now) from }
-    requires room { HasRoom (words_of program.now) from outcomes.now (end_of goal) count
+    requires room { HasRoom (words_of program.now) from outcomes.now (goal_end goal) count
         (vec_len log.old) (vec_capacity log.old) }
-    ensures walk { Adds (words_of program.now) from outcomes.now (end_of goal) log.old.items log.new.items }
+    ensures walk { Adds (words_of program.now) from outcomes.now (goal_end goal) log.old.items log.new.items }
     ensures room { vec_capacity log.new ≡ vec_capacity log.old }
 {
     write_within(program, count, from, &Course::new(outcomes, goal), log);
@@ -117,7 +118,7 @@ pub fn longest(program: &Program) -> usize
     32 * (program.byte_count() / 2)
 }
 
-/// Measures a walk of at most so many steps.
+/// Measures a walk of at most `limit` steps.
 #[inline]
 fn measure_within(
     program: &Program,
@@ -128,8 +129,9 @@ fn measure_within(
     requires program { IsProgram (words_of program.now) }
     requires from { Carries (words_of program.now) from }
     requires course { steps.IsCourse course.now }
-    ensures told { steps.summary_of result ≡ steps.summary (event_of from)
-        (steps.walk_within (words_of program.now) limit (event_of from) course.now.outcomes (end_of course.now.goal)) }
+    ensures summary { steps.summary_of result ≡ steps.summary (event_of from)
+        (steps.walk_within (words_of program.now) limit (event_of from) course.now.outcomes
+        (goal_end course.now.goal)) }
     ensures pending { IfOk result (λ walked. walked.progress ≡ Progress.Pending) }
     ensures named { IfErr result IsOnTheWay }
 {
@@ -151,7 +153,7 @@ fn measure_within(
     Err(DecodeFault::WrongPlace)
 }
 
-/// Writes a walk of at most so many steps as it is found, as far as there is room.
+/// Writes a walk of at most `limit` steps as it is found, as far as there is room.
 #[inline(always)]
 fn write_found_within<A: Allocator>(
     program: &Program,
@@ -163,11 +165,12 @@ fn write_found_within<A: Allocator>(
     requires program { IsProgram (words_of program.now) }
     requires from { Carries (words_of program.now) from }
     requires course { steps.IsCourse course.now }
-    ensures told { IsTold (steps.summary (event_of from) (steps.walk_within (words_of program.now) limit (event_of from)
-        course.now.outcomes (end_of course.now.goal))) result }
-    ensures adds { AddsTold (AddsWithin (words_of program.now) limit (event_of from) course.now.outcomes
-        (end_of course.now.goal) log.old.items log.new.items) result }
-    ensures kept { KeptTold log.old.items log.new.items result }
+    ensures summary { ReturnsSummary (steps.summary (event_of from)
+        (steps.walk_within (words_of program.now) limit (event_of from) course.now.outcomes
+        (goal_end course.now.goal))) result }
+    ensures adds { AddsReturned (AddsWithin (words_of program.now) limit (event_of from) course.now.outcomes
+        (goal_end course.now.goal) log.old.items log.new.items) result }
+    ensures kept { KeptWithoutRoom log.old.items log.new.items result }
     ensures named { IfErr result IsOnTheWay }
     ensures behind { (rest : List AnyEvent) × (log.new.items ≡ log.old.items ++ rest) }
     ensures room { vec_capacity log.new ≡ vec_capacity log.old }
@@ -195,7 +198,7 @@ fn write_found_within<A: Allocator>(
     Ok(None)
 }
 
-/// Writes so many retirements of a walk that has no more.
+/// Writes the `count` retirements of a walk that has no more.
 #[inline]
 fn write_within<A: Allocator>(
     program: &Program,
@@ -208,10 +211,10 @@ fn write_within<A: Allocator>(
     requires course { steps.IsCourse course.now }
     requires room { HasRoomWithin (words_of program.now) (32 * (length program.now.bytes / 2)) (event_of from)
         course.now.outcomes
-        (end_of course.now.goal) count (vec_len log.old) (vec_capacity log.old) }
+        (goal_end course.now.goal) count (vec_len log.old) (vec_capacity log.old) }
     ensures walk { AddsWithin (words_of program.now) (32 * (length program.now.bytes / 2)) (event_of from)
         course.now.outcomes
-        (end_of course.now.goal) log.old.items log.new.items }
+        (goal_end course.now.goal) log.old.items log.new.items }
     ensures room { vec_capacity log.new ≡ vec_capacity log.old }
 {
     let mut here = from;

@@ -3,7 +3,7 @@ use Rattle.std.proofs.Common.{◌≡◌, ℕ, true, List, Some, refl, ap, ◌∙
 use Rattle.retire.specs.declared.event.Event.{Event}
 use Rattle.rvclass.specs.Words.{Words}
 use Rattle.payload.specs.Closing.{is_closing_packet}
-use Rattle.payload.specs.Ended.{closes, has_ended}
+use Rattle.payload.specs.ClosedTrace.{closes, last_is_closing}
 use Rattle.payload.specs.declared.mode.Mode.{Mode}
 use Rattle.payload.specs.declared.packet.Packet.TheVariants as packet
 use Rattle.payload.specs.declared.packet.Support.TheVariants.{Open}
@@ -20,11 +20,11 @@ closing_closes by.Sync = refl
 closing_closes (by.Target cut_off) = refl
 closing_closes by.Explicit = refl
 closing_closes by.Notify = refl
-closing_closes by.FullMap = refl
+closing_closes by.MapOrNothing = refl
 
 pub packets_end : (words : Words) (period : ℕ) (mode : Mode) (log : List Event)
-    → has_ended (packets words period mode log) ≡ true
+    → last_is_closing (packets words period mode log) ≡ true
 packets_end words period mode log =
     let ps = pieces_of words period log in
     ap closes (last_or-snoc (Some (packet.Support (Open mode))) (reports mode 0 ps) (closing_packet words period log))
-    ∙ closing_closes (last_rule by.FullMap ps)
+    ∙ closing_closes (last_rule by.MapOrNothing ps)

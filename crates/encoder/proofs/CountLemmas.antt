@@ -17,7 +17,7 @@ use Rattle.encoder.specs.Packets.{reported_by, reports, closing_packet, packets}
 use Rattle.encoder.specs.Piece.{Piece, is_cut, cut_or_go_on, pieces, pieces_of}
 use Rattle.encoder.specs.Rule.{rule}
 use Rattle.encoder.specs.Spot.{Spot, count_with, spots, spots_of}
-use Rattle.encoder.specs.Stands.{AreLeft, since_cut}
+use Rattle.encoder.specs.EncoderStands.{AreLeft, since_cut}
 use Rattle.encoder.specs.steps.Stepping.{left_after}
 use Rattle.encoder.specs.declared.rule.Rule.{Rule}
 use Rattle.encoder.specs.declared.rule.Rule.TheVariants as by
@@ -42,14 +42,14 @@ IsTrapRule e by.Sync = Unit {0}
 IsTrapRule e (by.Target c) = Unit {0}
 IsTrapRule e by.Explicit = Unit {0}
 IsTrapRule e by.Notify = Unit {0}
-IsTrapRule e by.FullMap = Unit {0}
+IsTrapRule e by.MapOrNothing = Unit {0}
 
 by_event : (e : Event) (x : Rule) (y : Bool) → IsTrapRule e x → IsTrapRule e (cond (is_retirement e) x (by.Trap y))
 by_event (Retire a t q) x y k = k
 by_event (Trap q i c a v) x y k = refl
 
 no_trap : (e : Event) (h y d x c b : Bool) → IsTrapRule e
-    (cond h by.Handler (cond y by.Sync (cond d (by.Target x) (cond c by.Explicit (cond b by.Notify by.FullMap)))))
+    (cond h by.Handler (cond y by.Sync (cond d (by.Target x) (cond c by.Explicit (cond b by.Notify by.MapOrNothing)))))
 no_trap e true y d x c b = tt
 no_trap e false true d x c b = tt
 no_trap e false false true x c b = tt
@@ -69,7 +69,7 @@ room_left front e by.Sync few t c = cc
 room_left front e (by.Target x) few t c = cc
 room_left front e by.Explicit few t c = cc
 room_left front e by.Notify few t c = cc
-room_left front e by.FullMap few t c = go (is_branch e) refl c
+room_left front e by.MapOrNothing few t c = go (is_branch e) refl c
   where
     go : (b : Bool) → is_branch e ≡ b → (b && (length (outcomes (front ++ e ∷ [])) == 31)) ≡ false
         → length (outcomes (front ++ e ∷ [])) ≤ 30
@@ -100,7 +100,7 @@ at_30 n h = grind (arith, nat_tests)
 
 -- A quiet event fills the branch map exactly where its outcomes are 31.
 pub full_by_count : (front : List Event) (e : Event) → length (outcomes front) ≤ 30
-    → is_cut front e by.FullMap ≡ not (nat_lt (length (outcomes (front ++ e ∷ []))) 31)
+    → is_cut front e by.MapOrNothing ≡ not (nat_lt (length (outcomes (front ++ e ∷ []))) 31)
 full_by_count front e few = go (is_branch e) refl
   where
     go : (b : Bool) → is_branch e ≡ b → (b && (length (outcomes (front ++ e ∷ [])) == 31))

@@ -9,7 +9,8 @@ use Rattle.retire.specs.declared.event.Event.{Event}
 use Rattle.retire.specs.declared.event.Event.TheVariants.{Retire, Trap}
 use Rattle.rvclass.specs.Words.{Words}
 use Rattle.encoder.specs.steps.Stepping.{next_due, is_discontinuity_by_type, jumps_back_to, rule_of_quiet, rule_before}
-use Rattle.encoder.specs.steps.Stepping.{is_full_map, is_quiet, pending_with, left_after, due_next, given, after}
+use Rattle.encoder.specs.steps.Stepping.{is_map_or_nothing, is_quiet, pending_with, left_after, due_next, given}
+use Rattle.encoder.specs.steps.Stepping.{encoder_after}
 use Rattle.encoder.specs.steps.Stepping.{passes}
 use Rattle.encoder.specs.declared.due.Due.TheVariants as due
 use Rattle.encoder.specs.declared.encoder.Encoder.{Encoder}
@@ -30,7 +31,7 @@ record Facts (words : Words) (held : Event) (left : ℕ) (pending : List Bool) (
   some_left : (left == 0) ≡ false
   few : nat_lt (length pending) 31 ≡ true
   nothing_due : next_due (Some held) due.Nothing left next ≡ due.Nothing
-  unreported : is_full_map (rule_before words held due.Nothing next due.Nothing) ≡ true
+  unreported : is_map_or_nothing (rule_before words held due.Nothing next due.Nothing) ≡ true
 
 facts : (words : Words) (held : Event) (left : ℕ) (pending : List Bool) (next : Event)
     → passes words held left pending next ≡ true → Facts words held left pending next
@@ -50,7 +51,7 @@ facts words (Retire at type level) left pending (Retire addr itype priv) h =
           ∙ ap (λ b. cond (false || b) due.Sync (cond (is_discontinuity_by_type type) due.Target due.Nothing)) some
           ∙ ap (λ b. cond b due.Target due.Nothing) stays;
       unreported =
-          ap (λ b. is_full_map (rule_of_quiet false b)) (not-true
+          ap (λ b. is_map_or_nothing (rule_of_quiet false b)) (not-true
           (jumps_back_to words (Retire at type level) (Retire addr itype priv)) back.1);
     }
 facts words (Retire at type level) left pending (Trap priv interrupt cause epc tval) h = cc
@@ -89,11 +90,11 @@ module _ (words : Words) (e : Encoder) (held next : Event) (is : e.held ≡ Some
   quiet : is_quiet words e e.held next due.Nothing ≡ true
   quiet =
       ap (λ x. is_quiet words e x next due.Nothing) is
-      ∙ ap (λ d. is_full_map (rule_before words held d next due.Nothing) && nat_lt (length e.pending) 31) asked
+      ∙ ap (λ d. is_map_or_nothing (rule_before words held d next due.Nothing) && nat_lt (length e.pending) 31) asked
       ∙ ap (λ b. b && nat_lt (length e.pending) 31) known.unreported
       ∙ known.few
 
-  pub after_passed : passed e next ≡ after words e next
+  pub after_passed : passed e next ≡ encoder_after words e next
   after_passed =
       ap (λ n. record (passed e next) { left = n }) (sym (left_is words held e.between e.left e.pending next h))
       ∙ after_quiet words e next due.Nothing due_is quiet

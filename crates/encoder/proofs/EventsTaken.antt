@@ -10,10 +10,10 @@ use Rattle.payload.specs.declared.mode.Mode.{Mode}
 use Rattle.payload.specs.declared.packet.Packet.{Packet}
 use Rattle.encoder.specs.Packets.{packet_by, reported_by}
 use Rattle.encoder.specs.Piece.{is_cut}
-use Rattle.encoder.specs.steps.Stepping.{rule_before, rule_of_quiet, cuts_off, jumps_back_to, is_full_map}
+use Rattle.encoder.specs.steps.Stepping.{rule_before, rule_of_quiet, cuts_off, jumps_back_to, is_map_or_nothing}
 use Rattle.encoder.specs.steps.Stepping.{is_handler_due, is_quiet, next_due, due_next, packets_by, packets_before}
 use Rattle.encoder.specs.steps.Stepping.{reported_before, handler_packet, pending_with, left_after, hold, given}
-use Rattle.encoder.specs.steps.Stepping.{given_with, after, after_with}
+use Rattle.encoder.specs.steps.Stepping.{given_with, encoder_after, after_with}
 use Rattle.encoder.specs.declared.due.Due.{Due}
 use Rattle.encoder.specs.declared.due.Due.TheVariants as due
 use Rattle.encoder.specs.declared.encoder.Encoder.{Encoder}
@@ -49,7 +49,7 @@ IsOwn by.Sync = Unit {0}
 IsOwn (by.Target cut_off) = Unit {0}
 IsOwn by.Explicit = Unit {0}
 IsOwn by.Notify = Unit {0}
-IsOwn by.FullMap = Unit {0}
+IsOwn by.MapOrNothing = Unit {0}
 
 pub rule_before-IsOwn : (words : Words) (held : Event) (d : Due) (next : Event) (d' : Due) → is_handler_due d ≡ false
     → IsOwn (rule_before words held d next d')
@@ -67,7 +67,7 @@ rule_before-IsOwn words held due.Nothing next d' h = by_tests (cuts_off d') (jum
 
 -- An event is quiet exactly where it is no cut.
 pub quiet_is : (front : List Event) (held : Event) (r : Rule) → length (outcomes front) ≤ 30 → IsOwn r
-    → (is_full_map r && nat_lt (length (outcomes (front ++ held ∷ []))) 31) ≡ not (is_cut front held r)
+    → (is_map_or_nothing r && nat_lt (length (outcomes (front ++ held ∷ []))) 31) ≡ not (is_cut front held r)
 quiet_is front held (by.Trap true) few own = absurd own
 quiet_is front held (by.Trap false) few own = refl
 quiet_is front held by.Handler few own = absurd own
@@ -75,7 +75,7 @@ quiet_is front held by.Sync few own = refl
 quiet_is front held (by.Target cut_off) few own = refl
 quiet_is front held by.Explicit few own = refl
 quiet_is front held by.Notify few own = refl
-quiet_is front held by.FullMap few own =
+quiet_is front held by.MapOrNothing few own =
     twice (nat_lt (length (outcomes (front ++ held ∷ []))) 31) ∙ ap not (sym (full_by_count front held few))
   where
     twice : (x : Bool) → x ≡ not (not x)
@@ -92,7 +92,7 @@ packets_by-own front held by.Sync mode reported own = refl
 packets_by-own front held (by.Target cut_off) mode reported own = refl
 packets_by-own front held by.Explicit mode reported own = refl
 packets_by-own front held by.Notify mode reported own = refl
-packets_by-own front held by.FullMap mode reported own = refl
+packets_by-own front held by.MapOrNothing mode reported own = refl
 
 pub rule_before-handler : (words : Words) (held : Event) (d : Due) (next : Event) (d' : Due) → is_handler_due d ≡ true
     → rule_before words held d next d' ≡ by.Handler
@@ -107,18 +107,18 @@ rule_before-handler words held due.Nothing next d' h = cc
 pub record Does (words : Words) (e : Encoder) (next : Event) (packets : List Packet) (pending : List Bool)
     (reported : ℕ) (d : Due) : Type 0 where
   pub gives : given words e next ≡ packets
-  pub between : (after words e next).between ≡ e.between
-  pub in_mode : (after words e next).mode ≡ e.mode
-  pub left : (after words e next).left ≡ left_after e.between e.left next
-  pub held : (after words e next).held ≡ Some next
-  pub asked : (after words e next).due ≡ d
-  pub pending_is : (after words e next).pending ≡ pending
-  pub reported_is : (after words e next).reported ≡ reported
+  pub between : (encoder_after words e next).between ≡ e.between
+  pub in_mode : (encoder_after words e next).mode ≡ e.mode
+  pub left : (encoder_after words e next).left ≡ left_after e.between e.left next
+  pub held : (encoder_after words e next).held ≡ Some next
+  pub asked : (encoder_after words e next).due ≡ d
+  pub pending_is : (encoder_after words e next).pending ≡ pending
+  pub reported_is : (encoder_after words e next).reported ≡ reported
 
 module _ (words : Words) (e : Encoder) (held next : Event) (pending : List Bool) (mode : Mode) (reported : ℕ)
     (d d' : Due) (h : e.held ≡ Some held) (a : e.due ≡ d) (p : e.pending ≡ pending) (m : e.mode ≡ mode)
     (r : e.reported ≡ reported) (n : next_due (Some held) d e.left next ≡ d') where
-  pub does_quiet : (is_full_map (rule_before words held d next d') && nat_lt (length pending) 31) ≡ true
+  pub does_quiet : (is_map_or_nothing (rule_before words held d next d') && nat_lt (length pending) 31) ≡ true
       → Does words e next [] (pending_with d' next pending) reported d'
   does_quiet q = record {
     gives = rw (h, a, n, p, q) refl;
@@ -131,7 +131,7 @@ module _ (words : Words) (e : Encoder) (held next : Event) (pending : List Bool)
     reported_is = rw (h, a, n, p, q, r) refl;
   }
 
-  pub does_handler : (is_full_map (rule_before words held d next d') && nat_lt (length pending) 31) ≡ false
+  pub does_handler : (is_map_or_nothing (rule_before words held d next d') && nat_lt (length pending) 31) ≡ false
       → is_handler_due d' ≡ true → Does words e next (handler_packet held next ∷ []) (pending_with d' next [])
       (place next) d'
   does_handler q f = record {
@@ -145,7 +145,7 @@ module _ (words : Words) (e : Encoder) (held next : Event) (pending : List Bool)
     reported_is = rw (h, a, n, p, q, f) refl;
   }
 
-  pub does_loud : (is_full_map (rule_before words held d next d') && nat_lt (length pending) 31) ≡ false
+  pub does_loud : (is_map_or_nothing (rule_before words held d next d') && nat_lt (length pending) 31) ≡ false
       → is_handler_due d' ≡ false → Does words e next (packets_by (rule_before words held d next d') held pending
       mode reported) (pending_with d' next []) (reported_by (rule_before words held d next d') reported held) d'
   does_loud q f = record {
@@ -161,7 +161,8 @@ module _ (words : Words) (e : Encoder) (held next : Event) (pending : List Bool)
 
 -- The two ways of the code, of which one gives nothing.
 module _ (words : Words) (e : Encoder) (event : Event) (d : Due) (n : d ≡ due_next e event) where
-  pub after_quiet : is_quiet words e e.held event d ≡ true → hold e e.pending e.reported event d ≡ after words e event
+  pub after_quiet : is_quiet words e e.held event d ≡ true
+      → hold e e.pending e.reported event d ≡ encoder_after words e event
   after_quiet q =
       sym (ap (λ b. cond b (hold e e.pending e.reported event d)
       (hold e [] (reported_before words e e.held event d) event d)) q) ∙ ap (after_with words e event) n
@@ -170,7 +171,7 @@ module _ (words : Words) (e : Encoder) (event : Event) (d : Due) (n : d ≡ due_
   given_quiet q = sym (ap (λ b. cond b [] (packets_before words e e.held event d)) q) ∙ ap (given_with words e event) n
 
   pub after_loud : is_quiet words e e.held event d ≡ false
-      → hold e [] (reported_before words e e.held event d) event d ≡ after words e event
+      → hold e [] (reported_before words e e.held event d) event d ≡ encoder_after words e event
   after_loud q =
       sym (ap (λ b. cond b (hold e e.pending e.reported event d)
       (hold e [] (reported_before words e e.held event d) event d)) q) ∙ ap (after_with words e event) n

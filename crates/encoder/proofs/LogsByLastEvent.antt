@@ -19,9 +19,10 @@ use Rattle.encoder.specs.Due.{due_at, due_at_last, due_of_last}
 use Rattle.encoder.specs.Packets.{reports}
 use Rattle.encoder.specs.PacketsSoFar.{is_known, decided, packets_so_far}
 use Rattle.encoder.specs.Piece.{is_cut, pieces}
-use Rattle.encoder.specs.Rule.{holds, is_handler, is_start, rule}
+use Rattle.encoder.specs.Rule.{is_some_and, is_handler, is_start, rule}
 use Rattle.encoder.specs.Spot.{Spot, spots, spots_of, count_with}
-use Rattle.encoder.specs.Stands.{count_all, reported_after, since_cut, undecided, reported_so_far, untold}
+use Rattle.encoder.specs.EncoderStands.{count_all, reported_after_pieces, since_cut, undecided, reported_so_far}
+use Rattle.encoder.specs.EncoderStands.{unreported}
 use Rattle.encoder.specs.declared.due.Due.{Due}
 use Rattle.encoder.specs.declared.rule.Rule.{Rule}
 use Rattle.encoder.specs.declared.rule.Rule.TheVariants as by
@@ -91,17 +92,18 @@ module _ (words : Words) (period : ℕ) where
   cut_before_trap log (Retire at type level) (Trap priv interrupt cause epc tval) front t =
       by_tests (is_handler words (before_last None None log) (last_or None log) (Retire at type level))
       (is_start period (count_all 0 log) (last_or None log) level)
-      (holds (is_discontinuity words) (last_or None log)) (is_backward words (Retire at type level))
+      (is_some_and (is_discontinuity words) (last_or None log)) (is_backward words (Retire at type level))
     where
       by_tests : (h y z b : Bool) → is_cut front (Retire at type level)
           (cond h by.Handler (cond y by.Sync (cond z (by.Target true)
-          (cond true by.Explicit (cond b by.Notify by.FullMap))))) ≡ true
+          (cond true by.Explicit (cond b by.Notify by.MapOrNothing))))) ≡ true
       by_tests true y z b = refl
       by_tests false true z b = refl
       by_tests false false true b = refl
       by_tests false false false b = refl
   cut_before_trap log (Trap level irq code at value) (Trap priv interrupt cause epc tval) front t =
-      by_before (holds is_retirement (last_or None log) && not (holds (is_discontinuity words) (last_or None log)))
+      by_before
+      (is_some_and is_retirement (last_or None log) && not (is_some_and (is_discontinuity words) (last_or None log)))
     where
       by_before : (x : Bool) → not (x && false) ≡ true
       by_before true = refl
@@ -120,12 +122,12 @@ module _ (words : Words) (period : ℕ) where
   ]
 
 module _ (words : Words) (period : ℕ) (mode : Mode) where
-  -- What a log's packets so far are, what they report last and leave untold, and what is due of its last event.
+  -- What a log's packets so far are, what they report last and leave unreported, and what is due of its last event.
   pub record Views (log : List Event) (packets : List Packet) (reported : ℕ) (left : List Event) (due : Due) : Type 0
     where
       pub so_far : packets_so_far words period mode log ≡ packet.Support (Open mode) ∷ packets
-      pub told : reported_so_far words period log ≡ reported
-      pub rest : untold words period log ≡ left
+      pub reported_is : reported_so_far words period log ≡ reported
+      pub rest : unreported words period log ≡ left
       pub asked : due_of_last words period log ≡ due
 
   view : (log : List Event) (held : Event) (ss : List Spot) (us : List Event) (packets : List Packet) (reported : ℕ)
@@ -135,7 +137,7 @@ module _ (words : Words) (period : ℕ) (mode : Mode) where
   view log held ss us packets reported front d u h = record {
     so_far = ap (λ x. packet.Support (Open mode) ∷ reports mode 0 (pieces words period [] x)) d
         ∙ ap (λ x. packet.Support (Open mode) ∷ x) h.given;
-    told = ap (λ x. reported_after 0 (pieces words period [] x)) d ∙ h.told;
+    reported_is = ap (λ x. reported_after_pieces 0 (pieces words period [] x)) d ∙ h.reported_is;
     rest = ap (λ x. since_cut words period [] x ++ undecided words (spots_of (log ++ held ∷ []))) d
         ∙ ap (λ x. x ++ undecided words (spots_of (log ++ held ∷ []))) h.open_ ∙ ap (λ x. front ++ x) u;
     asked = ap (λ x. due_at_last words period (last_or None x)) (spots-snoc log held None)

@@ -19,11 +19,12 @@ use Rattle.encoder.specs.Due.{due_at, due_of_last}
 use Rattle.encoder.specs.Packets.{packet_by, reported_by, reports}
 use Rattle.encoder.specs.PacketsSoFar.{is_known, packets_so_far}
 use Rattle.encoder.specs.Piece.{is_cut, pieces}
-use Rattle.encoder.specs.Rule.{holds, with_handler, rule}
+use Rattle.encoder.specs.Rule.{is_some_and, with_handler, rule}
 use Rattle.encoder.specs.Spot.{Spot, spots, count_with}
-use Rattle.encoder.specs.Stands.{count_all, reported_after, since_cut, reported_so_far, untold, AreLeft, Stands}
-use Rattle.encoder.specs.steps.Stepping.{rule_before, is_full_map, is_handler_due, next_due, packets_by}
-use Rattle.encoder.specs.steps.Stepping.{handler_packet, pending_with, left_after, given, after}
+use Rattle.encoder.specs.EncoderStands.{count_all, reported_after_pieces, since_cut, reported_so_far, unreported}
+use Rattle.encoder.specs.EncoderStands.{AreLeft, EncoderStands}
+use Rattle.encoder.specs.steps.Stepping.{rule_before, is_map_or_nothing, is_handler_due, next_due, packets_by}
+use Rattle.encoder.specs.steps.Stepping.{handler_packet, pending_with, left_after, given, encoder_after}
 use Rattle.encoder.specs.declared.due.Due.{Due}
 use Rattle.encoder.specs.declared.due.Due.TheVariants as due
 use Rattle.encoder.specs.declared.encoder.Encoder.{Encoder}
@@ -43,13 +44,13 @@ module _ (words : Words) (period : ℕ) (mode : Mode) where
   pub record Pushes (log : List Event) (e : Encoder) (event : Event) : Type 0 where
     pub more : packets_so_far words period mode (log ++ event ∷ [])
         ≡ packets_so_far words period mode log ++ given words e event
-    pub between : (after words e event).between ≡ e.between
-    pub in_mode : (after words e event).mode ≡ e.mode
-    pub left : (after words e event).left ≡ left_after e.between e.left event
-    pub held : (after words e event).held ≡ Some event
-    pub asked : (after words e event).due ≡ due_of_last words period (log ++ event ∷ [])
-    pub pending : (after words e event).pending ≡ outcomes (untold words period (log ++ event ∷ []))
-    pub told : (after words e event).reported ≡ reported_so_far words period (log ++ event ∷ [])
+    pub between : (encoder_after words e event).between ≡ e.between
+    pub in_mode : (encoder_after words e event).mode ≡ e.mode
+    pub left : (encoder_after words e event).left ≡ left_after e.between e.left event
+    pub held : (encoder_after words e event).held ≡ Some event
+    pub asked : (encoder_after words e event).due ≡ due_of_last words period (log ++ event ∷ [])
+    pub pending : (encoder_after words e event).pending ≡ outcomes (unreported words period (log ++ event ∷ []))
+    pub reported_is : (encoder_after words e event).reported ≡ reported_so_far words period (log ++ event ∷ [])
 
   pub joined : (log : List Event) (e : Encoder) (event : Event) (ps : List Packet) (r : ℕ) (rest : List Event) (d : Due)
       (ps' : List Packet) (r' : ℕ) (rest' : List Event) (d' : Due) (more : List Packet) (pending : List Bool)
@@ -64,7 +65,7 @@ module _ (words : Words) (period : ℕ) (mode : Mode) where
     held = does.held;
     asked = does.asked ∙ sym new.asked;
     pending = does.pending_is ∙ p ∙ ap outcomes (sym new.rest);
-    told = does.reported_is ∙ sym new.told;
+    reported_is = does.reported_is ∙ sym new.reported_is;
   }
 
   by_cut : {P : Type 0} {b : Bool} → (c : Bool) → b ≡ c → (b ≡ false → P) → (b ≡ true → P) → P
@@ -88,20 +89,20 @@ module _ (words : Words) (period : ℕ) (mode : Mode) where
       ap by.Trap ((and_parts (is_retirement next) (with_handler words b (Some next)) k).1)
 
   trap_unreported : (n : ℕ) (b2 b : Option Event) (held next : Event) (d' : Due) → is_retirement held ≡ false
-      → is_full_map (rule_before words held (due_at words period
+      → is_map_or_nothing (rule_before words held (due_at words period
       (record { number = n; before_that = b2; before = b; event = held; after = None })) next d') ≡ false
   trap_unreported n b2 b (Retire at type level) next d' t = cc
   trap_unreported n b2 b (Trap level irq code epc value) next d' t =
-      by_before (holds is_retirement b && not (holds (is_discontinuity words) b))
+      by_before (is_some_and is_retirement b && not (is_some_and (is_discontinuity words) b))
     where
-      by_before : (x : Bool) → is_full_map (rule_before words (Trap level irq code epc value)
+      by_before : (x : Bool) → is_map_or_nothing (rule_before words (Trap level irq code epc value)
           (cond x due.TrapOrHandler due.Trap) next d') ≡ false
       by_before true = refl
       by_before false = refl
 
   -- The facts that all cases share, of an encoder that holds an event.
   module _ (front : List Event) (held next : Event) (e : Encoder)
-      (stands : Stands words period mode (front ++ held ∷ []) e) (right : Right words held)
+      (stands : EncoderStands words period mode (front ++ held ∷ []) e) (right : Right words held)
       (step : Step words held next) where
     abbrev ss : List Spot
     ss = spots 0 None None front (Some held)
@@ -157,7 +158,8 @@ module _ (words : Words) (period : ℕ) (mode : Mode) where
         let on : is_known words (spot_after (front ++ held ∷ []) next None) ≡ false =
         ap (is_known words) there_is ∙ known-behind words period here next None retired in
         let ps = reports mode 0 (pieces words period [] ss)
-        ++ packet_by mode (reported_after 0 (pieces words period [] ss)) (since_cut words period [] ss) held by.Handler
+        ++ packet_by mode (reported_after_pieces 0 (pieces words period [] ss)) (since_cut words period [] ss) held
+        by.Handler
         ∷ [] in
         let old =
         view_known words period mode front held ps (place held) k
@@ -170,11 +172,11 @@ module _ (words : Words) (period : ℕ) (mode : Mode) where
         let not_next : is_handler_due d' ≡ false =
         sym (is_known-due words period there) ∙ known-behind words period here next None retired in
         let r : rule_before words held d next d' ≡ by.Handler = rule_before-handler words held d next d' is in
-        let q : (is_full_map (rule_before words held d next d') && nat_lt 0 31) ≡ false =
-        ap (λ x. is_full_map x && nat_lt 0 31) r in
+        let q : (is_map_or_nothing (rule_before words held d next d') && nat_lt 0 31) ≡ false =
+        ap (λ x. is_map_or_nothing x && nat_lt 0 31) r in
         let does =
         does_loud words e held next [] mode (place held) d d' is_held (stands.due ∙ old.asked)
-        (stands.pending ∙ ap outcomes old.rest) stands.in_mode (stands.reported ∙ old.told) next_is q not_next in
+        (stands.pending ∙ ap outcomes old.rest) stands.in_mode (stands.reported ∙ old.reported_is) next_is q not_next in
         let does' : Does words e next [] (pending_with d' next []) (place held) d' =
         subst (λ x. Does words e next (packets_by x held [] mode (place held)) (pending_with d' next [])
         (reported_by x (place held) held) d') r does in
@@ -186,9 +188,9 @@ module _ (words : Words) (period : ℕ) (mode : Mode) where
     before_handler k k' =
         let trapped : is_retirement held ≡ false = trap_held here next k' in
         let ps = reports mode 0 (pieces words period [] ss) in
-        let r = reported_after 0 (pieces words period [] ss) in
+        let r = reported_after_pieces 0 (pieces words period [] ss) in
         let base : Reaches words period mode ss ps r [] =
-        record { given = refl; told = refl; open_ = none_before_trap words period front held trapped } in
+        record { given = refl; reported_is = refl; open_ = none_before_trap words period front held trapped } in
         let old = view_open words period mode front held ps r [] k base in
         let on =
         reaches_on words period mode ss cut_here ps r [] (by.Trap true) base
@@ -202,12 +204,12 @@ module _ (words : Words) (period : ℕ) (mode : Mode) where
         (spot_after (front ++ held ∷ []) next None) ps r (held ∷ []) by.Handler (grown ps r (held ∷ []) on)
         (rule_known words period (spot_after (front ++ held ∷ []) next None) is) refl)) in
         let due_next : is_handler_due d' ≡ true = sym (is_known-due words period there) ∙ k' in
-        let q : (is_full_map (rule_before words held d next d') && nat_lt (length (outcomes (held ∷ []))) 31)
+        let q : (is_map_or_nothing (rule_before words held d next d') && nat_lt (length (outcomes (held ∷ []))) 31)
         ≡ false =
         ap (λ x. x && nat_lt (length (outcomes (held ∷ []))) 31) (trap_unreported _ _ _ held next d' trapped) in
         let does =
         does_handler words e held next (outcomes (held ∷ [])) mode r d d' is_held (stands.due ∙ old.asked)
-        (stands.pending ∙ ap outcomes old.rest) stands.in_mode (stands.reported ∙ old.told) next_is q due_next in
+        (stands.pending ∙ ap outcomes old.rest) stands.in_mode (stands.reported ∙ old.reported_is) next_is q due_next in
         joined (front ++ held ∷ []) e next ps r (held ∷ []) d ps' (place next) [] d' (handler_packet held next ∷ [])
         (pending_with d' next []) old new does refl (pending_with-handler d' next due_next)
 
@@ -217,7 +219,7 @@ module _ (words : Words) (period : ℕ) (mode : Mode) where
         let base = reaches words period mode ss in
         let since = since_cut words period [] ss in
         let ps = reports mode 0 (pieces words period [] ss) in
-        let r = reported_after 0 (pieces words period [] ss) in
+        let r = reported_after_pieces 0 (pieces words period [] ss) in
         let code = rule_before words held d next d' in
         let old = view_open words period mode front held ps r since k base in
         let here_not : is_handler_due d ≡ false = sym (is_known-due words period here) ∙ k in
@@ -238,7 +240,7 @@ module _ (words : Words) (period : ℕ) (mode : Mode) where
         (grown ps r (since ++ held ∷ []) (reaches_on words period mode ss cut_here ps r since code base rl c))) in
         let does =
         does_quiet words e held next (outcomes (since ++ held ∷ [])) mode r d d' is_held (stands.due ∙ old.asked)
-        pending_was stands.in_mode (stands.reported ∙ old.told) next_is (quiet ∙ ap not c) in
+        pending_was stands.in_mode (stands.reported ∙ old.reported_is) next_is (quiet ∙ ap not c) in
         joined (front ++ held ∷ []) e next ps r (since ++ held ∷ []) d ps r rest d' []
         (pending_with d' next (outcomes (since ++ held ∷ []))) old new does (sym (append-nil ps))
         (pending_with-outcomes d' (since ++ held ∷ []) next next_not))
@@ -250,7 +252,7 @@ module _ (words : Words) (period : ℕ) (mode : Mode) where
         (grown ps' r' [] (reaches_cut words period mode ss cut_here ps r since code base rl c))) in
         let does =
         does_loud words e held next (outcomes (since ++ held ∷ [])) mode r d d' is_held (stands.due ∙ old.asked)
-        pending_was stands.in_mode (stands.reported ∙ old.told) next_is (quiet ∙ ap not c) next_not in
+        pending_was stands.in_mode (stands.reported ∙ old.reported_is) next_is (quiet ∙ ap not c) next_not in
         joined (front ++ held ∷ []) e next ps r (since ++ held ∷ []) d ps' r' (next ∷ []) d'
         (packets_by code held (outcomes (since ++ held ∷ [])) mode r) (pending_with d' next []) old new does
         (ap (λ x. ps ++ x) (sym (packets_by-own since held code mode r own)))

@@ -15,9 +15,9 @@ use Rattle.encoder.specs.Due.{due_at}
 use Rattle.encoder.specs.Packets.{packet_by, reported_by, reports, last_rule, closing, closing_packet, packets}
 use Rattle.encoder.specs.PacketsSoFar.{is_known, packets_so_far}
 use Rattle.encoder.specs.Piece.{Piece, is_cut, cut_or_go_on, pieces}
-use Rattle.encoder.specs.Rule.{holds, is_handler, is_start, rule}
+use Rattle.encoder.specs.Rule.{is_some_and, is_handler, is_start, rule}
 use Rattle.encoder.specs.Spot.{Spot, spots}
-use Rattle.encoder.specs.Stands.{reported_after, since_cut, Stands}
+use Rattle.encoder.specs.EncoderStands.{reported_after_pieces, since_cut, EncoderStands}
 use Rattle.encoder.specs.steps.Stepping.{rule_at_end, packets_by, is_handler_due, given_at_end}
 use Rattle.encoder.specs.declared.due.Due.{Due}
 use Rattle.encoder.specs.declared.due.Due.TheVariants as due
@@ -42,7 +42,7 @@ rule-at_end : (words : Words) (period : ℕ) (n : ℕ) (b2 b : Option Event) (he
     }))
 rule-at_end words period n b2 b (Retire addr itype priv) =
     by_tests (is_handler words b2 b (Retire addr itype priv)) (is_start period n b priv)
-    (holds (is_discontinuity words) b)
+    (is_some_and (is_discontinuity words) b)
   where
     by_tests : (h y z : Bool) → cond h by.Handler (cond y by.Sync (cond z (by.Target false) by.Explicit))
         ≡ rule_at_end (cond h due.Handler (cond y due.Sync (cond z due.Target due.Nothing)))
@@ -51,7 +51,7 @@ rule-at_end words period n b2 b (Retire addr itype priv) =
     by_tests false false true = refl
     by_tests false false false = refl
 rule-at_end words period n b2 b (Trap priv interrupt cause epc tval) =
-    by_before (holds is_retirement b && not (holds (is_discontinuity words) b))
+    by_before (is_some_and is_retirement b && not (is_some_and (is_discontinuity words) b))
   where
     by_before : (x : Bool) → by.Trap (x && false) ≡ rule_at_end (cond x due.TrapOrHandler due.Trap)
     by_before true = refl
@@ -90,7 +90,7 @@ gives_at_end e held pending mode reported d h a p m r = rw (h, a, p, m, r) refl
 
 module _ (words : Words) (period : ℕ) (mode : Mode) where
   module _ (front : List Event) (held : Event) (e : Encoder)
-      (stands : Stands words period mode (front ++ held ∷ []) e) where
+      (stands : EncoderStands words period mode (front ++ held ∷ []) e) where
     abbrev ss : List Spot
     ss = spots 0 None None front (Some held)
 
@@ -107,7 +107,7 @@ module _ (words : Words) (period : ℕ) (mode : Mode) where
     ps = reports mode 0 (pieces words period [] ss)
 
     abbrev r : ℕ
-    r = reported_after 0 (pieces words period [] ss)
+    r = reported_after_pieces 0 (pieces words period [] ss)
 
     abbrev last_packet : Packet
     last_packet = packet_by mode r since held (rule_at_end d)
@@ -126,12 +126,12 @@ module _ (words : Words) (period : ℕ) (mode : Mode) where
     closing_is =
         let p : Piece = record { front = since; last = held; by = rule_at_end d } in
         let before = pieces words period [] ss in
-        ap (λ x. packet.Support (closing (last_rule by.FullMap (pieces words period [] x))))
+        ap (λ x. packet.Support (closing (last_rule by.MapOrNothing (pieces words period [] x))))
         (spots-snoc front held None)
-        ∙ ap (λ x. packet.Support (closing (last_rule by.FullMap x)))
+        ∙ ap (λ x. packet.Support (closing (last_rule by.MapOrNothing x)))
         (one_more words period ss here since (rule_at_end d) refl rule_is
         ∙ ap (λ b. before ++ cut_or_go_on b p (λ w. [])) (cut_at_end d since held))
-        ∙ ap (λ x. packet.Support (closing x)) (last_rule-snoc by.FullMap before p)
+        ∙ ap (λ x. packet.Support (closing x)) (last_rule-snoc by.MapOrNothing before p)
 
     packets_are : packets words period mode (front ++ held ∷ []) ≡ packet.Support (Open mode)
         ∷ (ps ++ last_packet ∷ []) ++ packet.Support (closing (rule_at_end d)) ∷ []
@@ -148,7 +148,7 @@ module _ (words : Words) (period : ℕ) (mode : Mode) where
         let is : is_handler_due d ≡ false = sym (is_known-due words period here) ∙ k in
         let gives =
         gives_at_end e held (outcomes (since ++ held ∷ [])) mode r d is_held (stands.due ∙ old.asked)
-        (stands.pending ∙ ap outcomes old.rest) stands.in_mode (stands.reported ∙ old.told) in
+        (stands.pending ∙ ap outcomes old.rest) stands.in_mode (stands.reported ∙ old.reported_is) in
         let own = packets_by-own since held (rule_at_end d) mode r (own_at_end d is) in
         packets_are
         ∙ ap (λ x. packet.Support (Open mode) ∷ x) (append_assoc ps (last_packet ∷ [])
@@ -168,7 +168,7 @@ module _ (words : Words) (period : ℕ) (mode : Mode) where
         (ap (λ x. reported_by x r held) r_is) ends) in
         let gives =
         gives_at_end e held [] mode (place held) d is_held (stands.due ∙ old.asked)
-        (stands.pending ∙ ap outcomes old.rest) stands.in_mode (stands.reported ∙ old.told) in
+        (stands.pending ∙ ap outcomes old.rest) stands.in_mode (stands.reported ∙ old.reported_is) in
         packets_are
         ∙ ap (λ x. packet.Support (Open mode) ∷ (ps ++ last_packet ∷ [])
         ++ (x ++ packet.Support (closing (rule_at_end d)) ∷ []))
@@ -190,7 +190,7 @@ module _ (words : Words) (period : ℕ) (mode : Mode) where
   empty_ends e h = rw h refl
 
   -- What an encoder gives at the end completes the packets of its log.
-  pub ends_any : (log : List Event) (e : Encoder) → Stands words period mode log e
+  pub ends_any : (log : List Event) (e : Encoder) → EncoderStands words period mode log e
       → packets words period mode log ≡ packets_so_far words period mode log ++ given_at_end e e.held
   ends_any log e stands = elim (by_last log) [
     | inl is ↦
@@ -198,5 +198,5 @@ module _ (words : Words) (period : ℕ) (mode : Mode) where
         (empty_ends e (stands.held ∙ ap (last_or None) is))
     | inr q ↦
         subst (λ l. packets words period mode l ≡ packets_so_far words period mode l ++ given_at_end e e.held) (sym q.2)
-        (ends_with q.0 q.1 e (subst (λ l. Stands words period mode l e) q.2 stands))
+        (ends_with q.0 q.1 e (subst (λ l. EncoderStands words period mode l e) q.2 stands))
   ]

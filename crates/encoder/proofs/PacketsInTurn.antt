@@ -29,8 +29,8 @@ use Rattle.encoder.specs.Piece.{pieces}
 use Rattle.encoder.specs.SourceAt.{SourceAt}
 use Rattle.encoder.specs.steps.SourceFields.{number_at, stands_at}
 use Rattle.encoder.specs.Spot.{Spot, first_event, spots, spots_of}
-use Rattle.encoder.specs.Stands.{count_all, reported_after, since_cut, Stands}
-use Rattle.encoder.specs.steps.Stepping.{given, after, last_given, ends_by, given_at_end}
+use Rattle.encoder.specs.EncoderStands.{count_all, reported_after_pieces, since_cut, EncoderStands}
+use Rattle.encoder.specs.steps.Stepping.{given, encoder_after, last_given, ends_by, given_at_end}
 use Rattle.encoder.specs.declared.encoder.Encoder.{Encoder}
 use Rattle.encoder.specs.declared.rule.Rule.TheVariants as by
 use Rattle.encoder.specs.declared.source.Stage.{Stage}
@@ -50,13 +50,13 @@ legal-take words count log legal =
 -- An encoder that stands for the first events stands for one more by a step, which gives the packets that are more.
 pub record Steps (words : Words) (period : ℕ) (mode : Mode) (at : ℕ) (log : List Event) (e : Encoder)
     (packets : List Packet) : Type 0 where
-  pub stands : Stands words period mode (take (at + 1) log) e
+  pub stands : EncoderStands words period mode (take (at + 1) log) e
   pub more : packets_so_far words period mode (take (at + 1) log)
       ≡ packets_so_far words period mode (take at log) ++ packets
 
 pub steps : (words : Words) (period : ℕ) (mode : Mode) (at : ℕ) (log : List Event) (event : Event) (e e' : Encoder)
     (packets : List Packet) → take (at + 1) log ≡ take at log ++ event ∷ [] → Legal words log
-    → Stands words period mode (take at log) e → Is64Bit event → e' ≡ after words e event
+    → EncoderStands words period mode (take at log) e → Is64Bit event → e' ≡ encoder_after words e event
     → packets ≡ given words e event → Steps words period mode at log e' packets
 steps words period mode at log event e e' packets more legal stands fits is gives =
     let pushed =
@@ -64,8 +64,8 @@ steps words period mode at log event e e' packets more legal stands fits is give
     (subst (Legal words) more (legal-take words (at + 1) log legal)) in
     let grown = stands_after words period mode (take at log) e event fits stands pushed in
     record {
-      stands = subst (λ l. Stands words period mode l e') (sym more)
-          (subst (Stands words period mode (take at log ++ event ∷ [])) (sym is) grown);
+      stands = subst (λ l. EncoderStands words period mode l e') (sym more)
+          (subst (EncoderStands words period mode (take at log ++ event ∷ [])) (sym is) grown);
       more = ap (packets_so_far words period mode) more ∙ pushed.more
           ∙ ap (λ p. packets_so_far words period mode (take at log) ++ p) (sym gives);
     }
@@ -75,17 +75,18 @@ pub steps_on : (words : Words) (log : List Event) (between : ℕ) (mode : Mode) 
     (e e' e'' : Encoder) (packets : List Packet) → take (at + 1) log ≡ take at log ++ event ∷ [] → Legal words log
     → e.between ≡ between → e.mode ≡ mode
     → packets_so_far words (between + 1) mode (take taken log) ≡ packets_so_far words (between + 1) mode (take from log)
-    → Stands words (e.between + 1) e.mode (take at log) e' → packets_so_far words (e.between + 1) e.mode (take at log)
-    ≡ packets_so_far words (e.between + 1) e.mode (take taken log) → Is64Bit event → e'' ≡ after words e' event
-    → packets ≡ given words e' event → Stands words (between + 1) mode (take (at + 1) log) e''
+    → EncoderStands words (e.between + 1) e.mode (take at log) e'
+    → packets_so_far words (e.between + 1) e.mode (take at log)
+    ≡ packets_so_far words (e.between + 1) e.mode (take taken log) → Is64Bit event → e'' ≡ encoder_after words e' event
+    → packets ≡ given words e' event → EncoderStands words (between + 1) mode (take (at + 1) log) e''
     × (packets_so_far words (between + 1) mode (take (at + 1) log)
     ≡ packets_so_far words (between + 1) mode (take from log) ++ packets)
 steps_on words log between mode from taken at event e e' e'' packets more legal same same_mode before stands none fits
     is gives =
     let step =
     steps words (between + 1) mode at log event e' e'' packets more legal
-    (subst (λ m. Stands words (between + 1) m (take at log) e') same_mode
-    (subst (λ b. Stands words (b + 1) e.mode (take at log) e') same stands)) fits is gives in
+    (subst (λ m. EncoderStands words (between + 1) m (take at log) e') same_mode
+    (subst (λ b. EncoderStands words (b + 1) e.mode (take at log) e') same stands)) fits is gives in
     let passed =
     subst (λ m. packets_so_far words (between + 1) m (take at log) ≡ packets_so_far words (between + 1) m
     (take taken log)) same_mode
@@ -95,7 +96,7 @@ steps_on words log between mode from taken at event e e' e'' packets more legal 
 
 module _ (words : Words) (period : ℕ) (mode : Mode) where
   front_reports : (ss ts : List Spot) → reports mode 0 (pieces words period [] (ss ++ ts))
-      ≡ reports mode 0 (pieces words period [] ss) ++ reports mode (reported_after 0 (pieces words period [] ss))
+      ≡ reports mode 0 (pieces words period [] ss) ++ reports mode (reported_after_pieces 0 (pieces words period [] ss))
       (pieces words period (since_cut words period [] ss) ts)
   front_reports ss ts =
       ap (reports mode 0) (pieces-append words period [] ss ts)
@@ -114,7 +115,7 @@ module _ (words : Words) (period : ℕ) (mode : Mode) where
   begins_by front rest ss ts all same =
       let first = reports mode 0 (pieces words period [] ss) in
       let other =
-      reports mode (reported_after 0 (pieces words period [] ss))
+      reports mode (reported_after_pieces 0 (pieces words period [] ss))
       (pieces words period (since_cut words period [] ss) ts) in
       let end = closing_packet words period (front ++ rest) ∷ [] in (
         other ++ end,
@@ -190,7 +191,7 @@ behind_seam all front p rest is = ap length is ∙ (let l = length-append front 
 -- The events that were taken, when an encoder was given more of them until one gave a packet.
 pub record Ran (image : Image) (events : List Event) (e : Encoder) (taken : ℕ) (e' : Encoder) (taken' : ℕ)
     (given : Option Packet) : Type 0 where
-  pub stands : Stands (words_of image) (e.between + 1) e.mode (take taken' events) e'
+  pub stands : EncoderStands (words_of image) (e.between + 1) e.mode (take taken' events) e'
   pub more : packets_so_far (words_of image) (e.between + 1) e.mode (take taken' events)
       ≡ packets_so_far (words_of image) (e.between + 1) e.mode (take taken events) ++ option_to_list given
   pub all : given ≡ None → taken' ≡ length events
@@ -239,7 +240,7 @@ module _ (image : Image) (log : List Event) (e : Encoder) (taken : ℕ) (e' : En
   pub at_end : Ran image log e taken e' taken' None → full ≡ before ++ given_at_end e' e'.held
   at_end ran =
       let whole : take taken' log ≡ log = take_all taken' log (omega (arith, ran.all refl)) in
-      ends_any words period mode log e' (subst (λ l. Stands words period mode l e') whole ran.stands)
+      ends_any words period mode log e' (subst (λ l. EncoderStands words period mode l e') whole ran.stands)
       ∙ ap (λ l. packets_so_far words period mode l ++ given_at_end e' e'.held) (sym whole)
       ∙ ap (λ l. l ++ given_at_end e' e'.held) (ran.more ∙ append-nil before)
 
@@ -274,7 +275,8 @@ module _ (image : Image) (log : List Event) (e : Encoder) (taken : ℕ) (e' : En
 
 -- The closing packet is the last.
 pub given_closing : (image : Image) (period : ℕ) (mode : Mode) (log : List Event) (e : Encoder) (taken : ℕ)
-    (s : Support) → Stands (words_of image) period mode (take taken log) e → taken ≡ length log → s ≡ ends_by e e.held
+    (s : Support) → EncoderStands (words_of image) period mode (take taken log) e → taken ≡ length log
+    → s ≡ ends_by e e.held
     → Some (packet.Support s) ≡ slice_get (packets (words_of image) period mode log)
     (length (packets (words_of image) period mode log) - 1)
 given_closing image period mode log e taken s stands whole is =
@@ -282,7 +284,7 @@ given_closing image period mode log e taken s stands whole is =
     let front = packets_so_far words period mode log ++ last_given e e.held in
     let done : take taken log ≡ log = take_all taken log (omega (arith, whole)) in
     let joined : packets words period mode log ≡ front ++ packet.Support s ∷ [] =
-    ends_any words period mode log e (subst (λ l. Stands words period mode l e) done stands)
+    ends_any words period mode log e (subst (λ l. EncoderStands words period mode l e) done stands)
     ∙ sym (append_assoc (packets_so_far words period mode log) (last_given e e.held)
     (packet.Support (ends_by e e.held) ∷ []))
     ∙ ap (λ x. front ++ packet.Support x ∷ []) (sym is) in

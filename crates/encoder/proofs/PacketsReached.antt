@@ -10,9 +10,10 @@ use Rattle.encoder.specs.Packets.{packet_by, reported_by, reports}
 use Rattle.encoder.specs.Piece.{Piece, is_cut, cut_or_go_on, pieces}
 use Rattle.encoder.specs.Rule.{rule}
 use Rattle.encoder.specs.Spot.{Spot, spots}
-use Rattle.encoder.specs.Stands.{count_all, reported_after, since_cut}
+use Rattle.encoder.specs.EncoderStands.{count_all, reported_after_pieces, since_cut}
 use Rattle.encoder.specs.declared.rule.Rule.{Rule}
-use Rattle.encoder.proofs.SpotLemmas.{before_last, spots-append, pieces-append, reports-append, reported_after-append}
+use Rattle.encoder.proofs.SpotLemmas.{before_last, spots-append, pieces-append, reports-append}
+use Rattle.encoder.proofs.SpotLemmas.{reported_after_pieces-append}
 use Rattle.encoder.proofs.SpotLemmas.{since_cut-append}
 
 -- The spot of an event after a log, with this event after it.
@@ -55,12 +56,12 @@ module _ (words : Words) (period : ℕ) (mode : Mode) where
   -- the last cut.
   pub record Reaches (ss : List Spot) (packets : List Packet) (reported : ℕ) (front : List Event) : Type 0 where
     pub given : reports mode 0 (pieces words period [] ss) ≡ packets
-    pub told : reported_after 0 (pieces words period [] ss) ≡ reported
+    pub reported_is : reported_after_pieces 0 (pieces words period [] ss) ≡ reported
     pub open_ : since_cut words period [] ss ≡ front
 
   pub reaches : (ss : List Spot) → Reaches ss (reports mode 0 (pieces words period [] ss))
-      (reported_after 0 (pieces words period [] ss)) (since_cut words period [] ss)
-  reaches ss = record { given = refl; told = refl; open_ = refl }
+      (reported_after_pieces 0 (pieces words period [] ss)) (since_cut words period [] ss)
+  reaches ss = record { given = refl; reported_is = refl; open_ = refl }
 
   pub reaches_cut : (ss : List Spot) (s : Spot) (packets : List Packet) (reported : ℕ) (front : List Event) (by : Rule)
       → Reaches ss packets reported front → rule words period s ≡ by → is_cut front s.event by ≡ true
@@ -73,10 +74,10 @@ module _ (words : Words) (period : ℕ) (mode : Mode) where
       one_more words period ss s front by h.open_ r ∙ ap (λ b. before ++ cut_or_go_on b p (λ w. [])) c in
       record {
         given = ap (reports mode 0) more ∙ reports-append mode 0 before (p ∷ [])
-            ∙ ap (λ x. x ++ packet_by mode (reported_after 0 before) front s.event by ∷ []) h.given
-            ∙ ap (λ x. packets ++ packet_by mode x front s.event by ∷ []) h.told;
-        told = ap (reported_after 0) more ∙ reported_after-append 0 before (p ∷ [])
-            ∙ ap (λ x. reported_by by x s.event) h.told;
+            ∙ ap (λ x. x ++ packet_by mode (reported_after_pieces 0 before) front s.event by ∷ []) h.given
+            ∙ ap (λ x. packets ++ packet_by mode x front s.event by ∷ []) h.reported_is;
+        reported_is = ap (reported_after_pieces 0) more ∙ reported_after_pieces-append 0 before (p ∷ [])
+            ∙ ap (λ x. reported_by by x s.event) h.reported_is;
         open_ = front_more words period ss s front by h.open_ r ∙ ap (λ b. cond b [] (front ++ s.event ∷ [])) c;
       }
 
@@ -91,6 +92,6 @@ module _ (words : Words) (period : ℕ) (mode : Mode) where
       record {
         given = ap (reports mode 0) more ∙ reports-append mode 0 before [] ∙ append-nil (reports mode 0 before)
             ∙ h.given;
-        told = ap (reported_after 0) more ∙ reported_after-append 0 before [] ∙ h.told;
+        reported_is = ap (reported_after_pieces 0) more ∙ reported_after_pieces-append 0 before [] ∙ h.reported_is;
         open_ = front_more words period ss s front by h.open_ r ∙ ap (λ b. cond b [] (front ++ s.event ∷ [])) c;
       }

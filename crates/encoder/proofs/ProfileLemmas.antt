@@ -79,7 +79,7 @@ module _ (words : Words) (even : IsEven words) where
   good-snoc [] event all good = (good, tt)
   good-snoc (first ∷ front) event all good = (all.0, good-snoc front event all.1 good)
 
-  full_map : (front : List Event) (event : Event) → is_cut front event by.FullMap ≡ true
+  full_map : (front : List Event) (event : Event) → is_cut front event by.MapOrNothing ≡ true
       → length (outcomes (front ++ event ∷ [])) ≡ 31
   full_map front event c = let n = (and_parts (is_branch event) (length (outcomes (front ++ event ∷ [])) == 31) c).1 in
       grind (arith, nat_tests, n)
@@ -107,7 +107,7 @@ module _ (words : Words) (even : IsEven words) where
     omega (arith, length_outcomes-snoc front last, one_at_most last),
     delta-IsAddress mode reported (place last) a (place-IsAddress last good),
   )
-  packet_in_profile mode reported front last by.FullMap a all good few c = full_map front last c
+  packet_in_profile mode reported front last by.MapOrNothing a all good few c = full_map front last c
 
   reported_by-IsAddress : (r : Rule) (reported : ℕ) (last : Event) → IsAddress reported → IsGood last
       → IsAddress (reported_by r reported last)
@@ -117,7 +117,7 @@ module _ (words : Words) (even : IsEven words) where
   reported_by-IsAddress (by.Target cut_off) reported last a good = place-IsAddress last good
   reported_by-IsAddress by.Explicit reported last a good = place-IsAddress last good
   reported_by-IsAddress by.Notify reported last a good = place-IsAddress last good
-  reported_by-IsAddress by.FullMap reported last a good = a
+  reported_by-IsAddress by.MapOrNothing reported last a good = a
 
   reports_in_profile : (period : ℕ) (mode : Mode) (reported : ℕ) (front : List Event) (ss : List Spot)
       → IsAddress reported → AllByRecursion IsGood front → length (outcomes front) ≤ 30

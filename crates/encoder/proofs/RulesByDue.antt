@@ -15,7 +15,7 @@ use Rattle.legalpath.specs.Step.{MayStandAt, Step}
 use Rattle.legalpath.specs.Successor.{leads_from}
 use Rattle.encoder.specs.Due.{due_at}
 use Rattle.encoder.specs.PacketsSoFar.{is_known}
-use Rattle.encoder.specs.Rule.{holds, is_handler, is_start, is_cut_off, rule}
+use Rattle.encoder.specs.Rule.{is_some_and, is_handler, is_start, is_cut_off, rule}
 use Rattle.encoder.specs.Spot.{Spot, count_with}
 use Rattle.encoder.specs.steps.Stepping.{is_discontinuity_by_type, due_behind_trap, next_due, cuts_off, jumps_back_to}
 use Rattle.encoder.specs.steps.Stepping.{rule_of_quiet, rule_before, is_handler_due}
@@ -23,7 +23,7 @@ use Rattle.encoder.specs.declared.due.Due.{Due}
 use Rattle.encoder.specs.declared.due.Due.TheVariants as due
 use Rattle.encoder.specs.declared.rule.Rule.TheVariants as by
 
--- A right retirement's type tells whether its word leaves.
+-- A right retirement's type shows whether its word is a discontinuity.
 word_type : (word : Option Word) (itype priv : ℕ) → RetiresOn word itype priv
     → hides_its_target word ≡ is_discontinuity_by_type itype
 word_type None itype priv r = absurd r
@@ -114,7 +114,7 @@ module _ (words : Words) (period : ℕ) where
           ∙ ap (λ x. cond (not (priv == level) || ((n + 1) % period == 0)) due.Sync (cond x due.Target due.Nothing))
           (sym (word_type (words at) type level r.0))
       by_events n b2 b (Trap level irq code epc value) a (Retire addr itype priv) r l =
-          by_trap (holds is_retirement b && not (holds (is_discontinuity words) b))
+          by_trap (is_some_and is_retirement b && not (is_some_and (is_discontinuity words) b))
       by_events n b2 b (Retire at type level) a (Trap priv interrupt cause epc tval) r l =
           ap (λ x. cond x due.Trap due.TrapOrHandler) (sym (word_type (words at) type level r.0))
           ∙ turned (hides_its_target (words at))
@@ -161,10 +161,10 @@ module _ (words : Words) (period : ℕ) where
       }))
   rule-before n b2 b (Retire at type level) next after r s free =
       by_due (is_handler words b2 b (Retire at type level)) (is_start period n b level)
-      (holds (is_discontinuity words) b) _ _ (cut_off-due n b at type level next after) _
+      (is_some_and (is_discontinuity words) b) _ _ (cut_off-due n b at type level next after) _
       (sym (jumps_back_to-is_backward words (Retire at type level) next r s))
     where
-      end : (c b : Bool) → cond (c || false) by.Explicit (cond b by.Notify by.FullMap) ≡ rule_of_quiet c b
+      end : (c b : Bool) → cond (c || false) by.Explicit (cond b by.Notify by.MapOrNothing) ≡ rule_of_quiet c b
       end true b = refl
       end false true = refl
       end false false = refl
@@ -172,7 +172,7 @@ module _ (words : Words) (period : ℕ) where
       by_due : (h y z c : Bool) (d : Due) → c ≡ cuts_off d → (x : Bool)
           → x ≡ jumps_back_to words (Retire at type level) next
           → cond h by.Handler (cond y by.Sync (cond z (by.Target c)
-          (cond (c || false) by.Explicit (cond x by.Notify by.FullMap))))
+          (cond (c || false) by.Explicit (cond x by.Notify by.MapOrNothing))))
           ≡ rule_before words (Retire at type level) (cond h due.Handler
           (cond y due.Sync (cond z due.Target due.Nothing))) next d
       by_due true y z c d e x f = refl
@@ -181,7 +181,7 @@ module _ (words : Words) (period : ℕ) where
       by_due false false false c d e x f =
           end c x ∙ ap (λ k. rule_of_quiet k x) e ∙ ap (λ k. rule_of_quiet (cuts_off d) k) f
   rule-before n b2 b (Trap level irq code epc value) (Retire addr itype priv) after r s free =
-      by_before (holds is_retirement b && not (holds (is_discontinuity words) b)) free
+      by_before (is_some_and is_retirement b && not (is_some_and (is_discontinuity words) b)) free
     where
       by_before : (x : Bool) → is_handler_due (cond (x && true) due.Handler due.Sync) ≡ false
           → by.Trap (x && true) ≡ rule_before words (Trap level irq code epc value) (cond x due.TrapOrHandler due.Trap)
@@ -189,7 +189,7 @@ module _ (words : Words) (period : ℕ) where
       by_before true free = cc
       by_before false free = refl
   rule-before n b2 b (Trap level irq code at value) (Trap priv interrupt cause epc tval) after r s free =
-      by_before (holds is_retirement b && not (holds (is_discontinuity words) b))
+      by_before (is_some_and is_retirement b && not (is_some_and (is_discontinuity words) b))
     where
       by_before : (x : Bool) → by.Trap (x && false) ≡ rule_before words (Trap level irq code at value)
           (cond x due.TrapOrHandler due.Trap) (Trap priv interrupt cause epc tval) due.Trap

@@ -9,7 +9,7 @@ use Rattle.encoder.specs.PacketsSoFar.{known, decided, is_known}
 use Rattle.encoder.specs.Piece.{Piece, is_cut, cut_or_go_on, pieces}
 use Rattle.encoder.specs.Rule.{rule}
 use Rattle.encoder.specs.Spot.{Spot, first_event, count_with, spots}
-use Rattle.encoder.specs.Stands.{count_all, reported_after, since_cut, undecided}
+use Rattle.encoder.specs.EncoderStands.{count_all, reported_after_pieces, since_cut, undecided}
 use Rattle.encoder.specs.declared.rule.Rule.{Rule}
 
 -- The event before a log's last one, and the last one.
@@ -77,16 +77,17 @@ module _ (words : Words) (period : ℕ) where
       go false a b = b
 
 pub reports-append : (mode : Mode) (reported : ℕ) (ps qs : List Piece)
-    → reports mode reported (ps ++ qs) ≡ reports mode reported ps ++ reports mode (reported_after reported ps) qs
+    → reports mode reported (ps ++ qs) ≡ reports mode reported ps ++ reports mode (reported_after_pieces reported ps) qs
 reports-append mode reported [] qs = refl
 reports-append mode reported (p ∷ ps) qs =
     ap (λ l. packet_by mode reported p.front p.last p.by ∷ l)
     (reports-append mode (reported_by p.by reported p.last) ps qs)
 
-pub reported_after-append : (reported : ℕ) (ps qs : List Piece)
-    → reported_after reported (ps ++ qs) ≡ reported_after (reported_after reported ps) qs
-reported_after-append reported [] qs = refl
-reported_after-append reported (p ∷ ps) qs = reported_after-append (reported_by p.by reported p.last) ps qs
+pub reported_after_pieces-append : (reported : ℕ) (ps qs : List Piece)
+    → reported_after_pieces reported (ps ++ qs) ≡ reported_after_pieces (reported_after_pieces reported ps) qs
+reported_after_pieces-append reported [] qs = refl
+reported_after_pieces-append reported (p ∷ ps) qs =
+    reported_after_pieces-append (reported_by p.by reported p.last) ps qs
 
 pub last_rule-snoc : (r : Rule) (ps : List Piece) (p : Piece) → last_rule r (ps ++ p ∷ []) ≡ p.by
 last_rule-snoc r [] p = refl

@@ -5,7 +5,7 @@ pub mod Packets
 pub mod Payloads
 pub mod PacketsSoFar
 pub mod Due
-pub mod Stands
+pub mod EncoderStands
 pub mod Profile
 pub mod FewPackets
 pub mod SourceAt

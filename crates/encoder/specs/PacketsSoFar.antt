@@ -12,11 +12,11 @@ use Rattle.encoder.specs.Piece.{pieces}
 use Rattle.encoder.specs.Rule.{is_handler}
 use Rattle.encoder.specs.Spot.{Spot, spots_of}
 
--- The rule of the event is known whatever follows: it is a handler.
+-- The rule of the event is known whatever follows, since the event is a handler.
 abbrev pub is_known : Words → Spot → Bool
 is_known words spot = is_retirement spot.event && is_handler words spot.before_that spot.before spot.event
 
--- The last spot, where its rule is known already.
+-- The last spot, if its rule is known already.
 abbrev pub known : Words → Spot → List Spot
 known words spot = if is_known words spot then spot ∷ [] else []
 
@@ -26,8 +26,8 @@ decided words [] = []
 decided words (spot ∷ []) = known words spot
 decided words (spot ∷ next ∷ rest) = spot ∷ decided words (next ∷ rest)
 
--- The packets of a log before it is known what follows: Open, and those of every event before the
--- last; the packet of a trap that is reported with its handler is there once the handler is.
+-- The packets of a log before it is known what follows: Open, and the packets of the pieces among the events whose
+-- rules are known. The packet of a trap that is reported with its handler is among them once the handler has come.
 abbrev pub packets_so_far : Words → ℕ → Mode → List Event → List Packet
 packets_so_far words period mode log =
     packet.Support (Open mode) ∷ reports mode 0 (pieces words period [] (decided words (spots_of log)))

@@ -12,15 +12,16 @@ use Rattle.encoder.specs.declared.rule.Rule.{Rule}
 use Rattle.encoder.specs.declared.rule.Rule.TheVariants as by
 
 -- There is an event, and it passes the test.
-abbrev pub holds : (Event → Bool) → Option Event → Bool
-holds test None = false
-holds test (Some event) = test event
+abbrev pub is_some_and : (Event → Bool) → Option Event → Bool
+is_some_and test None = false
+is_some_and test (Some event) = test event
 
 -- A trap between these events is reported with its handler (`thaddr`): before it stands a retirement
 -- that is no uninferable discontinuity, and after it a retirement.
 abbrev pub with_handler : Words → Option Event → Option Event → Bool
 with_handler words before after =
-    holds is_retirement before && not (holds (is_discontinuity words) before) && holds is_retirement after
+    is_some_and is_retirement before && not (is_some_and (is_discontinuity words) before)
+    && is_some_and is_retirement after
 
 -- The event is a handler: the one before it is a trap that is reported with it.
 abbrev pub is_handler : Words → Option Event → Option Event → Event → Bool
@@ -28,9 +29,9 @@ is_handler words before_that (Some (Trap priv interrupt cause epc tval)) event =
     with_handler words before_that (Some event)
 is_handler words before_that before event = false
 
--- A retirement of this number and privilege that is no handler is a new start: it is the first event,
--- follows a trap, changes the privilege, or has a number that the period divides, which is this
--- project's profile of periodic synchronisation.
+-- A retirement that is no handler, of this number and privilege, is a new start: it is the first event, follows a trap,
+-- changes the privilege, or has a number that the period divides. The last of these is this project's profile of
+-- periodic synchronisation.
 abbrev pub is_start : ℕ → ℕ → Option Event → ℕ → Bool
 is_start period number None priv = true
 is_start period number (Some (Trap level interrupt cause epc tval)) priv = true
@@ -42,17 +43,17 @@ is_cut_off period number event None = false
 is_cut_off period number event (Some (Trap priv interrupt cause epc tval)) = true
 is_cut_off period number event (Some (Retire addr itype priv)) = is_start period (number + 1) (Some event) priv
 
--- The rule of a retirement: the first that applies. That a backward jump is notified is this
--- project's profile.
+-- The rule of a retirement: the first that applies, or `MapOrNothing` where none does. That a backward jump is notified
+-- is this project's profile.
 abbrev pub retirement_rule : Words → ℕ → Spot → Rule
 retirement_rule words period spot =
     if is_handler words spot.before_that spot.before spot.event then by.Handler else
     if is_start period spot.number spot.before (privilege spot.event) then by.Sync else
-    if holds (is_discontinuity words) spot.before then by.Target
+    if is_some_and (is_discontinuity words) spot.before then by.Target
     (is_cut_off period spot.number spot.event spot.after) else
     if is_cut_off period spot.number spot.event spot.after || is_none spot.after then by.Explicit else
     if is_backward words spot.event then by.Notify else
-    by.FullMap
+    by.MapOrNothing
 
 -- The rule of the event at a spot.
 abbrev pub rule : Words → ℕ → Spot → Rule

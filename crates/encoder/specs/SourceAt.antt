@@ -14,7 +14,7 @@ pub record SourceAt : Type 0 where
 abbrev pub IsAt : ℕ → Mode → ProgramLog → ℕ → SourceAt → Type 0
 IsAt period mode log number source = source ≡ record { log = log; period = period; mode = mode; number = number }
 
--- The number behind the payload of this number, if there is one.
+-- The number behind the payload of this number, if there is such a payload, and else this number.
 abbrev pub number_behind : {A : Type 0} → ℕ → Option A → ℕ
 number_behind number (Some payload) = number + 1
 number_behind number None = number

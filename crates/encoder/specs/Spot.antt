@@ -3,8 +3,8 @@ use Rattle.std.specs.Prelude.{ℕ, ◌+◌, List, [], ◌∷◌, Option, Some, N
 use Rattle.retire.specs.declared.event.Event.{Event}
 use Rattle.retire.specs.declared.event.Event.TheVariants.{Retire, Trap}
 
--- An event where it stands in its log: how many retirements come before it, the two events before
--- it, and the one after.
+-- An event where it stands in its log: how many retirements come before it, the two events before it, and the event
+-- after it.
 pub record Spot : Type 0 where
   pub number : ℕ
   pub before_that : Option Event
@@ -17,13 +17,13 @@ abbrev pub first_event : List Event → Option Event → Option Event
 first_event [] next = next
 first_event (event ∷ events) next = Some event
 
--- How many retirements there are with this event, after so many; a trap is none.
+-- How many retirements there are up to this event, where this many come before it. A trap is no retirement.
 abbrev pub count_with : ℕ → Event → ℕ
 count_with number (Retire addr itype priv) = number + 1
 count_with number (Trap priv interrupt cause epc tval) = number
 
--- The spot of each of these events, which come after so many retirements and these two events, and
--- before this one.
+-- The spot of each of these events. This many retirements and these two events come before them, and the event `next`
+-- after them.
 abbrev pub spots : ℕ → Option Event → Option Event → List Event → Option Event → List Spot
 spots number before_that before [] next = []
 spots number before_that before (event ∷ events) next =

@@ -1,4 +1,4 @@
-//! What is due of an event before the next one comes.
+//! What is due for an event before the next one comes.
 
 ghost use Rattle.std.specs.Prelude.{◌≡◌};
 ghost use Rattle.encoder.specs.steps.Stepping.{next_due, is_discontinuity_by_type, cuts_off, is_handler_due};
@@ -18,12 +18,12 @@ pub enum Due {
     Sync,
     /// An address packet, as the target of an uninferable discontinuity.
     Target,
-    /// Nothing, unless what comes next or the event itself asks for it.
+    /// Nothing, unless what comes next or the event itself calls for a packet.
     Nothing,
 }
 
 impl Due {
-    /// Whether it is due of a trap, or of a retirement that is a new start.
+    /// Whether this is due for a trap, or for a retirement that is a new start.
     #[inline]
     pub fn cuts_off(self) -> bool
         ensures { result ≡ cuts_off self }
@@ -31,7 +31,7 @@ impl Due {
         matches!(self, Due::Sync | Due::Trap | Due::TrapOrHandler)
     }
 
-    /// Whether it is due of a handler.
+    /// Whether this is due for a handler.
     #[inline]
     pub fn is_handler(self) -> bool
         ensures { result ≡ is_handler_due self }
@@ -40,8 +40,8 @@ impl Due {
     }
 }
 
-/// What is due of an event behind the held one, of which `due` is, with so many retirements before
-/// the next periodic sync.
+/// What is due for an event behind the held one, for which `due` is due. `left` retirements come before the next
+/// periodic sync.
 #[inline]
 pub fn due_behind(held: &Option<Event>, due: Due, left: u16, event: &Event) -> Due
     ensures { result ≡ next_due held.now due left event.now }

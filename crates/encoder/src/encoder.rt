@@ -12,7 +12,7 @@ ghost use Rattle.payload.specs.Profile.{InProfile};
 ghost use Rattle.payload.specs.declared.mode.Mode.{Mode};
 ghost use Rattle.encoder.specs.Packets.{packets, closing};
 ghost use Rattle.encoder.specs.PacketsSoFar.{packets_so_far};
-ghost use Rattle.encoder.specs.Stands.{Stands};
+ghost use Rattle.encoder.specs.EncoderStands.{EncoderStands};
 ghost use Rattle.encoder.specs.steps.Stepping as stepping;
 
 use crate::due::{Due, due_behind};
@@ -30,15 +30,15 @@ pub type Burst = ArrayVec<Packet, 2>;
 /// Gives the packets of a log while its events come.
 #[derive(Drop)]
 pub struct Encoder {
-    /// How many retirements stand between two periodic syncs.
+    /// How many retirements come between two periodic syncs.
     between: u16,
-    /// How many retirements stand before the next periodic sync.
+    /// How many retirements come before the next periodic sync.
     left: u16,
     /// The last event, which is held back until it is known what follows.
     held: Option<Event>,
-    /// What is due of it.
+    /// What is due for it.
     due: Due,
-    /// The outcomes of the branches that no packet told of yet.
+    /// The outcomes of the branches that no packet has reported yet.
     pending: Outcomes,
     /// What the address fields hold.
     mode: Mode,
@@ -48,10 +48,10 @@ pub struct Encoder {
 
 impl Encoder {
     /// An encoder that no event was pushed to. It syncs at each retirement whose number, from 0, the period divides,
-    /// and tells addresses in this mode.
+    /// and reports addresses in this mode.
     pub fn new(period: u16, mode: Mode) -> Encoder
         requires { 1 ≤ period }
-        ensures { (words : Words) → Stands words period mode [] result }
+        ensures { (words : Words) → EncoderStands words period mode [] result }
     {
         Encoder {
             between: period - 1,
@@ -64,47 +64,47 @@ impl Encoder {
         }
     }
 
-    /// The packet with which every log begins, which tells the mode. It is asked for once, before the first push.
+    /// The packet that opens the trace and announces the mode. It is asked for once, before the first push.
     pub fn open(&mut self) -> Packet
         ensures open { (words : Words) (period : ℕ) (mode : Mode) (log : List Event) →
-            Stands words period mode log self.old →
+            EncoderStands words period mode log self.old →
             result ≡ Packet.Support (Support.Open mode) }
         ensures packets { (words : Words) (period : ℕ) (mode : Mode) (log : List Event) →
-            Stands words period mode log self.old →
+            EncoderStands words period mode log self.old →
             packets_so_far words period mode [] ≡ result ∷ [] }
         ensures same { self.new ≡ self.old }
     {
         Packet::Support(self.opening())
     }
 
-    /// Takes the next event, and gives the packets that are due by it.
+    /// Takes the next event, and returns the packets that this event makes due.
     #[inline]
     pub fn push(&mut self, program: &Program, event: Event) -> Burst
         ensures stands { (period : ℕ) (mode : Mode) (log : List Event) →
-            Stands (words_of program.now) period mode log self.old →
+            EncoderStands (words_of program.now) period mode log self.old →
             Legal (words_of program.now) (log ++ event ∷ []) →
-            Stands (words_of program.now) period mode (log ++ event ∷ []) self.new }
+            EncoderStands (words_of program.now) period mode (log ++ event ∷ []) self.new }
         ensures packets { (period : ℕ) (mode : Mode) (log : List Event) →
-            Stands (words_of program.now) period mode log self.old →
+            EncoderStands (words_of program.now) period mode log self.old →
             Legal (words_of program.now) (log ++ event ∷ []) →
             packets_so_far (words_of program.now) period mode (log ++ event ∷ [])
             ≡ packets_so_far (words_of program.now) period mode log ++ result.items }
         ensures profile { (period : ℕ) (mode : Mode) (log : List Event) →
-            Stands (words_of program.now) period mode log self.old →
+            EncoderStands (words_of program.now) period mode log self.old →
             Legal (words_of program.now) (log ++ event ∷ []) →
             All InProfile result.items }
     {
         burst_of(self.step(program, &event))
     }
 
-    /// Ends the log, and gives the packets that are left.
+    /// Takes the end of the log, and returns the packets that are left. The last of them closes the trace.
     pub fn finish(self, program: &Program) -> Burst
         ensures packets { (period : ℕ) (mode : Mode) (log : List Event) →
-            Stands (words_of program.now) period mode log self →
+            EncoderStands (words_of program.now) period mode log self →
             packets (words_of program.now) period mode log
             ≡ packets_so_far (words_of program.now) period mode log ++ result.items }
         ensures profile { (period : ℕ) (mode : Mode) (log : List Event) →
-            Stands (words_of program.now) period mode log self →
+            EncoderStands (words_of program.now) period mode log self →
             Legal (words_of program.now) log →
             All InProfile result.items }
     {
@@ -113,10 +113,10 @@ impl Encoder {
         burst
     }
 
-    /// Takes the next event, and gives the packet that is due by it.
+    /// Takes the next event, and returns the packet that this event makes due.
     #[inline]
     pub(crate) fn step(&mut self, program: &Program, event: &Event) -> Option<Packet>
-        ensures after { self.new ≡ stepping.after (words_of program.now) self.old event.now }
+        ensures after { self.new ≡ stepping.encoder_after (words_of program.now) self.old event.now }
         ensures given { option_to_list result ≡ stepping.given (words_of program.now) self.old event.now }
         ensures numbers { Is64Bit event.now }
     {
@@ -128,17 +128,17 @@ impl Encoder {
         self.report(program, event, due)
     }
 
-    /// Takes those of the events from `taken` on that follow a retirement of which nothing is due, and give nothing;
-    /// answers how many events are taken then.
+    /// Takes events from `taken` on, as long as they follow a retirement for which nothing is due and give no packet.
+    /// Returns how many events are taken then.
     pub(crate) fn pass(&mut self, program: &Program, events: &[Event], taken: usize) -> usize
         requires within { taken ≤ length events.now }
         requires legal { Legal (words_of program.now) events.now }
-        requires stands { Stands (words_of program.now) (self.old.between + 1) self.old.mode (take taken events.now)
-            self.old }
+        requires stands { EncoderStands (words_of program.now) (self.old.between + 1) self.old.mode
+            (take taken events.now) self.old }
         ensures from { taken ≤ result }
         ensures within { result ≤ length events.now }
-        ensures stands { Stands (words_of program.now) (self.old.between + 1) self.old.mode (take result events.now)
-            self.new }
+        ensures stands { EncoderStands (words_of program.now) (self.old.between + 1) self.old.mode
+            (take result events.now) self.new }
         ensures packets { packets_so_far (words_of program.now) (self.old.between + 1) self.old.mode
             (take result events.now)
             ≡ packets_so_far (words_of program.now) (self.old.between + 1) self.old.mode (take taken events.now) }
@@ -163,14 +163,14 @@ impl Encoder {
         next
     }
 
-    /// How tracing begins: it tells what the address fields hold.
+    /// How the trace opens: this announces the mode.
     pub(crate) fn opening(&self) -> Support
         ensures { result ≡ Support.Open self.now.mode }
     {
         Support::Open(self.mode)
     }
 
-    /// The packet of the last event, where none told of it yet.
+    /// The packet of the last event, if none has reported it yet.
     pub(crate) fn last(&self) -> Option<Packet>
         ensures { option_to_list result ≡ stepping.last_given self.now self.now.held }
     {
@@ -186,7 +186,7 @@ impl Encoder {
         }
     }
 
-    /// How tracing ends after the last event.
+    /// How the trace closes after the last event.
     pub(crate) fn closing(&self) -> Support
         ensures { result ≡ stepping.ends_by self.now self.now.held }
     {
@@ -196,7 +196,7 @@ impl Encoder {
         }
     }
 
-    /// Whether the next event, of which `due` is, leaves the held one without a packet.
+    /// Whether there is a held event, and the next event, for which `due` is due, gives no packet for it.
     #[inline]
     fn is_quiet(&self, program: &Program, next: &Event, due: Due) -> bool
         ensures { result ≡ stepping.is_quiet (words_of program.now) self.now self.now.held next.now due }
@@ -205,14 +205,14 @@ impl Encoder {
             Some(held) => {
                 matches!(
                     rule_before(program, held, self.due, next, due),
-                    Rule::FullMap
+                    Rule::MapOrNothing
                 ) && self.pending.len() < MOST_OUTCOMES
             }
             None => false,
         }
     }
 
-    /// Gives the packet that the next event, of which `due` is, makes due, and holds it.
+    /// Returns the packet that the next event makes due, and holds the event, for which `due` is due.
     #[inline(never)]
     fn report(&mut self, program: &Program, event: &Event, due: Due) -> Option<Packet>
         ensures after { self.new
@@ -238,7 +238,7 @@ impl Encoder {
         packet
     }
 
-    /// Holds an event, of which `due` is.
+    /// Holds an event, for which `due` is due.
     #[inline]
     fn hold(&mut self, event: Event, due: Due)
         requires { length self.old.pending < most_outcomes }
@@ -271,7 +271,7 @@ fn add_outcome(pending: &mut Outcomes, event: &Event)
     }
 }
 
-/// The packets of a burst: this one, if there is one.
+/// A burst of this packet, if there is one.
 #[inline]
 fn burst_of(packet: Option<Packet>) -> Burst
     ensures { result.items ≡ option_to_list packet }
@@ -283,7 +283,7 @@ fn burst_of(packet: Option<Packet>) -> Burst
     burst
 }
 
-/// How tracing ends after an event with this rule.
+/// How the trace closes after an event with this rule.
 fn closing(rule: Rule) -> Support
     ensures { result ≡ closing rule }
 {

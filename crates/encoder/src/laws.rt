@@ -1,4 +1,4 @@
-//! What the definitions of a log's packets promise.
+//! Facts that follow from the definitions of a log's packets.
 
 ghost use Rattle.encoder.specs.FewPackets.{HaveFewPackets};
 ghost use Rattle.encoder.specs.Profile.{PacketsAreInProfile};

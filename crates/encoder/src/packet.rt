@@ -11,8 +11,8 @@ use crate::rule::Rule;
 use payload::{Mode, Outcomes, Packet, Report};
 use retire::Event;
 
-/// The packet of an event by its rule, with these outcomes, in this mode and after this last reported address; none
-/// where it was given already.
+/// The packet of an event by its rule, with these outcomes, in this mode and after this last reported address. A
+/// handler has none, since the packet of its trap reports it.
 pub fn packet_by(
     rule: Rule,
     held: &Event,
@@ -37,7 +37,7 @@ pub fn packet_by(
             Some(address(held, outcomes, mode, reported, Report::Plain))
         }
         Rule::Notify => Some(address(held, outcomes, mode, reported, Report::Notify)),
-        Rule::FullMap => Some(Packet::Map(*outcomes)),
+        Rule::MapOrNothing => Some(Packet::Map(*outcomes)),
     }
 }
 
@@ -54,12 +54,12 @@ pub fn handler_packet(trap: &Event, handler: &Event) -> Packet
     )
 }
 
-/// The last reported address after the packet of an event by its rule: a branch map leaves it.
+/// The last reported address after the packet of an event by its rule. A branch map leaves it as it was.
 pub fn reported_by(rule: Rule, reported: u64, held: &Event) -> u64
     ensures { result ≡ reported_by rule reported held.now }
 {
     match rule {
-        Rule::FullMap => reported,
+        Rule::MapOrNothing => reported,
         _ => held.place(),
     }
 }
@@ -75,7 +75,7 @@ fn address(held: &Event, outcomes: &Outcomes, mode: Mode, reported: u64, report:
     }
 }
 
-/// The packet of a trap, with this address, privilege and branch.
+/// The packet of a trap, with this branch, privilege, `thaddr` and address. It is asked for no retirement.
 fn trap_packet(trap: &Event, taken: bool, privilege: u8, handler: bool, address: u64) -> Packet
     ensures { result ≡ trap_packet trap.now taken privilege handler address }
 {

@@ -1,4 +1,4 @@
-//! Which events are passed over.
+//! Which events give no packet, so that the encoder passes over them.
 
 ghost use Rattle.std.specs.Prelude.{◌≡◌};
 ghost use Rattle.retire.specs.Is64Bit.{Is64Bit};
@@ -11,8 +11,9 @@ use payload::{MOST_OUTCOMES, Outcomes};
 use retire::Event;
 use rvclass::Program;
 
-/// Whether the next event gives nothing, and nothing is due of it, behind an event of which nothing is due, with so
-/// many retirements before the next periodic sync, and these outcomes.
+/// Whether the event `next` gives no packet, and nothing is due for it. It comes behind the event `held`, for which
+/// nothing is due. `left` retirements come before the next periodic sync. No packet has reported the outcomes in
+/// `pending`.
 #[inline(always)]
 pub fn passes(program: &Program, held: &Event, left: u16, pending: &Outcomes, next: Event) -> bool
     ensures value { result ≡ passes (words_of program.now) held.now left pending.now next }

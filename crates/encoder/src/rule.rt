@@ -26,16 +26,16 @@ pub enum Rule {
         /// A trap or a new start comes next.
         cut_off: bool,
     },
-    /// A retirement is reported since a trap, a new start or nothing comes next.
+    /// A retirement is reported because a trap, a new start or nothing comes next.
     Explicit,
     /// A retirement is reported as a backward jump.
     Notify,
-    /// Nothing reports the event but the branch map, where it fills it.
-    FullMap,
+    /// No other rule applies. The event gives a map where it is the 31st branch since the last cut, and else nothing.
+    MapOrNothing,
 }
 
-/// The rule of the held event, of which `due` is, before the next one, of which `after` is due, and
-/// which is no handler.
+/// The rule of the held event before the next one, which is no handler. `due` is due for the held event, and `after`
+/// for the next one.
 #[inline]
 pub fn rule_before(program: &Program, held: &Event, due: Due, next: &Event, after: Due) -> Rule
     ensures { result ≡ rule_before (words_of program.now) held.now due next.now after }
@@ -47,7 +47,7 @@ pub fn rule_before(program: &Program, held: &Event, due: Due, next: &Event, afte
             } else if jumps_back(program, held, next) {
                 Rule::Notify
             } else {
-                Rule::FullMap
+                Rule::MapOrNothing
             }
         }
         Due::TrapOrHandler | Due::Trap => Rule::Trap { handler: false },
@@ -59,7 +59,7 @@ pub fn rule_before(program: &Program, held: &Event, due: Due, next: &Event, afte
     }
 }
 
-/// The rule of the last event of a log, of which `due` is.
+/// The rule of the last event of a log, for which `due` is due.
 pub fn rule_at_end(due: Due) -> Rule
     ensures { result ≡ rule_at_end due }
 {
@@ -72,8 +72,8 @@ pub fn rule_at_end(due: Due) -> Rule
     }
 }
 
-/// Whether a retirement is a backward jump, where this event comes next. Only what does not stand
-/// above a retirement of no other type can be the target of one, so few words are looked at.
+/// Whether an event is a backward jump, where this event comes next. The word is looked at only where the event is a
+/// retirement of type 0 and the next event does not stand above it. Few events are such.
 #[inline(always)]
 pub fn jumps_back(program: &Program, event: &Event, next: &Event) -> bool
     ensures { result ≡ jumps_back_to (words_of program.now) event.now next.now }

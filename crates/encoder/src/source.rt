@@ -11,7 +11,7 @@ ghost use Rattle.encoder.specs.PacketsSoFar.{packets_so_far};
 ghost use Rattle.encoder.specs.Payloads.{payloads};
 ghost use Rattle.encoder.specs.SourceAt.{SourceAt, IsAt, number_behind};
 ghost use Rattle.encoder.specs.steps.SourceFields.{packets_of_log, stands_at, IsSource};
-ghost use Rattle.encoder.specs.Stands.{Stands};
+ghost use Rattle.encoder.specs.EncoderStands.{EncoderStands};
 
 use crate::encoder::Encoder;
 use legalpath::LegalLog;
@@ -21,7 +21,7 @@ use rvclass::Program;
 use std::alloc::{Allocator, Global};
 use std::marker::Model;
 
-/// Which payloads of a log are still to come.
+/// Which payloads of a log are still to come: the stage that a source has reached.
 #[derive(Clone, Copy)]
 pub(crate) enum Stage {
     /// All of them.
@@ -34,8 +34,8 @@ pub(crate) enum Stage {
     Ended,
 }
 
-/// Gives the payloads of a legal log, one at a time: the shortest of each of its packets, in their order. No call takes
-/// memory.
+/// Gives the payloads of a legal log, one at a time and in order: the shortest payload of each of its packets. No call
+/// takes memory.
 #[derive(Drop)]
 pub struct Source<'l, 'p, A: Allocator = Global> {
     log: &'l LegalLog<'p, A>,
@@ -56,7 +56,7 @@ impl<'l, 'p, A: Allocator> Model for Source<'l, 'p, A> {
 
 impl<'l, 'p, A: Allocator> Source<'l, 'p, A> {
     /// A source that stands before the first payload of this log, with a sync at each retirement whose number, from 0,
-    /// the period divides, and with addresses told in this mode.
+    /// the period divides, and with addresses reported in this mode.
     pub fn new(log: &'l LegalLog<'p, A>, period: u16, mode: Mode) -> Source<'l, 'p, A>
         requires { 1 ≤ period }
         ensures { IsAt period mode log.now 0 result }
@@ -122,7 +122,7 @@ impl<'l, 'p, A: Allocator> Source<'l, 'p, A> {
     }
 }
 
-/// Gives an encoder the events that it was not given yet, until one of them gives a packet.
+/// Gives an encoder the next events of its log, until one of them gives a packet, and returns that packet.
 fn run(
     encoder: &mut Encoder,
     program: &Program,
@@ -131,10 +131,10 @@ fn run(
 ) -> Option<Packet>
     requires within { taken.old ≤ length events.now }
     requires legal { Legal (words_of program.now) events.now }
-    requires stands { Stands (words_of program.now) (encoder.old.between + 1) encoder.old.mode
+    requires stands { EncoderStands (words_of program.now) (encoder.old.between + 1) encoder.old.mode
         (take taken.old events.now) encoder.old }
     ensures within { taken.new ≤ length events.now }
-    ensures stands { Stands (words_of program.now) (encoder.old.between + 1) encoder.old.mode
+    ensures stands { EncoderStands (words_of program.now) (encoder.old.between + 1) encoder.old.mode
         (take taken.new events.now) encoder.new }
     ensures packets { packets_so_far (words_of program.now) (encoder.old.between + 1) encoder.old.mode
         (take taken.new events.now)

@@ -1,4 +1,4 @@
--- What the first byte tells of a payload that is not closing.
+-- What the first byte says of a payload that is not closing.
 use Rattle.std.proofs.Common.{◌≡◌, ◌≢◌, ◌+◌, ◌-◌, ◌*◌, ◌%◌, ◌^◌, ◌≤◌, ◌==◌, ◌⊎◌, ℕ, suc, Bool, true, false, cond, eqb}
 use Rattle.std.proofs.Common.{eqb-true, List, [], ◌∷◌, length, get_or, Option, Some, None, inl, inr, refl, sym, ◌∙◌}
 use Rattle.std.proofs.Common.{arith}
@@ -8,7 +8,7 @@ use Rattle.payload.specs.Closing.{is_closing, is_closing_packet, is_closing_read
 use Rattle.payload.specs.Extension.{extended}
 use Rattle.payload.specs.Faults.{bits_of, part, is_sync, is_trap, is_support, is_address_alone, is_map_alone}
 use Rattle.payload.specs.Faults.{address_behind_map, first_fault}
-use Rattle.payload.specs.Reading.{packet_in, fault_or, support_from, trap_from, address_from, outcomes_from}
+use Rattle.payload.specs.Reading.{packet_in, fault_or, support_from, trap_from, address_packet_from, outcomes_from}
 use Rattle.payload.specs.declared.fault.PackFault.{PackFault}
 use Rattle.payload.specs.declared.packet.Packet.{Packet}
 use Rattle.payload.specs.declared.packet.Packet.TheVariants as packet
@@ -56,9 +56,9 @@ other_packet : (n : ℕ) → is_support n ≡ false → is_closing_packet (packe
 other_packet n none =
     rw none (not_chosen (is_sync n) (is_trap n) (is_address_alone n) (is_map_alone n)
     (packet.Sync (part n 4 1 == 0) (part n 5 2) (2 * part n 7 63)) (trap_from n)
-    (packet.Support (support_from (part n 4 1) (part n 6 2) (part n 8 5))) (address_from n [] 2)
+    (packet.Support (support_from (part n 4 1) (part n 6 2) (part n 8 5))) (address_packet_from n [] 2)
     (packet.Map (outcomes_from n 31))
-    (address_from n (outcomes_from n (part n 2 5)) (address_behind_map n)) refl refl refl refl refl)
+    (address_packet_from n (outcomes_from n (part n 2 5)) (address_behind_map n)) refl refl refl refl refl)
 
 fault_or_other : (fault : Option PackFault) (p : Packet) → is_closing_packet p ≡ false
     → is_closing_reading (fault_or fault p) ≡ false

@@ -49,10 +49,10 @@ module _ (queue : List Message) (views : List View) (state : Funnel) (k : Kept q
 
   -- There are as many harts as seats.
   counted : length state.sent ≡ length k.seats
-  counted = (k.fits live.outlet.0 _ outlet_at).1
+  counted = (k.may_know live.outlet.0 _ outlet_at).1
 
   took : state.taken ≡ k.taken
-  took = (k.fits live.outlet.0 _ outlet_at).2
+  took = (k.may_know live.outlet.0 _ outlet_at).2
 
   -- What a hart sent is what was taken of it and then what the channel holds of it.
   all : (hart : ℕ) → sent_by hart state ≡ of_hart hart (k.taken ++ queue)
@@ -60,7 +60,7 @@ module _ (queue : List Message) (views : List View) (state : Funnel) (k : Kept q
     where
       by_place : (hart < length state.sent) ⊎ (length state.sent ≤ hart)
           → sent_by hart state ≡ of_hart hart (k.taken ++ queue)
-      by_place (inl inside) = let port = live.ports hart inside in (k.fits port.0 _ port.1).1
+      by_place (inl inside) = let port = live.ports hart inside in (k.may_know port.0 _ port.1).1
       by_place (inr behind) =
           get_or_past state.sent hart [] behind ∙ sym (k.strangers hart (omega (arith, behind, counted)))
 
@@ -102,7 +102,7 @@ module _ (queue : List Message) (views : List View) (state : Funnel) (k : Kept q
         now = set views pass port
 
         mine : (slice_get k.seats message.hart ≡ Some pass) × (s ≡ of_hart message.hart (k.taken ++ queue))
-        mine = k.fits pass (V.Port message.hart s) at
+        mine = k.may_know pass (V.Port message.hart s) at
 
         known : message.hart < length state.sent
         known = let inside = slice_get_within k.seats message.hart pass mine.0 in omega (arith, inside, counted)
@@ -140,14 +140,14 @@ module _ (queue : List Message) (views : List View) (state : Funnel) (k : Kept q
         → Kept (queue ++ message ∷ []) (set views pass (V.Port h (s ++ message ∷ []))) → message.hart ≡ h
     own_message h s at kept =
         let here = set_there views pass (V.Port h s) (V.Port h (s ++ message ∷ [])) at in
-        let order = subst (AreInOrder h) (sym (kept.fits pass _ here).1) (kept.in_order h) in
+        let order = subst (AreInOrder h) (sym (kept.may_know pass _ here).1) (kept.in_order h) in
         (order.numbered (length s) message (slice_get-behind s message [])).0
 
     pub sends-live : (before after : View) → get_elem? views pass ≡ some before → Sends before message after
         → Kept (queue ++ message ∷ []) (set views pass after)
         → AreLive (queue ++ message ∷ []) (set views pass after) (send capacity message state)
-    sends-live (V.Outlet made taken told list) after at (inl never) kept = absurd never
-    sends-live (V.Outlet made taken told list) after at (inr never) kept = absurd never
+    sends-live (V.Outlet made taken settled list) after at (inl never) kept = absurd never
+    sends-live (V.Outlet made taken settled list) after at (inr never) kept = absurd never
     sends-live V.Spent after at (inl never) kept = absurd never
     sends-live V.Spent after at (inr never) kept = absurd never
     sends-live (V.Port h s) after at sends kept =
@@ -158,30 +158,31 @@ module _ (queue : List Message) (views : List View) (state : Funnel) (k : Kept q
         (port_sends s (at ∙ ap (λ j. some (V.Port j s)) (sym own)))
 
   -- The outlet that hands out a port.
-  pub hands_out-live : (pass : ℕ) (before : View) (made : ℕ) (taken : List Message) (told : Option ℕ)
+  pub hands_out-live : (pass : ℕ) (before : View) (made : ℕ) (taken : List Message) (settled : Option ℕ)
       (list : List Message)
-      → before ≡ V.Outlet made taken told list → get_elem? views pass ≡ some before
+      → before ≡ V.Outlet made taken settled list → get_elem? views pass ≡ some before
       → AreLive queue (set views pass (handed_out before) ++ next_port before ∷ []) (with_new_hart state)
-  hands_out-live pass before made taken told list is at =
+  hands_out-live pass before made taken settled list is at =
       subst (λ v. AreLive queue (set views pass (handed_out v) ++ next_port v ∷ []) (with_new_hart state)) (sym is)
       (record {
         waits = live.waits;
         outlet = (
           pass,
-          told,
+          settled,
           list,
           at_longer cut (V.Port made [] ∷ []) pass left (set_there views pass outlet left here)
-              ∙ ap (λ n. some (V.Outlet n taken told list)) (omega (arith, count, length-append state.sent ([] ∷ [])))
-              ∙ ap (λ t. some (V.Outlet (length (state.sent ++ [] ∷ [])) t told list)) same,
+              ∙ ap (λ n. some (V.Outlet n taken settled list))
+              (omega (arith, count, length-append state.sent ([] ∷ [])))
+              ∙ ap (λ t. some (V.Outlet (length (state.sent ++ [] ∷ [])) t settled list)) same,
         );
         ports = λ hart inside. by_place hart inside (cases_lt hart (length state.sent));
       })
     where
       outlet : View
-      outlet = V.Outlet made taken told list
+      outlet = V.Outlet made taken settled list
 
       left : View
-      left = V.Outlet (made + 1) taken told list
+      left = V.Outlet (made + 1) taken settled list
 
       here : get_elem? views pass ≡ some outlet
       here = at ∙ ap some is
@@ -189,8 +190,8 @@ module _ (queue : List Message) (views : List View) (state : Funnel) (k : Kept q
       cut : List View
       cut = set views pass left
 
-      fit : (pass ≡ k.outlet) × (made ≡ length k.seats) × (taken ≡ k.taken) × (told ≡ k.told) × (list ≡ k.list)
-      fit = k.fits pass outlet here
+      fit : (pass ≡ k.outlet) × (made ≡ length k.seats) × (taken ≡ k.taken) × (settled ≡ k.settled) × (list ≡ k.list)
+      fit = k.may_know pass outlet here
 
       count : made ≡ length state.sent
       count = fit.1 ∙ sym counted
@@ -225,19 +226,19 @@ pub takes-live : (rest : List Message) (views : List View) (state : Funnel) (pas
     → TakesOne before message after → AreLive rest (set views pass after) (take_front state)
 takes-live rest views state pass (V.Port h s) after message k live at never = absurd never
 takes-live rest views state pass V.Spent after message k live at never = absurd never
-takes-live rest views state pass (V.Outlet made taken told list) after message k live at takes =
+takes-live rest views state pass (V.Outlet made taken settled list) after message k live at takes =
     subst (λ v. AreLive rest (set views pass v) (take_front state)) (sym takes.0)
     (subst (λ q. AreLive rest (set views pass now) (take_of q state)) (sym live.waits)
     (record {
       waits = refl;
       outlet = (
         pass,
-        told,
+        settled,
         list,
         set_there views pass outlet now at
-            ∙ ap (λ n. some (V.Outlet n (taken ++ message ∷ []) told list))
+            ∙ ap (λ n. some (V.Outlet n (taken ++ message ∷ []) settled list))
             (fit.1 ∙ sym (counted (message ∷ rest) views state k live))
-            ∙ ap (λ t. some (V.Outlet (length state.sent) (t ++ message ∷ []) told list))
+            ∙ ap (λ t. some (V.Outlet (length state.sent) (t ++ message ∷ []) settled list))
             (fit.2 ∙ sym (took (message ∷ rest) views state k live)),
       );
       ports = λ hart inside. let port = live.ports hart inside in
@@ -245,10 +246,10 @@ takes-live rest views state pass (V.Outlet made taken told list) after message k
     }))
   where
     outlet : View
-    outlet = V.Outlet made taken told list
+    outlet = V.Outlet made taken settled list
 
     now : View
-    now = V.Outlet made (taken ++ message ∷ []) told list
+    now = V.Outlet made (taken ++ message ∷ []) settled list
 
-    fit : (pass ≡ k.outlet) × (made ≡ length k.seats) × (taken ≡ k.taken) × (told ≡ k.told) × (list ≡ k.list)
-    fit = k.fits pass outlet at
+    fit : (pass ≡ k.outlet) × (made ≡ length k.seats) × (taken ≡ k.taken) × (settled ≡ k.settled) × (list ≡ k.list)
+    fit = k.may_know pass outlet at

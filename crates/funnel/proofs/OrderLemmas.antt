@@ -90,7 +90,7 @@ ends_whole hart whole front rest e order ends =
     let none : length rest ≡ 0 = let k = ap length e in omega (arith, length-append front rest) in
     sym (append-nil front) ∙ ap (λ l. front ++ l) (sym (empty rest none)) ∙ sym e
 
--- Where no payload before is closing, the last one tells.
+-- Where no payload before is closing, the last one decides.
 pub has_closing-next : (messages : List Message) (x : Message) → has_closing messages ≡ false
     → has_closing (messages ++ x ∷ []) ≡ is_closing x.payload
 has_closing-next [] x e = or_no (is_closing x.payload)

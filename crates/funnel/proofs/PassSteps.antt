@@ -15,9 +15,10 @@ use Rattle.funnel.specs.declared.rule.View.{View}
 use Rattle.funnel.specs.declared.rule.View.TheVariants as V
 use Rattle.funnel.specs.Limits.{most_messages}
 use Rattle.funnel.specs.Order.{AreInOrder}
-use Rattle.funnel.specs.Rule.{Kept, handed_out, next_port, told_of, TookInOrder, TakesOne, Compares, SendsOn, SendsLast}
+use Rattle.funnel.specs.Rule.{Kept, handed_out, next_port, after_taking_in, TookInOrder, TakesOne, Compares, SendsOn}
+use Rattle.funnel.specs.Rule.{SendsLast}
 use Rattle.funnel.specs.Ends.{has_closing, is_finished}
-use Rattle.funnel.specs.steps.Passes.{IsPort, IsOutlet, knows, sent_of, taken_of}
+use Rattle.funnel.specs.steps.Passes.{IsPort, IsOutlet, knows, sent_of, taken_by_outlet}
 use Rattle.funnel.specs.steps.Sending.{MaySend}
 use Rattle.funnel.proofs.OrderLemmas.{or_false, none_closes, has_closing-next}
 use Rattle.funnel.proofs.RuleSteps.{sends_on, sends_last, takes, takes_in_order, forks, merges, learns}
@@ -62,15 +63,15 @@ pub may_take : (pass made : ℕ) (v : View) → IsOutlet made v
 may_take pass made v is =
     let P : View → Type 0 = λ u. Pops Kept pass u (TakesOne u) × Learns Kept pass u (λ _. TookInOrder u) in
     subst P (sym is.is) (
-      takes pass made (taken_of v) is.told is.list,
-      takes_in_order pass made (taken_of v) is.told is.list,
+      takes pass made (taken_by_outlet v) is.settled is.list,
+      takes_in_order pass made (taken_by_outlet v) is.settled is.list,
     )
 
 pub outlet_is : (v : View) (made : ℕ) (t : List Message) (u : Option ℕ) (l : List Message) → v ≡ V.Outlet made t u l
-    → IsOutlet made v × (taken_of v ≡ t)
+    → IsOutlet made v × (taken_by_outlet v ≡ t)
 outlet_is v made t u l e =
-    let P : View → Type 0 = λ x. IsOutlet made x × (taken_of x ≡ t) in
-    subst P (sym e) (record { told = u; list = l; is = refl }, refl)
+    let P : View → Type 0 = λ x. IsOutlet made x × (taken_by_outlet x ≡ t) in
+    subst P (sym e) (record { settled = u; list = l; is = refl }, refl)
 
 -- A port with no closing payload and not the most messages is not finished.
 pub is_unfinished : (sent : List Message) → has_closing sent ≡ false → length sent < most_messages
@@ -95,7 +96,7 @@ still_may channel old new message back closing may seat same is = record {
 
 -- The outlet's view once it took a message.
 pub took : (v : View) (made : ℕ) (message : Message) (w : View) → IsOutlet made v → TakesOne v message w
-    → IsOutlet made w × (taken_of w ≡ taken_of v ++ message ∷ []) × TookInOrder w
+    → IsOutlet made w × (taken_by_outlet w ≡ taken_by_outlet v ++ message ∷ []) × TookInOrder w
 took v made message w is step =
     let now = subst (λ u. TakesOne u message w) is.is step in
     let known = outlet_is w made _ _ _ now.0 in
@@ -103,31 +104,32 @@ took v made message w is step =
 
 -- What the outlet's view knows to be taken is in order.
 pub took_in_order : (v : View) (made : ℕ) → IsOutlet made v → TookInOrder v
-    → (hart : ℕ) → AreInOrder hart (of_hart hart (taken_of v))
+    → (hart : ℕ) → AreInOrder hart (of_hart hart (taken_by_outlet v))
 took_in_order v made is order = subst TookInOrder is.is order
 
 pub may_hand_out : (pass made : ℕ) (v : View) → IsOutlet made v → Forks Kept pass v (handed_out v) (next_port v)
 may_hand_out pass made v is =
     let P : View → Type 0 = λ u. Forks Kept pass u (handed_out u) (next_port u) in
-    subst P (sym is.is) (forks pass made (taken_of v) is.told is.list)
+    subst P (sym is.is) (forks pass made (taken_by_outlet v) is.settled is.list)
 
 pub may_take_in : (pass made : ℕ) (v : View) (other h : ℕ) (w : View) → IsOutlet made v → IsPort h w
-    → Merges Kept pass v other w (told_of v w) V.Spent
+    → Merges Kept pass v other w (after_taking_in v w) V.Spent
 may_take_in pass made v other h w is port =
-    let P : View → View → Type 0 = λ u t. Merges Kept pass u other t (told_of u t) V.Spent in
+    let P : View → View → Type 0 = λ u t. Merges Kept pass u other t (after_taking_in u t) V.Spent in
     let Q : View → Type 0 = λ u. P u (V.Port h (sent_of w)) in
     let R : View → Type 0 = λ t. P v t in
-    subst R (sym port) (subst Q (sym is.is) (merges pass made (taken_of v) is.told is.list other h (sent_of w)))
+    subst R (sym port)
+    (subst Q (sym is.is) (merges pass made (taken_by_outlet v) is.settled is.list other h (sent_of w)))
 
 pub may_compare : (pass : ℕ) (v : View) (made : ℕ) → IsOutlet made v → Learns Kept pass v (Compares v)
 may_compare pass v made is =
     let P : View → Type 0 = λ u. Learns Kept pass u (Compares u) in
-    subst P (sym is.is) (learns pass made (taken_of v) is.told is.list)
+    subst P (sym is.is) (learns pass made (taken_by_outlet v) is.settled is.list)
 
 -- The outlet's view once it took in a port.
-pub told_is : (made : ℕ) (v : View) (h : ℕ) (w : View) → IsOutlet made v → IsPort h w
-    → told_of v w ≡ V.Outlet made (taken_of v) (Some h) (sent_of w)
-told_is made v h w is port = λ i. told_of (is.is i) (port i)
+pub taken_in_is : (made : ℕ) (v : View) (h : ℕ) (w : View) → IsOutlet made v → IsPort h w
+    → after_taking_in v w ≡ V.Outlet made (taken_by_outlet v) (Some h) (sent_of w)
+taken_in_is made v h w is port = λ i. after_taking_in (is.is i) (port i)
 
 -- What the outlet learns of the port that it took in.
 pub compared : (u : View) (made : ℕ) (t : List Message) (h : ℕ) (s : List Message) (items : List Message)

@@ -28,11 +28,11 @@ pub record OutletView : Type 0 where
   pub made : ℕ
   pub taken : List Message
 
--- One of the payloads is closing.
+-- One of the messages has a closing payload.
 abbrev pub has_closing : List Message → Bool
 has_closing messages = list_any (λ message. is_closing message.payload) messages
 
--- Nothing more may be sent: a closing payload was, or the most messages were.
+-- Nothing more may be sent behind these messages: one has a closing payload, or they are the most that a hart sends.
 abbrev pub is_finished : List Message → Bool
 is_finished sent = has_closing sent || nat_le most_messages (length sent)
 
@@ -40,7 +40,7 @@ is_finished sent = has_closing sent || nat_le most_messages (length sent)
 abbrev pub after_sending : PortView → List ℕ → PortView
 after_sending port payload = record port { sent = port.sent ++ next_message port.hart port.sent payload ∷ [] }
 
--- The first list is the second's beginning.
+-- The first list is a beginning of the second.
 abbrev pub IsBeginning : List Message → List Message → Type 0
 IsBeginning front whole = (rest : List Message) × (whole ≡ front ++ rest)
 
@@ -54,7 +54,7 @@ EndsClosing messages =
 abbrev pub new_port : FunnelId → ℕ → PortView
 new_port funnel hart = record { funnel = funnel; hart = hart; sent = [] }
 
--- So many ports of the funnel, each at its hart's place, which sent nothing.
+-- A port of the funnel for each of this count of harts, at the hart's place, which sent nothing.
 abbrev pub AreNewPorts : FunnelId → ℕ → List PortView → Type 0
 AreNewPorts funnel harts ports =
     (length ports ≡ harts) × ((hart : ℕ) → hart < harts → slice_get ports hart ≡ Some (new_port funnel hart))

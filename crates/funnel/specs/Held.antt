@@ -11,8 +11,8 @@ pub record Held : Type 0 where
   pub capacity : ℕ
   pub queue : List Message
 
--- The numbers are within the limits, and no more messages wait than there is room for, all of harts that it serves.
-pub record IsHeld (held : Held) : Type 0 where
+-- The numbers are within the limits. No more messages wait than there is room for, and all are of harts that it serves.
+pub record KeepsLimits (held : Held) : Type 0 where
   pub limits : limit_fault (most_harts Two) held.harts held.capacity ≡ None
   pub room : length held.queue ≤ held.capacity
   pub known : All (λ (message : Message). message.hart < held.harts) held.queue

@@ -1,11 +1,11 @@
--- What holds of every state of the funnel machine.
+-- What holds of each state that the funnel machine comes to.
 use Rattle.std.specs.Prelude.{◌≡◌, ◌++◌, ℕ, List, length, take}
 use Rattle.message.specs.OfHart.{of_hart}
 use Rattle.funnel.specs.Machine.{Funnel, sent_by}
 use Rattle.funnel.specs.Order.{AreInOrder}
 use Rattle.funnel.specs.Payloads.{payloads_in, payloads_of}
 
--- What each hart sent is what was taken of it and then what waits of it, and it is in order.
+-- What each hart sent is in order, and is what was taken of the hart and then what waits of it.
 pub record Lawful (state : Funnel) : Type 0 where
   pub whole : (hart : ℕ) → sent_by hart state ≡ of_hart hart state.taken ++ of_hart hart state.queue
   pub in_order : (hart : ℕ) → AreInOrder hart (sent_by hart state)

@@ -12,7 +12,7 @@ most_ports = 64
 abbrev pub most_messages : ℕ
 most_messages = 2 ^ 32
 
--- The first fault of these numbers of harts and of messages that are held, where there may be so many harts at most.
+-- The first fault, by the most harts that there may be, of a count of harts and of a capacity.
 abbrev pub limit_fault : ℕ → ℕ → ℕ → Option OpenFault
 limit_fault most harts capacity =
     if harts == 0 then Some fault.NoHarts else

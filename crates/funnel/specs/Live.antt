@@ -8,12 +8,12 @@ use Rattle.funnel.specs.Rule.{SendsOn, SendsLast}
 use Rattle.funnel.specs.declared.rule.View.{View}
 use Rattle.funnel.specs.declared.rule.View.TheVariants as V
 
--- The channel holds what waits, the outlet's view tells what was taken and counts the harts, and each hart has a live
--- port, whose view is what the hart sent.
+-- The channel holds what waits. The outlet's view has what was taken, and counts the harts. Each hart has a live port,
+-- whose view has what the hart sent.
 pub record AreLive (queue : List Message) (views : List View) (state : Funnel) : Type 0 where
   pub waits : state.queue ≡ queue
-  pub outlet : (pass : ℕ) × (told : Option ℕ) × (list : List Message)
-      × (get_elem? views pass ≡ some (V.Outlet (length state.sent) state.taken told list))
+  pub outlet : (pass : ℕ) × (settled : Option ℕ) × (list : List Message)
+      × (get_elem? views pass ≡ some (V.Outlet (length state.sent) state.taken settled list))
   pub ports : (hart : ℕ) → hart < length state.sent
       → (pass : ℕ) × (get_elem? views pass ≡ some (V.Port hart (sent_by hart state)))
 

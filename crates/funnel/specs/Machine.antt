@@ -28,7 +28,7 @@ add message state = record state {
 abbrev pub send : ℕ → Message → Funnel → Funnel
 send capacity message state = if nat_lt (length state.queue) capacity then add message state else state
 
--- The front of this queue goes to the end of what was taken.
+-- The front of this queue, where it has one, goes to the end of what was taken, and the rest waits.
 abbrev pub take_of : List Message → Funnel → Funnel
 take_of [] state = state
 take_of (front ∷ rest) state = record state { queue = rest; taken = state.taken ++ front ∷ [] }
@@ -43,7 +43,7 @@ send_next capacity hart None state = state
 send_next capacity hart (Some payload) state =
     send capacity (next_message hart (sent_by hart state) payload) state
 
--- What one turn does, with these payloads of each hart; where it cannot act it changes nothing.
+-- What one turn does, where the harts have these payloads. A turn that cannot act changes nothing.
 abbrev pub after_turn : ℕ → List (List (List ℕ)) → Turn → Funnel → Funnel
 after_turn capacity payloads (turn.Hart hart) state =
     send_next capacity hart (slice_get (payloads_of hart payloads) (length (sent_by hart state))) state
@@ -55,6 +55,7 @@ after_turns capacity payloads [] state = state
 after_turns capacity payloads (turn ∷ turns) state =
     after_turns capacity payloads turns (after_turn capacity payloads turn state)
 
--- The opening: none of the harts with these payloads sent anything.
+-- The opening: no hart sent anything, nothing waits, and nothing was taken. There are as many harts as lists of
+-- payloads.
 abbrev pub opening : List (List (List ℕ)) → Funnel
 opening payloads = record { sent = replicate (length payloads) []; queue = []; taken = [] }

@@ -9,6 +9,6 @@ pub record AreInOrder (hart : ℕ) (messages : List Message) : Type 0 where
       → (message.hart ≡ hart) × (message.number ≡ n)
   pub closes_last : ClosesOnlyLast (payloads_in messages)
 
--- The message with which a hart that sent these sends a payload: its number is their count.
+-- The message that a hart sends next after these, with this payload. Its number is the count of these.
 abbrev pub next_message : ℕ → List Message → List ℕ → Message
 next_message hart sent payload = record { hart = hart; number = length sent; payload = payload }

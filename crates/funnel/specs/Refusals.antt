@@ -4,6 +4,6 @@ use Rattle.funnel.specs.declared.fault.SendFault.{SendFault}
 use Rattle.funnel.specs.declared.fault.SendFault.TheVariants as fault
 
 -- The payload that was not sent.
-abbrev pub payload_of : SendFault → List ℕ
-payload_of (fault.Closed payload) = payload
-payload_of (fault.HandedBack payload) = payload
+abbrev pub unsent_payload : SendFault → List ℕ
+unsent_payload (fault.Closed payload) = payload
+unsent_payload (fault.HandedBack payload) = payload

@@ -1,4 +1,4 @@
--- The rule of the channel: of each hart, what was taken and then what the channel holds is in order, and a live port
+-- The rule of the channel. Of each hart, what was taken and then what the channel holds is in order, and a live port
 -- knows just that list.
 use Rattle.std.specs.Prelude.{◌≡◌, ◌+◌, ◌<◌, ◌≤◌, ℕ, false, true, List, [], ◌∷◌, ◌++◌, length, Option, Some, None}
 use Rattle.std.specs.Prelude.{slice_get}
@@ -22,25 +22,26 @@ spent = V.Spent
 
 -- Handing out a port: the outlet counts one more.
 abbrev pub handed_out : View → View
-handed_out (V.Outlet made taken told list) = V.Outlet (made + 1) taken told list
+handed_out (V.Outlet made taken settled list) = V.Outlet (made + 1) taken settled list
 handed_out (V.Port hart sent) = V.Port hart sent
 handed_out V.Spent = V.Spent
 
 -- The port that is handed out has the next number, and sent nothing.
 abbrev pub next_port : View → View
-next_port (V.Outlet made taken told list) = V.Port made []
+next_port (V.Outlet made taken settled list) = V.Port made []
 next_port (V.Port hart sent) = V.Spent
 next_port V.Spent = V.Spent
 
--- Taking in a port: the outlet notes its number and its list, and keeps what it took itself.
-abbrev pub told_of : View → View → View
-told_of (V.Outlet made taken told list) (V.Port hart sent) = V.Outlet made taken (Some hart) sent
-told_of (V.Outlet made taken told list) (V.Outlet _ _ _ _) = V.Outlet made taken told list
-told_of (V.Outlet made taken told list) V.Spent = V.Outlet made taken told list
-told_of (V.Port hart sent) _ = V.Port hart sent
-told_of V.Spent _ = V.Spent
+-- Taking in a port: the outlet notes the port's hart and what it sent, and keeps all else that it knows. No other view
+-- changes.
+abbrev pub after_taking_in : View → View → View
+after_taking_in (V.Outlet made taken settled list) (V.Port hart sent) = V.Outlet made taken (Some hart) sent
+after_taking_in (V.Outlet made taken settled list) (V.Outlet _ _ _ _) = V.Outlet made taken settled list
+after_taking_in (V.Outlet made taken settled list) V.Spent = V.Outlet made taken settled list
+after_taking_in (V.Port hart sent) _ = V.Port hart sent
+after_taking_in V.Spent _ = V.Spent
 
--- An ordinary send: the message goes last in what the port has sent.
+-- An ordinary send: the message goes last in what the port has sent, and its payload is not closing.
 abbrev pub SendsOn : View → Message → View → Type 0
 SendsOn (V.Port hart sent) message after =
     (after ≡ V.Port hart (sent ++ message ∷ [])) × (is_closing message.payload ≡ false)
@@ -56,15 +57,15 @@ SendsLast V.Spent message after = ⊥
 
 -- What the outlet took of each hart is in order.
 abbrev pub TookInOrder : View → Type 0
-TookInOrder (V.Outlet made taken told list) = (hart : ℕ) → AreInOrder hart (of_hart hart taken)
+TookInOrder (V.Outlet made taken settled list) = (hart : ℕ) → AreInOrder hart (of_hart hart taken)
 TookInOrder (V.Port _ _) = Unit {0}
 TookInOrder V.Spent = Unit {0}
 
--- A take: the front goes last in what the outlet took, which stays in order. It is the next of its hart, whose port was
--- handed out.
+-- A take: the message goes last in what the outlet took, which stays in order. It is the next of its hart, whose port
+-- was handed out, and its number is below the most messages that a hart sends.
 abbrev pub TakesOne : View → Message → View → Type 0
-TakesOne (V.Outlet made taken told list) message after =
-    (after ≡ V.Outlet made (taken ++ message ∷ []) told list)
+TakesOne (V.Outlet made taken settled list) message after =
+    (after ≡ V.Outlet made (taken ++ message ∷ []) settled list)
     × (message.number ≡ length (of_hart message.hart taken))
     × (message.hart < made)
     × (message.number < most_messages)
@@ -72,34 +73,39 @@ TakesOne (V.Outlet made taken told list) message after =
 TakesOne (V.Port _ _) message after = ⊥
 TakesOne V.Spent message after = ⊥
 
--- Of the port that was taken in, what was taken and then what the channel holds is just what it sent.
+-- What the outlet noted of the hart whose port it took in last is what was taken of this hart and then what the channel
+-- holds of it. It is in order, and the port was handed out.
 abbrev pub Compares : View → List Message → Type 0
-Compares (V.Outlet made taken told list) queue =
-    (hart : ℕ) → told ≡ Some hart
+Compares (V.Outlet made taken settled list) queue =
+    (hart : ℕ) → settled ≡ Some hart
     → (list ≡ of_hart hart taken ++ of_hart hart queue) × AreInOrder hart list × (hart < made)
 Compares (V.Port _ _) queue = Unit {0}
 Compares V.Spent queue = Unit {0}
 
--- What a pass may know: the outlet's pass knows what was taken, a hart's one live pass all that the hart sent, and any
--- other nothing.
-abbrev pub Fits : ℕ → List ℕ → List Message → Option ℕ → List Message → List Message → ℕ → View → Type 0
-Fits outlet seats taken told list queue pass (V.Outlet m t u l) =
-    (pass ≡ outlet) × (m ≡ length seats) × (t ≡ taken) × (u ≡ told) × (l ≡ list)
-Fits outlet seats taken told list queue pass (V.Port h s) =
+-- What a pass may know. The outlet's pass knows how many ports were handed out, what was taken, whose port was taken in
+-- last, and what that port sent. The pass in a hart's seat knows all that the hart sent. Any other pass knows nothing.
+abbrev pub MayKnow : ℕ → List ℕ → List Message → Option ℕ → List Message → List Message → ℕ → View → Type 0
+MayKnow outlet seats taken settled list queue pass (V.Outlet m t u l) =
+    (pass ≡ outlet) × (m ≡ length seats) × (t ≡ taken) × (u ≡ settled) × (l ≡ list)
+MayKnow outlet seats taken settled list queue pass (V.Port h s) =
     (slice_get seats h ≡ Some pass) × (s ≡ of_hart h (taken ++ queue))
-Fits outlet seats taken told list queue pass V.Spent = Unit {0}
+MayKnow outlet seats taken settled list queue pass V.Spent = Unit {0}
 
--- The channel holds the queue, and each pass knows its view. Place h of the seats is the pass of hart h.
+-- The channel holds the queue, and each pass may know its view. Place h of the seats is the pass of hart h. What was
+-- taken and then what is held of a hart is in order, is at most the most messages, and is nothing where the hart has no
+-- seat. The hart whose port was taken in last has a seat; its pass is spent, and the outlet noted all that the hart
+-- sent.
 pub record Kept (queue : List Message) (views : List View) : Type 0 where
   pub outlet : ℕ
   pub seats : List ℕ
   pub taken : List Message
-  pub told : Option ℕ
+  pub settled : Option ℕ
   pub list : List Message
-  pub fits : (pass : ℕ) (v : View) → get_elem? views pass ≡ some v → Fits outlet seats taken told list queue pass v
+  pub may_know : (pass : ℕ) (v : View) → get_elem? views pass ≡ some v
+      → MayKnow outlet seats taken settled list queue pass v
   pub in_order : (hart : ℕ) → AreInOrder hart (of_hart hart (taken ++ queue))
   pub few : (hart : ℕ) → length (of_hart hart (taken ++ queue)) ≤ most_messages
   pub strangers : (hart : ℕ) → length seats ≤ hart → of_hart hart (taken ++ queue) ≡ []
-  pub settled : (hart pass : ℕ) → told ≡ Some hart → slice_get seats hart ≡ Some pass
+  pub settled_spent : (hart pass : ℕ) → settled ≡ Some hart → slice_get seats hart ≡ Some pass
       → (get_elem? views pass ≡ some V.Spent) × (list ≡ of_hart hart (taken ++ queue))
-  pub told_made : (hart : ℕ) → told ≡ Some hart → hart < length seats
+  pub settled_made : (hart : ℕ) → settled ≡ Some hart → hart < length seats

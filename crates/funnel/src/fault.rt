@@ -3,7 +3,7 @@
 use payload::Payload;
 use thiserror::Error;
 
-/// Why a funnel is not opened. Where several apply, the first of them is told.
+/// Why a funnel is not opened. Where several apply, the first of them is returned.
 #[derive(Clone, Copy, Debug, PartialEq, Eq, Error)]
 pub enum OpenFault {
     /// There would be no hart.
@@ -26,7 +26,7 @@ pub enum SendFault {
     /// The port sent a closing payload, or 2^32 messages.
     #[error("the port is closed")]
     Closed(Payload),
-    /// The channel handed the message back, as it does once the outlet was dropped.
+    /// The channel handed the message back, as it does once the outlet is dropped.
     #[error("the channel handed the message back")]
     HandedBack(Payload),
 }

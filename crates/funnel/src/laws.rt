@@ -1,4 +1,4 @@
-//! What every list of turns keeps, and what a channel has of the funnel machine.
+//! What holds after every list of turns, and how a channel follows the funnel machine.
 
 ghost use Rattle.std.specs.Prelude.{ℕ, ◌≡◌, ◌≤◌, ◌<◌, ◌++◌, ◌∷◌, [], All, List, Option, length, slice_set};
 ghost use mathlib.Core.Option.{some};
@@ -13,10 +13,9 @@ ghost use Rattle.funnel.specs.declared.rule.View.{View};
 ghost use Rattle.funnel.specs.declared.rule.View.TheVariants as V;
 ghost use Rattle.funnel.specs.declared.turn.Turn.{Turn};
 
-/// Does nothing. Its contract says what each state keeps that turns lead to from the opening, where no hart's payload
-/// closes before its last.
+/// Does nothing. Its contract says what holds of each state that turns lead to from the opening.
 pub fn every_state_is_lawful()
-    // It is lawful.
+    // The state is lawful, where of each hart's payloads only the last may be closing.
     ensures lawful { (capacity : ℕ) (payloads : List (List (List ℕ))) (turns : List Turn) →
         All ClosesOnlyLast payloads → Lawful (after_turns capacity payloads turns (opening payloads)) }
 
@@ -24,13 +23,13 @@ pub fn every_state_is_lawful()
     ensures carried { (capacity : ℕ) (payloads : List (List (List ℕ))) (turns : List Turn) (hart : ℕ) →
         HasFirstTaken hart payloads (after_turns capacity payloads turns (opening payloads)) }
 
-    // No more wait than there is room for.
+    // No more messages wait than there is room for.
     ensures bounded { (capacity : ℕ) (payloads : List (List (List ℕ))) (turns : List Turn) →
         length (after_turns capacity payloads turns (opening payloads)).queue ≤ capacity }
 {}
 
-/// Does nothing. Its contract says of a channel that keeps the rule that, while every port is live, it is in a state of
-/// the funnel machine, and that its steps are those of the machine.
+/// Does nothing. Its contract speaks of a channel that keeps the rule and has a live port for each hart. The channel is
+/// in a state of the funnel machine, and its steps are those of the machine.
 pub fn live_channel_is_the_machine()
     // The state is lawful.
     ensures lawful { (queue : List Message) (views : List View) (state : Funnel) →
@@ -41,8 +40,8 @@ pub fn live_channel_is_the_machine()
 
     // Where the outlet hands out a port, there is one hart more, which sent nothing.
     ensures hands_out { (queue : List Message) (views : List View) (state : Funnel) (pass made : ℕ)
-        (taken : List Message) (told : Option ℕ) (list : List Message) (before : View) →
-        Kept queue views → AreLive queue views state → before ≡ V.Outlet made taken told list →
+        (taken : List Message) (settled : Option ℕ) (list : List Message) (before : View) →
+        Kept queue views → AreLive queue views state → before ≡ V.Outlet made taken settled list →
         get_elem? views pass ≡ some before →
         AreLive queue (slice_set views pass (handed_out before) ++ next_port before ∷ []) (with_new_hart state) }
 

@@ -12,8 +12,7 @@ pub const MOST_PORTS: u16 = 64;
 /// The most messages that a hart sends.
 pub(crate) const MOST_MESSAGES: u64 = 1 << 32;
 
-/// The first fault of these numbers of harts, which may be so many at most, and of messages that a funnel is to hold,
-/// where there is one.
+/// The first fault of a count of harts, which may be `most` or fewer, and of a capacity; `None` where there is none.
 pub(crate) fn fault_of(most: u16, harts: u16, capacity: u32) -> Option<OpenFault>
     ensures { result ≡ limit_fault most harts capacity }
 {

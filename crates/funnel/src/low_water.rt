@@ -5,9 +5,9 @@
 //! half of what it holds, and then sends many messages before it sleeps again.
 //!
 //! No contract speaks of this. A test in `channel_tests` shows that ports are woken, and that one is called at the
-//! mark. That none is called before it, that all are where no message waits, but not where one was called since the
-//! last message, and that a dropped outlet calls all, changes when a port goes on and not what is sent: a matter of
-//! speed, which no test asks for.
+//! mark. No test shows the rest: that no port is called before the mark; that all are called where no message waits,
+//! unless one was called since the last message; that a dropped outlet calls all. The rest changes when a port goes on,
+//! and not what is sent: it is a matter of speed.
 
 use std::alloc::Allocator;
 use std::hint;
@@ -16,11 +16,11 @@ use std::sync::{Arc, Wait};
 use std::time::Duration;
 
 /// How many milliseconds a port sleeps at most. Mostly it is called before: one port at each mark, and all of them
-/// where no message waits. `funnels/waking.rt` of `channel_tests` counts on at least so many.
+/// where no message waits. `funnels/waking.rt` of `channel_tests` counts on at least this many.
 const LONGEST: u64 = 10;
 
-/// How often a port looks for room before it waits, longer each time, where each message that is taken reaches the
-/// mark: then room comes sooner than a thread is woken.
+/// How often a port looks for room before it waits, in a funnel so small that each message that is taken reaches the
+/// mark. It rests longer after each look. Room comes sooner there than a thread is woken.
 const MANY_LOOKS: u32 = 7;
 
 /// Rests between two looks, longer each time.
@@ -30,7 +30,7 @@ pub(crate) fn rest(look: u32) {
     }
 }
 
-/// What the ports and the outlet of a funnel share of waiting for room.
+/// What the ports and the outlet of a funnel share, for ports that wait for room.
 #[derive(Drop)]
 pub(crate) struct LowWater {
     /// How often a port looks for room before it waits.
@@ -42,7 +42,7 @@ pub(crate) struct LowWater {
 }
 
 impl LowWater {
-    /// No port waits for room in a funnel that holds so many messages.
+    /// What they share at first, where the funnel holds this many messages: no port waits for room.
     pub(crate) fn new(capacity: usize) -> LowWater {
         LowWater {
             looks: if capacity < 4 { MANY_LOOKS } else { 1 },
@@ -51,19 +51,20 @@ impl LowWater {
         }
     }
 
-    /// Counts one more port that waits, and tells which calls it heard, in 32 bits. It has to look for room once more
-    /// before it sleeps, so that it misses no call.
+    /// Counts one more port that waits, and returns the lowest 32 bits of how many calls there were. The port has to
+    /// look for room once more before it sleeps, so that it misses no call.
     pub(crate) fn enter(&self) -> u32 {
         self.waiting.fetch_add(1, Ordering::SeqCst);
         (self.calls.load(Ordering::SeqCst) & 0xffff_ffff) as u32
     }
 
-    /// Counts one port less.
+    /// Counts one waiting port less.
     pub(crate) fn leave(&self) {
         self.waiting.fetch_sub(1, Ordering::SeqCst);
     }
 
-    /// Sleeps until a call that the port did not hear yet, or for the longest time, and counts one port less.
+    /// Sleeps until there is a call that the port did not hear yet, or for the longest time. Then counts one waiting
+    /// port less.
     pub(crate) fn sleep<R: Wait>(&self, rt: &R, heard: u32) {
         self.calls
             .park_timeout(rt, heard, Duration::from_millis(LONGEST));
@@ -97,7 +98,7 @@ pub(crate) struct Drain<A: Allocator> {
 }
 
 impl<A: Allocator> Drain<A> {
-    /// Nothing was taken of a funnel that holds so many messages.
+    /// What was drained at first, where the funnel holds this many messages: nothing.
     pub(crate) fn new(low: Arc<LowWater, A>, capacity: usize) -> Drain<A> {
         Drain {
             low,
@@ -115,7 +116,7 @@ impl<A: Allocator> Drain<A> {
         }
     }
 
-    /// Notes that no message waits, and calls all ports, but where one was called since the last message.
+    /// Notes that no message waits, and calls all ports, unless one was called since the last message.
     pub(crate) fn note_empty(&mut self) {
         if self.taken > 0 {
             self.taken = 0;
@@ -124,7 +125,7 @@ impl<A: Allocator> Drain<A> {
     }
 }
 
-/// Ports that wait are told that the outlet is gone.
+/// Calls all ports that wait, so that they find that the outlet is gone.
 impl<A: Allocator> Drop for Drain<A> {
     fn drop(self) {
         let Self {

@@ -5,7 +5,7 @@ ghost use Rattle.crossbeam_channel.specs.Ends.{sends_on};
 ghost use Rattle.funnel.specs.Limits.{limit_fault, most_ports};
 ghost use Rattle.funnel.specs.declared.fault.OpenFault.{OpenFault as AnyFault};
 ghost use Rattle.funnel.specs.Ends.{new_port, AreNewPorts};
-ghost use Rattle.funnel.specs.steps.Passes.{id_of, knows, taken_of, IsOutlet};
+ghost use Rattle.funnel.specs.steps.Passes.{id_of, knows, taken_by_outlet, IsOutlet};
 
 use crate::limits::{MOST_PORTS, fault_of};
 use crate::low_water::{Drain, LowWater};
@@ -16,8 +16,8 @@ use message::Message;
 use std::alloc::{AllocError, Allocator};
 use std::sync::Arc;
 
-/// Opens a funnel over a channel that holds so many messages, 1 to 65,536, with a port for each hart, 1 to 64, at the
-/// hart's place.
+/// Opens a funnel for 1 to 64 harts, over a channel that holds `capacity` messages, 1 to 65,536. There is a port for
+/// each hart, at the hart's place.
 pub fn open<A: Allocator + Clone>(
     alloc: A,
     harts: u16,
@@ -69,7 +69,7 @@ fn opened<A: Allocator + Clone>(
     Ok((ports, outlet))
 }
 
-/// Hands out a port for each hart of a new channel, all of which send by this end and wait for room there.
+/// Hands out a port for each hart of a new channel. All ports send by this end and wait for room there.
 fn ports_of<A: Allocator>(
     alloc: A,
     sender: &Sender<A>,
@@ -81,7 +81,7 @@ fn ports_of<A: Allocator>(
     requires next { IsOutlet 0 (knows pass.old) }
     ensures seat { OnOk result (IsSeatAt (sends_on sender.now) pass.new × (id_of pass.new ≡ id_of pass.old)) }
     ensures next { OnOk result
-        (IsOutlet harts (knows pass.new) × (taken_of (knows pass.new) ≡ taken_of (knows pass.old))) }
+        (IsOutlet harts (knows pass.new) × (taken_by_outlet (knows pass.new) ≡ taken_by_outlet (knows pass.old))) }
     ensures ports { IfOk result (λ ports. AreNewPorts (id_of pass.old) harts ports.items) }
 {
     let mut ports = Vec::with_capacity(alloc, usize::from(harts))?;
@@ -102,7 +102,8 @@ fn port_of<A: Allocator>(
     requires seat { IsSeatAt (sends_on sender) pass.old }
     requires next { IsOutlet hart (knows pass.old) }
     ensures seat { IsSeatAt (sends_on sender) pass.new × (id_of pass.new ≡ id_of pass.old) }
-    ensures next { IsOutlet (hart + 1) (knows pass.new) × (taken_of (knows pass.new) ≡ taken_of (knows pass.old)) }
+    ensures next { IsOutlet (hart + 1) (knows pass.new)
+        × (taken_by_outlet (knows pass.new) ≡ taken_by_outlet (knows pass.old)) }
     ensures port { result ≡ new_port (id_of pass.old) hart }
 {
     let theirs = sender.another::<HandOut>(pass);

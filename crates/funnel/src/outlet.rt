@@ -6,7 +6,7 @@ ghost use Rattle.message.specs.OfHart.{of_hart};
 ghost use Rattle.funnel.specs.Ends.{OutletView, IsBeginning, EndsClosing};
 ghost use Rattle.funnel.specs.Order.{AreInOrder};
 ghost use Rattle.funnel.specs.Rule.{TakesOne, TookInOrder};
-ghost use Rattle.funnel.specs.steps.Passes.{id_of, knows, sent_of, taken_of, IsPort, IsOutlet};
+ghost use Rattle.funnel.specs.steps.Passes.{id_of, knows, sent_of, taken_by_outlet, IsPort, IsOutlet};
 
 use crate::Ended;
 use crate::low_water::Drain;
@@ -26,7 +26,7 @@ use std::sync::Wait;
 pub struct Outlet<A: Allocator = Global> {
     pub(crate) receiver: Receiver<A>,
     pub(crate) pass: Ticket,
-    /// Of each hart, how many messages were taken.
+    /// How many messages of each hart were taken.
     pub(crate) counts: Vec<u64, A>,
     pub(crate) drain: Drain<A>,
 }
@@ -38,23 +38,23 @@ impl<A: Allocator> Model for Outlet<A> {
       funnel = id_of o.pass;
       room = ruled_capacity (receives_on o.receiver);
       made = vec_len o.counts;
-      taken = taken_of (knows o.pass);
+      taken = taken_by_outlet (knows o.pass);
     } };
 
     ghost invariant = { λ o. IsSeatAt (receives_on o.receiver) o.pass × IsOutlet (vec_len o.counts) (knows o.pass)
         × ((h : ℕ) → h < vec_len o.counts
-        → slice_index o.counts.items h ≡ length (of_hart h (taken_of (knows o.pass)))) };
+        → slice_index o.counts.items h ≡ length (of_hart h (taken_by_outlet (knows o.pass)))) };
 }
 
 impl<A: Allocator> Outlet<A> {
     /// Takes the oldest message. It waits while there is none and some port or receipt is left.
     ///
-    /// Ended comes where the channel is empty and has no sending end, and changes nothing.
+    /// [`Ended`] comes where the channel is empty and has no sending end, and changes nothing.
     pub fn take<R: Wait>(&mut self, rt: &R) -> Result<Message, Ended>
         ensures taken { IfOk result (λ message. self.new ≡ record self.old { taken = self.old.taken ++ message ∷ [] }) }
         ensures number { IfOk result (λ message. message.number ≡ length (of_hart message.hart self.old.taken)) }
         ensures hart { IfOk result (λ message. message.hart < self.old.made) }
-        // Of its hart it is one more, and what was taken of each hart is in order.
+        // It goes last in what was taken of its hart. What was taken of each hart is in order.
         ensures one_more { IfOk result
             (λ message. of_hart message.hart self.new.taken ≡ of_hart message.hart self.old.taken ++ message ∷ []) }
         ensures in_order { (hart : ℕ) → AreInOrder hart (of_hart hart self.new.taken) }
@@ -66,7 +66,7 @@ impl<A: Allocator> Outlet<A> {
         match next_message(rt, &self.receiver, &mut self.pass, &mut self.drain) {
             Ok(message) => {
                 self.drain.note_taken();
-                // Its number is how many were taken of its hart before.
+                // Its number is how many messages of its hart were taken before.
                 self.counts[usize::from(message.hart)] = message.number + 1;
                 Ok(message)
             }
@@ -138,11 +138,12 @@ fn take_in<A: Allocator>(
     requires outlet { IsOutlet made (knows outlet.old) }
     requires port { IsPort hart (knows port) }
     ensures seat { IsSeatAt (sends_on sender.now) outlet.new × (id_of outlet.new ≡ id_of outlet.old) }
-    ensures outlet { IsOutlet made (knows outlet.new) × (taken_of (knows outlet.new) ≡ taken_of (knows outlet.old)) }
+    ensures outlet { IsOutlet made (knows outlet.new)
+        × (taken_by_outlet (knows outlet.new) ≡ taken_by_outlet (knows outlet.old)) }
     ensures hart { hart < made }
-    ensures beginning { IsBeginning (of_hart hart (taken_of (knows outlet.old))) (sent_of (knows port)) }
-    ensures whole { EndsClosing (of_hart hart (taken_of (knows outlet.old)))
-        → of_hart hart (taken_of (knows outlet.old)) ≡ sent_of (knows port) }
+    ensures beginning { IsBeginning (of_hart hart (taken_by_outlet (knows outlet.old))) (sent_of (knows port)) }
+    ensures whole { EndsClosing (of_hart hart (taken_by_outlet (knows outlet.old)))
+        → of_hart hart (taken_by_outlet (knows outlet.old)) ≡ sent_of (knows port) }
 {
     sender.absorb::<TakesIn>(outlet, port);
     sender.learn_as::<Compares>(outlet);

@@ -8,7 +8,7 @@ ghost use Rattle.funnel.specs.declared.rule.View.TheVariants as V;
 ghost use Rattle.funnel.specs.Ends.{PortView, has_closing, is_finished, after_sending};
 ghost use Rattle.funnel.specs.steps.Passes.{id_of, knows, sent_of, IsPort};
 ghost use Rattle.funnel.specs.steps.Sending.{MaySend};
-ghost use Rattle.funnel.specs.Refusals.{payload_of};
+ghost use Rattle.funnel.specs.Refusals.{unsent_payload};
 
 use crate::SendFault;
 use crate::limits::MOST_MESSAGES;
@@ -33,7 +33,7 @@ pub struct Port<A: Allocator = Global> {
     pub(crate) hart: u16,
     /// How many messages were sent.
     pub(crate) count: u64,
-    /// A closing payload was sent.
+    /// Whether a closing payload was sent.
     pub(crate) closed: bool,
 }
 
@@ -47,14 +47,14 @@ impl<A: Allocator> Model for Port<A> {
 }
 
 impl<A: Allocator> Port<A> {
-    /// Sends a payload, which is numbered by how many were sent before. It waits while the channel is full.
+    /// Sends a payload, whose message has as its number how many were sent before. It waits while the channel is full.
     ///
-    /// A fault gives the payload back and changes nothing. HandedBack comes where the channel hands the message back,
-    /// as it does once the outlet was dropped.
+    /// A fault gives the payload back and changes nothing. [`SendFault::HandedBack`] comes where the channel hands the
+    /// message back, as it does once the outlet is dropped.
     pub fn send<R: Wait>(&mut self, rt: &R, payload: Payload) -> Result<(), SendFault>
         ensures sent { OnOk result (self.new ≡ after_sending self.old payload) }
         ensures refused { OnErr result (self.new ≡ self.old) }
-        ensures given_back { IfErr result (λ fault. payload_of fault ≡ payload) }
+        ensures given_back { IfErr result (λ fault. unsent_payload fault ≡ payload) }
         ensures closed { (result ≡ Err (SendFault.Closed payload)) ↔ (is_finished self.old.sent ≡ true) }
         ensures funnel { self.new.funnel ≡ self.old.funnel }
         ensures hart { self.new.hart ≡ self.old.hart }
@@ -85,7 +85,7 @@ impl<A: Allocator> Port<A> {
         }
     }
 
-    /// Ends the port, and leaves the receipt for all that it sent.
+    /// Finishes the port, and returns the receipt for all that it sent.
     pub fn finish(self) -> Receipt<A>
         ensures { result ≡ self }
     {
@@ -106,15 +106,15 @@ impl<A: Allocator> Port<A> {
     }
 }
 
-/// Whether a payload is closing. The first byte tells of most payloads that they are not, at the cost of one test.
+/// Whether a payload is closing. For most payloads one test of the first byte shows that they are not.
 fn closes(payload: &Payload) -> bool
     ensures { result ≡ is_closing payload.now }
 {
     payload.bytes()[0] % 16 == 15 && payload.is_closing()
 }
 
-/// Sends a message by a pass that knows all that its hart sent, and tells whether its payload is closing. It waits
-/// while the channel is full.
+/// Sends a message by a pass that knows all that its hart sent. `closing` says whether its payload is closing. The call
+/// waits while the channel is full. An error gives the payload back.
 fn pass_on<A: Allocator, R: Wait>(
     rt: &R,
     sender: &Sender<A>,
@@ -140,7 +140,7 @@ fn pass_on<A: Allocator, R: Wait>(
     wait_and_pass_on(rt, sender, low, pass, message, closing)
 }
 
-/// The same after the channel was full, asleep between looks.
+/// The same, after the channel was full. It sleeps between looks.
 fn wait_and_pass_on<A: Allocator, R: Wait>(
     rt: &R,
     sender: &Sender<A>,

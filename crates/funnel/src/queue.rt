@@ -4,7 +4,7 @@ ghost use Rattle.std.specs.Prelude.{◌≡◌, ◌++◌, ◌<◌, nat_lt, not, i
 ghost use Rattle.std.specs.Prelude.{Some, None, Ok, Err, length, slice_get};
 ghost use Rattle.std.specs.Option.{option_to_list};
 ghost use Rattle.std.specs.VecDeque.{deque_capacity};
-ghost use Rattle.funnel.specs.Held.{Held, IsHeld};
+ghost use Rattle.funnel.specs.Held.{Held, KeepsLimits};
 ghost use Rattle.funnel.specs.Limits.{limit_fault};
 ghost use Rattle.message.specs.Version.{most_harts};
 ghost use Rattle.message.specs.declared.header.Version.TheVariants.{Two};
@@ -31,13 +31,13 @@ impl<A: Allocator> Model for Core<A> {
 
     ghost view = { λ c. record { harts = c.harts; capacity = c.capacity; queue = c.queue.items } };
 
-    ghost invariant = { λ c. IsHeld (record { harts = c.harts; capacity = c.capacity; queue = c.queue.items })
+    ghost invariant = { λ c. KeepsLimits (record { harts = c.harts; capacity = c.capacity; queue = c.queue.items })
         × (deque_capacity c.queue ≡ c.capacity) };
 }
 
 impl<A: Allocator> Core<A> {
     /// An empty queue of messages of the harts below `harts`, which is 1 to 1,024, with room for `capacity` messages, 1
-    /// to 65,536. A fault leaves nothing taken.
+    /// to 65,536. A fault leaves no memory taken.
     pub fn new(alloc: A, harts: u16, capacity: u32) -> Result<Core<A>, OpenFault>
         ensures made { IfOk result (λ core. core ≡ record { harts = harts; capacity = capacity; queue = [] }) }
         ensures refused { (fault : AnyFault) → limit_fault (most_harts Two) harts capacity ≡ Some fault

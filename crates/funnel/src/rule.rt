@@ -4,7 +4,7 @@ use crossbeam_channel::protocol::{Join, Lesson, Outcome, Protocol, Split};
 use message::Message;
 use std::collections::LinkedList;
 
-/// What a pass of the channel knows. It is a thing of proofs; no value of it is made.
+/// What a pass of the channel knows. Only proofs speak of it; no value of it is made.
 pub enum View {
     /// The outlet's pass.
     Outlet {
@@ -13,7 +13,7 @@ pub enum View {
         /// What was taken.
         taken: LinkedList<Message>,
         /// The hart whose port was taken in last.
-        told: Option<u64>,
+        settled: Option<u64>,
         /// What that port sent.
         list: LinkedList<Message>,
     },
@@ -95,9 +95,9 @@ impl Lesson<Message, View> for Takes {
 pub struct TakesIn;
 
 impl Join<View> for TakesIn {
-    ghost use Rattle.funnel.specs.Rule.{told_of, spent};
+    ghost use Rattle.funnel.specs.Rule.{after_taking_in, spent};
 
-    ghost both = { told_of };
+    ghost both = { after_taking_in };
 
     ghost spent = { spent };
 }

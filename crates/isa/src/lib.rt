@@ -1,4 +1,4 @@
-//! What logs and packets have in common of a hart: its privilege levels and the addresses of its instructions.
+//! What logs and packets share: the privilege levels of a hart, and the addresses of its instructions.
 #![tactic(auto)]
 
 mod privilege;

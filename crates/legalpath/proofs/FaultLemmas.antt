@@ -32,9 +32,9 @@ same_fault words before (x ∷ front) (y ∷ other) e f rest more why reason sam
     let is : y ≡ x = cc in
     let tails : front ++ e ∷ rest ≡ other ++ f ∷ more = cc in
     let follows : FollowOn words (Some x) other = subst (λ (z : Event). FollowOn words (Some z) other) is s.2 in
-    let told : IsReason words (last_or (Some x) other) f reason = subst
+    let named : IsReason words (last_or (Some x) other) f reason = subst
     (λ (z : Event). IsReason words (last_or (Some z) other) f reason) is q in
-    let found = same_fault words (Some x) front other e f rest more why reason tails r.2 follows p told in
+    let found = same_fault words (Some x) front other e f rest more why reason tails r.2 follows p named in
     (ap suc found.0, found.1)
 
 pub names_one_fault : NamesOneFault

@@ -10,8 +10,8 @@ use Rattle.rvclass.specs.declared.class.Class.{Class}
 use Rattle.rvclass.specs.declared.class.Class.TheVariants.{Plain, Jump, Branch, Uninferable, TrapReturn}
 use Rattle.rvclass.specs.declared.class.Class.TheVariants.{NotRetirable as NeverRetires}
 use Rattle.rvclass.specs.declared.class.Return.TheVariants.{Mret, Sret}
-use Rattle.legalpath.proofs.Telling.{Tells, tells_true, tells_false, tells_eq, tells_le, tells_lt, tells-same}
-use Rattle.legalpath.proofs.Telling.{tells-and, tells-or}
+use Rattle.legalpath.proofs.DecidingTests.{Decides, decides_true, decides_false, decides_eq, decides_le, decides_lt}
+use Rattle.legalpath.proofs.DecidingTests.{decides-same, decides-and, decides-or}
 use Rattle.legalpath.specs.Allowed.{may_retire_at, may_stand_at}
 use Rattle.legalpath.specs.steps.Judging.{is_type_of, was_left, left_at_start, left_by_retirement}
 use Rattle.legalpath.specs.steps.Judging.{left_by_trap, is_never, judge_retirement, judge_trap, judge}
@@ -37,9 +37,11 @@ left_after words None = left_at_start
 left_after words (Some (Retire addr itype priv)) = left_on addr itype priv (words addr)
 left_after words (Some (Trap priv interrupt cause epc tval)) = left_by_trap priv
 
--- The tests of judging tell the facts of the definitions.
-pub privilege_tells : (priv : ℕ) → Tells (is_privilege priv) (IsPrivilege priv)
-privilege_tells priv = tells-same to from (tells-or (tells-or (tells_eq priv 0) (tells_eq priv 1)) (tells_eq priv 3))
+-- The tests of judging decide the facts of the definitions.
+pub privilege_decides : (priv : ℕ) → Decides (is_privilege priv) (IsPrivilege priv)
+privilege_decides priv =
+    decides-same to from
+    (decides-or (decides-or (decides_eq priv 0) (decides_eq priv 1)) (decides_eq priv 3))
   where
     to : ((priv ≡ 0) ⊎ (priv ≡ 1)) ⊎ (priv ≡ 3) → IsPrivilege priv
     to h =
@@ -51,88 +53,88 @@ privilege_tells priv = tells-same to from (tells-or (tells-or (tells_eq priv 0) 
     from : IsPrivilege priv → ((priv ≡ 0) ⊎ (priv ≡ 1)) ⊎ (priv ≡ 3)
     from h = let a : priv ≤ 3 = h.0 in let b : priv ≢ 2 = h.1 in grind arith
 
-pub type_tells : (class : Class) (itype : ℕ) → Tells (is_type_of class itype) (IsTypeOf class itype)
-type_tells Plain itype = tells_eq itype 0
-type_tells (Jump to) itype = tells_eq itype 0
-type_tells (Branch to) itype = tells-or (tells_eq itype 4) (tells_eq itype 5)
-type_tells Uninferable itype = tells_eq itype 6
-type_tells (TrapReturn ret) itype = tells_eq itype 3
-type_tells NeverRetires itype = tells_false (λ h. h)
+pub type_decides : (class : Class) (itype : ℕ) → Decides (is_type_of class itype) (IsTypeOf class itype)
+type_decides Plain itype = decides_eq itype 0
+type_decides (Jump to) itype = decides_eq itype 0
+type_decides (Branch to) itype = decides-or (decides_eq itype 4) (decides_eq itype 5)
+type_decides Uninferable itype = decides_eq itype 6
+type_decides (TrapReturn ret) itype = decides_eq itype 3
+type_decides NeverRetires itype = decides_false (λ h. h)
 
-pub never_tells : (word : Word) → Tells (is_never word.0) (IsNotRetirable (Some word))
-never_tells (Plain, length) = tells_false (λ h. h)
-never_tells (Jump to, length) = tells_false (λ h. h)
-never_tells (Branch to, length) = tells_false (λ h. h)
-never_tells (Uninferable, length) = tells_false (λ h. h)
-never_tells (TrapReturn ret, length) = tells_false (λ h. h)
-never_tells (NeverRetires, length) = tells_true tt
+pub never_decides : (word : Word) → Decides (is_never word.0) (IsNotRetirable (Some word))
+never_decides (Plain, length) = decides_false (λ h. h)
+never_decides (Jump to, length) = decides_false (λ h. h)
+never_decides (Branch to, length) = decides_false (λ h. h)
+never_decides (Uninferable, length) = decides_false (λ h. h)
+never_decides (TrapReturn ret, length) = decides_false (λ h. h)
+never_decides (NeverRetires, length) = decides_true tt
 
-pub retire_tells : (class : Class) (priv : ℕ) → Tells (may_retire_at class priv) (MayRetireAt class priv)
-retire_tells Plain priv = tells_true tt
-retire_tells (Jump to) priv = tells_true tt
-retire_tells (Branch to) priv = tells_true tt
-retire_tells Uninferable priv = tells_true tt
-retire_tells (TrapReturn Mret) priv = tells_eq priv 3
-retire_tells (TrapReturn Sret) priv = tells_le 1 priv
-retire_tells NeverRetires priv = tells_true tt
+pub retire_decides : (class : Class) (priv : ℕ) → Decides (may_retire_at class priv) (MayRetireAt class priv)
+retire_decides Plain priv = decides_true tt
+retire_decides (Jump to) priv = decides_true tt
+retire_decides (Branch to) priv = decides_true tt
+retire_decides Uninferable priv = decides_true tt
+retire_decides (TrapReturn Mret) priv = decides_eq priv 3
+retire_decides (TrapReturn Sret) priv = decides_le 1 priv
+retire_decides NeverRetires priv = decides_true tt
 
-pub stand_tells : (next : Next) (at : ℕ) → Tells (may_stand_at next at) (MayStandAt next at)
-stand_tells (One to) at = tells_eq at to
-stand_tells Any at = tells_true tt
-stand_tells NoneInside at = tells_false (λ h. h)
+pub stand_decides : (next : Next) (at : ℕ) → Decides (may_stand_at next at) (MayStandAt next at)
+stand_decides (One to) at = decides_eq at to
+stand_decides Any at = decides_true tt
+stand_decides NoneInside at = decides_false (λ h. h)
 
-pub stand_after_tells : (words : Words) (before : Option Event) (at : ℕ)
-    → Tells (may_stand_at (left_after words before).next at) (MayStandAfter words before at)
-stand_after_tells words None at = tells_true tt
-stand_after_tells words (Some (Retire addr itype priv)) at = on (words addr)
+pub stand_after_decides : (words : Words) (before : Option Event) (at : ℕ)
+    → Decides (may_stand_at (left_after words before).next at) (MayStandAfter words before at)
+stand_after_decides words None at = decides_true tt
+stand_after_decides words (Some (Retire addr itype priv)) at = on (words addr)
   where
-    on : (word : Option Word) → Tells (may_stand_at (left_on addr itype priv word).next at)
+    on : (word : Option Word) → Decides (may_stand_at (left_on addr itype priv word).next at)
         (MayStandAt (leads_from addr itype word) at)
-    on None = tells_false (λ h. h)
-    on (Some word) = stand_tells (leads addr itype word.0 word.1) at
-stand_after_tells words (Some (Trap priv interrupt cause epc tval)) at = tells_true tt
+    on None = decides_false (λ h. h)
+    on (Some word) = stand_decides (leads addr itype word.0 word.1) at
+stand_after_decides words (Some (Trap priv interrupt cause epc tval)) at = decides_true tt
 
 abbrev is_between : Left → ℕ → Bool
 is_between left priv = nat_le left.least priv && nat_le priv left.greatest
 
-between : (left : Left) (priv : ℕ) → Tells (is_between left priv) ((left.least ≤ priv) × (priv ≤ left.greatest))
-between left priv = tells-and (tells_le left.least priv) (λ h. tells_le priv left.greatest)
+between : (left : Left) (priv : ℕ) → Decides (is_between left priv) ((left.least ≤ priv) × (priv ≤ left.greatest))
+between left priv = decides-and (decides_le left.least priv) (λ h. decides_le priv left.greatest)
 
-left_on_tells : (addr itype priv after : ℕ) (word : Option Word) → IsPrivilege after
-    → Tells (is_between (left_on addr itype priv word) after) (LeadsToPrivilege word priv after)
-left_on_tells addr itype priv after word is = on word
+left_on_decides : (addr itype priv after : ℕ) (word : Option Word) → IsPrivilege after
+    → Decides (is_between (left_on addr itype priv word) after) (LeadsToPrivilege word priv after)
+left_on_decides addr itype priv after word is = on word
   where
-    same : (left : Left) → left.least ≡ priv → left.greatest ≡ priv → Tells (is_between left after) (after ≡ priv)
+    same : (left : Left) → left.least ≡ priv → left.greatest ≡ priv → Decides (is_between left after) (after ≡ priv)
     same left l g =
-        tells-same (λ h. let a = h.0 in let b = h.1 in omega arith) (λ e. (omega arith, omega arith))
+        decides-same (λ h. let a = h.0 in let b = h.1 in omega arith) (λ e. (omega arith, omega arith))
         (between left after)
 
     on : (word : Option Word)
-        → Tells (is_between (left_on addr itype priv word) after) (LeadsToPrivilege word priv after)
+        → Decides (is_between (left_on addr itype priv word) after) (LeadsToPrivilege word priv after)
     on None = same (left_on addr itype priv None) refl refl
     on (Some (Plain, length)) = same (left_on addr itype priv (Some (Plain, length))) refl refl
     on (Some (Jump to, length)) = same (left_on addr itype priv (Some (Jump to, length))) refl refl
     on (Some (Branch to, length)) = same (left_on addr itype priv (Some (Branch to, length))) refl refl
     on (Some (Uninferable, length)) = same (left_on addr itype priv (Some (Uninferable, length))) refl refl
     on (Some (TrapReturn Mret, length)) =
-        tells-same (λ h. tt) (λ u. (omega arith, is.0))
+        decides-same (λ h. tt) (λ u. (omega arith, is.0))
         (between (left_on addr itype priv (Some (TrapReturn Mret, length))) after)
     on (Some (TrapReturn Sret, length)) =
-        tells-same (λ h. h.1) (λ h. (omega arith, h))
+        decides-same (λ h. h.1) (λ h. (omega arith, h))
         (between (left_on addr itype priv (Some (TrapReturn Sret, length))) after)
     on (Some (NeverRetires, length)) = same (left_on addr itype priv (Some (NeverRetires, length))) refl refl
 
-between_tells : (words : Words) (before : Option Event) (after : ℕ) → IsPrivilege after
-    → Tells (is_between (left_after words before) after) (MayHavePrivilegeAfter words before after)
-between_tells words None after is = tells-same (λ h. tt) (λ u. (omega arith, is.0)) (between left_at_start after)
-between_tells words (Some (Retire addr itype priv)) after is = left_on_tells addr itype priv after (words addr) is
-between_tells words (Some (Trap priv interrupt cause epc tval)) after is =
-    tells-same (λ h. let a = h.0 in (omega arith, omega arith)) (λ h. let a = h.0 in let b = h.1 in let d = is.0 in
+between_decides : (words : Words) (before : Option Event) (after : ℕ) → IsPrivilege after
+    → Decides (is_between (left_after words before) after) (MayHavePrivilegeAfter words before after)
+between_decides words None after is = decides-same (λ h. tt) (λ u. (omega arith, is.0)) (between left_at_start after)
+between_decides words (Some (Retire addr itype priv)) after is = left_on_decides addr itype priv after (words addr) is
+between_decides words (Some (Trap priv interrupt cause epc tval)) after is =
+    decides-same (λ h. let a = h.0 in (omega arith, omega arith)) (λ h. let a = h.0 in let b = h.1 in let d = is.0 in
     (omega arith, d)) (between (left_by_trap priv) after)
 
-pub left_tells : (words : Words) (before : Option Event) (after : ℕ)
-    → Tells (was_left (left_after words before) after) (IsPrivilege after × MayHavePrivilegeAfter words before after)
-left_tells words before after = tells-and (privilege_tells after) (λ is. between_tells words before after is)
+pub left_decides : (words : Words) (before : Option Event) (after : ℕ)
+    → Decides (was_left (left_after words before) after) (IsPrivilege after × MayHavePrivilegeAfter words before after)
+left_decides words before after = decides-and (privilege_decides after) (λ is. between_decides words before after is)
 
 pub step_from : (words : Words) (before : Option Event) (event : Event) → MayStandAfter words before (place event)
     → MayHavePrivilegeAfter words before (privilege event) → StepFrom words before event
@@ -166,9 +168,9 @@ module _ (words : Words) (before : Option Event) (addr itype priv : ℕ) where
   abbrev at_never : Word → Bool → Bool → Bool → Bool → Result Left Why
   at_never word never type next test = if never then Err NotRetirable else at_type word type next test
 
-  module _ (word : Word) (never type next test : Bool) (n : Tells never (IsNotRetirable (Some word)))
-      (t : Tells type (IsTypeOf word.0 itype)) (s : Tells next (MayStandAfter words before addr))
-      (p : Tells test ((IsPrivilege priv × MayRetireAt word.0 priv) × MayHavePrivilegeAfter words before priv)) where
+  module _ (word : Word) (never type next test : Bool) (n : Decides never (IsNotRetirable (Some word)))
+      (t : Decides type (IsTypeOf word.0 itype)) (s : Decides next (MayStandAfter words before addr))
+      (p : Decides test ((IsPrivilege priv × MayRetireAt word.0 priv) × MayHavePrivilegeAfter words before priv)) where
     privilege_judged : ¬ IsNotRetirable (Some word) → IsTypeOf word.0 itype → MayStandAfter words before addr
         → (v : Bool) → test ≡ v → RetirementOutcome (Some word) (at_privilege word v)
     privilege_judged retires typed stands true e = let h = p.holds e in ((typed, h.0.1), h.0.0, stands, h.1, refl)
@@ -189,22 +191,22 @@ module _ (words : Words) (before : Option Event) (addr itype priv : ℕ) where
     never_judged true e = (n.holds e, ((λ e. cc), tt))
     never_judged false e = type_judged (n.fails e) type refl
 
-  at_right_privilege : (word : Word) → Tells (may_retire_at word.0 priv && was_left (left_after words before) priv)
+  at_right_privilege : (word : Word) → Decides (may_retire_at word.0 priv && was_left (left_after words before) priv)
       ((IsPrivilege priv × MayRetireAt word.0 priv) × MayHavePrivilegeAfter words before priv)
   at_right_privilege word =
-      tells-same (λ h. ((h.1.0, h.0), h.1.1)) (λ h. (h.0.1, (h.0.0, h.1)))
-      (tells-and (retire_tells word.0 priv) (λ h. left_tells words before priv))
+      decides-same (λ h. ((h.1.0, h.0), h.1.1)) (λ h. (h.0.1, (h.0.0, h.1)))
+      (decides-and (retire_decides word.0 priv) (λ h. left_decides words before priv))
 
   pub retirement_judged : (word : Option Word) → RetirementOutcome word
       (judge_retirement (left_after words before) addr itype priv word)
   retirement_judged None = (refl, tt)
   retirement_judged (Some word) =
-      never_judged word _ _ _ _ (never_tells word) (type_tells word.0 itype) (stand_after_tells words before addr)
+      never_judged word _ _ _ _ (never_decides word) (type_decides word.0 itype) (stand_after_decides words before addr)
       (at_right_privilege word) (is_never word.0) refl
 
-value_tells : (interrupt : Bool) (tval : ℕ) → Tells (not interrupt || (tval == 0)) (interrupt ≡ true → tval ≡ 0)
-value_tells true tval = tells-same (λ e f. e) (λ h. h refl) (tells_eq tval 0)
-value_tells false tval = tells_true (λ f. cc)
+value_decides : (interrupt : Bool) (tval : ℕ) → Decides (not interrupt || (tval == 0)) (interrupt ≡ true → tval ≡ 0)
+value_decides true tval = decides-same (λ e f. e) (λ h. h refl) (decides_eq tval 0)
+value_decides false tval = decides_true (λ f. cc)
 
 module _ (words : Words) (before : Option Event) (epc priv : ℕ) (interrupt : Bool) (cause tval : ℕ) where
   -- What judging a trap answers.
@@ -225,9 +227,9 @@ module _ (words : Words) (before : Option Event) (epc priv : ℕ) (interrupt : B
   abbrev trap_at_type : Bool → Bool → Bool → Result Left Why
   trap_at_type type test next = if not type then Err WrongType else trap_at_privilege test next
 
-  module _ (type test next : Bool) (t : Tells type ((cause < 64) × (interrupt ≡ true → tval ≡ 0)))
-      (p : Tells test (IsPrivilege priv × MayHavePrivilegeAfter words before priv))
-      (s : Tells next ((epc % 2 ≡ 0) × MayStandAfter words before epc)) where
+  module _ (type test next : Bool) (t : Decides type ((cause < 64) × (interrupt ≡ true → tval ≡ 0)))
+      (p : Decides test (IsPrivilege priv × MayHavePrivilegeAfter words before priv))
+      (s : Decides next ((epc % 2 ≡ 0) × MayStandAfter words before epc)) where
     trap_epc_judged : (cause < 64) × (interrupt ≡ true → tval ≡ 0) → IsPrivilege priv
         × MayHavePrivilegeAfter words before priv → (v : Bool) → next ≡ v → TrapOutcome (trap_at_epc v)
     trap_epc_judged typed kept true e = let h = s.holds e in (h.0, kept.0, typed, h.1, kept.1, refl)
@@ -245,8 +247,9 @@ module _ (words : Words) (before : Option Event) (epc priv : ℕ) (interrupt : B
 
   pub trap_judged : TrapOutcome (judge_trap (left_after words before) epc priv interrupt cause tval)
   trap_judged =
-      trap_type_judged _ _ _ (tells-and (tells_lt cause 64) (λ h. value_tells interrupt tval))
-      (left_tells words before priv) (tells-and (tells_eq (epc % 2) 0) (λ h. stand_after_tells words before epc)) _
+      trap_type_judged _ _ _ (decides-and (decides_lt cause 64) (λ h. value_decides interrupt tval))
+      (left_decides words before priv)
+      (decides-and (decides_eq (epc % 2) 0) (λ h. stand_after_decides words before epc)) _
       refl
 
 -- What judging an event answers.

@@ -1,4 +1,4 @@
-pub mod Telling
+pub mod DecidingTests
 pub mod JudgingLemmas
 pub mod FollowOnLemmas
 pub mod ReasonLemmas

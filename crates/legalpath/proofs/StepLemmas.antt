@@ -11,7 +11,7 @@ use Rattle.legalpath.specs.Step.{MayStandAt, LeadsToPrivilege}
 use Rattle.legalpath.specs.Successor.{leads_from}
 use Rattle.legalpath.specs.declared.next.Next.TheVariants.{One}
 
--- A word tells whether its retirements are branches.
+-- A word fixes whether its retirements are branches.
 pub branch_type : (word : Option Word) (itype other priv level : ℕ) → RetiresOn word itype priv
     → RetiresOn word other level → ((itype == 4) || (itype == 5)) ≡ ((other == 4) || (other == 5))
 branch_type None itype other priv level r s = absurd r
@@ -25,7 +25,7 @@ branch_type (Some (Uninferable, length)) itype other priv level r s = rw (r.0, s
 branch_type (Some (TrapReturn ret, length)) itype other priv level r s = rw (r.0, s.0) refl
 branch_type (Some (NotRetirable, length)) itype other priv level r s = absurd r.0
 
--- A word and whether it is a taken branch tell the type.
+-- A word, and whether it is a taken branch, fix the type.
 pub same_type : (word : Option Word) (itype other priv level : ℕ) → RetiresOn word itype priv
     → RetiresOn word other level → (itype == 5) ≡ (other == 5) → itype ≡ other
 same_type None itype other priv level r s taken = absurd r
@@ -40,7 +40,7 @@ same_type (Some (Uninferable, length)) itype other priv level r s taken = r.0 �
 same_type (Some (TrapReturn ret, length)) itype other priv level r s taken = r.0 ∙ sym s.0
 same_type (Some (NotRetirable, length)) itype other priv level r s taken = absurd r.0
 
--- A word that leads to no address that it does not tell leads to one.
+-- A word that is no discontinuity leads to one address.
 pub leads_to_one : (word : Option Word) (addr itype priv : ℕ) → hides_its_target word ≡ false
     → RetiresOn word itype priv
     → (to : ℕ) × (leads_from addr itype word ≡ One to)

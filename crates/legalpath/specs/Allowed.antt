@@ -1,4 +1,4 @@
--- What is allowed where, as tests of which other crates ask too.
+-- What is allowed where, as tests that other crates use too.
 use Rattle.std.specs.Prelude.{ℕ, ◌==◌, nat_le, Bool, true, false}
 use Rattle.rvclass.specs.declared.class.Class.{Class}
 use Rattle.rvclass.specs.declared.class.Class.TheVariants.{TrapReturn}
@@ -12,13 +12,13 @@ may_stand_at (One to) at = at == to
 may_stand_at Any at = true
 may_stand_at NoneInside at = false
 
--- A word of this class may retire at this privilege, where that is one.
+-- A word of this class may retire at this privilege. Whether the number is a privilege level is another test.
 abbrev pub may_retire_at : Class → ℕ → Bool
 may_retire_at (TrapReturn Mret) priv = priv == 3
 may_retire_at (TrapReturn Sret) priv = nat_le 1 priv
 may_retire_at _ priv = true
 
--- The greatest privilege after a retirement of this class at this one.
+-- The greatest privilege that may follow a retirement of a word of this class at this privilege.
 abbrev pub greatest_after : Class → ℕ → ℕ
 greatest_after (TrapReturn Mret) priv = 3
 greatest_after (TrapReturn Sret) priv = 1

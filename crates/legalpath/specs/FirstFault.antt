@@ -7,8 +7,8 @@ use Rattle.legalpath.specs.Legal.{Legal}
 use Rattle.legalpath.specs.Reason.{IsReason}
 use Rattle.legalpath.specs.declared.fault.PathFault.{PathFault}
 
--- The first illegal row of a log, counted from 1, and the reason that is told of it: the rows
--- before it are legal.
+-- The fault names the first illegal row of a log, counted from 1, and the first reason that applies to it. The rows
+-- before it are a legal log.
 pub record IsFirstFault (words : Words) (log : List Event) (fault : PathFault) : Type 0 where
   pub front : List Event
   pub event : Event

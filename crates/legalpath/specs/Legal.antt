@@ -5,8 +5,8 @@ use Rattle.rvclass.specs.Words.{Words}
 use Rattle.legalpath.specs.Right.{Right}
 use Rattle.legalpath.specs.Step.{StepFrom}
 
--- Each of these events is right by itself and may follow the one before it, the first of them this
--- one, where there is one.
+-- Each of these events is right by itself and may follow the event before it. The event before the first of them is the
+-- given one, if there is one.
 abbrev pub FollowOn : Words → Option Event → List Event → Type 0
 FollowOn words before [] = Unit {0}
 FollowOn words before (event ∷ events) =

@@ -13,8 +13,8 @@ pub record ProgramLog : Type 0 where
   pub events : List Event
 
 -- The log of these events, with this program.
-abbrev pub log_of : Image → List Event → ProgramLog
-log_of program events = record { program = program; events = events }
+abbrev pub program_log : Image → List Event → ProgramLog
+program_log program events = record { program = program; events = events }
 
 -- The log is legal for the program and has at most 2^24 events, its numbers have 64 bits, and the program is an image.
 pub record IsLegalLog (log : ProgramLog) : Type 0 where

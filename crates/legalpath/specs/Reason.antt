@@ -1,4 +1,4 @@
--- Why an event is refused.
+-- Why an event is illegal.
 use Rattle.std.specs.Prelude.{ℕ, ◌≡◌, ◌<◌, ◌%◌, Bool, true, List, [], ◌∷◌, Option, Some, None}
 use Rattle.std.specs.List.{AllByRecursion}
 use Rattle.isa.specs.Privilege.{IsPrivilege}
@@ -27,8 +27,8 @@ abbrev pub MayRetireOn : Option Word → ℕ → Type 0
 MayRetireOn None priv = ⊥
 MayRetireOn (Some word) priv = MayRetireAt word.0 priv
 
--- A reason applies to a retirement on this word, if there is one, at this address, of this type and
--- privilege, after the event before, where there is one.
+-- A reason applies to a retirement at this address, of this type and privilege. The word at the address and the event
+-- before are given, if there are such.
 abbrev pub AppliesToRetirement : Words → Option Event → Option Word → ℕ → ℕ → ℕ → Why → Type 0
 AppliesToRetirement words before word addr itype priv OffProgram = word ≡ None
 AppliesToRetirement words before word addr itype priv NotRetirable = IsNotRetirable word
@@ -38,8 +38,8 @@ AppliesToRetirement words before word addr itype priv WrongPrivilege =
     ¬ (IsPrivilege priv × MayRetireOn word priv × MayHavePrivilegeAfter words before priv)
 AppliesToRetirement words before word addr itype priv WrongEpc = ⊥
 
--- A reason applies to a trap with this exception program counter, privilege, cause and value, after
--- the event before, where there is one.
+-- A reason applies to a trap with this exception program counter, privilege, cause and value. The event before is
+-- given, if there is one.
 abbrev pub AppliesToTrap : Words → Option Event → ℕ → ℕ → Bool → ℕ → ℕ → Why → Type 0
 AppliesToTrap words before epc priv interrupt cause tval OffProgram = ⊥
 AppliesToTrap words before epc priv interrupt cause tval NotRetirable = ⊥
@@ -51,14 +51,14 @@ AppliesToTrap words before epc priv interrupt cause tval WrongPrivilege =
 AppliesToTrap words before epc priv interrupt cause tval WrongEpc =
     ¬ ((epc % 2 ≡ 0) × MayStandAfter words before epc)
 
--- A reason applies to an event, after the event before, where there is one.
+-- A reason applies to an event. The event before is given, if there is one.
 abbrev pub Applies : Words → Option Event → Event → Why → Type 0
 Applies words before (Retire addr itype priv) why =
     AppliesToRetirement words before (words addr) addr itype priv why
 Applies words before (Trap priv interrupt cause epc tval) why =
     AppliesToTrap words before epc priv interrupt cause tval why
 
--- The reasons that are told before this one, where they apply.
+-- The reasons that come before this one in the order of naming.
 abbrev pub earlier : Why → List Why
 earlier OffProgram = []
 earlier NotRetirable = OffProgram ∷ []
@@ -67,7 +67,7 @@ earlier WrongNext = OffProgram ∷ NotRetirable ∷ WrongType ∷ []
 earlier WrongPrivilege = OffProgram ∷ NotRetirable ∷ WrongType ∷ WrongNext ∷ []
 earlier WrongEpc = OffProgram ∷ NotRetirable ∷ WrongType ∷ WrongNext ∷ WrongPrivilege ∷ []
 
--- The reason that is told of an event: it applies, and none that is told earlier does.
+-- The reason that a fault names for an event: it applies, and no earlier one does.
 pub record IsReason (words : Words) (before : Option Event) (event : Event) (why : Why) : Type 0 where
   pub applies : Applies words before event why
   pub first : AllByRecursion (λ other. ¬ Applies words before event other) (earlier why)

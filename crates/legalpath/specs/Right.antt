@@ -26,7 +26,7 @@ MayRetireAt (TrapReturn Mret) priv = priv ≡ 3
 MayRetireAt (TrapReturn Sret) priv = 1 ≤ priv
 MayRetireAt _ priv = Unit {0}
 
--- The word, if there is one, may retire as this type at this privilege.
+-- There is a word, and it may retire as this type at this privilege.
 abbrev pub RetiresOn : Option Word → ℕ → ℕ → Type 0
 RetiresOn None itype priv = ⊥
 RetiresOn (Some word) itype priv = IsTypeOf word.0 itype × MayRetireAt word.0 priv

@@ -1,6 +1,5 @@
--- Which event may follow which: a table of two columns, for the place and for the privilege of the
--- event that follows, by the kind of the event before. The column of places is what `leads` says of
--- each kind.
+-- Which event may follow which. This is a table of two columns, one for the place and one for the privilege of the
+-- event that follows. Its rows are the kinds of the event before. `leads` gives the place for each kind.
 use Rattle.std.specs.Prelude.{ℕ, ◌≡◌, ◌≤◌, Option, Some, None}
 use Rattle.retire.specs.Events.{place, privilege}
 use Rattle.retire.specs.declared.event.Event.{Event}
@@ -18,9 +17,8 @@ MayStandAt (One to) at = at ≡ to
 MayStandAt Any at = Unit {0}
 MayStandAt NoneInside at = ⊥
 
--- The column of privileges after a retirement: on this word, if there is one, it leads from the
--- first privilege to the second. SRET leads to U-mode or S-mode, MRET to any mode; no other word
--- changes the mode.
+-- The column of privileges, after a retirement of this word, if there is one: it leads from the first privilege to the
+-- second. SRET leads to U-mode or S-mode, MRET to any mode; no other word changes the mode.
 abbrev pub LeadsToPrivilege : Option Word → ℕ → ℕ → Type 0
 LeadsToPrivilege (Some (TrapReturn Mret, length)) priv after = Unit {0}
 LeadsToPrivilege (Some (TrapReturn Sret, length)) priv after = after ≤ 1
@@ -38,17 +36,17 @@ Step words before event =
     MayStandAt (successor words before) (place event)
     × MayHavePrivilegeBehind words before (privilege event)
 
--- An event may stand at this place after the one before; anywhere where there is none.
+-- An event may stand at this place after the event before. Where there is none, it may stand anywhere.
 abbrev pub MayStandAfter : Words → Option Event → ℕ → Type 0
 MayStandAfter words None at = Unit {0}
 MayStandAfter words (Some before) at = MayStandAt (successor words before) at
 
--- An event may have this privilege after the one before; any where there is none.
+-- An event may have this privilege after the event before. Where there is none, it may have any.
 abbrev pub MayHavePrivilegeAfter : Words → Option Event → ℕ → Type 0
 MayHavePrivilegeAfter words None after = Unit {0}
 MayHavePrivilegeAfter words (Some before) after = MayHavePrivilegeBehind words before after
 
--- An event may follow the one before; any may where there is none.
+-- An event may follow the event before. Where there is none, any event may come.
 abbrev pub StepFrom : Words → Option Event → Event → Type 0
 StepFrom words None event = Unit {0}
 StepFrom words (Some before) event = Step words before event

@@ -29,7 +29,7 @@ FollowersStandTogether =
     Step words event other →
     place follower ≡ place other
 
--- What follows a right retirement stands above it, unless that is a branch, a backward jump or a
+-- What follows a right retirement stands above it, unless the retirement is a branch, a backward jump or a
 -- discontinuity.
 abbrev pub FollowersStandAbove : Type 0
 FollowersStandAbove =

@@ -6,7 +6,7 @@ ghost use Rattle.legalpath.specs.FaultText.{path_fault_text, why_text};
 use std::error::Error;
 use std::fmt;
 
-/// Why a row of a log is illegal. Where more than one applies, the first in this order is told.
+/// Why a row of a log is illegal. Where several of these apply, a fault names the first in this order.
 #[derive(Clone, Copy, Debug, PartialEq, Eq)]
 pub enum Why {
     /// No whole word of the program stands at a retirement's address.
@@ -18,8 +18,7 @@ pub enum Why {
     WrongType,
     /// A retirement does not stand where the event before leads.
     WrongNext,
-    /// The privilege is none of 0, 1 and 3, or the word does not retire at it, or the event before
-    /// does not lead to it.
+    /// The privilege is none of 0, 1 and 3, or the word may not retire at it, or the event before does not lead to it.
     WrongPrivilege,
     /// A trap's exception program counter is odd, or not where the event before leads.
     WrongEpc,

@@ -1,4 +1,4 @@
-//! One event, judged by what the event before left to it.
+//! Judging one event, by what the event before left to it.
 
 ghost use Rattle.std.specs.Prelude.{◌≡◌, ◌↔◌, ◌+◌, ◌^◌, ◌<◌, ◌≤◌, IfOk, IsTrue};
 ghost use Rattle.retire.specs.Is64Bit.{Is64Bit};
@@ -38,7 +38,7 @@ pub fn left_at_start() -> Left
     }
 }
 
-/// What an event leaves, after what was left to it, or the first reason that refuses it.
+/// What an event leaves, after what was left to it, or the first reason why it is illegal.
 #[inline]
 pub fn judge(program: &Program, left: Left, event: &Event) -> Result<Left, Why>
     requires { left.greatest ≤ 3 }
@@ -79,7 +79,7 @@ fn judge_retirement(
     let Some((class, length)) = program.at(addr) else {
         return Err(Why::OffProgram);
     };
-    // Before the tests, so that one look at the class serves them too.
+    // This stands before the tests, so that the class is looked at only once.
     let leaves = Left {
         next: leads(addr, itype, class, length),
         least: least_after(class, privilege),
@@ -172,7 +172,7 @@ pub fn may_retire_at(class: Class, privilege: u8) -> bool
     }
 }
 
-/// Whether this is a privilege, 0, 1 or 3, and one that was left.
+/// Whether a number is a privilege level, 0, 1 or 3, within the bounds that were left.
 #[inline]
 fn was_left(left: Left, privilege: u8) -> bool
     requires { left.greatest ≤ 3 }
@@ -181,7 +181,7 @@ fn was_left(left: Left, privilege: u8) -> bool
     left.least <= privilege && privilege <= left.greatest && privilege != 2
 }
 
-/// The least privilege after a retirement of this class at this one.
+/// The least privilege that may follow a retirement of a word of this class at this privilege.
 #[inline]
 fn least_after(class: Class, privilege: u8) -> u8
     ensures { result ≡ judging.least_after class privilege }
@@ -192,8 +192,8 @@ fn least_after(class: Class, privilege: u8) -> u8
     }
 }
 
-/// The greatest privilege after a retirement of this class at this one: machine level after MRET, supervisor level
-/// after SRET, and the same after any other.
+/// The greatest privilege that may follow a retirement of a word of this class at this privilege: machine level after
+/// MRET, supervisor level after SRET, and the same privilege after any other word.
 #[inline]
 pub fn greatest_after(class: Class, privilege: u8) -> u8
     ensures { result ≡ greatest_after class privilege }

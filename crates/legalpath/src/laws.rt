@@ -1,4 +1,4 @@
-//! What the definitions of legal logs promise of one another.
+//! Facts that follow from the definitions of legal logs.
 
 ghost use Rattle.legalpath.specs.ReasonLaws.{RefusesTheIllegal, NamesOneFault};
 ghost use Rattle.legalpath.specs.FollowOnLaws.{SplitsAndJoins};
@@ -6,13 +6,13 @@ ghost use Rattle.legalpath.specs.StepLaws.{LeadsToOne, FollowersStandTogether, F
 ghost use Rattle.legalpath.specs.StepLaws.{FollowersKeepPrivilege};
 
 /// A row of a log has a reason exactly where it is illegal, and a log has one first fault at most.
-pub fn reasons_tell_the_illegal()
+pub fn reasons_name_illegal_rows()
     ensures refuses { RefusesTheIllegal }
     ensures one { NamesOneFault }
 {}
 
-/// A retirement that is no uninferable discontinuity leads to one address and keeps its privilege;
-/// that address is above its own, unless it is a branch or a backward jump.
+/// A right retirement that is no uninferable discontinuity leads to one address. What may follow it stands at one place
+/// and has its privilege. That place is above the retirement, unless the retirement is a branch or a backward jump.
 pub fn retirements_lead_to_one_place()
     ensures leads { LeadsToOne }
     ensures together { FollowersStandTogether }

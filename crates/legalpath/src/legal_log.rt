@@ -7,7 +7,7 @@ ghost use Rattle.rvclass.specs.Fetch.{words_of};
 ghost use Rattle.rvclass.specs.Image.{IsImage};
 ghost use Rattle.legalpath.specs.FirstFault.{IsFirstFault};
 ghost use Rattle.legalpath.specs.Legal.{Legal};
-ghost use Rattle.legalpath.specs.ProgramLog.{ProgramLog, IsLegalLog, log_of};
+ghost use Rattle.legalpath.specs.ProgramLog.{ProgramLog, IsLegalLog, program_log};
 
 use crate::checking::check;
 use crate::fault::PathFault;
@@ -26,14 +26,14 @@ pub struct LegalLog<'p, A: Allocator = Global> {
 impl<'p, A: Allocator> Model for LegalLog<'p, A> {
     ghost Value = { ProgramLog };
 
-    ghost view = { λ log. log_of log.program.now log.events.items };
+    ghost view = { λ log. program_log log.program.now log.events.items };
 
-    ghost invariant = { λ log. IsLegalLog (log_of log.program.now log.events.items) };
+    ghost invariant = { λ log. IsLegalLog (program_log log.program.now log.events.items) };
 }
 
 impl<'p, A: Allocator> LegalLog<'p, A> {
-    /// The log of these events, where [`check`] finds it legal; else the first illegal row, and the
-    /// very list.
+    /// The log of these events, if [`check`] finds it legal. Else the error has the first illegal row, and the list as
+    /// it was given.
     pub fn new(
         program: &'p Program,
         events: Vec<Event, A>,
@@ -46,7 +46,7 @@ impl<'p, A: Allocator> LegalLog<'p, A> {
             (λ refused. IsFirstFault (words_of program.now) events.items refused.0) }
         ensures back { IfErr result (λ refused. refused.1 ≡ events) }
     {
-        // Its contract tells that a program's bytes are an image.
+        // This is called for its contract: the bytes of a program are an image.
         let _ = program.byte_count();
         match check(program, &events) {
             Ok(()) => Ok(LegalLog { program, events }),

@@ -13,6 +13,6 @@ mod next;
 pub use checking::check;
 pub use fault::{PathFault, Why};
 pub use judging::{greatest_after, may_retire_at, may_stand_at};
-pub use laws::{logs_split_and_join, reasons_tell_the_illegal, retirements_lead_to_one_place};
+pub use laws::{logs_split_and_join, reasons_name_illegal_rows, retirements_lead_to_one_place};
 pub use legal_log::LegalLog;
 pub use next::{Next, leads, successor};

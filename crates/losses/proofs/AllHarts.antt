@@ -13,7 +13,7 @@ use Rattle.rvclass.specs.Fetch.{words_of}
 use Rattle.rvclass.specs.Image.{Image}
 use Rattle.rvclass.specs.Words.{IsProgram}
 use Rattle.legalpath.specs.Legal.{Legal}
-use Rattle.legalpath.specs.ProgramLog.{ProgramLog, IsLegalLog, log_of}
+use Rattle.legalpath.specs.ProgramLog.{ProgramLog, IsLegalLog, program_log}
 use Rattle.payload.specs.Closing.{is_closing_packet}
 use Rattle.payload.specs.Reading.{reading}
 use Rattle.payload.specs.Spelling.{payload_of}
@@ -27,8 +27,8 @@ use Rattle.message.proofs.HartMessages.{packets_in-cons}
 use Rattle.message.proofs.OfHartLemmas.{of_hart-own, of_hart-others}
 use Rattle.message.specs.Accepting.{next_of}
 use Rattle.message.specs.Harts.{Harts, is_over, newcomer}
-use Rattle.message.specs.Lossy.{accepting_lossy, answer_lossy, answer_lossy_of, harts_after_lossy, harts_by_lossy}
-use Rattle.message.specs.Lossy.{state_by_lossy}
+use Rattle.message.specs.Lossy.{accepting_lossy, answer_lossy, answer_lossy_of, harts_after_found_lossy}
+use Rattle.message.specs.Lossy.{harts_after_lossy, state_by_lossy}
 use Rattle.message.specs.Numbered.{messages_from}
 use Rattle.message.specs.OfHart.{of_hart, packets_in, packets_of}
 use Rattle.message.specs.declared.fault.DemuxFault.{DemuxFault}
@@ -60,10 +60,10 @@ module _ {A : Type 0} (program : Image) (period : ℕ) (handed : Mode) (own_mode
   known = All-head (λ (m : Message). m.hart < length logs) message left f.known
 
   abbrev pub log : ProgramLog
-  log = get_or logs message.hart (log_of program [])
+  log = get_or logs message.hart (program_log program [])
 
   at_log : slice_get logs message.hart ≡ Some log
-  at_log = slice_get-get_or logs message.hart (log_of program []) known
+  at_log = slice_get-get_or logs message.hart (program_log program []) known
 
   abbrev pub expects : Hart
   expects = get_or harts message.hart newcomer
@@ -74,10 +74,11 @@ module _ {A : Type 0} (program : Image) (period : ℕ) (handed : Mode) (own_mode
       slice_get-get_or harts message.hart newcomer (omega (arith, known, count))
 
   legal_log : IsLegalLog log
-  legal_log = All-get_or IsLegalLog logs message.hart (log_of program []) known f.legal
+  legal_log = All-get_or IsLegalLog logs message.hart (program_log program []) known f.legal
 
   same_program : log.program ≡ program
-  same_program = All-get_or (λ (l : ProgramLog). l.program ≡ program) logs message.hart (log_of program []) known f.same
+  same_program = All-get_or (λ (l : ProgramLog). l.program ≡ program) logs message.hart
+      (program_log program []) known f.same
 
   pub is_program : IsProgram (words_of program)
   is_program = subst (λ p. IsProgram (words_of p)) same_program (words_of-IsProgram log.program legal_log.image)
@@ -145,7 +146,7 @@ module _ {A : Type 0} (program : Image) (period : ℕ) (handed : Mode) (own_mode
   pub after : harts_after_lossy harts message
       ≡ slice_set harts message.hart (next_of message.number next.packet)
   after =
-      ap (harts_by_lossy harts message) at_hart
+      ap (harts_after_found_lossy harts message) at_hart
       ∙ ap (λ r. slice_set harts message.hart (state_by_lossy expects message.number r)) answered
 
   module _ (new_trace : HartTrace A) (new_pieces : HartPieces A)
@@ -177,7 +178,7 @@ module _ {A : Type 0} (program : Image) (period : ℕ) (handed : Mode) (own_mode
               (rest_of_log (words_of program) is_program period mode log.events is_legal) in
               before_another (words_of program) mode next.packet q behind pieces
               (subst (λ l. Rest (words_of program) mode l pieces) two last);
-          ended = follows.ended ∙ ap (λ l. closed_by collected.closed (packets_in l)) one
+          flag = follows.flag ∙ ap (λ l. closed_by collected.closed (packets_in l)) one
               ∙ ap (closed_by collected.closed) (packets_in-cons message (of_hart message.hart left) next.packet read.0)
               ∙ ap (λ b. closed_by b (packets_of message.hart left)) (sym closed);
         }
@@ -200,7 +201,7 @@ module _ {A : Type 0} (program : Image) (period : ℕ) (handed : Mode) (own_mode
               (map payload_of (drop e.expected (packets (words_of program) period (own_mode hart) l.events))))) none
               h.sent;
           stays = h.stays;
-          ended = h.ended ∙ ap (λ ms. closed_by p.closed (packets_in ms)) none;
+          flag = h.flag ∙ ap (λ ms. closed_by p.closed (packets_in ms)) none;
         }
 
     each_hart : (hart : ℕ) (l : ProgramLog) (e : Hart) (t : HartTrace A) (p : HartPieces A)
@@ -299,7 +300,7 @@ module _ {A : Type 0} (program : Image) (period : ℕ) (handed : Mode) (own_mode
       (at_pieces : slice_get pieces message.hart ≡ Some collected) (packet : Packet) (missed : ℕ)
       (value : accepting_lossy harts message ≡ Ok (packet, missed)) where
     abbrev hart_log : ProgramLog
-    hart_log = get_or logs message.hart (log_of program [])
+    hart_log = get_or logs message.hart (program_log program [])
 
     abbrev mode_here : Mode
     mode_here = own_mode message.hart

@@ -1,4 +1,4 @@
--- What any messages tell of all harts, from one message to the next.
+-- What any messages of all harts describe, from one message to the next.
 use Rattle.std.proofs.Common.{◌≡◌, ◌≢◌, ◌⊎◌, inl, inr, ℕ, ◌+◌, ◌<◌, All, false, List, [], ◌∷◌, ◌++◌, Ok, Some}
 use Rattle.std.proofs.Common.{None, length, set, slice_get, refl, sym, ap, subst, ◌∙◌, arith}
 use Rattle.std.specs.Prelude.{⊤, Result, Err, OnOk, IfErr}
@@ -7,13 +7,13 @@ use Rattle.std.proofs.lemmas.List.Elements.{All-get_or}
 use Rattle.std.proofs.lemmas.Option.{get_or_from_slice_get, slice_get_within}
 use Rattle.rvclass.specs.Words.{Words}
 use Rattle.payload.specs.Closing.{is_closing_packet}
-use Rattle.payload.specs.Ended.{has_ended}
+use Rattle.payload.specs.ClosedTrace.{last_is_closing}
 use Rattle.payload.specs.declared.mode.Mode.{Mode}
 use Rattle.payload.specs.declared.packet.Packet.{Packet}
 use Rattle.decoder.specs.Resuming.{IsClosed}
 use Rattle.message.proofs.AcceptedLemmas.{slice_get-set}
 use Rattle.message.proofs.Elements.{slice_get-some}
-use Rattle.message.proofs.HartMessages.{has_ended-next, packets_of-next, packets_of-other}
+use Rattle.message.proofs.HartMessages.{last_is_closing-next, packets_of-next, packets_of-other}
 use Rattle.message.proofs.OfHartLemmas.{of_hart-next, of_hart-other}
 use Rattle.message.specs.Accepted.{newcomers}
 use Rattle.message.specs.Accepting.{next_of}
@@ -24,19 +24,21 @@ use Rattle.message.specs.declared.hart.Hart.{Hart}
 use Rattle.message.specs.declared.message.Message.{Message}
 use Rattle.losses.specs.PartsIn.{parts_in}
 use Rattle.losses.specs.Runs.{Run, missing_behind, mode_in, over_before, packets_behind, run_of}
-use Rattle.losses.specs.Told.{AreTold, TellSome, TellsParts}
+use Rattle.losses.specs.DescribedParts.{AreDescribed, EachHartDescribes, MessagesDescribe}
 use Rattle.losses.specs.steps.Collecting.{AreEnded, IsEnded, IsNewPieces, IsNewTrace, IsNotTaken}
-use Rattle.losses.specs.steps.Telling.{FollowsMessages, FollowsRuns, IsNotTold, IsUntoldBy, TellsAll}
+use Rattle.losses.specs.steps.FollowingRuns.{FollowsMessages, FollowsRuns, IsMessageFault, IsPacketFault}
+use Rattle.losses.specs.steps.FollowingRuns.{FollowsEveryHart}
 use Rattle.losses.specs.declared.fault.LossyFault.{LossyFault}
 use Rattle.losses.specs.declared.fault.LossyFault.TheVariants as fault
 use Rattle.losses.specs.declared.hart_trace.HartTrace.{HartTrace}
 use Rattle.losses.specs.declared.part.HartPieces.{HartPieces}
-use Rattle.losses.proofs.MessageSteps.{IsTaken, message_more, message_untold, taken_by, tells_parts}
+use Rattle.losses.proofs.MessageSteps.{IsTaken, message_more, message_not_decoded, taken_by, messages_describe}
 use Rattle.losses.proofs.RunLemmas.{describes_nothing}
 use Rattle.losses.proofs.TraceSteps.{state_laws}
 
 module _ {A : Type 0} (words : Words) (mode : Mode) (messages : List Message) (message : Message) (harts : Harts)
-    (traces : List (HartTrace A)) (pieces : List (HartPieces A)) (f : TellsAll words mode messages harts traces pieces)
+    (traces : List (HartTrace A)) (pieces : List (HartPieces A))
+    (f : FollowsEveryHart words mode messages harts traces pieces)
     (trace new_trace : HartTrace A) (collected new_pieces : HartPieces A)
     (at_trace : slice_get traces message.hart ≡ Some trace)
     (at_pieces : slice_get pieces message.hart ≡ Some collected) (packet : Packet) (missed : ℕ)
@@ -46,13 +48,13 @@ module _ {A : Type 0} (words : Words) (mode : Mode) (messages : List Message) (m
 
   follows : FollowsMessages words mode (of_hart message.hart messages) taken.expects.expected false trace.decoder
       (parts_in collected.parts.items) trace.stretch.items
-  follows = subst (λ ended. FollowsMessages words mode (of_hart message.hart messages) taken.expects.expected ended
+  follows = subst (λ closed. FollowsMessages words mode (of_hart message.hart messages) taken.expects.expected closed
       trace.decoder (parts_in collected.parts.items) trace.stretch.items) taken.goes
       (f.each message.hart taken.expects trace collected taken.at at_trace at_pieces)
 
   -- What a hart's trace promises of its next packet.
-  abbrev Tells : Result ⊤ LossyFault → Type 0
-  Tells result =
+  abbrev TraceFollows : Result ⊤ LossyFault → Type 0
+  TraceFollows result =
       (done : List Run) (missing next : ℕ) (packets : List Packet)
       → FollowsRuns words mode done missing packets next false trace.decoder (parts_in collected.parts.items)
       trace.stretch.items
@@ -60,12 +62,12 @@ module _ {A : Type 0} (words : Words) (mode : Mode) (messages : List Message) (m
       (missing_behind missed missing) (packets_behind missed packets ++ packet ∷ []) (next + missed + 1)
       (is_closing_packet packet) new_trace.decoder (parts_in new_pieces.parts.items) new_trace.stretch.items)
 
-  abbrev Untold : Result ⊤ LossyFault → Type 0
-  Untold result =
+  abbrev TraceFault : Result ⊤ LossyFault → Type 0
+  TraceFault result =
       (done : List Run) (missing next : ℕ) (packets : List Packet)
       → FollowsRuns words mode done missing packets next false trace.decoder (parts_in collected.parts.items)
       trace.stretch.items
-      → IfErr result (λ why. IsUntoldBy words (mode_in mode ((done ++ over_before missed (run_of missing packets))
+      → IfErr result (λ why. IsPacketFault words (mode_in mode ((done ++ over_before missed (run_of missing packets))
       ++ run_of (missing_behind missed missing) (packets_behind missed packets ++ packet ∷ []) ∷ []))
       (missing_behind missed missing) (packets_behind missed packets) packet why)
 
@@ -120,52 +122,53 @@ module _ {A : Type 0} (words : Words) (mode : Mode) (messages : List Message) (m
             t.stretch.items) (sym (of_hart-other hart messages message apart)) (f.each hart e t p is_e is_t is_p)
 
     ends : (hart : ℕ) (p : HartPieces A) → slice_get (set pieces message.hart new_pieces) hart ≡ Some p
-        → p.closed ≡ has_ended (packets_of hart (messages ++ message ∷ []))
+        → p.closed ≡ last_is_closing (packets_of hart (messages ++ message ∷ []))
     ends hart p at = by_hart (slice_get-set pieces message.hart new_pieces hart p at)
       where
         by_hart : ((message.hart ≡ hart) × (p ≡ new_pieces)) ⊎ ((message.hart ≢ hart) × (slice_get pieces hart ≡ Some
             p))
-            → p.closed ≡ has_ended (packets_of hart (messages ++ message ∷ []))
+            → p.closed ≡ last_is_closing (packets_of hart (messages ++ message ∷ []))
         by_hart (inl (same, is)) =
             ap (λ (x : HartPieces A). x.closed) is ∙ closed
-            ∙ sym (has_ended-next (packets_of message.hart messages) packet)
-            ∙ ap has_ended (sym (packets_of-next messages message packet taken.read))
-            ∙ ap (λ h. has_ended (packets_of h (messages ++ message ∷ []))) same
+            ∙ sym (last_is_closing-next (packets_of message.hart messages) packet)
+            ∙ ap last_is_closing (sym (packets_of-next messages message packet taken.read))
+            ∙ ap (λ h. last_is_closing (packets_of h (messages ++ message ∷ []))) same
         by_hart (inr (apart, stood)) =
-            f.ended hart p stood ∙ ap has_ended (sym (packets_of-other hart messages message apart))
+            f.closed hart p stood ∙ ap last_is_closing (sym (packets_of-other hart messages message apart))
 
-    tells_more : TellsAll words mode (messages ++ message ∷ []) (harts_after_lossy harts message)
+    every_hart_more : FollowsEveryHart words mode (messages ++ message ∷ []) (harts_after_lossy harts message)
         (set traces message.hart new_trace) (set pieces message.hart new_pieces)
-    tells_more =
-        subst (λ hs. TellsAll words mode (messages ++ message ∷ []) hs (set traces message.hart new_trace)
-        (set pieces message.hart new_pieces)) (sym taken.after) (record { each = each_hart; ended = ends })
+    every_hart_more =
+        subst (λ hs. FollowsEveryHart words mode (messages ++ message ∷ []) hs (set traces message.hart new_trace)
+        (set pieces message.hart new_pieces)) (sym taken.after) (record { each = each_hart; closed = ends })
 
   -- The message is collected, where its packet is taken.
-  pub tells_next : (result : Result ⊤ LossyFault) → Tells result
+  pub every_hart_next : (result : Result ⊤ LossyFault) → TraceFollows result
       → OnOk result (new_pieces.closed ≡ is_closing_packet packet)
-      → OnOk result (TellsAll words mode (messages ++ message ∷ []) (harts_after_lossy harts message)
+      → OnOk result (FollowsEveryHart words mode (messages ++ message ∷ []) (harts_after_lossy harts message)
       (set traces message.hart new_trace) (set pieces message.hart new_pieces))
-  tells_next (Err why) tells closed = tt
-  tells_next (Ok fine) tells closed =
-      tells_more closed (tells follows.done follows.missing taken.expects.expected follows.packets follows.runs)
+  every_hart_next (Err why) goes_on closed = tt
+  every_hart_next (Ok fine) goes_on closed =
+      every_hart_more closed (goes_on follows.done follows.missing taken.expects.expected follows.packets follows.runs)
 
-  -- Or it is told why it is not.
-  pub untold_next : (place : ℕ) (result : Result ⊤ LossyFault) → Untold result
+  -- Or the fault says why it is not.
+  pub every_hart_fault : (place : ℕ) (result : Result ⊤ LossyFault) → TraceFault result
       → IfErr result (λ why. IsNotTaken place why)
-      → IfErr result (λ why. IsNotTold words mode messages message why)
-  untold_next place (Ok fine) untold not = tt
-  untold_next place (Err fault.Memory) untold not = tt
-  untold_next place (Err (fault.Demux at why)) untold not = tt
-  untold_next place (Err (fault.Decode at why)) untold not =
-      let is = untold follows.done follows.missing taken.expects.expected follows.packets follows.runs in
-      let found = message_untold words mode (of_hart message.hart messages) message taken.expects.expected missed packet
+      → IfErr result (λ why. IsMessageFault words mode messages message why)
+  every_hart_fault place (Ok fine) refused not = tt
+  every_hart_fault place (Err fault.Memory) refused not = tt
+  every_hart_fault place (Err (fault.Demux at why)) refused not = tt
+  every_hart_fault place (Err (fault.Decode at why)) refused not =
+      let is = refused follows.done follows.missing taken.expects.expected follows.packets follows.runs in
+      let found = message_not_decoded words mode (of_hart message.hart messages) message taken.expects.expected missed
+      packet
       taken.number taken.read trace.decoder (parts_in collected.parts.items) trace.stretch.items follows why not.1 is
       (of_hart message.hart (messages ++ message ∷ [])) (of_hart-next messages message) in
       record {
         packet = found.0;
         read = found.1;
         not_opened = found.2;
-        not_ended = is.stays_open;
+        not_after_close = is.stays_open;
         not_described = found.3;
       }
 
@@ -176,10 +179,11 @@ within_of harts message packet missed value =
     let t = taken_by harts message packet missed value in slice_get_within harts message.hart t.expects t.at
 
 -- Before the first message.
-pub tells_first : {A : Type 0} (words : Words) (mode : Mode) (count : ℕ) (demux : Harts) (traces : List (HartTrace A))
+pub every_hart_first : {A : Type 0} (words : Words) (mode : Mode) (count : ℕ) (demux : Harts)
+    (traces : List (HartTrace A))
     (pieces : List (HartPieces A)) → demux ≡ newcomers count → All IsNewTrace traces → All IsNewPieces pieces
-    → TellsAll words mode [] demux traces pieces
-tells_first words mode count demux traces pieces is new_traces new_pieces = record {
+    → FollowsEveryHart words mode [] demux traces pieces
+every_hart_first words mode count demux traces pieces is new_traces new_pieces = record {
   each = λ hart expects trace collected at_hart at_trace at_pieces.
       let of_newcomers = subst (λ hs. slice_get hs hart ≡ Some expects) is at_hart in
       let within = slice_get_within (newcomers count) hart expects of_newcomers in
@@ -203,13 +207,13 @@ tells_first words mode count demux traces pieces is new_traces new_pieces = reco
           beyond = omega arith;
           front = [];
           before = refl;
-          told = refl;
+          so_far = refl;
           follows = record {
             described = describes_nothing words;
             stands = λ stays. stands;
             stays_open = λ stays. not_closed;
-            told = None;
-            has_mode = t.untold;
+            announced = None;
+            has_mode = t.no_mode;
             right = refl;
           };
         };
@@ -221,7 +225,7 @@ tells_first words mode count demux traces pieces is new_traces new_pieces = reco
       (sym t.empty) by_parts in
       subst (λ (e : Hart). FollowsMessages words mode [] e.expected e.closed trace.decoder
       (parts_in collected.parts.items) trace.stretch.items) new by_events;
-  ended = λ hart collected at. (piece_new hart collected at).1;
+  closed = λ hart collected at. (piece_new hart collected at).1;
 }
   where
     piece_new : (hart : ℕ) (collected : HartPieces _) → slice_get pieces hart ≡ Some collected → IsNewPieces collected
@@ -230,17 +234,18 @@ tells_first words mode count demux traces pieces is new_traces new_pieces = reco
         (All-get_or IsNewPieces pieces hart collected (slice_get_within pieces hart collected at) new_pieces)
 
 -- After the last one, where the stretches are ended.
-pub told_last : {A : Type 0} (words : Words) (mode : Mode) (messages : List Message) (demux : Harts)
+pub described_last : {A : Type 0} (words : Words) (mode : Mode) (messages : List Message) (demux : Harts)
     (traces : List (HartTrace A)) (before after : List (HartPieces A))
-    → TellsAll words mode messages demux traces before → length traces ≡ length before → length demux ≡ length before
-    → AreEnded traces before after → AreTold words mode messages after
-told_last words mode messages demux traces before after f traces_count harts_count ended = record {
+    → FollowsEveryHart words mode messages demux traces before → length traces ≡ length before → length demux
+    ≡ length before
+    → AreEnded traces before after → AreDescribed words mode messages after
+described_last words mode messages demux traces before after f traces_count harts_count ended = record {
   parts = λ hart pieces at.
       let e = hart_ended hart pieces at in
-      subst (TellsParts words mode (of_hart hart messages)) (sym e.2.parts)
-      (tells_parts words mode (of_hart hart messages) _ _ _ _ _ (f.each hart e.3.0 e.0 e.1 e.3.1 e.4 e.5));
+      subst (MessagesDescribe words mode (of_hart hart messages)) (sym e.2.parts)
+      (messages_describe words mode (of_hart hart messages) _ _ _ _ _ (f.each hart e.3.0 e.0 e.1 e.3.1 e.4 e.5));
   closed = λ hart pieces at.
-      let e = hart_ended hart pieces at in e.2.closed ∙ f.ended hart e.1 e.5;
+      let e = hart_ended hart pieces at in e.2.closed ∙ f.closed hart e.1 e.5;
 }
   where
     hart_ended : (hart : ℕ) (pieces : HartPieces _) → slice_get after hart ≡ Some pieces
@@ -255,14 +260,16 @@ told_last words mode messages demux traces before after f traces_count harts_cou
         let e = slice_get-some demux hart (omega (arith, inside, all, harts_count)) in
         (t.0, p.0, ended.each hart t.0 p.0 pieces t.1 p.1 at, e, t.1, p.1)
 
--- The messages so far tell some parts of each hart.
-pub tell_some : {A : Type 0} (words : Words) (mode : Mode) (count : ℕ) (messages : List Message) (demux : Harts)
-    (traces : List (HartTrace A)) (pieces : List (HartPieces A)) → TellsAll words mode messages demux traces pieces
-    → length demux ≡ count → length traces ≡ count → length pieces ≡ count → TellSome words mode count messages
-tell_some words mode count messages demux traces pieces f harts_count traces_count pieces_count = λ hart few.
+-- Each hart's messages so far describe some parts.
+pub each_hart_describes : {A : Type 0} (words : Words) (mode : Mode) (count : ℕ) (messages : List Message)
+    (demux : Harts)
+    (traces : List (HartTrace A)) (pieces : List (HartPieces A))
+    → FollowsEveryHart words mode messages demux traces pieces
+    → length demux ≡ count → length traces ≡ count → length pieces ≡ count → EachHartDescribes words mode count messages
+each_hart_describes words mode count messages demux traces pieces f harts_count traces_count pieces_count = λ hart few.
     let e = slice_get-some demux hart (omega (arith, few, harts_count)) in
     let t = slice_get-some traces hart (omega (arith, few, traces_count)) in
     let p = slice_get-some pieces hart (omega (arith, few, pieces_count)) in (
       _,
-      tells_parts words mode (of_hart hart messages) _ _ _ _ _ (f.each hart e.0 t.0 p.0 e.1 t.1 p.1),
+      messages_describe words mode (of_hart hart messages) _ _ _ _ _ (f.each hart e.0 t.0 p.0 e.1 t.1 p.1),
     )

@@ -31,11 +31,11 @@ legal_alone : (words : Words) (before : Option Event) (events : List Event) → 
 legal_alone words before [] follows = tt
 legal_alone words before (event ∷ events) follows = (follows.0, tt, follows.2)
 
--- Where the first packet opens a trace, nothing comes before, and it tells this mode.
+-- Where the first packet opens a trace, nothing comes before, and it announces this mode.
 abbrev pub IsOpening : Mode → Option Event → ℕ → List Packet → Type 0
 IsOpening mode before reported ps =
-    (told : Mode) → first ps None ≡ Some (packet.Support (support.Open told)) →
-    (before ≡ None) × (reported ≡ 0) × (told ≡ mode)
+    (announced : Mode) → first ps None ≡ Some (packet.Support (support.Open announced)) →
+    (before ≡ None) × (reported ≡ 0) × (announced ≡ mode)
 
 -- The last packets of a log with their pieces.
 pub record Rest (words : Words) (mode : Mode) (ps : List Packet) (pieces : List (List Event)) : Type 0 where
@@ -61,8 +61,8 @@ module _ (words : Words) (mode : Mode) where
   -- No packet behind another opens a trace.
   none_opens : (p : Packet) (ps : List Packet) (before : Option Event) (reported : ℕ) → MayPrecede p (first ps None)
       → IsOpening mode before reported ps
-  none_opens p ps before reported precedes = λ told is.
-      let may : MayPrecede p (Some (packet.Support (support.Open told))) = subst (MayPrecede p) is precedes in
+  none_opens p ps before reported precedes = λ announced is.
+      let may : MayPrecede p (Some (packet.Support (support.Open announced))) = subst (MayPrecede p) is precedes in
       absurd may.1
 
   -- Behind the first of the last packets come the others.
@@ -104,18 +104,18 @@ module _ (words : Words) (mode : Mode) where
       (front_describes words (open_packet ∷ sync ∷ ps) more (join (piece ∷ pieces)) all).0
 
   -- From the packet on that opens the trace.
-  from_open : (told : Mode) (ps more : List Packet) (piece : List Event) (pieces : List (List Event))
-      → Rest words mode (packet.Support (support.Open told) ∷ ps ++ more) (piece ∷ pieces)
-      → Describes words (packet.Support (support.Open told) ∷ ps)
-      (stretch_of (packet.Support (support.Open told) ∷ ps) (piece ∷ pieces))
-  from_open told ps more piece pieces r =
-      let opens = packet.Support (support.Open told) in
-      let is = r.opening told refl in
+  from_open : (announced : Mode) (ps more : List Packet) (piece : List Event) (pieces : List (List Event))
+      → Rest words mode (packet.Support (support.Open announced) ∷ ps ++ more) (piece ∷ pieces)
+      → Describes words (packet.Support (support.Open announced) ∷ ps)
+      (stretch_of (packet.Support (support.Open announced) ∷ ps) (piece ∷ pieces))
+  from_open announced ps more piece pieces r =
+      let opens = packet.Support (support.Open announced) in
+      let is = r.opening announced refl in
       let by_mode = subst (λ m. Pieces words m r.before r.reported (opens ∷ ps ++ more) None (piece ∷ pieces))
       (sym is.2) r.each in
-      let by_before = subst (λ b. Pieces words told b r.reported (opens ∷ ps ++ more) None (piece ∷ pieces))
+      let by_before = subst (λ b. Pieces words announced b r.reported (opens ∷ ps ++ more) None (piece ∷ pieces))
       is.0 by_mode in
-      let each = subst (λ a. Pieces words told None a (opens ∷ ps ++ more) None (piece ∷ pieces)) is.1 by_before in
+      let each = subst (λ a. Pieces words announced None a (opens ∷ ps ++ more) None (piece ∷ pieces)) is.1 by_before in
       let all : Describes words ((opens ∷ ps) ++ more) (join (piece ∷ pieces)) = record {
         begins = tt;
         pieces = piece ∷ pieces;
@@ -134,8 +134,8 @@ module _ (words : Words) (mode : Mode) where
       from_sync taken priv address ps more piece pieces r
   stretch_described (packet.Trap taken priv cause interrupt handler address tval ∷ ps) more (piece ∷ pieces) r =
       stretch_described ps more pieces (rest_behind _ (ps ++ more) piece pieces r)
-  stretch_described (packet.Support (support.Open told) ∷ ps) more (piece ∷ pieces) r =
-      from_open told ps more piece pieces r
+  stretch_described (packet.Support (support.Open announced) ∷ ps) more (piece ∷ pieces) r =
+      from_open announced ps more piece pieces r
   stretch_described (packet.Support support.EndedRep ∷ ps) more (piece ∷ pieces) r =
       stretch_described ps more pieces (rest_behind _ (ps ++ more) piece pieces r)
   stretch_described (packet.Support support.EndedNtr ∷ ps) more (piece ∷ pieces) r =
@@ -153,12 +153,13 @@ rest_of_log words program period mode log legal = record {
   reported = 0;
   each = packets_have_stretches words program period mode log legal;
   follows = subst (FollowOn words None) (sym (join-stretches words program period mode log legal)) legal;
-  opening = λ told is. (refl, refl, same told is);
+  opening = λ announced is. (refl, refl, same announced is);
 }
   where
-    same : (told : Mode) → Some (packet.Support (support.Open mode)) ≡ Some (packet.Support (support.Open told))
-        → told ≡ mode
-    same told is = cc
+    same : (announced : Mode) → Some (packet.Support (support.Open mode))
+        ≡ Some (packet.Support (support.Open announced))
+        → announced ≡ mode
+    same announced is = cc
 
 -- The packets of a block of a legal log describe its stretch.
 pub block_described : (words : Words) → IsProgram words → (period : ℕ) (mode : Mode) (log : List Event)

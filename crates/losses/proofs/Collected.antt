@@ -11,7 +11,7 @@ use Rattle.rvclass.specs.Image.{Image}
 use Rattle.rvclass.specs.Words.{IsProgram}
 use Rattle.legalpath.specs.Legal.{Legal}
 use Rattle.legalpath.specs.ProgramLog.{ProgramLog, IsLegalLog}
-use Rattle.payload.specs.Ended.{closes}
+use Rattle.payload.specs.ClosedTrace.{closes}
 use Rattle.payload.specs.Spelling.{payload_of}
 use Rattle.payload.specs.declared.mode.Mode.{Mode}
 use Rattle.payload.specs.declared.packet.Packet.{Packet}
@@ -81,7 +81,7 @@ module _ {A : Type 0} (program : Image) (period : ℕ) (handed : Mode) (own : �
           let not_closed : ¬ IsClosed trace.decoder = λ closed.
           let ended = (state_laws.closed (words_of program) [] [] trace.decoder stands).0 closed in cc in
           let first = follows_none (words_of program) is_program period handed (own hart) log.events is_legal state_laws
-          (numbers_of hart messages) trace.decoder stands t.untold not_closed (of_logs.told hart known) in
+          (numbers_of hart messages) trace.decoder stands t.no_mode not_closed (of_logs.mode_known hart known) in
           let by_parts = subst (λ l. FollowsTrace (words_of program) period handed (own hart) log.events (numbers_of
           hart messages) 0
           (numbers_of hart messages) trace.decoder l []) (sym (ap parts_in p.0)) first in
@@ -96,7 +96,7 @@ module _ {A : Type 0} (program : Image) (period : ℕ) (handed : Mode) (own : �
             trace = by_events;
             sent = sent log same (of_logs.some hart log at_log);
             stays = λ packet later is. refl;
-            ended = closed_by-all None (packets_of hart messages)
+            flag = closed_by-all None (packets_of hart messages)
                 ∙ ap (λ b. closed_by b (packets_of hart messages)) (sym p.1);
           })
         where
@@ -135,7 +135,7 @@ module _ {A : Type 0} (program : Image) (period : ℕ) (handed : Mode) (own : �
         let all = ended.count in
         let log = slice_get-some logs hart (omega (arith, inside, all, pieces_count)) in
         let h = e.3 log.0 log.1 in
-        e.2.closed ∙ sym h.1.ended;
+        e.2.closed ∙ sym h.1.flag;
   }
     where
       Ends : (hart : ℕ) → HartPieces A → Type 0

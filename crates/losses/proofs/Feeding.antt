@@ -7,7 +7,7 @@ use Rattle.std.specs.Option.{unwrap_or}
 use Rattle.retire.specs.declared.event.Event.{Event}
 use Rattle.rvclass.specs.Words.{Words, IsProgram}
 use Rattle.payload.specs.Closing.{is_closing_packet}
-use Rattle.payload.specs.Ended.{has_ended}
+use Rattle.payload.specs.ClosedTrace.{last_is_closing}
 use Rattle.payload.specs.declared.mode.Mode.{Mode}
 use Rattle.payload.specs.declared.packet.Packet.{Packet}
 use Rattle.payload.specs.declared.packet.Packet.TheVariants as packet
@@ -16,18 +16,18 @@ use Rattle.decoder.proofs.UniqueLemmas.{one_log}
 use Rattle.decoder.specs.Describes.{Describes}
 use Rattle.decoder.specs.Order.{IsOpen}
 use Rattle.decoder.specs.Resuming.{IsSync, HasMode, IsClosed, PassesOver}
-use Rattle.decoder.specs.Stands.{Stands}
+use Rattle.decoder.specs.DecoderStands.{DecoderStands}
 use Rattle.decoder.specs.declared.decoding.Decoder.{Decoder}
 use Rattle.decoder.specs.declared.fault.DecodeFault.{DecodeFault}
 use Rattle.decoder.specs.declared.fault.DecodeFault.TheVariants.{Memory}
 use Rattle.losses.specs.steps.DecoderSteps.{Feeds}
 use Rattle.losses.specs.steps.Traces.{from_start, trace_of, DescribesFrom, StandsFrom, FollowsBlock}
-use Rattle.losses.proofs.TraceLemmas.{from_start-begun, from_start-none, trace_of-more, has_ended-last}
+use Rattle.losses.proofs.TraceLemmas.{from_start-begun, from_start-none, trace_of-more, last_is_closing-last}
 
 -- The laws of a decoder's state.
 pub record StateLaws : Type 0 where
-  pub closed : (words : Words) (ps : List Packet) (log : List Event) (decoder : Decoder) → Stands words ps log decoder
-      → IsClosed decoder ↔ (has_ended ps ≡ true)
+  pub closed : (words : Words) (ps : List Packet) (log : List Event) (decoder : Decoder)
+      → DecoderStands words ps log decoder → IsClosed decoder ↔ (last_is_closing ps ≡ true)
   pub passing : (mode : Mode) (decoder : Decoder) → PassesOver mode decoder → ¬ IsClosed decoder
 
 -- What is known then: the events are the stretch of the packets, and where the packet closes nothing the decoder
@@ -47,14 +47,14 @@ pub data Place (mode : Mode) (p : Packet) (first : ℕ) (ps : List Packet) : Typ
 module _ (words : Words) (program : IsProgram words) (handed mode : Mode) (laws : StateLaws) (p : Packet)
     (old new : Decoder) (before after : List Event) where
   -- A stretch that has begun goes on; or the first packet of a trace comes, or a synchronisation.
-  module _ (first : ℕ) (ps trace : List Packet) (stretch : List Event) (told : Option Mode)
-      (right : unwrap_or told handed ≡ mode)
+  module _ (first : ℕ) (ps trace : List Packet) (stretch : List Event) (announced : Option Mode)
+      (right : unwrap_or announced handed ≡ mode)
       (described : Describes words (trace ++ p ∷ []) stretch)
-      (stood : (decoder : Decoder) → Stands words (trace ++ p ∷ []) stretch decoder
+      (stood : (decoder : Decoder) → DecoderStands words (trace ++ p ∷ []) stretch decoder
       → StandsFrom words mode (from_start ps) first stretch decoder) where
-    stands_on : (result : Result ⊤ DecodeFault) → OnOk result (Stands words (trace ++ p ∷ []) after new)
+    stands_on : (result : Result ⊤ DecodeFault) → OnOk result (DecoderStands words (trace ++ p ∷ []) after new)
         → IfErr result (λ fault. (fault ≡ Memory) ⊎ ((other : List Event) → ¬ Describes words (trace ++ p ∷ []) other))
-        → OnOk result (HasMode told new)
+        → OnOk result (HasMode announced new)
         → Fed words handed mode first ps (is_closing_packet p) stretch new after result
     stands_on (Err fault) on none has = record {
       events = tt;
@@ -63,16 +63,16 @@ module _ (words : Words) (program : IsProgram words) (handed mode : Mode) (laws 
     }
     stands_on (Ok done) on none has =
         let same : after ≡ stretch = one_log words program (trace ++ p ∷ []) after stretch on.described described in
-        let stands = subst (λ events. Stands words (trace ++ p ∷ []) events new) same on in
+        let stands = subst (λ events. DecoderStands words (trace ++ p ∷ []) events new) same on in
         record {
           events = same;
           follows = λ stays. record {
-            told = told;
+            announced = announced;
             has_mode = has;
             right = inl right;
             not_closed = λ closed.
                 let ended = (laws.closed words (trace ++ p ∷ []) stretch new stands).0 closed in
-                let is = has_ended-last trace p in
+                let is = last_is_closing-last trace p in
                 cc;
             stands = stood new stands;
           };
@@ -82,10 +82,10 @@ module _ (words : Words) (program : IsProgram words) (handed mode : Mode) (laws 
   module _ (ps : List Packet) (stretch : List Event) (result : Result ⊤ DecodeFault)
       (feeds : Feeds words p old new before after result)
       (described : DescribesFrom words mode (from_start (ps ++ p ∷ [])) stretch)
-      (told : Option Mode) (has_mode : HasMode told old) (right : unwrap_or told handed ≡ mode) where
+      (announced : Option Mode) (has_mode : HasMode announced old) (right : unwrap_or announced handed ≡ mode) where
     -- One packet more of a stretch that has begun.
     goes_on : (first : ℕ) (q : Packet) (qs : List Packet) → from_start ps ≡ q ∷ qs
-        → Stands words (trace_of mode (q ∷ qs)) before old → ¬ IsOpen p
+        → DecoderStands words (trace_of mode (q ∷ qs)) before old → ¬ IsOpen p
         → Fed words handed mode first (ps ++ p ∷ []) (is_closing_packet p) stretch new after result
     goes_on first q qs is stands behind =
         let starts : from_start (ps ++ p ∷ []) ≡ (q ∷ qs) ++ p ∷ [] = from_start-begun ps p q qs is in
@@ -93,15 +93,15 @@ module _ (words : Words) (program : IsProgram words) (handed mode : Mode) (laws 
         let more = trace_of-more mode q qs p in
         let whole : Describes words (trace_of mode ((q ∷ qs) ++ p ∷ [])) stretch =
         subst (λ l. DescribesFrom words mode l stretch) starts described in
-        stands_on first (ps ++ p ∷ []) trace stretch told right (subst (λ l. Describes words l stretch) more whole)
+        stands_on first (ps ++ p ∷ []) trace stretch announced right (subst (λ l. Describes words l stretch) more whole)
         (λ decoder stood.
-        let here : Stands words (trace_of mode ((q ∷ qs) ++ p ∷ [])) stretch decoder =
-        subst (λ l. Stands words l stretch decoder) (sym more) stood in
+        let here : DecoderStands words (trace_of mode ((q ∷ qs) ++ p ∷ [])) stretch decoder =
+        subst (λ l. DecoderStands words l stretch decoder) (sym more) stood in
         subst (λ l. StandsFrom words mode l first stretch decoder) (sym starts) here)
         result (feeds.stands trace stands) (feeds.none trace stands) (kept result)
       where
-        kept : (result : Result ⊤ DecodeFault) → OnOk result (HasMode told new)
-        kept (Ok done) = feeds.mode_kept told has_mode behind
+        kept : (result : Result ⊤ DecodeFault) → OnOk result (HasMode announced new)
+        kept (Ok done) = feeds.mode_kept announced has_mode behind
         kept (Err fault) = tt
 
     -- A packet that is passed over.
@@ -118,8 +118,8 @@ module _ (words : Words) (program : IsProgram words) (handed mode : Mode) (laws 
         (record {
           events = over.2 ∙ empty ∙ sym none;
           follows = λ closing. record {
-            told = told;
-            has_mode = feeds.mode_kept told has_mode no_open;
+            announced = announced;
+            has_mode = feeds.mode_kept announced has_mode no_open;
             right = inl right;
             not_closed = laws.passing mode new passing_on;
             stands = subst (λ l. StandsFrom words mode l (suc first) stretch new) (sym starts) (passing_on, none);
@@ -145,22 +145,22 @@ module _ (words : Words) (program : IsProgram words) (handed mode : Mode) (laws 
         let opening = packet.Support (support.Open mode) in
         let from : DescribesFrom words mode (p ∷ []) stretch =
         subst (λ l. DescribesFrom words mode l stretch) starts described in
-        stands_on first (ps ++ p ∷ []) (opening ∷ []) stretch told right
+        stands_on first (ps ++ p ∷ []) (opening ∷ []) stretch announced right
         (subst (λ l. Describes words l stretch) trace from)
         (λ decoder stood. subst (λ l. StandsFrom words mode l first stretch decoder) (sym starts)
-        (subst (λ l. Stands words l stretch decoder) (sym trace) stood))
+        (subst (λ l. DecoderStands words l stretch decoder) (sym trace) stood))
         result (feeds.begins mode passing syncs after (ap (λ l. l ++ after) (sym empty)))
         (feeds.begins_none mode passing syncs) (kept result)
       where
-        kept : (result : Result ⊤ DecodeFault) → OnOk result (HasMode told new)
-        kept (Ok done) = feeds.mode_kept told has_mode no_open
+        kept : (result : Result ⊤ DecodeFault) → OnOk result (HasMode announced new)
+        kept (Ok done) = feeds.mode_kept announced has_mode no_open
         kept (Err fault) = tt
 
   module _ (ps : List Packet) (stretch : List Event) (result : Result ⊤ DecodeFault)
       (feeds : Feeds words p old new before after result)
       (described : DescribesFrom words mode (from_start (ps ++ p ∷ [])) stretch) where
     -- The packet that opens the trace.
-    opens : ps ≡ [] → p ≡ packet.Support (support.Open mode) → Stands words [] [] old → before ≡ []
+    opens : ps ≡ [] → p ≡ packet.Support (support.Open mode) → DecoderStands words [] [] old → before ≡ []
         → Fed words handed mode 0 (ps ++ p ∷ []) (is_closing_packet p) stretch new after result
     opens none is stands empty =
         let starts : from_start (ps ++ p ∷ []) ≡ p ∷ [] =
@@ -168,16 +168,16 @@ module _ (words : Words) (program : IsProgram words) (handed mode : Mode) (laws 
         let trace : trace_of mode (p ∷ []) ≡ p ∷ [] = ap (λ q. trace_of mode (q ∷ [])) is ∙ ap (λ q. q ∷ []) (sym is) in
         let from : DescribesFrom words mode (p ∷ []) stretch =
         subst (λ l. DescribesFrom words mode l stretch) starts described in
-        let stood_before = subst (λ events. Stands words [] events old) (sym empty) stands in
+        let stood_before = subst (λ events. DecoderStands words [] events old) (sym empty) stands in
         stands_on 0 (ps ++ p ∷ []) [] stretch (Some mode) refl (subst (λ l. Describes words l stretch) trace from)
         (λ decoder stood. subst (λ l. StandsFrom words mode l 0 stretch decoder) (sym starts)
-        (subst (λ l. Stands words l stretch decoder) (sym trace) stood))
-        result (feeds.stands [] stood_before) (feeds.none [] stood_before) (feeds.told mode is stands)
+        (subst (λ l. DecoderStands words l stretch decoder) (sym trace) stood))
+        result (feeds.stands [] stood_before) (feeds.none [] stood_before) (feeds.announced mode is stands)
 
   module _ (ps : List Packet) (stretch : List Event) (result : Result ⊤ DecodeFault)
       (feeds : Feeds words p old new before after result)
       (described : DescribesFrom words mode (from_start (ps ++ p ∷ [])) stretch)
-      (told : Option Mode) (has_mode : HasMode told old) (right : unwrap_or told handed ≡ mode) where
+      (announced : Option Mode) (has_mode : HasMode announced old) (right : unwrap_or announced handed ≡ mode) where
     -- No stretch has begun.
     not_begun : (first : ℕ) → from_start ps ≡ [] → PassesOver mode old → before ≡ [] → ¬ IsOpen p
         → Fed words handed mode (suc first) (ps ++ p ∷ []) (is_closing_packet p) stretch new after result
@@ -189,50 +189,51 @@ module _ (words : Words) (program : IsProgram words) (handed mode : Mode) (laws 
         by_kind : (q : Packet) → p ≡ q
             → Fed words handed mode (suc first) (ps ++ p ∷ []) (is_closing_packet p) stretch new after result
         by_kind (packet.Sync taken priv address) same =
-            begins ps stretch result feeds described told has_mode right (suc first)
+            begins ps stretch result feeds described announced has_mode right (suc first)
             (starts ∙ ap (λ q. from_start (q ∷ [])) same ∙ ap (λ q. q ∷ []) (sym same))
             (ap (λ q. trace_of mode (q ∷ [])) same
             ∙ ap (λ q. packet.Support (support.Open mode) ∷ q ∷ []) (sym same))
             passing (subst IsSync (sym same) tt) no_open empty
         by_kind (packet.Trap taken priv cause interrupt handler address tval) same =
-            passes ps stretch result feeds described told has_mode right first
+            passes ps stretch result feeds described announced has_mode right first
             (starts ∙ ap (λ q. from_start (q ∷ [])) same) passing (λ syncs. subst IsSync same syncs) no_open
             (ap is_closing_packet same) empty
         by_kind (packet.Support (support.Open mode)) same = absurd (no_open (subst IsOpen (sym same) tt))
         by_kind (packet.Support support.EndedRep) same =
-            ends ps stretch result feeds described told has_mode right (suc first)
+            ends ps stretch result feeds described announced has_mode right (suc first)
             (starts ∙ ap (λ q. from_start (q ∷ [])) same) passing (ap is_closing_packet same) empty
         by_kind (packet.Support support.EndedNtr) same =
-            ends ps stretch result feeds described told has_mode right (suc first)
+            ends ps stretch result feeds described announced has_mode right (suc first)
             (starts ∙ ap (λ q. from_start (q ∷ [])) same) passing (ap is_closing_packet same) empty
         by_kind (packet.Address taken delta report) same =
-            passes ps stretch result feeds described told has_mode right first
+            passes ps stretch result feeds described announced has_mode right first
             (starts ∙ ap (λ q. from_start (q ∷ [])) same) passing (λ syncs. subst IsSync same syncs) no_open
             (ap is_closing_packet same) empty
         by_kind (packet.Map taken) same =
-            passes ps stretch result feeds described told has_mode right first
+            passes ps stretch result feeds described announced has_mode right first
             (starts ∙ ap (λ q. from_start (q ∷ [])) same) passing (λ syncs. subst IsSync same syncs) no_open
             (ap is_closing_packet same) empty
 
   -- The mode is known where packets came.
-  right_of : (ps : List Packet) (first : ℕ) (told : Option Mode)
-      → (unwrap_or told handed ≡ mode) ⊎ ((first ≡ 0) × (ps ≡ []) × (told ≡ None))
-      → (first ≡ 0 → from_start ps ≢ []) → unwrap_or told handed ≡ mode
-  right_of ps first told (inl right) begun = right
-  right_of ps first told (inr (at, none, untold)) begun = absurd (begun at (ap from_start none))
+  right_of : (ps : List Packet) (first : ℕ) (announced : Option Mode)
+      → (unwrap_or announced handed ≡ mode) ⊎ ((first ≡ 0) × (ps ≡ []) × (announced ≡ None))
+      → (first ≡ 0 → from_start ps ≢ []) → unwrap_or announced handed ≡ mode
+  right_of ps first announced (inl right) begun = right
+  right_of ps first announced (inr (at, none, none_announced)) begun = absurd (begun at (ap from_start none))
 
   module _ (ps : List Packet) (stretch : List Event) (result : Result ⊤ DecodeFault)
       (feeds : Feeds words p old new before after result)
       (described : DescribesFrom words mode (from_start (ps ++ p ∷ [])) stretch)
-      (told : Option Mode) (has_mode : HasMode told old) where
+      (announced : Option Mode) (has_mode : HasMode announced old) where
     by_starts : (first : ℕ) (starts : List Packet) → from_start ps ≡ starts
         → StandsFrom words mode starts first before old → Place mode p first ps
-        → (unwrap_or told handed ≡ mode) ⊎ ((first ≡ 0) × (ps ≡ []) × (told ≡ None))
+        → (unwrap_or announced handed ≡ mode) ⊎ ((first ≡ 0) × (ps ≡ []) × (announced ≡ None))
         → Fed words handed mode first (ps ++ p ∷ []) (is_closing_packet p) stretch new after result
     by_starts first (q ∷ qs) is stands (AtOpening at none opening) right =
         let empty : from_start ps ≡ [] = ap from_start none in cc
     by_starts first (q ∷ qs) is stands (Behind no_open begun) right =
-        goes_on ps stretch result feeds described told has_mode (right_of ps first told right begun) first q qs is
+        goes_on ps stretch result feeds described announced has_mode
+        (right_of ps first announced right begun) first q qs is
         stands
         no_open
     by_starts zero [] is stands (AtOpening at none opening) right =
@@ -240,7 +241,8 @@ module _ (words : Words) (program : IsProgram words) (handed mode : Mode) (laws 
     by_starts zero [] is stands (Behind no_open begun) right = absurd (begun refl is)
     by_starts (suc first) [] is stands (AtOpening at none opening) right = cc
     by_starts (suc first) [] is stands (Behind no_open begun) right =
-        not_begun ps stretch result feeds described told has_mode (right_of ps (suc first) told right begun) first is
+        not_begun ps stretch result feeds described announced has_mode
+        (right_of ps (suc first) announced right begun) first is
         stands.0 stands.1 no_open
 
   -- A decoder that follows a block is fed one packet more of it.
@@ -250,6 +252,6 @@ module _ (words : Words) (program : IsProgram words) (handed mode : Mode) (laws 
       → FollowsBlock words handed mode first ps before old → Place mode p first ps
       → Fed words handed mode first (ps ++ p ∷ []) (is_closing_packet p) stretch new after result
   feeds_block first ps stretch result feeds described follows place =
-      by_starts ps stretch result feeds described follows.told follows.has_mode first (from_start ps) refl
+      by_starts ps stretch result feeds described follows.announced follows.has_mode first (from_start ps) refl
       follows.stands place
       follows.right

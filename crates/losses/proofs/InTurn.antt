@@ -7,18 +7,18 @@ use Rattle.rvclass.specs.Words.{Words}
 use Rattle.payload.specs.declared.mode.Mode.{Mode}
 use Rattle.message.specs.Accepted.{newcomers}
 use Rattle.message.specs.Harts.{Harts}
-use Rattle.message.specs.Lossy.{accepting_lossy, harts_after_lossy, harts_by_lossy, state_after_lossy}
+use Rattle.message.specs.Lossy.{accepting_lossy, harts_after_lossy, harts_after_found_lossy, state_after_lossy}
 use Rattle.message.specs.declared.hart.Hart.{Hart}
 use Rattle.message.specs.declared.message.Message.{Message}
-use Rattle.losses.specs.Taken.{AreTaken, StopsBy, expected_lossy}
-use Rattle.losses.specs.Told.{TellSome}
+use Rattle.losses.specs.Stops.{AreAcceptedLossy, CollectingStopsBy, expected_lossy}
+use Rattle.losses.specs.DescribedParts.{EachHartDescribes}
 use Rattle.losses.specs.steps.Collecting.{IsNotCollected}
-use Rattle.losses.specs.steps.Telling.{IsNotTold}
+use Rattle.losses.specs.steps.FollowingRuns.{IsMessageFault}
 use Rattle.losses.specs.declared.fault.LossyFault.{LossyFault}
 use Rattle.losses.specs.declared.fault.LossyFault.TheVariants as fault
 
-pub taken-push : (expected : Harts) (front : List Message) (message : Message) → AreTaken expected front
-    → IsOk (accepting_lossy (expected_lossy expected front) message) → AreTaken expected (front ++ message ∷ [])
+pub taken-push : (expected : Harts) (front : List Message) (message : Message) → AreAcceptedLossy expected front
+    → IsOk (accepting_lossy (expected_lossy expected front) message) → AreAcceptedLossy expected (front ++ message ∷ [])
 taken-push expected [] message taken ok = (ok, tt)
 taken-push expected (first ∷ front) message taken ok =
     (taken.0, taken-push (harts_after_lossy expected first) front message taken.1 ok)
@@ -32,7 +32,7 @@ expected-push expected (first ∷ front) message = expected-push (harts_after_lo
 pub length-harts_after : (harts : Harts) (message : Message) → length (harts_after_lossy harts message) ≡ length harts
 length-harts_after harts message = by_hart (slice_get harts message.hart)
   where
-    by_hart : (hart : Option Hart) → length (harts_by_lossy harts message hart) ≡ length harts
+    by_hart : (hart : Option Hart) → length (harts_after_found_lossy harts message hart) ≡ length harts
     by_hart None = refl
     by_hart (Some hart) = length-set harts message.hart (state_after_lossy hart message)
 
@@ -46,12 +46,14 @@ split_at messages place message within is =
 pub stops_at : (words : Words) (mode : Mode) (harts : ℕ) (messages : List Message) (place : ℕ) (message : Message)
     (demux : Harts)
     → place < length messages → message ≡ get_or messages place message
-    → demux ≡ expected_lossy (newcomers harts) (take place messages) → AreTaken (newcomers harts) (take place messages)
+    → demux ≡ expected_lossy (newcomers harts) (take place messages)
+    → AreAcceptedLossy (newcomers harts) (take place messages)
     → (why : LossyFault) → IsNotCollected demux message place why
-    → IsNotTold words mode (take place messages) message why → TellSome words mode harts (take place messages)
-    → StopsBy words mode harts messages why
-stops_at words mode harts messages place message demux within is expected taken why not untold told =
-    by_fault why not untold
+    → IsMessageFault words mode (take place messages) message why
+    → EachHartDescribes words mode harts (take place messages)
+    → CollectingStopsBy words mode harts messages why
+stops_at words mode harts messages place message demux within is expected taken why not unread described =
+    by_fault why not unread
   where
     whole : messages ≡ take place messages ++ message ∷ drop (place + 1) messages
     whole = sym (take-append-drop place messages)
@@ -61,18 +63,18 @@ stops_at words mode harts messages place message demux within is expected taken 
     here = sym (length-take-le place messages (omega (arith, within)))
 
     by_fault : (why : LossyFault) → IsNotCollected demux message place why
-        → IsNotTold words mode (take place messages) message why → StopsBy words mode harts messages why
-    by_fault (fault.Demux at why) (same, answer) untold = record {
+        → IsMessageFault words mode (take place messages) message why → CollectingStopsBy words mode harts messages why
+    by_fault (fault.Demux at why) (same, answer) unread = record {
       front = take place messages;
       message = message;
       later = drop (place + 1) messages;
       whole = whole;
       here = same ∙ here;
       taken = taken;
-      told = told;
+      described = described;
       refused = ap (λ hs. accepting_lossy hs message) (sym expected) ∙ answer;
     }
-    by_fault (fault.Decode at why) (same, ok, memory) untold = record {
+    by_fault (fault.Decode at why) (same, ok, memory) unread = record {
       front = take place messages;
       message = message;
       later = drop (place + 1) messages;
@@ -81,7 +83,7 @@ stops_at words mode harts messages place message demux within is expected taken 
       taken = taken-push (newcomers harts) (take place messages) message taken
           (subst (λ hs. IsOk (accepting_lossy hs message)) expected ok);
       not_memory = memory;
-      told = told;
-      not_decoded = untold;
+      described = described;
+      not_decoded = unread;
     }
-    by_fault fault.Memory not untold = tt
+    by_fault fault.Memory not unread = tt

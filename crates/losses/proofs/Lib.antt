@@ -12,8 +12,8 @@ pub mod Collected
 pub mod StretchesApart
 pub mod RisingBlocks
 pub mod StretchStarts
-pub mod StretchesHeld
-pub mod HartsHeld
+pub mod StretchesWhole
+pub mod HartsWhole
 pub mod RunLemmas
 pub mod RunFeeding
 pub mod RunSteps

@@ -1,4 +1,4 @@
--- What any messages tell of a hart, from one of its messages to the next.
+-- What any messages of a hart describe, from one of its messages to the next.
 use Rattle.std.proofs.Common.{◌≡◌, ◌≢◌, ◌⊎◌, ◌↔◌, inl, inr, ℕ, zero, suc, ◌+◌, ◌-◌, Bool, true, false}
 use Rattle.std.proofs.Common.{List, [], ◌∷◌, ◌++◌, Option, Some, None, Ok, length, slice_get, refl, sym, ap, subst, ◌∙◌}
 use Rattle.std.proofs.Common.{arith, append_assoc}
@@ -17,19 +17,20 @@ use Rattle.decoder.specs.declared.fault.DecodeFault.TheVariants.{Memory, NotOpen
 use Rattle.message.proofs.AnsweringLossy.{answer_lossy-taken}
 use Rattle.message.specs.Accepting.{next_of}
 use Rattle.message.specs.Harts.{Harts}
-use Rattle.message.specs.Lossy.{accepting_lossy, answer_lossy_of, harts_after_lossy, harts_by_lossy, state_by_lossy}
+use Rattle.message.specs.Lossy.{accepting_lossy, answer_lossy_of, harts_after_found_lossy, harts_after_lossy}
+use Rattle.message.specs.Lossy.{state_by_lossy}
 use Rattle.message.specs.OfHart.{packet_or_none}
 use Rattle.message.specs.declared.hart.Hart.{Hart}
 use Rattle.message.specs.declared.message.Message.{Message}
 use Rattle.losses.specs.Parts.{LogPart, stretch}
 use Rattle.losses.specs.Runs.{Run, first_run, last_trace, longer, missing_behind, mode_in, over_before, packets_behind}
 use Rattle.losses.specs.Runs.{run_behind, run_of, runs, runs_on, trace_of_last, trace_of_run}
-use Rattle.losses.specs.Told.{TellParts, TellsParts}
+use Rattle.losses.specs.DescribedParts.{RunsDescribe, MessagesDescribe}
 use Rattle.losses.specs.steps.Collecting.{IsNotTaken}
-use Rattle.losses.specs.steps.Telling.{FollowsMessages, FollowsRuns, IsUntold, IsUntoldBy}
+use Rattle.losses.specs.steps.FollowingRuns.{FollowsMessages, FollowsRuns, IsNotDecodedInRun, IsPacketFault}
 use Rattle.losses.specs.declared.fault.LossyFault.{LossyFault}
 use Rattle.losses.specs.declared.fault.LossyFault.TheVariants as fault
-use Rattle.losses.proofs.RunLemmas.{tell_push}
+use Rattle.losses.proofs.RunLemmas.{describe_push}
 
 -- What is known of a message that the demultiplexer takes.
 pub record IsTaken (harts : Harts) (message : Message) (packet : Packet) (missed : ℕ) : Type 0 where
@@ -59,7 +60,7 @@ taken_by harts message packet missed value = by_hart (slice_get harts message.ha
           goes = left_of h.closed _ t.0.0;
           number = t.0.1.0;
           read = t.1;
-          after = ap (harts_by_lossy harts message) at
+          after = ap (harts_after_found_lossy harts message) at
               ∙ ap (λ r. slice_set harts message.hart (state_by_lossy h message.number r)) answer;
         }
 
@@ -94,17 +95,17 @@ module _ (words : Words) (mode : Mode) (messages : List Message) (message : Mess
       ∙ sym (append_assoc f.done (over_before missed before) (runs_on run (message.number + 1) later))
 
   -- One message more is collected.
-  pub message_more : (ended : Bool) (new : Decoder) (after : List LogPart) (rest : List Event)
+  pub message_more : (closed : Bool) (new : Decoder) (after : List LogPart) (rest : List Event)
       → FollowsRuns words mode done (missing_behind missed f.missing) (packets_behind missed f.packets ++ packet ∷ [])
-      (next + missed + 1) ended new after rest
-      → FollowsMessages words mode (messages ++ message ∷ []) (message.number + 1) ended new after rest
-  message_more ended new after rest follows = record {
+      (next + missed + 1) closed new after rest
+      → FollowsMessages words mode (messages ++ message ∷ []) (message.number + 1) closed new after rest
+  message_more closed new after rest follows = record {
     done = done;
     missing = missing_behind missed f.missing;
     packets = packets_behind missed f.packets ++ packet ∷ [];
     whole = whole;
     runs = subst (λ n. FollowsRuns words mode done (missing_behind missed f.missing)
-        (packets_behind missed f.packets ++ packet ∷ []) n ended new after rest) (ap (λ n. n + 1) number) follows;
+        (packets_behind missed f.packets ++ packet ∷ []) n closed new after rest) (ap (λ n. n + 1) number) follows;
   }
 
   runs_are : runs (messages ++ message ∷ []) ≡ done ++ run ∷ []
@@ -131,21 +132,21 @@ module _ (words : Words) (mode : Mode) (messages : List Message) (message : Mess
       )
 
   -- Its packet is not decoded.
-  pub message_untold : (why : DecodeFault) → why ≢ Memory
-      → IsUntold words (mode_in mode (done ++ run ∷ [])) (missing_behind missed f.missing)
+  pub message_not_decoded : (why : DecodeFault) → why ≢ Memory
+      → IsNotDecodedInRun words (mode_in mode (done ++ run ∷ [])) (missing_behind missed f.missing)
       (packets_behind missed f.packets) packet why
       → (hart_messages : List Message) → hart_messages ≡ messages ++ message ∷ []
       → (packet : Packet) × (reading message.payload ≡ Ok packet)
       × ((why ≡ NotOpened) ↔ ((message.number ≡ 0) × ¬ IsOpen packet))
       × ((log : List Event) → ¬ Describes words (last_trace mode hart_messages) log)
-  message_untold why not_memory untold hart_messages are = (
+  message_not_decoded why not_memory not_decoded hart_messages are = (
     packet,
     read,
     (
-      λ is. let o = untold.not_opened.0 is in (first_alone.0 o.0, o.1),
-      λ o. untold.not_opened.1 (first_alone.1 o.0, o.1),
+      λ is. let o = not_decoded.not_opened.0 is in (first_alone.0 o.0, o.1),
+      λ o. not_decoded.not_opened.1 (first_alone.1 o.0, o.1),
     ),
-    λ log described. undescribed untold.reason log (subst (λ l. Describes words l log) trace described),
+    λ log described. undescribed not_decoded.reason log (subst (λ l. Describes words l log) trace described),
   )
     where
       trace : last_trace mode hart_messages
@@ -159,30 +160,31 @@ module _ (words : Words) (mode : Mode) (messages : List Message) (message : Mess
       undescribed (inl memory) log described = not_memory memory
       undescribed (inr none) log described = none log described
 
--- What a hart's messages tell where its stretch is ended.
-pub tells_parts : (words : Words) (mode : Mode) (messages : List Message) (next : ℕ) (ended : Bool)
+-- What a hart's messages describe where its stretch is ended.
+pub messages_describe : (words : Words) (mode : Mode) (messages : List Message) (next : ℕ) (closed : Bool)
     (decoder : Decoder) (seen : List LogPart) (events : List Event)
-    → FollowsMessages words mode messages next ended decoder seen events
-    → TellsParts words mode messages (seen ++ stretch events)
-tells_parts words mode messages next ended decoder seen events f =
+    → FollowsMessages words mode messages next closed decoder seen events
+    → MessagesDescribe words mode messages (seen ++ stretch events)
+messages_describe words mode messages next closed decoder seen events f =
     let run = run_of f.missing f.packets in
     let all : f.done ++ run ∷ [] ≡ runs messages =
     sym (ap (runs_on first_run 0) (sym (append-nil messages)) ∙ f.whole []) in
     let reads = mode_in mode (f.done ++ run ∷ []) in
-    let told = subst (λ l. TellParts words reads (f.done ++ run ∷ []) (l ++ stretch events)) (sym f.runs.told)
-    (tell_push words reads f.done run f.runs.front events f.runs.before f.runs.follows.described) in
-    subst (λ rs. TellParts words (mode_in mode rs) rs (seen ++ stretch events)) all told
+    let described = subst (λ l. RunsDescribe words reads (f.done ++ run ∷ []) (l ++ stretch events)) (sym f.runs.so_far)
+    (describe_push words reads f.done run f.runs.front events f.runs.before f.runs.follows.described) in
+    subst (λ rs. RunsDescribe words (mode_in mode rs) rs (seen ++ stretch events)) all described
 
--- What is told of a fault of a decoder's.
-pub untold_by : (words : Words) (reads : Mode) (missing : ℕ) (before : List Packet) (packet : Packet) (place : ℕ)
-    (why : DecodeFault) (told : LossyFault) → IsNotTaken place told
-    → (told ≡ fault.Memory) ⊎ (told ≡ fault.Decode place why)
-    → (why ≡ Memory) ⊎ IsUntold words reads missing before packet why
-    → IsUntoldBy words reads missing before packet told
-untold_by words reads missing before packet place why (fault.Demux at other) taken is untold = absurd taken
-untold_by words reads missing before packet place why fault.Memory taken is untold = tt
-untold_by words reads missing before packet place why (fault.Decode at other) taken (inl is) untold = cc
-untold_by words reads missing before packet place why (fault.Decode at other) taken (inr is) (inl memory) =
+-- A decoder's fault as one of collecting.
+pub packet_fault_by : (words : Words) (reads : Mode) (missing : ℕ) (before : List Packet) (packet : Packet) (place : ℕ)
+    (why : DecodeFault) (answer : LossyFault) → IsNotTaken place answer
+    → (answer ≡ fault.Memory) ⊎ (answer ≡ fault.Decode place why)
+    → (why ≡ Memory) ⊎ IsNotDecodedInRun words reads missing before packet why
+    → IsPacketFault words reads missing before packet answer
+packet_fault_by words reads missing before packet place why (fault.Demux at other) taken is not_decoded = absurd taken
+packet_fault_by words reads missing before packet place why fault.Memory taken is not_decoded = tt
+packet_fault_by words reads missing before packet place why (fault.Decode at other) taken (inl is) not_decoded = cc
+packet_fault_by words reads missing before packet place why (fault.Decode at other) taken (inr is) (inl memory) =
     let same : other ≡ why = cc in absurd (taken.1 (same ∙ memory))
-untold_by words reads missing before packet place why (fault.Decode at other) taken (inr is) (inr untold) =
-    let same : other ≡ why = cc in subst (λ w. IsUntold words reads missing before packet w) (sym same) untold
+packet_fault_by words reads missing before packet place why (fault.Decode at other) taken (inr is) (inr not_decoded) =
+    let same : other ≡ why = cc in subst (λ w. IsNotDecodedInRun words reads missing before packet w)
+    (sym same) not_decoded

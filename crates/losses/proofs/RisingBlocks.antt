@@ -3,7 +3,7 @@ use Rattle.std.proofs.Common.{◌≡◌, ◌⊎◌, inl, inr, ℕ, zero, suc, �
 use Rattle.std.proofs.lemmas.Bool.{cases_lt}
 use Rattle.losses.specs.Apart.{AreRising}
 use Rattle.losses.specs.Blocks.{Block, block_before, blocks_from, joined_or_apart}
-use Rattle.losses.specs.Held.{Came}
+use Rattle.losses.specs.WholeStretches.{NumberCame}
 use Rattle.losses.proofs.BlockLemmas.{block_of}
 
 -- A block of numbers of which none before it, from this one on, came: so many are missing. All of its own came, and the
@@ -12,18 +12,18 @@ pub record IsBlockOf (numbers : List ℕ) (from : ℕ) (block : Block) : Type 0 
   pub above : from ≤ block.first
   pub missing : block.missing ≡ block.first - from
   pub some : 0 < block.count
-  pub skipped : (number : ℕ) → from ≤ number → number < block.first → ¬ Came number numbers
-  pub came : (number : ℕ) → block.first ≤ number → number < block.first + block.count → Came number numbers
-  pub lost : ¬ Came (block.first + block.count) numbers
+  pub skipped : (number : ℕ) → from ≤ number → number < block.first → ¬ NumberCame number numbers
+  pub came : (number : ℕ) → block.first ≤ number → number < block.first + block.count → NumberCame number numbers
+  pub lost : ¬ NumberCame (block.first + block.count) numbers
 
 abbrev pub AreBlocksOf : List ℕ → ℕ → List Block → Type 0
-AreBlocksOf numbers from [] = (number : ℕ) → from ≤ number → ¬ Came number numbers
+AreBlocksOf numbers from [] = (number : ℕ) → from ≤ number → ¬ NumberCame number numbers
 AreBlocksOf numbers from (block ∷ blocks) =
     IsBlockOf numbers from block × AreBlocksOf numbers (block.first + block.count) blocks
 
 -- A number before those of the blocks changes nothing.
-not_with : (before number : ℕ) (numbers : List ℕ) → before < number → ¬ Came number numbers
-    → ¬ Came number (before ∷ numbers)
+not_with : (before number : ℕ) (numbers : List ℕ) → before < number → ¬ NumberCame number numbers
+    → ¬ NumberCame number (before ∷ numbers)
 not_with before number numbers below none (inl is) = absurd (omega (arith, below, is))
 not_with before number numbers below none (inr came) = none came
 
@@ -48,8 +48,8 @@ blocks_with before from numbers (block ∷ blocks) below (b, later) =
 -- A block joins the next one where none is missing between them.
 blocks_joined : (numbers : List ℕ) (from : ℕ) (block : Block) (blocks : List Block) → from ≤ block.first
     → block.missing ≡ block.first - from → 0 < block.count
-    → ((number : ℕ) → from ≤ number → number < block.first → ¬ Came number numbers)
-    → ((number : ℕ) → block.first ≤ number → number < block.first + block.count → Came number numbers)
+    → ((number : ℕ) → from ≤ number → number < block.first → ¬ NumberCame number numbers)
+    → ((number : ℕ) → block.first ≤ number → number < block.first + block.count → NumberCame number numbers)
     → AreBlocksOf numbers (block.first + block.count) blocks
     → AreBlocksOf numbers from (block_before block blocks)
 blocks_joined numbers from block [] above missing some skipped came none = (
@@ -79,16 +79,17 @@ blocks_joined numbers from block (next ∷ blocks) above missing some skipped ca
             some = omega (arith, some);
             skipped = skipped;
             came = both;
-            lost = subst (λ (e : ℕ). ¬ Came e numbers) end n.lost;
+            lost = subst (λ (e : ℕ). ¬ NumberCame e numbers) end n.lost;
           },
           subst (λ e. AreBlocksOf numbers e blocks) end later,
         )
       where
         both : (number : ℕ) → block.first ≤ number → number < block.first + (block.count + next.count)
-            → Came number numbers
+            → NumberCame number numbers
         both number least most = by_place (cases_lt number (block.first + block.count))
           where
-            by_place : (number < block.first + block.count) ⊎ (block.first + block.count ≤ number) → Came number numbers
+            by_place : (number < block.first + block.count) ⊎ (block.first + block.count ≤ number)
+                → NumberCame number numbers
             by_place (inl below) = came number least below
             by_place (inr over) =
                 let behind = n.above in
@@ -109,7 +110,8 @@ blocks_joined numbers from block (next ∷ blocks) above missing some skipped ca
         )
 
 -- Rising numbers are not below the one from which they rise.
-not_below : (from : ℕ) (numbers : List ℕ) (number : ℕ) → AreRising from numbers → Came number numbers → from ≤ number
+not_below : (from : ℕ) (numbers : List ℕ) (number : ℕ) → AreRising from numbers → NumberCame number numbers
+    → from ≤ number
 not_below from [] number rising came = absurd came
 not_below from (first ∷ numbers) number rising (inl is) = let least = rising.0 in omega (arith, is, least)
 not_below from (first ∷ numbers) number rising (inr came) =
@@ -127,11 +129,11 @@ blocks_of_rising from (first ∷ numbers) rising =
     (blocks_with first (first + 1) numbers (blocks_from (first + 1) numbers) (omega arith)
     (blocks_of_rising (first + 1) numbers rising.1))
   where
-    none_before : (number : ℕ) → from ≤ number → number < first → ¬ Came number (first ∷ numbers)
+    none_before : (number : ℕ) → from ≤ number → number < first → ¬ NumberCame number (first ∷ numbers)
     none_before number least most (inl is) = absurd (omega (arith, most, is))
     none_before number least most (inr came) =
         let later = not_below (first + 1) numbers number rising.1 came in
         absurd (omega (arith, most, later))
 
-    only_first : (number : ℕ) → first ≤ number → number < first + 1 → Came number (first ∷ numbers)
+    only_first : (number : ℕ) → first ≤ number → number < first + 1 → NumberCame number (first ∷ numbers)
     only_first number least most = inl (omega (arith, least, most))

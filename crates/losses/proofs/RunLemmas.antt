@@ -12,12 +12,12 @@ use Rattle.payload.specs.declared.packet.Packet.TheVariants as packet
 use Rattle.payload.specs.declared.packet.Support.TheVariants as support
 use Rattle.decoder.specs.Describes.{Describes}
 use Rattle.decoder.specs.ModeOf.{mode_of}
-use Rattle.decoder.specs.Order.{IsOpen, opening}
+use Rattle.decoder.specs.Order.{IsOpen, open_packet}
 use Rattle.decoder.specs.Pieces.{Pieces}
 use Rattle.decoder.specs.Resuming.{IsSync}
 use Rattle.losses.specs.Parts.{LogPart, gap, stretch}
 use Rattle.losses.specs.Runs.{Run, from_sync, mode_in, run_of, trace_of_run}
-use Rattle.losses.specs.Told.{TellParts}
+use Rattle.losses.specs.DescribedParts.{RunsDescribe}
 use Rattle.losses.proofs.TraceLemmas.{none_opens_behind}
 
 -- Behind a synchronisation comes one packet more.
@@ -56,8 +56,8 @@ kind_of (packet.Support support.EndedNtr) = Closes refl refl (λ is. is)
 kind_of (packet.Address taken delta report) = Passed refl refl (λ is. is)
 kind_of (packet.Map taken) = Passed refl refl (λ is. is)
 
--- A packet that opens a trace tells a mode.
-pub opening_of : (p : Packet) → IsOpen p → (mode : Mode) × (p ≡ opening mode)
+-- A packet that opens a trace announces a mode.
+pub opening_of : (p : Packet) → IsOpen p → (mode : Mode) × (p ≡ open_packet mode)
 opening_of (packet.Sync taken priv address) is = absurd is
 opening_of (packet.Trap taken priv cause interrupt handler address tval) is = absurd is
 opening_of (packet.Support (support.Open mode)) is = (mode, refl)
@@ -89,7 +89,7 @@ describes_none words events d = by_pieces d.pieces d.each d.whole
     by_pieces [] each whole = whole
     by_pieces (piece ∷ pieces) each whole = absurd each
 
--- The mode is told by the first run alone.
+-- The first run alone announces the mode.
 pub mode_later : (mode : Mode) (done : List Run) (missing : ℕ) (ps qs : List Packet)
     → mode_in mode (done ++ run_of (suc missing) ps ∷ []) ≡ mode_in mode (done ++ run_of (suc missing) qs ∷ [])
 mode_later mode [] missing ps qs = refl
@@ -100,11 +100,12 @@ pub mode_behind : (mode : Mode) (done : List Run) (run next : Run)
 mode_behind mode [] run next = refl
 mode_behind mode (first ∷ done) run next = refl
 
--- A run that is over tells its parts behind those before it.
-pub tell_push : (words : Words) (mode : Mode) (done : List Run) (run : Run) (front : List LogPart) (events : List Event)
-    → TellParts words mode done front → Describes words (trace_of_run mode run) events
-    → TellParts words mode (done ++ run ∷ []) ((front ++ gap run.missing) ++ stretch events)
-tell_push words mode [] run front events none described = (
+-- The parts of a run that is over stand behind those of the runs before it.
+pub describe_push : (words : Words) (mode : Mode) (done : List Run) (run : Run) (front : List LogPart)
+    (events : List Event)
+    → RunsDescribe words mode done front → Describes words (trace_of_run mode run) events
+    → RunsDescribe words mode (done ++ run ∷ []) ((front ++ gap run.missing) ++ stretch events)
+describe_push words mode [] run front events none described = (
   events,
   [],
   ap (λ l. (l ++ gap run.missing) ++ stretch events) none
@@ -112,7 +113,7 @@ tell_push words mode [] run front events none described = (
   described,
   refl,
 )
-tell_push words mode (first ∷ done) run front events (own, rest, is, own_described, tells) described =
+describe_push words mode (first ∷ done) run front events (own, rest, is, own_described, rest_described) described =
     let here = gap first.missing in
     let mine = stretch own in
     let missing = gap run.missing in
@@ -125,5 +126,5 @@ tell_push words mode (first ∷ done) run front events (own, rest, is, own_descr
           ∙ ap (λ l. here ++ l) (ap (λ l. l ++ last) (append_assoc mine rest missing)
           ∙ append_assoc mine (rest ++ missing) last),
       own_described,
-      tell_push words mode done run rest events tells described,
+      describe_push words mode done run rest events rest_described described,
     )

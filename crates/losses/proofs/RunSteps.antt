@@ -14,10 +14,10 @@ use Rattle.decoder.specs.declared.fault.DecodeFault.{DecodeFault}
 use Rattle.decoder.specs.declared.fault.DecodeFault.TheVariants.{Memory}
 use Rattle.losses.specs.Parts.{LogPart, Missing, stretch}
 use Rattle.losses.specs.Runs.{Run, missing_behind, mode_in, over_before, packets_behind, run_of}
-use Rattle.losses.specs.Told.{TellParts}
+use Rattle.losses.specs.DescribedParts.{RunsDescribe}
 use Rattle.losses.specs.steps.DecoderSteps.{Feeds, Resumes}
-use Rattle.losses.specs.steps.Telling.{FollowsRun, FollowsRuns, IsUntold, Refuses}
-use Rattle.losses.proofs.RunLemmas.{describes_nothing, mode_behind, mode_later, tell_push}
+use Rattle.losses.specs.steps.FollowingRuns.{FollowsRun, FollowsRuns, IsNotDecodedInRun, Refuses}
+use Rattle.losses.proofs.RunLemmas.{describes_nothing, mode_behind, mode_later, describe_push}
 use Rattle.losses.proofs.RunFeeding.{FedRun, feeds_first, feeds_later}
 use Rattle.losses.proofs.TraceSteps.{state_laws}
 
@@ -28,20 +28,21 @@ pub record FedRuns (words : Words) (mode : Mode) (done : List Run) (missing : �
   pub follows : OnOk result (FollowsRuns words mode done missing (packets ++ p ∷ []) (next + 1) (is_closing_packet p)
       new
       seen after)
-  pub refused : IfErr result (λ why. IsUntold words (mode_in mode (done ++ run_of missing (packets ++ p ∷ []) ∷ []))
+  pub refused : IfErr result (λ why. IsNotDecodedInRun words
+      (mode_in mode (done ++ run_of missing (packets ++ p ∷ []) ∷ []))
       missing packets p why)
 
 module _ (words : Words) (mode : Mode) (p : Packet) (old new : Decoder) (before after : List Event)
     (seen : List LogPart) (packets : List Packet) (next : ℕ) where
-  -- What follows where the parts before are told in the mode that is known now.
+  -- What follows where the runs before describe the parts in the mode that is known now.
   runs_on_by : (done : List Run) (missing : ℕ) (result : Result ⊤ DecodeFault)
       → (f : FollowsRuns words mode done missing packets next false old seen before)
-      → TellParts words (mode_in mode (done ++ run_of missing (packets ++ p ∷ []) ∷ [])) done f.front
+      → RunsDescribe words (mode_in mode (done ++ run_of missing (packets ++ p ∷ []) ∷ [])) done f.front
       → FedRun words mode (mode_in mode (done ++ run_of missing (packets ++ p ∷ []) ∷ [])) missing packets p new after
       result
       → FedRuns words mode done missing packets next p new seen after result
-  runs_on_by done missing (Err why) f tells fed = record { follows = tt; refused = fed.refused }
-  runs_on_by done missing (Ok fine) f tells fed =
+  runs_on_by done missing (Err why) f described fed = record { follows = tt; refused = fed.refused }
+  runs_on_by done missing (Ok fine) f described fed =
       let more = length_push packets p in
       let beyond = f.beyond in
       record {
@@ -56,8 +57,8 @@ module _ (words : Words) (mode : Mode) (p : Packet) (old new : Decoder) (before 
           );
           beyond = omega (arith, beyond, more);
           front = f.front;
-          before = tells;
-          told = f.told;
+          before = described;
+          so_far = f.so_far;
           follows = fed.follows;
         };
         refused = tt;
@@ -75,15 +76,15 @@ module _ (words : Words) (mode : Mode) (p : Packet) (old new : Decoder) (before 
       let same = mode_later mode done missing packets (packets ++ p ∷ []) in
       let fed = feeds_later words mode p old new before after (mode_in mode (done ++ run_of (suc missing) packets ∷ []))
       missing packets f.follows result feeds refuses in
-      runs_on_by done (suc missing) result f (subst (λ m. TellParts words m done f.front) same f.before)
+      runs_on_by done (suc missing) result f (subst (λ m. RunsDescribe words m done f.front) same f.before)
       (subst (λ m. FedRun words mode m (suc missing) packets p new after result) same fed)
 
--- A fault is told, or memory was refused.
+-- The packet is not decoded for this reason, or memory was refused.
 pub refused_or_memory : (words : Words) (mode : Mode) (done : List Run) (missing : ℕ) (packets : List Packet) (next : ℕ)
     (p : Packet) (new : Decoder) (seen : List LogPart) (after : List Event) (result : Result ⊤ DecodeFault)
     → FedRuns words mode done missing packets next p new seen after result
     → IfErr result (λ why. (why ≡ Memory)
-    ⊎ IsUntold words (mode_in mode (done ++ run_of missing (packets ++ p ∷ []) ∷ [])) missing packets p why)
+    ⊎ IsNotDecodedInRun words (mode_in mode (done ++ run_of missing (packets ++ p ∷ []) ∷ [])) missing packets p why)
 refused_or_memory words mode done missing packets next p new seen after (Ok fine) fed = tt
 refused_or_memory words mode done missing packets next p new seen after (Err why) fed = inr fed.refused
 
@@ -97,25 +98,25 @@ module _ (words : Words) (mode : Mode) (done : List Run) (missing next : ℕ) (p
   runs_lost missed resumes =
       let reads = mode_in mode (done ++ run_of missing packets ∷ []) in
       let behind = mode_behind mode done (run_of missing packets) (run_of (suc missed) []) in
-      let over = subst (λ l. TellParts words reads (done ++ run_of missing packets ∷ []) (l ++ stretch events))
-      (sym f.told)
-      (tell_push words reads done (run_of missing packets) f.front events f.before f.follows.described) in
+      let over = subst (λ l. RunsDescribe words reads (done ++ run_of missing packets ∷ []) (l ++ stretch events))
+      (sym f.so_far)
+      (describe_push words reads done (run_of missing packets) f.front events f.before f.follows.described) in
       let passes : PassesOver reads new = subst (λ m. PassesOver m new) f.follows.right
-      (resumes.passes_over f.follows.told f.follows.has_mode (f.follows.stays_open refl)) in
+      (resumes.passes_over f.follows.announced f.follows.has_mode (f.follows.stays_open refl)) in
       record {
         from_zero = λ is. cc;
         beyond = omega arith;
         front = seen ++ stretch events;
-        before = subst (λ m. TellParts words m (done ++ run_of missing packets ∷ []) (seen ++ stretch events))
+        before = subst (λ m. RunsDescribe words m (done ++ run_of missing packets ∷ []) (seen ++ stretch events))
             (sym behind) over;
-        told = refl;
+        so_far = refl;
         follows = subst (λ m. FollowsRun words mode m (suc missed) [] false [] new) (sym behind)
             (record {
               described = describes_nothing words;
               stands = λ stays. (passes, refl);
               stays_open = λ stays. state_laws.passing reads new passes;
-              told = f.follows.told;
-              has_mode = resumes.mode_kept f.follows.told f.follows.has_mode;
+              announced = f.follows.announced;
+              has_mode = resumes.mode_kept f.follows.announced f.follows.has_mode;
               right = f.follows.right;
             });
       }

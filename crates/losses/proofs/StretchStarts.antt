@@ -15,7 +15,7 @@ use Rattle.decoder.specs.Pieces.{Pieces, reported_after}
 use Rattle.decoder.specs.Resuming.{IsSync}
 use Rattle.decoder.specs.SettledPieces.{piece_unless, settled_pieces}
 use Rattle.decoder.specs.Settling.{waits}
-use Rattle.losses.specs.Held.{BeginsAt}
+use Rattle.losses.specs.WholeStretches.{BeginsAt}
 use Rattle.losses.specs.Parts.{begins_stretch, here_or_later, stretch_of}
 use Rattle.losses.proofs.BlockDescribed.{Rest, rest_behind}
 
@@ -64,7 +64,7 @@ sync_has_event words mode before reported (packet.Address taken delta report) ne
 sync_has_event words mode before reported (packet.Map taken) next piece sync fits = absurd sync
 
 open_never_follows : (p q : Packet) → MayFollow p q → ¬ IsOpen q
-open_never_follows p (packet.Support (support.Open told)) follows open_packet = follows
+open_never_follows p (packet.Support (support.Open announced)) follows open_packet = follows
 open_never_follows p (packet.Support support.EndedRep) follows open_packet = open_packet
 open_never_follows p (packet.Support support.EndedNtr) follows open_packet = open_packet
 open_never_follows p (packet.Sync taken priv address) follows open_packet = open_packet
@@ -177,7 +177,7 @@ module _ (words : Words) (mode : Mode) where
       let fits = r.each.1 in
       let rest = join (settled_pieces (next ∷ own) pieces) in
       (fits.0, rest, ap (λ l. l ++ rest) fits.1, fits.2)
-  begins_at (packet.Support (support.Open told)) own later (piece ∷ pieces) before r begins opens = opens tt
+  begins_at (packet.Support (support.Open announced)) own later (piece ∷ pieces) before r begins opens = opens tt
   begins_at (packet.Support support.EndedRep) own later (piece ∷ pieces) before r begins opens = cc
   begins_at (packet.Support support.EndedNtr) own later (piece ∷ pieces) before r begins opens = cc
   begins_at (packet.Trap taken priv cause interrupt handler address tval) own later (piece ∷ pieces) before r begins

@@ -8,7 +8,7 @@ use Rattle.payload.specs.declared.packet.Packet.{Packet}
 use Rattle.payload.specs.declared.packet.Packet.TheVariants as packet
 use Rattle.payload.specs.declared.packet.Support.TheVariants as support
 use Rattle.payload.specs.Closing.{is_closing_packet}
-use Rattle.payload.specs.Ended.{closes, has_ended}
+use Rattle.payload.specs.ClosedTrace.{closes, last_is_closing}
 use Rattle.std.specs.List.{last_or}
 use Rattle.decoder.specs.Order.{IsOpen, MayPrecede, first}
 use Rattle.decoder.specs.Pieces.{Pieces, reported_after}
@@ -82,8 +82,8 @@ last_or-last before [] p = refl
 last_or-last before (q ∷ ps) p = last_or-last (Some q) ps p
 
 -- Packets have ended where the last of them closes the trace.
-pub has_ended-last : (ps : List Packet) (p : Packet) → has_ended (ps ++ p ∷ []) ≡ is_closing_packet p
-has_ended-last ps p = ap closes (last_or-last None ps p)
+pub last_is_closing-last : (ps : List Packet) (p : Packet) → last_is_closing (ps ++ p ∷ []) ≡ is_closing_packet p
+last_is_closing-last ps p = ap closes (last_or-last None ps p)
 
 -- A packet before another closes nothing.
 pub before_another : (words : Words) (mode : Mode) (p q : Packet) (ps : List Packet) (pieces : List (List Event))

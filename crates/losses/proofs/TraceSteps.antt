@@ -10,14 +10,14 @@ use Rattle.retire.specs.declared.event.Event.{Event}
 use Rattle.rvclass.specs.Words.{Words, IsProgram}
 use Rattle.legalpath.specs.Legal.{Legal}
 use Rattle.payload.specs.Closing.{is_closing_packet}
-use Rattle.payload.specs.Ended.{closes}
+use Rattle.payload.specs.ClosedTrace.{closes}
 use Rattle.payload.specs.declared.mode.Mode.{Mode}
 use Rattle.payload.specs.declared.packet.Packet.{Packet}
 use Rattle.payload.specs.declared.packet.Packet.TheVariants as packet
 use Rattle.payload.specs.declared.packet.Support.TheVariants as support
 use Rattle.encoder.specs.Packets.{packets}
 use Rattle.decoder.specs.Resuming.{HasMode, IsClosed, PassesOver}
-use Rattle.decoder.specs.Stands.{Stands, phase_after, running_or_closed}
+use Rattle.decoder.specs.DecoderStands.{DecoderStands, phase_after, running_or_closed}
 use Rattle.decoder.specs.declared.decoding.Decoder.{Decoder}
 use Rattle.decoder.specs.declared.fault.DecodeFault.{DecodeFault}
 use Rattle.decoder.specs.declared.fault.DecodeFault.TheVariants.{Memory}
@@ -55,19 +55,19 @@ module _ (words : Words) (program : IsProgram words) (period : ℕ) (handed mode
   pieces = stretches words period log
 
   -- Before the first message.
-  pub follows_none : (numbers : List ℕ) (decoder : Decoder) → Stands words [] [] decoder → HasMode None decoder
+  pub follows_none : (numbers : List ℕ) (decoder : Decoder) → DecoderStands words [] [] decoder → HasMode None decoder
       → ¬ IsClosed decoder → (handed ≡ mode) ⊎ BeginAtZero numbers
       → FollowsTrace words period handed mode log numbers 0 numbers decoder [] []
   follows_none numbers decoder stands has not_closed begins = record {
     block = block_of 0 0 0;
     done = [];
     place = omega arith;
-    told = refl;
+    so_far = refl;
     stretch = refl;
     whole = sym (blocks_at_first ps pieces numbers);
     begins = λ at. begins;
     decodes = λ p later is. record {
-      told = None;
+      announced = None;
       has_mode = has;
       right = inr (refl, refl, refl);
       not_closed = not_closed;
@@ -81,29 +81,29 @@ module _ (words : Words) (program : IsProgram words) (period : ℕ) (handed mode
       → parts words period mode log numbers ≡ seen ++ stretch events
   follows_all numbers next decoder seen events f =
       f.whole ∙ parts_of_last ps pieces f.block f.done ∙ ap (λ l. l ++ stretch (stretch_of_block ps pieces f.block))
-      (sym f.told)
+      (sym f.so_far)
       ∙ ap (λ l. seen ++ stretch l) (sym f.stretch)
 
   -- Some are missing before the next one.
   module _ (numbers : List ℕ) (next number missing : ℕ) (left : List ℕ) (old new : Decoder) (seen : List LogPart)
       (events : List Event) where
     -- The mode is known where more packets than the first are lost.
-    right_at : (block : Block) (told : Option Mode) → next ≡ block.first + block.count → {q : Packet}
+    right_at : (block : Block) (announced : Option Mode) → next ≡ block.first + block.count → {q : Packet}
         → {behind : List Packet} → drop next ps ≡ q ∷ behind → (next ≡ 0 → (handed ≡ mode) ⊎ (number ≡ 0))
         → number ≡ next + suc missing
-        → (unwrap_or told handed ≡ mode) ⊎ ((block.first ≡ 0)
-        × (take block.count (drop block.first ps) ≡ []) × (told ≡ None))
-        → unwrap_or told handed ≡ mode
-    right_at block told place more begins is (inl right) = right
-    right_at block told place {q} {behind} more begins is (inr (at, none, untold)) =
+        → (unwrap_or announced handed ≡ mode) ⊎ ((block.first ≡ 0)
+        × (take block.count (drop block.first ps) ≡ []) × (announced ≡ None))
+        → unwrap_or announced handed ≡ mode
+    right_at block announced place more begins is (inl right) = right
+    right_at block announced place {q} {behind} more begins is (inr (at, none, none_announced)) =
         by_begins (begins (omega (arith, place, at, few)))
       where
         few : block.count ≡ 0
         few = count_none block.count (drop block.first ps) q behind none
             (drop-drop block.count block.first ps ∙ ap (λ n. drop n ps) (sym place) ∙ more)
 
-        by_begins : (handed ≡ mode) ⊎ (number ≡ 0) → unwrap_or told handed ≡ mode
-        by_begins (inl same) = ap (λ t. unwrap_or t handed) untold ∙ same
+        by_begins : (handed ≡ mode) ⊎ (number ≡ 0) → unwrap_or announced handed ≡ mode
+        by_begins (inl same) = ap (λ t. unwrap_or t handed) none_announced ∙ same
         by_begins (inr zero_is) = let never : ⊥ = omega (arith, is, zero_is) in absurd never
 
     pub follows_gap : FollowsTrace words period handed mode log numbers next (number ∷ left) old seen events
@@ -115,10 +115,10 @@ module _ (words : Words) (program : IsProgram words) (period : ℕ) (handed mode
         let b = f.block in
         let at : suc (next + missing) ≡ number = omega (arith, is) in
         let follows = f.decodes q behind more in
-        let known : unwrap_or follows.told handed ≡ mode =
-        right_at f.block follows.told f.place more (f.begins) is follows.right in
+        let known : unwrap_or follows.announced handed ≡ mode =
+        right_at f.block follows.announced f.place more (f.begins) is follows.right in
         let passes : PassesOver mode new =
-        subst (λ m. PassesOver m new) known (resumes.passes_over follows.told follows.has_mode
+        subst (λ m. PassesOver m new) known (resumes.passes_over follows.announced follows.has_mode
         follows.not_closed)
         in
         let rest = parts_of_blocks ps pieces (block_before (block_of (suc missing) number 0)
@@ -128,18 +128,18 @@ module _ (words : Words) (program : IsProgram words) (period : ℕ) (handed mode
           block = block_of (suc missing) number 0;
           done = seen ++ stretch events;
           place = omega arith;
-          told = refl;
+          so_far = refl;
           stretch = refl;
           whole = f.whole
               ∙ ap (λ l. f.done ++ parts_of_blocks ps pieces l) (blocks_behind b next missing number left is)
               ∙ sym (append_assoc f.done (gap b.missing) (here ++ rest))
-              ∙ ap (λ l. l ++ (here ++ rest)) (sym f.told)
+              ∙ ap (λ l. l ++ (here ++ rest)) (sym f.so_far)
               ∙ ap (λ l. seen ++ (stretch l ++ rest)) (sym f.stretch)
               ∙ sym (append_assoc seen (stretch events) rest);
           begins = λ zero_is. let never : ⊥ = omega (arith, is, zero_is) in absurd never;
           decodes = λ p later is. record {
-            told = follows.told;
-            has_mode = resumes.mode_kept follows.told follows.has_mode;
+            announced = follows.announced;
+            has_mode = resumes.mode_kept follows.announced follows.has_mode;
             right = inl known;
             not_closed = passing mode passes;
             stands = (subst (λ n. StandsFrom words mode [] n [] new) at (passes, refl));
@@ -168,16 +168,16 @@ module _ (words : Words) (program : IsProgram words) (period : ℕ) (handed mode
       → OnOk result (rest ≡ [])
       → OnOk result (FollowsTrace words period handed mode log numbers number (number ∷ left) new after rest)
   follows_missed (Err fault) numbers next number missed left old new seen after events rest p later some is here f
-      resumes told none =
+      resumes lost none =
       tt
   follows_missed (Ok done) numbers next number zero left old new seen after events rest p later some is here f
-      resumes told none =
+      resumes lost none =
       let none : ⊥ = omega (arith, some) in absurd none
   follows_missed (Ok done) numbers next number (suc missing) left old new seen after events rest p later some is here f
-      resumes told none =
+      resumes lost none =
       let more = some_left next number (suc missing) p later is here in
       subst (λ e. FollowsTrace words period handed mode log numbers number (number ∷ left) new after e) (sym none)
-      (subst (λ l. FollowsTrace words period handed mode log numbers number (number ∷ left) new l []) (sym told)
+      (subst (λ l. FollowsTrace words period handed mode log numbers number (number ∷ left) new l []) (sym lost)
       (follows_gap numbers next number missing left old new seen events f is more.0 more.1 more.2 resumes
       (λ m passes. laws.passing m new passes)))
 
@@ -243,7 +243,7 @@ module _ (words : Words) (program : IsProgram words) (period : ℕ) (handed mode
       pub fed_or_memory : IfErr result (λ fault. fault ≡ Memory)
       fed_or_memory = fed.memory
 
-      -- Else the stretch is longer by what it tells.
+      -- Else the stretch is longer by the events that it settles.
       pub follows_packet : OnOk result (FollowsTrace words period handed mode log numbers (number + 1) left new seen
           after)
       follows_packet = by_result result fed
@@ -266,7 +266,7 @@ module _ (words : Words) (program : IsProgram words) (period : ℕ) (handed mode
                 block = longer;
                 done = f.done;
                 place = omega (arith, place);
-                told = f.told;
+                so_far = f.so_far;
                 stretch = fed.events;
                 whole = f.whole ∙ ap (λ l. f.done ++ parts_of_blocks ps pieces l) (blocks_on f.block number left);
                 begins = λ zero_is. let never : ⊥ = omega (arith, zero_is) in absurd never;

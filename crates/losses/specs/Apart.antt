@@ -3,12 +3,12 @@ use Rattle.std.specs.Prelude.{ℕ, ◌≡◌, ◌≤◌, ◌+◌, ◌++◌, List
 use Rattle.retire.specs.declared.event.Event.{Event}
 use Rattle.losses.specs.Parts.{LogPart, Events, Missing}
 
--- Each of the numbers is this one or above, and each is above the one before it.
+-- The numbers rise: the first is this one or above, and each of the others is above the one before it.
 abbrev pub AreRising : ℕ → List ℕ → Type 0
 AreRising from [] = Unit {0}
 AreRising from (number ∷ numbers) = (from ≤ number) × AreRising (number + 1) numbers
 
--- The stretches among the parts stand one behind the other in the log.
+-- The stretches among the parts stand one behind the other in the log, and no event is in two of them.
 abbrev pub StandApart : List LogPart → List Event → Type 0
 StandApart [] log = Unit {0}
 StandApart (Missing count ∷ parts) log = StandApart parts log

@@ -3,11 +3,11 @@ pub mod Parts
 pub mod PartsIn
 pub mod Losses
 pub mod Runs
-pub mod Told
+pub mod DescribedParts
 pub mod Collected
 pub mod Apart
-pub mod Held
+pub mod WholeStretches
 pub mod FaultText
-pub mod Taken
+pub mod Stops
 pub mod steps
 pub mod Collects

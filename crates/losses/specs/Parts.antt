@@ -1,4 +1,4 @@
--- What is left of a log of whose packets some came.
+-- What is left of a log where only some of its packets came.
 use Rattle.std.specs.Prelude.{ℕ, zero, suc, Bool, true, false, List, [], ◌∷◌, ◌++◌, drop, take}
 use Rattle.retire.specs.declared.event.Event.{Event}
 use Rattle.rvclass.specs.Words.{Words}
@@ -12,24 +12,26 @@ use Rattle.decoder.specs.SettledPieces.{settled_pieces}
 use Rattle.roundtrip.specs.Reach.{stretches}
 use Rattle.losses.specs.Blocks.{Block, blocks}
 
--- A part of what is left: events of the log one after the other, or a gap of so many packets.
+-- A part of what is left of a log. It is a stretch, which is events that follow one another in the log, or a gap, which
+-- is how many numbers of packets are missing.
 pub data LogPart : Type 0 where
   Events : List Event → LogPart
   Missing : ℕ → LogPart
 
--- A stretch begins at the packet that opens the trace, and at a synchronisation packet.
+-- A stretch begins at this packet: it opens the trace, or it is a synchronisation packet.
 abbrev pub begins_stretch : Packet → Bool
 begins_stretch (packet.Sync taken priv address) = true
 begins_stretch (packet.Support (support.Open mode)) = true
 begins_stretch other = false
 
--- From this packet on where this says so, and else from a later one.
+-- What begins here, where this is true, and else what begins later.
 abbrev pub here_or_later : {X : Type 0} → Bool → X → X → X
 here_or_later true here later = here
 here_or_later false here later = later
 
--- The stretch of packets that came one after the other, with the pieces that they have in their log: the events of
--- their settled pieces from the first packet on that begins a stretch; none where no packet does.
+-- The stretch of packets with consecutive numbers, where the pieces are the events that each reports in the log. It has
+-- the events of the settled pieces from the first packet on that begins a stretch. It has no event where no packet
+-- begins one.
 abbrev pub stretch_of : List Packet → List (List Event) → List Event
 stretch_of [] pieces = []
 stretch_of (packet ∷ packets) [] = []
@@ -37,28 +39,29 @@ stretch_of (packet ∷ packets) (piece ∷ pieces) =
     here_or_later (begins_stretch packet) (join (settled_pieces (packet ∷ packets) (piece ∷ pieces)))
     (stretch_of packets pieces)
 
--- A gap of this count; none where nothing is missing.
+-- A gap of this many numbers, as a list of parts; no part where none is missing.
 abbrev pub gap : ℕ → List LogPart
 gap zero = []
 gap (suc missing) = Missing (suc missing) ∷ []
 
--- A stretch of these events; none where there is no event.
+-- A stretch of these events, as a list of parts; no part where there is no event.
 abbrev pub stretch : List Event → List LogPart
 stretch [] = []
 stretch (event ∷ events) = Events (event ∷ events) ∷ []
 
--- The stretch of a block of the numbers of these packets, which have these pieces.
+-- The stretch of a block: that of the packets which have its numbers among all packets of a log, with the events that
+-- each reports.
 abbrev pub stretch_of_block : List Packet → List (List Event) → Block → List Event
 stretch_of_block packets pieces block = stretch_of (take block.count (drop block.first packets)) (drop block.first
     pieces)
 
--- Of each block the gap before it and its stretch.
+-- The parts of blocks, one block after the other: the gap before a block, and then the block's stretch.
 abbrev pub parts_of_blocks : List Packet → List (List Event) → List Block → List LogPart
 parts_of_blocks packets pieces [] = []
 parts_of_blocks packets pieces (block ∷ blocks) =
     gap block.missing ++ (stretch (stretch_of_block packets pieces block) ++ parts_of_blocks packets pieces blocks)
 
--- The parts of a log where the packets with these numbers came, which rise.
+-- The parts of a log, where the packets with these numbers came. The numbers rise.
 abbrev pub parts : Words → ℕ → Mode → List Event → List ℕ → List LogPart
 parts words period mode log numbers =
     parts_of_blocks (packets words period mode log) (stretches words period log) (blocks numbers)

@@ -2,4 +2,4 @@ pub mod Traces
 pub mod Following
 pub mod DecoderSteps
 pub mod Collecting
-pub mod Telling
+pub mod FollowingRuns

@@ -19,12 +19,12 @@ ghost use Rattle.losses.specs.Collected.{AreCollected};
 ghost use Rattle.losses.specs.Losses.{AreOfLogs};
 ghost use Rattle.losses.specs.PartsIn.{parts_in};
 ghost use Rattle.losses.specs.Runs.{Run, missing_behind, mode_in, over_before, packets_behind, run_of};
-ghost use Rattle.losses.specs.Taken.{AreTaken, StopsBy};
-ghost use Rattle.losses.specs.Told.{AreTold};
+ghost use Rattle.losses.specs.Stops.{AreAcceptedLossy, CollectingStopsBy};
+ghost use Rattle.losses.specs.DescribedParts.{AreDescribed};
 ghost use Rattle.losses.specs.steps.Collecting.{AreEnded, FollowsAll, IsNewPieces, IsNewTrace, IsNotCollected};
 ghost use Rattle.losses.specs.steps.Collecting.{IsNotTaken};
 ghost use Rattle.losses.specs.steps.Following.{FollowsTrace};
-ghost use Rattle.losses.specs.steps.Telling.{FollowsRuns, IsNotTold, IsUntoldBy, TellsAll};
+ghost use Rattle.losses.specs.steps.FollowingRuns.{FollowsRuns, IsMessageFault, IsPacketFault, FollowsEveryHart};
 
 use crate::fault::LossyFault;
 use crate::hart_trace::HartTrace;
@@ -35,7 +35,7 @@ use payload::{Mode, Packet};
 use rvclass::Program;
 use std::alloc::{AllocError, Allocator};
 
-/// Nothing under way for so many harts.
+/// A new trace for each of so many harts: nothing is under way.
 fn new_traces<A: Allocator + Copy>(
     alloc: A,
     count: usize,
@@ -50,7 +50,7 @@ fn new_traces<A: Allocator + Copy>(
     Ok(traces)
 }
 
-/// Nothing collected of so many harts.
+/// New pieces for each of so many harts: there is no part, and the hart is not closed.
 fn new_pieces<A: Allocator + Copy>(
     alloc: A,
     count: usize,
@@ -68,8 +68,8 @@ fn new_pieces<A: Allocator + Copy>(
     Ok(pieces)
 }
 
-/// What is told of a message at this place whose packet is not taken.
-fn told(place: usize, fault: DecodeFault) -> LossyFault
+/// The fault for a message at this place whose packet the decoder refuses with this fault.
+fn fault_at(place: usize, fault: DecodeFault) -> LossyFault
     ensures fault { IsNotTaken place result }
     ensures memory { fault ≡ DecodeFault.Memory → result ≡ LossyFault.Memory }
     ensures either { (result ≡ LossyFault.Memory) ⊎ (result ≡ LossyFault.Decode place fault) }
@@ -80,7 +80,7 @@ fn told(place: usize, fault: DecodeFault) -> LossyFault
     }
 }
 
-/// Takes a hart's next packet, before which so many messages were missed. The message stands at this place.
+/// Takes a hart's next packet, before which this many numbers are missing. Its message stands at this place.
 fn take_packet<A: Allocator + Copy>(
     alloc: A,
     program: &Program,
@@ -107,23 +107,23 @@ fn take_packet<A: Allocator + Copy>(
         → IfErr result (λ fault. fault ≡ LossyFault.Memory) }
     ensures closed { OnOk result (pieces.new.closed ≡ is_closing_packet packet.now) }
     ensures fault { IfErr result (λ fault. IsNotTaken place fault) }
-    ensures tells { (done : List Run) (missing next : ℕ) (packets : List AnyPacket)
+    ensures follows { (done : List Run) (missing next : ℕ) (packets : List AnyPacket)
         → FollowsRuns (words_of program.now) mode done missing packets next false trace.old.decoder
         (parts_in pieces.old.parts.items) trace.old.stretch.items
         → OnOk result (FollowsRuns (words_of program.now) mode (done ++ over_before missed (run_of missing packets))
         (missing_behind missed missing) (packets_behind missed packets ++ packet.now ∷ []) (next + missed + 1)
         (is_closing_packet packet.now) trace.new.decoder (parts_in pieces.new.parts.items) trace.new.stretch.items) }
-    ensures untold { (done : List Run) (missing next : ℕ) (packets : List AnyPacket)
+    ensures packet_fault { (done : List Run) (missing next : ℕ) (packets : List AnyPacket)
         → FollowsRuns (words_of program.now) mode done missing packets next false trace.old.decoder
         (parts_in pieces.old.parts.items) trace.old.stretch.items
-        → IfErr result (λ fault. IsUntoldBy (words_of program.now)
+        → IfErr result (λ fault. IsPacketFault (words_of program.now)
         (mode_in mode ((done ++ over_before missed (run_of missing packets)) ++ run_of (missing_behind missed missing)
         (packets_behind missed packets ++ packet.now ∷ []) ∷ [])) (missing_behind missed missing)
         (packets_behind missed packets) packet.now fault) }
 {
     match trace.take(alloc, program, mode, packet, missed, &mut pieces.parts) {
         Ok(()) => {}
-        Err(fault) => return Err(told(place, fault)),
+        Err(fault) => return Err(fault_at(place, fault)),
     }
     pieces.closed = packet.is_closing();
     Ok(())
@@ -135,7 +135,7 @@ struct Collection<A: Allocator> {
     demux: Demux<A>,
     /// What is under way of each hart.
     traces: Vec<HartTrace<A>, A>,
-    /// What is left of each hart's log.
+    /// What is left of each hart's log so far.
     pieces: Vec<HartPieces<A>, A>,
 }
 
@@ -184,13 +184,15 @@ impl<A: Allocator + Copy> Collection<A> {
             self.old.traces.items
             self.old.pieces.items
             → IfErr result (λ fault. fault ≡ LossyFault.Memory) }
-        ensures tells { (messages : List AnyMessage)
-            → TellsAll (words_of program.now) mode messages self.old.demux self.old.traces.items self.old.pieces.items
-            → OnOk result (TellsAll (words_of program.now) mode (messages ++ message.now ∷ []) self.new.demux
+        ensures follows { (messages : List AnyMessage)
+            → FollowsEveryHart (words_of program.now) mode messages self.old.demux self.old.traces.items
+            self.old.pieces.items
+            → OnOk result (FollowsEveryHart (words_of program.now) mode (messages ++ message.now ∷ []) self.new.demux
             self.new.traces.items self.new.pieces.items) }
-        ensures untold { (messages : List AnyMessage)
-            → TellsAll (words_of program.now) mode messages self.old.demux self.old.traces.items self.old.pieces.items
-            → IfErr result (λ fault. IsNotTold (words_of program.now) mode messages message.now fault) }
+        ensures message_fault { (messages : List AnyMessage)
+            → FollowsEveryHart (words_of program.now) mode messages self.old.demux self.old.traces.items
+            self.old.pieces.items
+            → IfErr result (λ fault. IsMessageFault (words_of program.now) mode messages message.now fault) }
     {
         let (packet, missed) = match self.demux.accept_lossy(message) {
             Ok(taken) => taken,
@@ -232,14 +234,14 @@ fn take_all<A: Allocator + Copy>(
         collection.old.traces.items collection.old.pieces.items
         → IfErr result (λ fault. fault ≡ LossyFault.Memory) }
     ensures accepted { (harts : ℕ) → collection.old.demux ≡ newcomers harts
-        → OnOk result (AreTaken (newcomers harts) messages.now) }
+        → OnOk result (AreAcceptedLossy (newcomers harts) messages.now) }
     ensures stops { (harts : ℕ) → collection.old.demux ≡ newcomers harts
-        → TellsAll (words_of program.now) mode [] collection.old.demux collection.old.traces.items
+        → FollowsEveryHart (words_of program.now) mode [] collection.old.demux collection.old.traces.items
         collection.old.pieces.items
-        → IfErr result (λ fault. StopsBy (words_of program.now) mode harts messages.now fault) }
-    ensures tells { TellsAll (words_of program.now) mode [] collection.old.demux collection.old.traces.items
+        → IfErr result (λ fault. CollectingStopsBy (words_of program.now) mode harts messages.now fault) }
+    ensures follows { FollowsEveryHart (words_of program.now) mode [] collection.old.demux collection.old.traces.items
         collection.old.pieces.items
-        → OnOk result (TellsAll (words_of program.now) mode messages.now collection.new.demux
+        → OnOk result (FollowsEveryHart (words_of program.now) mode messages.now collection.new.demux
         collection.new.traces.items collection.new.pieces.items) }
     ensures harts_count { length collection.new.demux ≡ length collection.old.demux }
 {
@@ -270,14 +272,16 @@ fn end_all<A: Allocator + Copy>(
     Ok(())
 }
 
-/// Collects of several harts, whose logs are of this program, what is left where messages are lost: of each hart the
-/// stretches of its log that its messages still tell, and how many messages are missing before and between them.
+/// Collects what is left of the logs of several harts where messages are lost. The logs are of this program. The parts
+/// of each hart are the stretches of its log that the messages still settle, and the gaps where numbers are missing.
 ///
-/// The harts are those below `harts`. A message may have any number above those of its hart's messages before it and
-/// below 2^63; with the number of one of them, or a lower one than the last, it is refused. The mode is that of a hart
-/// whose packet that opens the trace is lost. A stretch that would be empty is left out. Before each run of consecutive
-/// numbers so many messages are told as are missing before it, and nothing where none is; messages lost at the end are
-/// not told but by a hart that is not closed.
+/// The harts are those below `harts`. The messages of different harts may come in any order. The numbers of one hart's
+/// messages rise and are below 2^63; numbers may be missing. A message that repeats a number of its hart, or is late,
+/// is refused. `mode` is the mode of a hart whose packet that opens the trace is lost.
+///
+/// A stretch without an event is left out. A gap says how many numbers are missing before a run of consecutive numbers;
+/// where none is missing, it is left out. Messages lost at the end make no gap: they show only as a hart that is not
+/// closed.
 pub fn collect_lossy<A: Allocator + Copy>(
     alloc: A,
     program: &Program,
@@ -285,7 +289,8 @@ pub fn collect_lossy<A: Allocator + Copy>(
     mode: Mode,
     messages: &[Message],
 ) -> Result<Vec<HartPieces<A>, A>, LossyFault>
-    // Of messages of legal logs, some of them lost, each hart's parts are those of its log, and only memory is refused.
+    // Of messages of legal logs, some of them lost: each hart's parts are those of its log, and the only fault is that
+    // memory was refused.
     ensures parts { (period : ℕ) (own : ℕ → AnyMode) (logs : List ProgramLog) → AreOfLogs program.now period mode own
         logs messages.now
         → length logs ≡ harts
@@ -296,9 +301,9 @@ pub fn collect_lossy<A: Allocator + Copy>(
 
     // Of any messages.
     ensures count { IfOk result (λ pieces. length pieces.items ≡ harts) }
-    ensures accepted { OnOk result (AreTaken (newcomers harts) messages.now) }
-    ensures told { IfOk result (λ pieces. AreTold (words_of program.now) mode messages.now pieces.items) }
-    ensures stops { IfErr result (λ fault. StopsBy (words_of program.now) mode harts messages.now fault) }
+    ensures accepted { OnOk result (AreAcceptedLossy (newcomers harts) messages.now) }
+    ensures described { IfOk result (λ pieces. AreDescribed (words_of program.now) mode messages.now pieces.items) }
+    ensures stops { IfErr result (λ fault. CollectingStopsBy (words_of program.now) mode harts messages.now fault) }
 {
     let mut collection = match Collection::new(alloc, harts) {
         Ok(collection) => collection,

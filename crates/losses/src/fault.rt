@@ -8,12 +8,12 @@ use message::DemuxFault;
 use std::error::Error;
 use std::fmt;
 
-/// Why messages are not collected. Nothing of what was collected before is left then.
+/// Why messages are not collected. What was collected before the fault is dropped.
 #[derive(Clone, Copy, Debug, PartialEq, Eq)]
 pub enum LossyFault {
     /// The demultiplexer refuses the message at this place, counted from 0.
     Demux(usize, DemuxFault),
-    /// The packet of the message at this place, counted from 0, is not decoded. It is never for want of memory.
+    /// The packet of the message at this place, counted from 0, is not decoded. The decoder's fault is never Memory.
     Decode(usize, DecodeFault),
     /// Memory was refused.
     Memory,

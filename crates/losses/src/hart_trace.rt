@@ -10,13 +10,13 @@ ghost use Rattle.payload.specs.declared.mode.Mode.{Mode as AnyMode};
 ghost use Rattle.payload.specs.declared.packet.Packet.{Packet as AnyPacket};
 ghost use Rattle.encoder.specs.Packets.{packets};
 ghost use Rattle.decoder.specs.Resuming.{HasMode};
-ghost use Rattle.decoder.specs.Stands.{Stands};
+ghost use Rattle.decoder.specs.DecoderStands.{DecoderStands};
 ghost use Rattle.losses.specs.Parts.{Missing, stretch};
 ghost use Rattle.losses.specs.PartsIn.{parts_in};
 ghost use Rattle.losses.specs.Runs.{Run, missing_behind, mode_in, over_before, packets_behind, run_of};
 ghost use Rattle.losses.specs.steps.DecoderSteps.{Resumes};
 ghost use Rattle.losses.specs.steps.Following.{FollowsTrace};
-ghost use Rattle.losses.specs.steps.Telling.{FollowsRuns, IsUntold};
+ghost use Rattle.losses.specs.steps.FollowingRuns.{FollowsRuns, IsNotDecodedInRun};
 
 use crate::part::{HartPieces, Part};
 use decoder::{DecodeFault, Decoder};
@@ -34,10 +34,10 @@ pub struct HartTrace<A: Allocator> {
 }
 
 impl<A: Allocator + Copy> HartTrace<A> {
-    /// Nothing is under way. Takes no memory.
+    /// The trace of a hart before its first packet, with no stretch under way. Takes no memory.
     pub fn new(alloc: A) -> HartTrace<A>
-        ensures stands { (words : Words) → Stands words [] [] result.decoder }
-        ensures untold { HasMode None result.decoder }
+        ensures stands { (words : Words) → DecoderStands words [] [] result.decoder }
+        ensures no_mode { HasMode None result.decoder }
         ensures stretch { result.stretch.items ≡ [] }
     {
         HartTrace {
@@ -46,7 +46,7 @@ impl<A: Allocator + Copy> HartTrace<A> {
         }
     }
 
-    /// Ends the stretch that is under way: it is a part, where it has an event.
+    /// Ends the stretch that is under way: it becomes the last part, where it has an event.
     pub fn end_stretch(&mut self, alloc: A, parts: &mut Vec<Part<A>, A>) -> Result<(), AllocError>
         ensures parts { OnOk result (parts_in parts.new.items ≡ parts_in parts.old.items ++ stretch
             self.old.stretch.items) }
@@ -64,7 +64,8 @@ impl<A: Allocator + Copy> HartTrace<A> {
         Ok(())
     }
 
-    /// Goes on after so many messages that were missed.
+    /// Goes on after this many missing numbers: the stretch and then a gap become the last parts, and the decoder
+    /// resumes.
     fn lose(
         &mut self,
         alloc: A,
@@ -85,7 +86,7 @@ impl<A: Allocator + Copy> HartTrace<A> {
         Ok(())
     }
 
-    /// Goes on to a message of this hart, before which so many were missed.
+    /// Goes on to the hart's next message, before which this many numbers are missing, 0 or more.
     fn go_on(
         &mut self,
         alloc: A,
@@ -115,7 +116,7 @@ impl<A: Allocator + Copy> HartTrace<A> {
         self.lose(alloc, mode, missed, parts)
     }
 
-    /// Takes the hart's next packet, before which so many messages were missed.
+    /// Takes the hart's next packet, before which this many numbers are missing, 0 or more.
     pub fn take(
         &mut self,
         alloc: A,
@@ -139,16 +140,16 @@ impl<A: Allocator + Copy> HartTrace<A> {
             → FollowsTrace (words_of program.now) period mode own log numbers next (number ∷ left) self.old.decoder
             (parts_in parts.old.items) self.old.stretch.items
             → IfErr result (λ fault. fault ≡ DecodeFault.Memory) }
-        ensures tells { (done : List Run) (missing next : ℕ) (packets : List AnyPacket)
+        ensures follows { (done : List Run) (missing next : ℕ) (packets : List AnyPacket)
             → FollowsRuns (words_of program.now) mode done missing packets next false self.old.decoder
             (parts_in parts.old.items) self.old.stretch.items
             → OnOk result (FollowsRuns (words_of program.now) mode (done ++ over_before missed (run_of missing packets))
             (missing_behind missed missing) (packets_behind missed packets ++ packet.now ∷ []) (next + missed + 1)
             (is_closing_packet packet.now) self.new.decoder (parts_in parts.new.items) self.new.stretch.items) }
-        ensures untold { (done : List Run) (missing next : ℕ) (packets : List AnyPacket)
+        ensures not_decoded { (done : List Run) (missing next : ℕ) (packets : List AnyPacket)
             → FollowsRuns (words_of program.now) mode done missing packets next false self.old.decoder
             (parts_in parts.old.items) self.old.stretch.items
-            → IfErr result (λ fault. (fault ≡ DecodeFault.Memory) ⊎ IsUntold (words_of program.now)
+            → IfErr result (λ fault. (fault ≡ DecodeFault.Memory) ⊎ IsNotDecodedInRun (words_of program.now)
             (mode_in mode ((done ++ over_before missed (run_of missing packets)) ++ run_of (missing_behind missed
             missing)
             (packets_behind missed packets ++ packet.now ∷ []) ∷ [])) (missing_behind missed missing)

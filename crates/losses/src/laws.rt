@@ -11,7 +11,7 @@ ghost use Rattle.payload.specs.declared.mode.Mode.{Mode};
 ghost use Rattle.message.specs.declared.message.Message.{Message};
 ghost use Rattle.losses.specs.Apart.{AreRising, StandApart};
 ghost use Rattle.losses.specs.Collected.{AreCollected};
-ghost use Rattle.losses.specs.Held.{AreHeld};
+ghost use Rattle.losses.specs.WholeStretches.{AreWholeStretches};
 ghost use Rattle.losses.specs.Losses.{AreOfLogs, numbers_of};
 ghost use Rattle.losses.specs.Parts.{parts};
 ghost use Rattle.losses.specs.PartsIn.{parts_in};
@@ -26,16 +26,17 @@ pub fn stretches_stand_apart()
         StandApart (parts words period mode log numbers) log }
 {}
 
-/// Of what is collected of messages of legal logs each stretch begins at event 0, where the message came that opens the
-/// trace, or at the event of a synchronisation packet whose message came, and holds all that the messages up to the
-/// next loss settle; and no synchronisation packet that came is outside of them. The stretches of a hart are disjoint
-/// stretches of its log, in its order.
-pub fn stretches_are_held<A: Allocator>()
-    ensures held { (program : Image) (period : ℕ) (handed : Mode) (own : ℕ → Mode) (logs : List ProgramLog)
+/// What is promised of the stretches that are collected of messages of legal logs. Each begins at event 0, and then the
+/// message came that opens the trace; or it begins at the event that a synchronisation packet reports, and then that
+/// packet's message came. Each has all events from there on that the messages up to the next loss settle. No
+/// synchronisation packet that came is left out. The stretches of a hart are disjoint stretches of its log, in its
+/// order.
+pub fn stretches_are_whole<A: Allocator>()
+    ensures whole { (program : Image) (period : ℕ) (handed : Mode) (own : ℕ → Mode) (logs : List ProgramLog)
         (messages : List Message) (harts : List (AnyPieces A)) → AreOfLogs program period handed own logs messages
         → AreCollected program period own logs messages harts → (hart : ℕ) (log : ProgramLog) (pieces : AnyPieces A)
         → slice_get logs hart ≡ Some log → slice_get harts hart ≡ Some pieces
-        → AreHeld (words_of program) period (own hart) log.events (numbers_of hart messages) 0
+        → AreWholeStretches (words_of program) period (own hart) log.events (numbers_of hart messages) 0
         (parts_in pieces.parts.items) }
     ensures apart { (program : Image) (period : ℕ) (handed : Mode) (own : ℕ → Mode)
         (logs : List ProgramLog) (messages : List Message) (harts : List (AnyPieces A))

@@ -1,10 +1,12 @@
 //! What is left of harts' logs where messages are lost.
 //!
-//! [`collect_lossy`] takes the messages of several harts of which some are missing, and gives of each hart the parts of
-//! its log that can still be told, as [`HartPieces`]: stretches of events one after the other, and how many messages
-//! are missing before them and between them. A stretch begins at the packet that opens the trace or at a
-//! synchronisation, and holds all that the packets up to the next loss settle. That, and that the stretches of a hart
-//! are disjoint and in the order of its log, is the law [`stretches_are_held`].
+//! [`collect_lossy`] takes the messages of several harts, some of which may be lost. For each hart it returns
+//! [`HartPieces`]: the parts of its log that the messages still settle, and whether the hart is closed.
+//!
+//! A part is a stretch or a gap. A stretch is events that follow one another in the log. It begins at the packet that
+//! opens the trace or at a synchronisation packet, and has all events from there on that the packets up to the next
+//! loss settle. A gap is how many numbers are missing before a run of messages with consecutive numbers. That stretches
+//! are so, and that those of a hart are disjoint and in the order of its log, is the law [`stretches_are_whole`].
 #![tactic(auto)]
 
 mod collecting;
@@ -15,5 +17,5 @@ mod part;
 
 pub use collecting::collect_lossy;
 pub use fault::LossyFault;
-pub use laws::{stretches_are_held, stretches_stand_apart};
+pub use laws::{stretches_are_whole, stretches_stand_apart};
 pub use part::{HartPieces, Part};

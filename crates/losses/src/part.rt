@@ -6,13 +6,13 @@ use std::alloc::{Allocator, Global};
 /// A part of what is left of a hart's log.
 #[derive(Debug, Drop)]
 pub enum Part<A: Allocator = Global> {
-    /// Events that follow one another in the log, one at least.
+    /// A stretch: events that follow one another in the log, one at least.
     Stretch(Vec<Event, A>),
-    /// So many messages are missing, one at least.
+    /// A gap: how many numbers are missing between two messages of the hart, or before its first, one at least.
     Gap(u64),
 }
 
-/// What is left of a hart's log.
+/// What is left of a hart's log, and whether the hart is closed.
 #[derive(Debug, Drop)]
 pub struct HartPieces<A: Allocator = Global> {
     /// The parts, in the order of the log.

@@ -100,7 +100,7 @@ repeat h m = by_tests h m (λ r. (r ≡ Err fault.Repeat) ↔ (Going h × (m.num
       λ w. absurd (let l = w.1 in omega (arith, l, next)),
     ))
 
--- The number that a gap tells.
+-- The number that a gap names.
 abbrev pub gap_of : {T : Type 0} → Result T DemuxFault → ℕ
 gap_of (Ok packet) = 0
 gap_of (Err fault.Stranger) = 0
@@ -176,7 +176,7 @@ pub answer-repeat : (o : Option Hart) (m : Message)
 answer-repeat None m = (λ e. absurd (apart _ _ (inl (omega arith)) e), λ w. absurd w)
 answer-repeat (Some h) m = repeat h m
 
--- Gap is answered exactly where the hart is known and open, and the number above the expected one, which is told.
+-- Gap is answered exactly where the hart is known and open, and the number above the expected one, which it names.
 pub answer-gap : (o : Option Hart) (m : Message) (k : ℕ)
     → (answer_of o m ≡ Err (fault.Gap k)) ↔ IsSomeAnd o (λ h. Going h × ((h.expected ≡ k) × (k < m.number)))
 answer-gap None m k = (λ e. absurd (apart _ _ (inl (omega arith)) e), λ w. absurd w)

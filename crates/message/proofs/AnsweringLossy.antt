@@ -1,6 +1,6 @@
 -- What is answered to a message where messages before it may be lost, by the tests in their order.
 use Rattle.std.proofs.Common.{◌≡◌, ◌+◌, ◌-◌, ◌<◌, ◌≤◌, ◌^◌, ◌↔◌, ℕ, Bool, true, false, Option, Some, None, Result}
-use Rattle.std.proofs.Common.{Ok, Err, arith, nat_lt, refl, sym, inl, inr, length, slice_get, ap, if◌then◌else◌, ◌∙◌}
+use Rattle.std.proofs.Common.{Ok, Err, arith, nat_lt, refl, inl, inr, length, slice_get, ap, if◌then◌else◌, ◌∙◌}
 use Rattle.std.specs.Prelude.{IsSomeAnd, not, ◌||◌}
 use Rattle.std.proofs.lemmas.Bool.{ltb-true, ltb-false, lt-ltb, le-ltb}
 use Rattle.std.proofs.lemmas.Option.{slice_get_cases}
@@ -49,22 +49,22 @@ by_tests_lossy h m P over low high taken =
     go false false false p q r = high p (ltb-false m.number h.expected q) (ltb-false m.number (2 ^ 63) r)
 
 -- What a payload gives is none of the refusals that come before it.
-unpacked_apart : (missed : ℕ) (r : Result Packet PackFault) (a : Answer) → (1 ≤ kind a) × (kind a ≤ 4)
-    → packet_after_loss missed r ≡ a → ⊥
-unpacked_apart missed (Ok packet) a w e = let low = w.0 in let same = ap kind e in omega (arith, low, same)
-unpacked_apart missed (Err why) a w e = let high = w.1 in let same = ap kind e in omega (arith, high, same)
+unpacked_apart : (missing : ℕ) (r : Result Packet PackFault) (a : Answer) → (1 ≤ kind a) × (kind a ≤ 4)
+    → packet_after_loss missing r ≡ a → ⊥
+unpacked_apart missing (Ok packet) a w e = let low = w.0 in let same = ap kind e in omega (arith, low, same)
+unpacked_apart missing (Err why) a w e = let high = w.1 in let same = ap kind e in omega (arith, high, same)
 
 -- What was taken by an answer, or else this.
 abbrev taken_of : Packet × ℕ → Answer → Packet × ℕ
 taken_of other (Ok taken) = taken
 taken_of other (Err why) = other
 
-taken_back : (missed : ℕ) (r : Result Packet PackFault) (packet : Packet) (n : ℕ)
-    → packet_after_loss missed r ≡ Ok (packet, n) → (missed ≡ n) × (r ≡ Ok packet)
-taken_back missed (Ok p) packet n e =
-    let same = ap (taken_of (p, missed)) e in
+taken_back : (missing : ℕ) (r : Result Packet PackFault) (packet : Packet) (n : ℕ)
+    → packet_after_loss missing r ≡ Ok (packet, n) → (missing ≡ n) × (r ≡ Ok packet)
+taken_back missing (Ok p) packet n e =
+    let same = ap (taken_of (p, missing)) e in
     (ap (λ (t : Packet × ℕ). t.1) same, ap (λ (t : Packet × ℕ). Ok t.0) same)
-taken_back missed (Err why) packet n e = cc
+taken_back missing (Err why) packet n e = cc
 
 -- Why a payload is no packet by an answer, or else this.
 abbrev why_of : PackFault → Answer → PackFault
@@ -75,10 +75,10 @@ why_of other (Err fault.Repeat) = other
 why_of other (Err (fault.Gap expected)) = other
 why_of other (Err (fault.Packet why)) = why
 
-bad_back : (missed : ℕ) (r : Result Packet PackFault) (why : PackFault)
-    → packet_after_loss missed r ≡ Err (fault.Packet why) → r ≡ Err why
-bad_back missed (Ok p) why e = cc
-bad_back missed (Err other) why e = ap (λ a. Err (why_of other a)) e
+bad_back : (missing : ℕ) (r : Result Packet PackFault) (why : PackFault)
+    → packet_after_loss missing r ≡ Err (fault.Packet why) → r ≡ Err why
+bad_back missing (Ok p) why e = cc
+bad_back missing (Err other) why e = ap (λ a. Err (why_of other a)) e
 
 -- An open hart expects a number below 2^63, so a number that is lower is no such high one.
 far_is_open : (h : Hart) (m : Message) → Going h → m.number < h.expected → 2 ^ 63 ≤ m.number → ⊥
@@ -127,10 +127,10 @@ gap_lossy h m k = by_tests_lossy h m
       λ w. absurd (let far = w.1.1 in omega (arith, far, near)),
     ))
 
-taken_lossy : (h : Hart) (m : Message) (packet : Packet) (missed : ℕ) → (answer_lossy h m ≡ Ok (packet, missed))
-    ↔ ((Going h × ((h.expected + missed ≡ m.number) × (m.number < 2 ^ 63))) × (reading m.payload ≡ Ok packet))
-taken_lossy h m packet missed = by_tests_lossy h m (λ r. (r ≡ Ok (packet, missed))
-    ↔ ((Going h × ((h.expected + missed ≡ m.number) × (m.number < 2 ^ 63))) × (reading m.payload ≡ Ok packet)))
+taken_lossy : (h : Hart) (m : Message) (packet : Packet) (missing : ℕ) → (answer_lossy h m ≡ Ok (packet, missing))
+    ↔ ((Going h × ((h.expected + missing ≡ m.number) × (m.number < 2 ^ 63))) × (reading m.payload ≡ Ok packet))
+taken_lossy h m packet missing = by_tests_lossy h m (λ r. (r ≡ Ok (packet, missing))
+    ↔ ((Going h × ((h.expected + missing ≡ m.number) × (m.number < 2 ^ 63))) × (reading m.payload ≡ Ok packet)))
     (λ over. (λ e. absurd (apart _ _ (inr (omega arith)) e), λ w. absurd (not_both _ over w.0.0)))
     (λ going low. (
       λ e. absurd (apart _ _ (inr (omega arith)) e),
@@ -141,12 +141,12 @@ taken_lossy h m packet missed = by_tests_lossy h m (λ r. (r ≡ Ok (packet, mis
       λ w. absurd (let near = w.0.1.1 in omega (arith, near, far)),
     ))
     (λ going high near. (
-      λ e. let back = taken_back (m.number - h.expected) (reading m.payload) packet missed e in
+      λ e. let back = taken_back (m.number - h.expected) (reading m.payload) packet missing e in
           let n = back.0 in
           ((going, (omega (arith, n, high), near)), back.1),
       λ w. let n = w.0.1.0 in
-          let missed_is : m.number - h.expected ≡ missed = omega (arith, n) in
-          ap (packet_after_loss (m.number - h.expected)) w.1 ∙ ap (λ k. Ok (packet, k)) missed_is,
+          let missing_is : m.number - h.expected ≡ missing = omega (arith, n) in
+          ap (packet_after_loss (m.number - h.expected)) w.1 ∙ ap (λ k. Ok (packet, k)) missing_is,
     ))
 
 bad_lossy : (h : Hart) (m : Message) (why : PackFault) → (answer_lossy h m ≡ Err (fault.Packet why))
@@ -187,14 +187,14 @@ answer_lossy-gap (Some h) m k = gap_lossy h m k
 
 -- A packet is answered exactly where the hart is known and open, the number is below 2^63, so many above the expected
 -- one, and the payload unpacks to it.
-pub answer_lossy-taken : (o : Option Hart) (m : Message) (packet : Packet) (missed : ℕ)
-    → (answer_lossy_of o m ≡ Ok (packet, missed)) ↔
-    (IsSomeAnd o (λ h. Going h × ((h.expected + missed ≡ m.number) × (m.number < 2 ^ 63)))
+pub answer_lossy-taken : (o : Option Hart) (m : Message) (packet : Packet) (missing : ℕ)
+    → (answer_lossy_of o m ≡ Ok (packet, missing)) ↔
+    (IsSomeAnd o (λ h. Going h × ((h.expected + missing ≡ m.number) × (m.number < 2 ^ 63)))
     × (reading m.payload ≡ Ok packet))
-answer_lossy-taken None m packet missed = (λ e. absurd (apart _ _ (inr (omega arith)) e), λ w. absurd w.0)
-answer_lossy-taken (Some h) m packet missed = taken_lossy h m packet missed
+answer_lossy-taken None m packet missing = (λ e. absurd (apart _ _ (inr (omega arith)) e), λ w. absurd w.0)
+answer_lossy-taken (Some h) m packet missing = taken_lossy h m packet missing
 
--- A payload that is no packet is told exactly where a packet would be taken.
+-- A payload that is no packet is the fault exactly where a packet would be taken.
 pub answer_lossy-bad : (o : Option Hart) (m : Message) (why : PackFault)
     → (answer_lossy_of o m ≡ Err (fault.Packet why)) ↔
     (IsSomeAnd o (λ h. Going h × ((h.expected ≤ m.number) × (m.number < 2 ^ 63))) × (reading m.payload ≡ Err why))

@@ -2,7 +2,7 @@
 use Rattle.std.proofs.Common.{◌≡◌, ◌≢◌, ◌≤◌, ◌++◌, ℕ, true, nat_eq, List, length, take, drop, sym, ap, ◌∙◌, arith}
 use Rattle.std.proofs.Common.{take-append-drop}
 use Rattle.std.specs.Cmp.Lexicographic.{pointwise, same_text}
-use Rattle.message.specs.Header.{HasBadHeader, IsHeader, header_bytes, mark, setting_bytes}
+use Rattle.message.specs.Header.{HasBadHeader, IsHeader, mark, setting_bytes}
 use Rattle.message.specs.declared.header.Header.{Header}
 
 -- What stands behind the mark.

@@ -20,7 +20,7 @@ message_of-ranges head payload bytes more some few =
     let number = little_from-lt 0 8 (drop 2 head) (AreBytes-drop 2 head bytes) in
     record { hart = hart; number = number; some = some; few = few; bytes = bytes_from_each payload more }
 
--- A whole head and not all of the payload that it tells of.
+-- A whole head and not all of the payload whose length it has.
 pub IsCut-payload : (head room : List ℕ) (n : ℕ) → length head ≡ 11 → AreBytes head → AreBytes room
     → length room ≡ slice_index head 10
     → 1 ≤ length room → length room ≤ 18 → n < length room → IsCut (head ++ take n room)

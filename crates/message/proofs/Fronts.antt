@@ -113,15 +113,15 @@ head_is_cut bytes are head some few less =
     let zeros = replicate (count - length rest) 0 in
     let long : length (rest ++ zeros) ≡ count = let both = length-append rest zeros in let more =
     length-replicate {A = ℕ} (count - length rest) 0 in omega (arith, both, more, left, less) in
-    let told : length (rest ++ zeros) ≡ slice_index (take 11 bytes) 10 = long ∙ sym (count_in_head bytes) in
+    let counted : length (rest ++ zeros) ≡ slice_index (take 11 bytes) 10 = long ∙ sym (count_in_head bytes) in
     let joined : take 11 bytes ++ take (length rest) (rest ++ zeros) ≡ bytes =
     ap (λ (l : List ℕ). take 11 bytes ++ l) (take-append_seam rest zeros) ∙ take-append-drop 11 bytes in
     subst IsCut joined
     (IsCut-payload (take 11 bytes) (rest ++ zeros) (length rest) (length-take-le 11 bytes head)
-    (AreBytes-take 11 bytes are) (AreBytes-padded (count - length rest) rest (AreBytes-drop 11 bytes are)) told
+    (AreBytes-take 11 bytes are) (AreBytes-padded (count - length rest) rest (AreBytes-drop 11 bytes are)) counted
     (omega (arith, long, some)) (omega (arith, long, few)) (omega (arith, long, left, less, head)))
 
--- Of a cut message the byte for the payload's length, where it is there, tells a length that fits.
+-- In a cut message the byte for the payload's length, where it is there, is a length that fits.
 cut_length : (bytes : List ℕ) (cut : IsCut bytes) → 11 ≤ length bytes
     → slice_index bytes 10 ≡ length cut.message.payload
 cut_length bytes cut head = sym (get_or_append_left bytes cut.rest 0 10 (omega (arith, head)))
@@ -178,16 +178,16 @@ first_message-short bytes are = by_tests bytes (λ r. (r ≡ Err fault.Short) �
     (λ head some few less. (λ e. head_is_cut bytes are head some few less, λ cut. refl))
     (λ some few fits. (
       λ e. absurd (let k = ap kind e in omega (arith, k)),
-      λ cut. absurd (let told = cut_length bytes cut (omega (arith, fits)) in let short = cut_short bytes cut in
-          omega (arith, fits, told, short)),
+      λ cut. absurd (let counted = cut_length bytes cut (omega (arith, fits)) in let short = cut_short bytes cut in
+          omega (arith, fits, counted, short)),
     ))
   where
     in_range : 11 ≤ length bytes → IsBadLength (slice_index bytes 10) → IsCut bytes → ⊥
     in_range head bad cut =
-        let told = cut_length bytes cut head in
+        let counted = cut_length bytes cut head in
         let some = cut.ranges.some in
         let few = cut.ranges.few in
-        omega (arith, bad, told, some, few)
+        omega (arith, bad, counted, some, few)
 
 -- The message that bytes begin with stands in their front.
 abbrev pub Stands : List ℕ → Answer → Type 0

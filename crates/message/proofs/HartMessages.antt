@@ -1,9 +1,9 @@
--- What messages tell of one hart, where more messages stand behind them.
+-- What messages hold of one hart, where more messages stand behind them.
 use Rattle.std.proofs.Common.{◌≡◌, ◌≢◌, ℕ, List, [], ◌∷◌, ◌++◌, Option, Some, None, Ok, length, refl, sym, ap, ◌∙◌}
 use Rattle.std.proofs.lemmas.List.{append_assoc, length_push}
 use Rattle.std.specs.List.{last_or}
 use Rattle.payload.specs.Closing.{is_closing_packet}
-use Rattle.payload.specs.Ended.{closes, has_ended}
+use Rattle.payload.specs.ClosedTrace.{closes, last_is_closing}
 use Rattle.payload.specs.Reading.{reading}
 use Rattle.payload.specs.declared.packet.Packet.{Packet}
 use Rattle.message.proofs.OfHartLemmas.{of_hart-append, of_hart-next, of_hart-other}
@@ -46,9 +46,9 @@ pub packets_of-other : (hart : ℕ) (messages : List Message) (message : Message
 packets_of-other hart messages message other = ap packets_in (of_hart-other hart messages message other)
 
 -- With a packet behind them a trace has ended exactly where that packet closes it.
-pub has_ended-next : (packets : List Packet) (packet : Packet)
-    → has_ended (packets ++ packet ∷ []) ≡ is_closing_packet packet
-has_ended-next packets packet = ends None packets
+pub last_is_closing-next : (packets : List Packet) (packet : Packet)
+    → last_is_closing (packets ++ packet ∷ []) ≡ is_closing_packet packet
+last_is_closing-next packets packet = ends None packets
   where
     ends : (before : Option Packet) (packets : List Packet)
         → closes (last_or before (packets ++ packet ∷ [])) ≡ is_closing_packet packet
@@ -58,7 +58,7 @@ has_ended-next packets packet = ends None packets
 -- What is expected of a hart after messages of it that were all accepted.
 abbrev pub expected_of : ℕ → List Message → Hart
 expected_of hart messages =
-    record { expected = length (of_hart hart messages); closed = has_ended (packets_of hart messages) }
+    record { expected = length (of_hart hart messages); closed = last_is_closing (packets_of hart messages) }
 
 -- What is expected of the message's hart after it.
 pub expected_of-next : (messages : List Message) (message : Message) (packet : Packet)
@@ -67,8 +67,8 @@ pub expected_of-next : (messages : List Message) (message : Message) (packet : P
 expected_of-next messages message packet read =
     let hart = message.hart in
     let counted = ap length (of_hart-next messages message) ∙ length_push (of_hart hart messages) message in
-    let ended = ap has_ended (packets_of-next messages message packet read)
-    ∙ has_ended-next (packets_of hart messages) packet in
+    let ended = ap last_is_closing (packets_of-next messages message packet read)
+    ∙ last_is_closing-next (packets_of hart messages) packet in
     cc
 
 -- Of another hart the same is expected as before.
@@ -76,5 +76,5 @@ pub expected_of-other : (hart : ℕ) (messages : List Message) (message : Messag
     → expected_of hart (messages ++ message ∷ []) ≡ expected_of hart messages
 expected_of-other hart messages message other =
     let counted = ap length (of_hart-other hart messages message other) in
-    let ended = ap has_ended (packets_of-other hart messages message other) in
+    let ended = ap last_is_closing (packets_of-other hart messages message other) in
     cc

@@ -4,7 +4,7 @@ use Rattle.std.proofs.Common.{IfOk}
 use Rattle.std.proofs.lemmas.List.{set-get_or}
 use Rattle.std.proofs.lemmas.Option.{get_or_from_slice_get}
 use Rattle.payload.specs.declared.packet.Packet.{Packet}
-use Rattle.message.specs.Accepting.{answer_of, accepting, harts_by, harts_after, state_by, next_of}
+use Rattle.message.specs.Accepting.{answer_of, accepting, harts_after_found, harts_after, state_by, next_of}
 use Rattle.message.specs.Harts.{Harts}
 use Rattle.message.specs.declared.hart.Hart.{Hart}
 use Rattle.message.specs.declared.message.Message.{Message}
@@ -13,7 +13,7 @@ use Rattle.message.proofs.Answering.{answer-unpacked}
 
 -- A message that is accepted moves its hart on by one.
 moved : (harts : Harts) (m : Message) (packet : Packet) (o : Option Hart) → answer_of o m ≡ Ok packet
-    → harts_by harts m o ≡ slice_set harts m.hart (next_of m.number packet)
+    → harts_after_found harts m o ≡ slice_set harts m.hart (next_of m.number packet)
 moved harts m packet None e = absurd ((answer-unpacked None m (Ok packet)).0 e).0
 moved harts m packet (Some h) e =
     let same = ((answer-unpacked (Some h) m (Ok packet)).0 e).0.1 in
@@ -21,7 +21,7 @@ moved harts m packet (Some h) e =
 
 -- A refusal changes nothing.
 kept : (harts : Harts) (m : Message) (why : DemuxFault) (o : Option Hart) → slice_get harts m.hart ≡ o
-    → answer_of o m ≡ Err why → harts_by harts m o ≡ harts
+    → answer_of o m ≡ Err why → harts_after_found harts m o ≡ harts
 kept harts m why None is e = refl
 kept harts m why (Some h) is e =
     let here = get_or_from_slice_get harts m.hart h h is in

@@ -1,5 +1,5 @@
 -- The settings of a header that were read.
-use Rattle.std.proofs.Common.{◌≡◌, ◌++◌, ℕ, zero, suc, List, [], ◌∷◌, length, drop, slice_index, sym, ap, ◌∙◌}
+use Rattle.std.proofs.Common.{◌≡◌, ◌++◌, ℕ, suc, List, [], ◌∷◌, length, drop, slice_index, ap, ◌∙◌}
 use Rattle.std.proofs.Common.{arith}
 use Rattle.byteorder.specs.Endian.{little_number, little_bytes}
 use Rattle.message.specs.Header.{mode_byte, setting_bytes}
@@ -24,9 +24,3 @@ settings_read (a ∷ b ∷ c ∷ d ∷ e ∷ []) h five are mode period harts =
     ap (λ m. m ∷ (little_bytes 2 h.period ++ little_bytes 2 h.harts)) mode
     ∙ ap (λ l. a ∷ (l ++ little_bytes 2 h.harts)) first ∙ ap (λ l. a ∷ (b ∷ c ∷ []) ++ l) second
 settings_read (a ∷ b ∷ c ∷ d ∷ e ∷ f ∷ rest) h five are mode period harts = absurd (omega (arith, five))
-
--- What the settings of a header spell.
-pub record AreTold (h : Header) (bytes : List ℕ) : Type 0 where
-  pub mode : slice_index bytes 0 ≡ mode_byte h.mode
-  pub period : little_number 2 (drop 1 bytes) ≡ h.period
-  pub harts : little_number 2 (drop 3 bytes) ≡ h.harts

@@ -10,12 +10,12 @@ use Rattle.message.specs.declared.message.Message.{Message}
 use Rattle.message.specs.declared.fault.DemuxFault.{DemuxFault}
 use Rattle.message.specs.declared.fault.DemuxFault.TheVariants as fault
 
--- What is answered where this was read of a payload.
+-- What is answered, by what a payload unpacks to: the packet, or why it is none.
 abbrev pub packet_or_fault : Result Packet PackFault → Result Packet DemuxFault
 packet_or_fault (Ok packet) = Ok packet
 packet_or_fault (Err why) = Err (fault.Packet why)
 
--- What is answered to a message of a hart, of which this is expected: the first fault, or else the packet.
+-- What is answered to a message, where this is expected of its hart: the first fault that applies, or else the packet.
 abbrev pub answer : Hart → Message → Result Packet DemuxFault
 answer h m =
     if is_over h then Err fault.AfterClose else
@@ -23,20 +23,20 @@ answer h m =
     if nat_lt h.expected m.number then Err (fault.Gap h.expected) else
     packet_or_fault (reading m.payload)
 
--- What is expected of the hart after a message of it to which this was answered.
+-- What is expected of the hart after a message of its own that got this answer. A fault changes nothing.
 abbrev pub state_by : Hart → Result Packet DemuxFault → Hart
 state_by h (Ok packet) = record { expected = h.expected + 1; closed = is_closing_packet packet }
 state_by h (Err why) = h
 
--- What is expected of the hart after a message of it.
+-- What is expected of the hart after a message of its own.
 abbrev pub state_after : Hart → Message → Hart
 state_after h m = state_by h (answer h m)
 
--- What is expected of a hart of which this number was accepted.
+-- What is expected of a hart once its message of this number, with this packet, is accepted.
 abbrev pub next_of : ℕ → Packet → Hart
 next_of number packet = record { expected = number + 1; closed = is_closing_packet packet }
 
--- What is answered to a message whose hart has this state, if there is such a hart.
+-- What is answered to a message, by what is expected of its hart, or where the hart is not known.
 abbrev pub answer_of : Option Hart → Message → Result Packet DemuxFault
 answer_of None m = Err fault.Stranger
 answer_of (Some h) m = answer h m
@@ -45,11 +45,11 @@ answer_of (Some h) m = answer h m
 abbrev pub accepting : Harts → Message → Result Packet DemuxFault
 accepting harts m = answer_of (slice_get harts m.hart) m
 
--- What is expected after a message whose hart had this state, if there is such a hart.
-abbrev pub harts_by : Harts → Message → Option Hart → Harts
-harts_by harts m None = harts
-harts_by harts m (Some h) = slice_set harts m.hart (state_after h m)
+-- What is expected after a message, by what was expected of its hart, or where the hart is not known.
+abbrev pub harts_after_found : Harts → Message → Option Hart → Harts
+harts_after_found harts m None = harts
+harts_after_found harts m (Some h) = slice_set harts m.hart (state_after h m)
 
--- What is expected after a message: of its hart alone something else.
+-- What is expected after a message: only what is expected of its own hart may change.
 abbrev pub harts_after : Harts → Message → Harts
-harts_after harts m = harts_by harts m (slice_get harts m.hart)
+harts_after harts m = harts_after_found harts m (slice_get harts m.hart)

@@ -1,6 +1,6 @@
 -- How many messages wait at once.
 use Rattle.std.specs.Prelude.{ℕ}
 
--- The most messages that may wait between the harts that send them and who takes them.
+-- The most messages that may wait at once: a hart sent them, and they are not yet taken.
 abbrev pub most_capacity : ℕ
 most_capacity = 65536

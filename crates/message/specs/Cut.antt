@@ -13,7 +13,7 @@ pub record IsMessage (m : Message) : Type 0 where
   pub few : length m.payload ≤ most_bytes
   pub bytes : IsBytes m.payload
 
--- The bytes are a beginning of a message, neither none of it nor all of it.
+-- The bytes are a beginning of a message: one byte of it at least, and not all.
 pub record IsCut (bytes : List ℕ) : Type 0 where
   pub message : Message
   pub rest : List ℕ

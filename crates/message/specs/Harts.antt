@@ -15,7 +15,7 @@ newcomer = record { expected = 0; closed = false }
 abbrev pub end_of_numbers : ℕ
 end_of_numbers = 2 ^ 63
 
--- Nothing more of the hart is accepted: its closing packet was, or the numbers are at their end.
+-- Nothing more of the hart is accepted: its closing packet was accepted, or its next number is at the end of numbers.
 abbrev pub is_over : Hart → Bool
 is_over h = h.closed || not (nat_lt h.expected end_of_numbers)
 
@@ -32,6 +32,6 @@ has_closed harts hart = is_closed (slice_get harts hart)
 abbrev pub IsOver : Harts → ℕ → Type 0
 IsOver harts hart = IsSomeAnd (slice_get harts hart) (λ h. IsTrue (is_over h))
 
--- The hart is known and open, and its next number is such.
+-- The hart is known, more of it is accepted, and its next number meets this condition.
 abbrev pub Expects : Harts → ℕ → (ℕ → Type 0) → Type 0
 Expects harts hart P = IsSomeAnd (slice_get harts hart) (λ h. IsFalse (is_over h) × P h.expected)

@@ -8,7 +8,7 @@ use Rattle.message.specs.declared.header.Header.{Header}
 use Rattle.message.specs.declared.header.Version.TheVariants.{Two}
 
 -- The bytes with which a capture of version 2 begins: ff ff and the letters rvtrace2 where a message has its hart and
--- its number, and 0 where a message has its payload's length, so that no message begins with them.
+-- its number, and 0 where it has its payload's length. No message begins with them, since no payload's length is 0.
 abbrev pub mark : List ℕ
 mark = 255 ∷ 255 ∷ (codes "rvtrace2" ++ (0 ∷ []))
 
@@ -41,7 +41,7 @@ pub record IsCutHeader (bytes : List ℕ) : Type 0 where
   pub marked : IsMarked bytes
   pub few : length bytes < 16
 
--- The bytes begin with the mark, but what stands behind it are the settings of no header.
+-- The bytes begin with the mark and are at least as many as a header has, but they do not begin with a header.
 pub record HasBadHeader (bytes : List ℕ) : Type 0 where
   pub marked : IsMarked bytes
   pub enough : 16 ≤ length bytes

@@ -11,13 +11,14 @@ use Rattle.message.specs.declared.message.Message.{Message}
 use Rattle.message.specs.declared.fault.DemuxFault.{DemuxFault}
 use Rattle.message.specs.declared.fault.DemuxFault.TheVariants as fault
 
--- A packet with how many messages were missed before it, or why the bytes are none.
+-- What is answered, by what a payload unpacks to: the packet and how many numbers are missing before it, or why it is
+-- none.
 abbrev pub packet_after_loss : ℕ → Result Packet PackFault → Result (Packet × ℕ) DemuxFault
-packet_after_loss missed (Ok packet) = Ok (packet, missed)
-packet_after_loss missed (Err why) = Err (fault.Packet why)
+packet_after_loss missing (Ok packet) = Ok (packet, missing)
+packet_after_loss missing (Err why) = Err (fault.Packet why)
 
--- What is answered to a message of a hart, of which this is expected: the first fault, or else the packet and how many
--- numbers between the one that is expected and its own were missed.
+-- What is answered to a message, where this is expected of its hart: the first fault that applies, or else the packet
+-- and how many numbers are missing, from the expected one up to the one before the message's.
 abbrev pub answer_lossy : Hart → Message → Result (Packet × ℕ) DemuxFault
 answer_lossy h m =
     if is_over h then Err fault.AfterClose else
@@ -25,12 +26,13 @@ answer_lossy h m =
     if nat_lt m.number end_of_numbers then packet_after_loss (m.number - h.expected) (reading m.payload) else
     Err (fault.Gap h.expected)
 
--- What is expected of the hart after a message of it with this number, to which this was answered.
+-- What is expected of the hart after a message of its own with this number that got this answer. A fault changes
+-- nothing.
 abbrev pub state_by_lossy : Hart → ℕ → Result (Packet × ℕ) DemuxFault → Hart
 state_by_lossy h number (Ok taken) = next_of number taken.0
 state_by_lossy h number (Err why) = h
 
--- What is answered to a message whose hart has this state, if there is such a hart.
+-- What is answered to a message, by what is expected of its hart, or where the hart is not known.
 abbrev pub answer_lossy_of : Option Hart → Message → Result (Packet × ℕ) DemuxFault
 answer_lossy_of None m = Err fault.Stranger
 answer_lossy_of (Some h) m = answer_lossy h m
@@ -39,15 +41,15 @@ answer_lossy_of (Some h) m = answer_lossy h m
 abbrev pub accepting_lossy : Harts → Message → Result (Packet × ℕ) DemuxFault
 accepting_lossy harts m = answer_lossy_of (slice_get harts m.hart) m
 
--- What is expected of the hart after a message of it: the number behind the message's own, where it is taken.
+-- What is expected of the hart after a message of its own: where that is accepted, the number after the message's.
 abbrev pub state_after_lossy : Hart → Message → Hart
 state_after_lossy h m = state_by_lossy h m.number (answer_lossy h m)
 
--- What is expected after a message whose hart had this state, if there is such a hart.
-abbrev pub harts_by_lossy : Harts → Message → Option Hart → Harts
-harts_by_lossy harts m None = harts
-harts_by_lossy harts m (Some h) = slice_set harts m.hart (state_after_lossy h m)
+-- What is expected after a message, by what was expected of its hart, or where the hart is not known.
+abbrev pub harts_after_found_lossy : Harts → Message → Option Hart → Harts
+harts_after_found_lossy harts m None = harts
+harts_after_found_lossy harts m (Some h) = slice_set harts m.hart (state_after_lossy h m)
 
--- What is expected after a message: of its hart alone something else.
+-- What is expected after a message: only what is expected of its own hart may change.
 abbrev pub harts_after_lossy : Harts → Message → Harts
-harts_after_lossy harts m = harts_by_lossy harts m (slice_get harts m.hart)
+harts_after_lossy harts m = harts_after_found_lossy harts m (slice_get harts m.hart)

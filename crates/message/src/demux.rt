@@ -14,7 +14,7 @@ use payload::Packet;
 use std::alloc::{AllocError, Allocator, Global};
 use std::marker::Model;
 
-/// Parts the messages of several harts, and lets through just those that come in each hart's order.
+/// Parts the messages of several harts, and accepts just those that come in each hart's order.
 #[derive(Debug, Drop)]
 pub struct Demux<A: Allocator = Global> {
     harts: Vec<Hart, A>,
@@ -27,7 +27,7 @@ impl<A: Allocator> Model for Demux<A> {
 }
 
 impl<A: Allocator> Demux<A> {
-    /// A demultiplexer that knows the harts below `harts`, and accepted nothing of any.
+    /// A demultiplexer that knows the harts below `harts`, and has accepted no message of theirs.
     pub fn new(alloc: A, harts: u16) -> Result<Demux<A>, AllocError>
         ensures { IfOk result (λ demux. demux ≡ replicate harts newcomer) }
     {
@@ -36,7 +36,8 @@ impl<A: Allocator> Demux<A> {
         })
     }
 
-    /// The packet of the message, where it is the next of a hart that is known and open. A refusal changes nothing.
+    /// Returns the packet of the message, where its hart is known and still open, and its number is the expected one. A
+    /// fault changes nothing.
     pub fn accept(&mut self, message: &Message) -> Result<Packet, DemuxFault>
         ensures accepted { (packet : AnyPacket) → (result ≡ Ok packet)
             ↔ (Expects self.old message.now.hart (λ expected. expected ≡ message.now.number)
@@ -73,13 +74,14 @@ impl<A: Allocator> Demux<A> {
         }
     }
 
-    /// The packet of the message, and how many messages of its hart were missed before it: the message may be the next
-    /// of a hart that is known and open, or a later one. The one after it is then the next.
+    /// As [`Demux::accept`] where messages may be lost: the message may be the next of its hart, or a later one.
+    /// Returns its packet, and how many numbers of the hart are missing before it. Then the number after its own is
+    /// expected.
     ///
-    /// A gap is told of a number of 2^63 or more alone. A refusal changes nothing. Takes no memory.
+    /// [`DemuxFault::Gap`] comes only for a number of 2^63 or more. A fault changes nothing. Takes no memory.
     pub fn accept_lossy(&mut self, message: &Message) -> Result<(Packet, u64), DemuxFault>
-        ensures accepted { (packet : AnyPacket) (missed : ℕ) → (result ≡ Ok (packet, missed))
-            ↔ (Expects self.old message.now.hart (λ expected. (expected + missed ≡ message.now.number)
+        ensures accepted { (packet : AnyPacket) (missing : ℕ) → (result ≡ Ok (packet, missing))
+            ↔ (Expects self.old message.now.hart (λ expected. (expected + missing ≡ message.now.number)
             × (message.now.number < end_of_numbers)) × (reading message.now.payload ≡ Ok packet)) }
         ensures stranger { (result ≡ Err DemuxFault.Stranger) ↔ (length self.old ≤ message.now.hart) }
         ensures after_close { (result ≡ Err DemuxFault.AfterClose) ↔ IsOver self.old message.now.hart }
@@ -113,7 +115,7 @@ impl<A: Allocator> Demux<A> {
         }
     }
 
-    /// Whether the hart's closing packet was accepted. It is false for a hart that the demultiplexer does not know.
+    /// Whether the hart's closing packet was accepted: false for a hart that the demultiplexer does not know.
     pub fn is_closed(&self, hart: u16) -> bool
         ensures { result ≡ has_closed self.now hart }
     {

@@ -7,10 +7,10 @@ use payload::PackFault;
 use std::error::Error;
 use std::fmt;
 
-/// Why a message is not read or not written. The place in the stream is then unknown.
+/// Why a message or a header is not read or not written. The place in a stream is then unknown.
 #[derive(Clone, Copy, Debug, PartialEq, Eq)]
 pub enum MessageFault {
-    /// The input ends inside a message.
+    /// The input ends inside a message, or inside a header.
     Short,
     /// The byte for the payload's length is 0 or above 18.
     BadLength,
@@ -18,7 +18,8 @@ pub enum MessageFault {
     Read,
     /// The writer failed.
     Write,
-    /// The input begins as a capture of version 2 does, but what follows is no header.
+    /// The input begins as a capture of version 2 does, but the mode, the period or the count of harts in its header is
+    /// out of range.
     BadHeader,
 }
 
@@ -39,7 +40,7 @@ impl fmt::Display for MessageFault {
 impl Error for MessageFault {}
 
 /// Why a demultiplexer does not accept a message. It tests `Stranger`, `AfterClose`, `Repeat`, `Gap` and `Packet` in
-/// turn, and reports the first that applies.
+/// turn, and returns the first that applies.
 #[derive(Clone, Copy, Debug, PartialEq, Eq)]
 pub enum DemuxFault {
     /// The demultiplexer does not know the hart.

@@ -26,7 +26,7 @@ impl Hart {
         closed: false,
     };
 
-    /// Nothing more of the hart is accepted.
+    /// Whether nothing more of the hart is accepted.
     fn is_over(&self) -> bool
         ensures value { result ≡ is_over self.now }
         ensures few { IsFalse result → self.now.expected < end_of_numbers }
@@ -60,7 +60,7 @@ impl Hart {
         }
     }
 
-    /// The packet of the message, and how many messages of the hart were missed before it.
+    /// The packet of the message, which may be a later one of the hart, and how many numbers are missing before it.
     pub(crate) fn accept_lossy(&mut self, message: &Message) -> Result<(Packet, u64), DemuxFault>
         ensures result { result ≡ answer_lossy self.old message.now }
         ensures state { self.new ≡ state_after_lossy self.old message.now }
@@ -68,7 +68,7 @@ impl Hart {
         if self.is_over() {
             return Err(DemuxFault::AfterClose);
         }
-        let Some(missed) = message.number.checked_sub(self.expected) else {
+        let Some(missing) = message.number.checked_sub(self.expected) else {
             return Err(DemuxFault::Repeat);
         };
         if message.number >= END_OF_NUMBERS {
@@ -80,7 +80,7 @@ impl Hart {
             Ok(packet) => {
                 self.expected = message.number + 1;
                 self.closed = packet.is_closing();
-                Ok((packet, missed))
+                Ok((packet, missing))
             }
             Err(fault) => Err(DemuxFault::Packet(fault)),
         }

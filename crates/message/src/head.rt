@@ -12,7 +12,7 @@ use payload::{MOST_BYTES, Payload};
 /// How many bytes of a message stand before its payload: the hart, the number and the payload's length.
 pub(crate) const HEAD: usize = 11;
 
-/// The payload's length that a head tells.
+/// The payload's length in a head.
 pub(crate) fn payload_length(head: &[u8]) -> Result<usize, MessageFault>
     requires { length head.now ≡ 11 }
     ensures length { IfOk result (λ n. (n ≡ slice_index head.now 10) × (1 ≤ n) × (n ≤ most_bytes)) }

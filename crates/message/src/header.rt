@@ -11,20 +11,20 @@ use payload::Mode;
 /// The most harts of a capture, and of the logs of one command.
 pub const MOST_HARTS: u16 = 1024;
 
-/// The most harts of whose logs a capture with no header is made.
+/// The most logs, one of each hart, that a capture with no header is made of.
 const MOST_HARTS_WITHOUT_HEADER: u16 = 64;
 
-/// What the format of a capture is called.
+/// A version of the format of captures.
 #[derive(Clone, Copy, Debug, PartialEq, Eq)]
 pub enum Version {
-    /// Messages alone; of at most 64 harts' logs one is made.
+    /// Messages alone. Such a capture is made of the logs of at most 64 harts.
     One,
-    /// A header and then messages; of at most 1,024 harts' logs one is made.
+    /// A header and then messages. Such a capture is made of the logs of at most 1,024 harts.
     Two,
 }
 
 impl Version {
-    /// The most harts of whose logs a capture of this version is made.
+    /// The most logs, one of each hart, that a capture of this version is made of.
     pub fn most_harts(self) -> u16
         ensures { result ≡ most_harts self }
     {
@@ -35,14 +35,14 @@ impl Version {
     }
 }
 
-/// What a capture of version 2 tells of all its messages.
+/// The header of a capture of version 2: what holds for all its messages.
 #[derive(Clone, Copy, Debug, PartialEq, Eq)]
 pub struct Header {
     /// What the address fields of the packets hold.
     pub mode: Mode,
     /// How many retirements there are from one periodic synchronisation to the next, 1 to 65535.
     pub period: u16,
-    /// How many harts there are, 1 to 1024: the harts of the messages are below it.
+    /// How many harts there are, 1 to 1024. The harts of the messages are numbered below it.
     pub harts: u16,
 }
 

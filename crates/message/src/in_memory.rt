@@ -29,15 +29,15 @@ impl<'a> Model for Messages<'a> {
 }
 
 impl<'a> Messages<'a> {
-    /// The messages of a capture, of which none was read.
+    /// The messages of a capture, before any of them is read.
     pub fn new(capture: &'a [u8]) -> Messages<'a>
         ensures { result ≡ capture.now }
     {
         Messages { rest: capture }
     }
 
-    /// The header that the bytes begin with, or `None` where they do not begin as a capture of version 2 does. Only a
-    /// header is passed over.
+    /// Returns the header that the bytes begin with, or `None` where they do not begin as a capture of version 2 does.
+    /// Only a header is passed over.
     ///
     /// [`MessageFault::Short`] comes where the bytes end inside the header, [`MessageFault::BadHeader`] where its mode,
     /// its period or its count of harts is out of range, and no other fault. No memory is taken.
@@ -70,8 +70,8 @@ impl<'a> Messages<'a> {
         Ok(Some(header))
     }
 
-    /// The message that the bytes begin with, or `None` at their end. Only a message is passed over: an end or a fault
-    /// is found again by the next call.
+    /// Returns the message that the bytes begin with, or `None` at their end. Only a message is passed over: after an
+    /// end or a fault the next call returns the same.
     ///
     /// [`MessageFault::Short`] comes where the bytes end inside the message, [`MessageFault::BadLength`] where the byte
     /// for the payload's length is 0 or above 18, and no other fault. No memory is taken.

@@ -1,10 +1,10 @@
 //! The messages of a capture, and the demultiplexer that parts them by hart.
 //!
-//! A [`Message`] is one payload of one hart with its number. [`write_message`] and [`read_message`] are the two ways of
-//! a capture, which is messages in a row; [`write_header`] and [`read_start`] are those of the [`Header`] that stands
-//! before them in version 2; [`Messages`] gives both of bytes in memory. [`Demux`] takes the messages of several harts
-//! and lets through just those that come in each hart's order, or, where some may be lost, those with rising numbers.
-//! Only [`Demux::new`] takes memory.
+//! A [`Message`] is one payload of one hart with its number, and a capture is messages in a row. [`write_message`]
+//! writes one, and [`read_message`] reads one. In version 2 a [`Header`] stands before them, which [`write_header`]
+//! writes and [`read_start`] reads. [`Messages`] reads both from bytes in memory. [`Demux`] takes the messages of
+//! several harts, and accepts just those that come in each hart's order, or, where some may be lost, those with rising
+//! numbers. Only [`Demux::new`] takes memory.
 #![tactic(auto)]
 
 mod capacity;

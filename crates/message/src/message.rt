@@ -10,7 +10,7 @@ use payload::Payload;
 pub struct Message {
     /// The hart whose trace the payload belongs to.
     pub hart: u16,
-    /// How many payloads of that hart come before.
+    /// How many payloads of that hart come before this one.
     pub number: u64,
     /// The bytes of one packet.
     pub payload: Payload,

@@ -21,8 +21,8 @@ use std::io::{ErrorKind, Read};
 /// Reads the next message, or `None` where the input ends before it.
 ///
 /// [`MessageFault::Read`] comes only where the reader failed; a reader that is interrupted is asked again. Bytes are
-/// counted as they come, so an error of the reader's own is never taken for the end of the input. After a fault the
-/// place in the stream is unknown.
+/// counted as they come, so an error of the reader is never taken for the end of the input. After a fault the place in
+/// the stream is unknown.
 pub fn read_message<R: Read>(r: &mut R) -> Result<Option<Message>, MessageFault>
     ensures message { IfOk result (λ found. IfSome found
         (λ message. Consumes (R.remaining r.old) (R.remaining r.new) (message_bytes message))) }
@@ -143,7 +143,7 @@ fn read_payload<R: Read>(r: &mut R, head: &[u8]) -> Result<Message, MessageFault
     Ok(message_of(head, &bytes[..length]))
 }
 
-/// Reads until the room is full or the input ends, and tells how many bytes came.
+/// Reads until the room is full or the input ends, and returns how many bytes came.
 fn fill<R: Read>(r: &mut R, room: &mut [u8]) -> Result<usize, MessageFault>
     ensures filled { IfOk result (λ count. Fills (R.remaining r.old) (R.remaining r.new) room.new count) }
     ensures fault { IfErr result (λ fault. fault ≡ MessageFault.Read) }

@@ -23,9 +23,9 @@ pub fn write_message<W: Write>(w: &mut W, message: &Message) -> Result<(), Messa
     put(w, message.payload.bytes())
 }
 
-/// Writes a header: the mark `ff ff`, the letters `rvtrace2` and `00`, then the mode in one byte, 0 or 1, the period
-/// and the count of harts in 2 bytes each, little endian. Where the writer fails, what was written is a beginning of
-/// that. The writer is not flushed.
+/// Writes a header: the mark, and then the mode, the period and the count of harts. The mark is `ff ff`, the letters
+/// `rvtrace2` and `00`. The mode has one byte, 0 or 1. The period and the count have 2 bytes each, little endian. Where
+/// the writer fails, what was written is a beginning of that. The writer is not flushed.
 pub fn write_header<W: Write>(w: &mut W, header: &Header) -> Result<(), MessageFault>
     ensures written { OnOk result (Appends (W.contents w.old) (W.contents w.new) (header_bytes header.now)) }
     ensures begun { AppendsBeginning (header_bytes header.now) (W.contents w.old) (W.contents w.new) }

@@ -1,4 +1,4 @@
--- What an output that failed was given before.
+-- What was written to an output before it failed.
 use Rattle.std.specs.Prelude.{◌≡◌, ℕ, ◌++◌, List, Option}
 use Rattle.std.specs.Io.KnownBytes.{Appends}
 

@@ -7,8 +7,8 @@ ghost use Rattle.output.specs.Begun.{AppendsBeginning};
 use std::io;
 use std::io::{ErrorKind, Write};
 
-/// Writes bytes, again after each interrupted write, up to the first failure. A write that takes nothing is one, of
-/// kind [`ErrorKind::WriteZero`]. The writer is not flushed.
+/// Writes bytes, up to the first failure. An interrupted write is tried again. A write that takes nothing is a failure,
+/// of kind [`ErrorKind::WriteZero`]. The writer is not flushed.
 pub fn write_bytes<W: Write>(out: &mut W, bytes: &[u8]) -> io::Result<()>
     ensures whole { OnOk result (Appends (W.contents out.old) (W.contents out.new) bytes.now) }
     ensures begun { AppendsBeginning bytes.now (W.contents out.old) (W.contents out.new) }

@@ -4,7 +4,7 @@ use Rattle.std.proofs.Common.{refl, sym, ap, ◌∙◌, subst, arith, eqb-true, 
 use Rattle.std.proofs.lemmas.Bool.{eqb-false}
 use Rattle.payload.specs.Faults.{part, address_behind_map}
 use Rattle.payload.specs.Fields.{total}
-use Rattle.payload.specs.Outcomes.{outcomes, map_width, map_of}
+use Rattle.payload.specs.Outcomes.{outcomes_in_map, map_width, map_of}
 use Rattle.payload.specs.OutcomesInverse.{length_outcomes, map_outcomes}
 use Rattle.payload.specs.PacketFields.{unused_bits, branches_fields, address_fields, fields_with}
 use Rattle.payload.specs.Reading.{outcomes_from}
@@ -115,7 +115,7 @@ some_read n o os delta r h =
     let map : part n 7 count ≡ map_of all =
     map_read n 7 count (map_width count) (map_of all) h.spare (map_sizes count h.profile.0).0 (map_of-lt all)
     h.spells.holds.1.1.0 in
-    let taken : outcomes_from n count ≡ all = ap (outcomes count) map ∙ outcomes_of_map all in
+    let taken : outcomes_from n count ≡ all = ap (outcomes_in_map count) map ∙ outcomes_of_map all in
     let nonzero : (count == 0) ≡ false = ne_eqb count 0 (λ e. absurd (omega arith)) in
     rw (branches, nonzero, taken)
     (address_read n all (7 + map_width count) delta r h.profile.1 h.spells.holds.1.1.1
@@ -128,5 +128,5 @@ map_read_back n os h =
     let map : part n 7 31 ≡ map_of os = h.spells.holds.1.1.0 in
     let size : length os ≡ 31 = h.profile in
     let taken : outcomes_from n 31 ≡ os =
-    ap (outcomes 31) map ∙ ap (λ k. outcomes k (map_of os)) (sym size) ∙ outcomes_of_map os in
+    ap (outcomes_in_map 31) map ∙ ap (λ k. outcomes_in_map k (map_of os)) (sym size) ∙ outcomes_of_map os in
     rw (branches, taken) (padded_read 38 n (packet.Map os) h.spells.width)

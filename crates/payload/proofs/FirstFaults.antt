@@ -10,7 +10,7 @@ use Rattle.payload.specs.Extension.{extended, magnitude}
 use Rattle.payload.specs.Faults.{bits_of, part, is_sync, is_trap, is_interrupt, is_support, is_address_alone}
 use Rattle.payload.specs.Faults.{trap_width, is_bad_tail, is_bad_report_at, address_behind_map}
 use Rattle.payload.specs.Faults.{first_fault_of_bits}
-use Rattle.payload.specs.Reading.{report_from, trap_from, address_from, outcomes_from, packet_in}
+use Rattle.payload.specs.Reading.{report_from, trap_from, address_packet_from, outcomes_from, packet_in}
 use Rattle.payload.specs.Reading.{fault_or, reading}
 use Rattle.payload.specs.steps.ReadingByKind.{sync_reading, trap_reading, support_reading, report_in, reported}
 use Rattle.payload.specs.steps.ReadingByKind.{address_reading, map_reading, branches_reading, reading_of_bits}
@@ -149,12 +149,12 @@ report_order n taken from (suc zero) (suc zero) zero (suc zero) c ht ha hu hi e 
 report_order n taken from (suc zero) (suc zero) (suc zero) zero c ht ha hu hi e = refl
 report_order n taken from (suc zero) (suc zero) (suc zero) (suc zero) c ht ha hu hi e = pad_order _ c _ e
 
--- Reading at an address field tells its report and its pad in order.
+-- Reading at an address field tests its report and then its pad.
 address_order : (n : ℕ) (taken : List Bool) (from : ℕ) → from ≤ 38 → n < 2 ^ 144
     → address_reading n taken from
     ≡ fault_or (cond (is_bad_report_at n from) (Some BadReport)
     (cond (not (extended (from + 66) (n % 2 ^ (from + 66)) == n)) (Some BadPad) None))
-    (address_from n taken from)
+    (address_packet_from n taken from)
 unfolding address_reading
 address_order n taken from inside bound =
     let second : part n (from + 63 + 1) 1 ≡ part n (from + 64) 1 =

@@ -27,7 +27,7 @@ number-ones : (k : ℕ) → number (replicate k 255) + 1 ≡ 2 ^ (8 * k)
 number-ones zero = refl
 number-ones (suc k) = let there = number-ones k in rw (power k) (omega arith)
 
--- The last byte tells the top bit.
+-- The top bit is that of the last byte.
 pub record Top (n : ℕ) (xs : List ℕ) : Type 0 where
   pub clear : get_or xs n 0 < 128 → number xs < 128 * 2 ^ (8 * n)
   pub set : 128 ≤ get_or xs n 0 → 128 * 2 ^ (8 * n) ≤ number xs

@@ -5,7 +5,7 @@ use Rattle.std.proofs.Math.Nat.{pow-suc, pow-le-pow_right}
 use Rattle.std.specs.Int.{from_bool}
 use Rattle.std.proofs.Common.{bit_and, slice_get, not, add-one}
 use Rattle.std.proofs.lemmas.Nat.{and_mask, shr-shr}
-use Rattle.payload.specs.Outcomes.{outcomes, map_of}
+use Rattle.payload.specs.Outcomes.{outcomes_in_map, map_of}
 
 abbrev pub flag : Bool → ℕ
 flag true = 0
@@ -13,7 +13,7 @@ flag false = 1
 
 -- One more outcome.
 pub push_outcome : (count map : ℕ) (taken : Bool) → map < 2 ^ count
-    → outcomes (suc count) (map + flag taken * 2 ^ count) ≡ outcomes count map ++ taken ∷ []
+    → outcomes_in_map (suc count) (map + flag taken * 2 ^ count) ≡ outcomes_in_map count map ++ taken ∷ []
 push_outcome zero map true h = let none : map ≡ 0 = omega arith in rw none refl
 push_outcome zero map false h = let none : map ≡ 0 = omega arith in rw none refl
 push_outcome (suc count) map taken h =
@@ -24,7 +24,8 @@ push_outcome (suc count) map taken h =
     rw (low, high) (ap (λ xs. (map % 2 == 0) ∷ xs) (push_outcome count (map / 2) taken (omega arith)))
 
 -- An outcome by its place.
-pub get_outcome : (count map i : ℕ) → i < count → slice_get (outcomes count map) i ≡ Some (bit_and (map / 2 ^ i) 1 == 0)
+pub get_outcome : (count map i : ℕ)
+    → i < count → slice_get (outcomes_in_map count map) i ≡ Some (bit_and (map / 2 ^ i) 1 == 0)
 get_outcome zero map i h = absurd (omega arith)
 get_outcome (suc count) map zero h =
     let one : map / 2 ^ 0 ≡ map = omega arith in
@@ -34,13 +35,13 @@ get_outcome (suc count) map (suc i) h =
     sym (shr-shr map 1 i ∙ ap (λ k. map / 2 ^ k) (let e : 1 + i ≡ suc i = omega arith in e)) in
     rw shifted (get_outcome count (map / 2) i (omega arith))
 
-pub get_past : (count map i : ℕ) → count ≤ i → slice_get (outcomes count map) i ≡ None
+pub get_past : (count map i : ℕ) → count ≤ i → slice_get (outcomes_in_map count map) i ≡ None
 get_past zero map i h = refl
 get_past (suc count) map zero h = absurd (omega arith)
 get_past (suc count) map (suc i) h = get_past count (map / 2) i (omega arith)
 
 pub pushed : (count map bit : ℕ) (taken : Bool) → count ≤ 31 → map < 2 ^ count → bit ≡ from_bool (not taken)
-    → outcomes (count + 1) (map + bit * 2 ^ count % 4294967296) ≡ outcomes count map ++ taken ∷ []
+    → outcomes_in_map (count + 1) (map + bit * 2 ^ count % 4294967296) ≡ outcomes_in_map count map ++ taken ∷ []
 pushed count map bit true few h e =
     let none : bit * 2 ^ count % 4294967296 ≡ flag true * 2 ^ count = rw e (omega arith) in
     rw (none, add-one) (push_outcome count map true h)
@@ -62,7 +63,7 @@ map_of-lt (false ∷ os) =
     omega arith
 
 -- Outcomes come back from their map.
-pub outcomes_of_map : (os : List Bool) → outcomes (length os) (map_of os) ≡ os
+pub outcomes_of_map : (os : List Bool) → outcomes_in_map (length os) (map_of os) ≡ os
 outcomes_of_map [] = refl
 outcomes_of_map (true ∷ os) =
     let even : (0 + 2 * map_of os) % 2 ≡ 0 = omega arith in

@@ -14,7 +14,7 @@ use Rattle.payload.proofs.Choices.{chosen_of_4}
 use Rattle.payload.proofs.PaddedBits.{IsRead, padded_found, padded_read}
 use Rattle.payload.proofs.Parts.{Holds}
 
--- The fields that tell one support packet from another.
+-- The fields by which support packets differ.
 record AreFields (n enable status options : ℕ) : Type 0 where
   pub enable_is : part n 4 2 ≡ enable
   pub status_is : part n 6 2 ≡ status

@@ -12,7 +12,7 @@ abbrev pub number : List ℕ → ℕ
 number [] = 0
 number (b ∷ bytes) = b + 256 * number bytes
 
--- So many bytes of a number, least significant byte first.
+-- The lowest bytes of a number, as many as this count, least significant byte first.
 abbrev pub low_bytes : ℕ → ℕ → List ℕ
 low_bytes zero n = []
 low_bytes (suc k) n = n % 256 ∷ low_bytes k (n / 256)

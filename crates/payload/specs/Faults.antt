@@ -15,7 +15,7 @@ use Rattle.payload.specs.declared.fault.PackFault.TheVariants.{BadReport}
 abbrev pub bits_of : List ℕ → ℕ
 bits_of bytes = extended (8 * length bytes) (number bytes)
 
--- The field of so many bits that begins at a bit.
+-- The field that begins at this bit and has this width.
 abbrev pub part : ℕ → ℕ → ℕ → ℕ
 part n from width = n / 2 ^ from % 2 ^ width
 
@@ -51,15 +51,15 @@ is_map_alone n = (field_at n layout.format_at == 1) && (field_at n layout.branch
 abbrev pub is_map_with_address : ℕ → Bool
 is_map_with_address n = (field_at n layout.format_at == 1) && not (field_at n layout.branches_at == 0)
 
--- `ienable`, `qual_status` and `ioptions` of a support packet that opens a trace, in one of the two modes.
-abbrev pub is_opening : ℕ → ℕ → ℕ → Bool
-is_opening ienable status options =
+-- `ienable`, `qual_status` and `ioptions` are those of a support packet that opens a trace, in one of the two modes.
+abbrev pub is_opening_support : ℕ → ℕ → ℕ → Bool
+is_opening_support ienable status options =
     (ienable == 1)
     && ((status == layout.no_change) && ((options == layout.differential) || (options == layout.full)))
 
--- Those of a support packet that closes a trace.
-abbrev pub is_ending : ℕ → ℕ → ℕ → Bool
-is_ending ienable status options =
+-- `ienable`, `qual_status` and `ioptions` are those of a support packet that closes a trace.
+abbrev pub is_closing_support : ℕ → ℕ → ℕ → Bool
+is_closing_support ienable status options =
     (ienable == 0)
     && (((status == layout.ended_rep) || (status == layout.ended_ntr)) && (options == layout.no_options))
 
@@ -67,10 +67,10 @@ is_ending ienable status options =
 abbrev pub is_known_support : ℕ → Bool
 is_known_support n =
     (field_at n layout.encoder_mode_at == 0)
-    && (is_opening (field_at n layout.ienable_at) (field_at n layout.status_at) (field_at n layout.options_at)
-    || is_ending (field_at n layout.ienable_at) (field_at n layout.status_at) (field_at n layout.options_at))
+    && (is_opening_support (field_at n layout.ienable_at) (field_at n layout.status_at) (field_at n layout.options_at)
+    || is_closing_support (field_at n layout.ienable_at) (field_at n layout.status_at) (field_at n layout.options_at))
 
--- The bits begin a packet of a kind that the profile has.
+-- The bits begin with a packet of a kind that the profile has.
 abbrev pub is_supported : ℕ → Bool
 is_supported n =
     is_sync n
@@ -81,8 +81,8 @@ is_supported n =
 abbrev pub is_bad_privilege : ℕ → Bool
 is_bad_privilege n = (is_sync n || is_trap n) && (field_at n layout.privilege_at == 2)
 
--- Of the address field's top bit, `notify`, `updiscon` and `irreport`: `irreport` differs from `updiscon`,
--- or `notify` from the top bit and `updiscon` from `notify` at once.
+-- The address field's top bit, `notify`, `updiscon` and `irreport` stand for no report: `irreport` differs from
+-- `updiscon`, or `notify` differs from the top bit and `updiscon` from `notify`.
 abbrev pub is_bad_tail : ℕ → ℕ → ℕ → ℕ → Bool
 is_bad_tail top notify updiscon irreport =
     not (irreport == updiscon) || (not (notify == top) && not (updiscon == notify))
@@ -97,7 +97,7 @@ is_bad_report_at n from =
 abbrev pub address_behind_map : ℕ → ℕ
 address_behind_map n = layout.map_from + map_width (field_at n layout.branches_at)
 
--- The packet has an address field whose report is none.
+-- The packet has an address field, and the bits behind it stand for no report.
 abbrev pub is_bad_report : ℕ → Bool
 is_bad_report n =
     if is_address_alone n then is_bad_report_at n layout.address_from else
@@ -107,7 +107,7 @@ is_bad_report n =
 abbrev pub trap_width : ℕ → ℕ
 trap_width n = if is_interrupt n then layout.interrupt_width else layout.exception_width
 
--- How many bits the packet has that the bits begin.
+-- How many bits the packet has with which these bits begin.
 abbrev pub packet_width : ℕ → ℕ
 packet_width n =
     if is_sync n then layout.sync_width else

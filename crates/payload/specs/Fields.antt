@@ -1,16 +1,16 @@
 -- Packets as lists of fields, and the number that a list of fields is.
 use Rattle.std.specs.Prelude.{ℕ, ◌+◌, ◌*◌, ◌^◌, List, [], ◌∷◌}
 
--- How many bits a field takes, and its value.
+-- A field: how many bits it takes, and its value.
 pub record Field : Type 0 where
   pub width : ℕ
   pub value : ℕ
 
--- A field of so many bits with this value.
+-- The field of this width with this value.
 abbrev pub field : ℕ → ℕ → Field
 field width value = record { width = width; value = value }
 
--- The bits that fields take.
+-- How many bits fields take together.
 abbrev pub total : List Field → ℕ
 total [] = 0
 total (f ∷ fs) = f.width + total fs

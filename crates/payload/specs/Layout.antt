@@ -1,6 +1,6 @@
--- Where the fields of packets lie, and the numbers that tell one packet from another. The fields are those of the
--- E-Trace specification's packet formats, with the widths of this project's profile. `src/layout.rt` has the same names
--- for the code.
+-- Where the fields of packets lie, and the numbers by which packets differ. The fields are those of the E-Trace
+-- specification's packet formats, with the widths of this project's profile. `src/layout.rt` has the same names for the
+-- code.
 use Rattle.std.specs.Prelude.{ℕ, ◌+◌}
 
 -- Where a field lies: the bit at which it begins, and how many bits it has.
@@ -8,21 +8,21 @@ pub record Place : Type 0 where
   pub from : ℕ
   pub width : ℕ
 
--- The place from this bit on, of so many bits.
-abbrev pub place : ℕ → ℕ → Place
-place from width = record { from = from; width = width }
+-- The place that begins at this bit and has this width.
+abbrev pub place_from : ℕ → ℕ → Place
+place_from from width = record { from = from; width = width }
 
 -- The bit behind a field.
-abbrev pub behind : Place → ℕ
-behind at = at.from + at.width
+abbrev pub bit_behind : Place → ℕ
+bit_behind at = at.from + at.width
 
 -- `format`, with which every packet begins.
 abbrev pub format_at : Place
-format_at = place 0 2
+format_at = place_from 0 2
 
--- `subformat`, behind format 3: of sync, trap and support packets.
+-- `subformat`, which follows format 3: that of sync, trap and support packets.
 abbrev pub subformat_at : Place
-subformat_at = place 2 2
+subformat_at = place_from 2 2
 
 abbrev pub sync : ℕ
 sync = 0
@@ -35,43 +35,43 @@ support = 3
 
 -- `branch` and `privilege` of sync and trap packets.
 abbrev pub branch_at : Place
-branch_at = place 4 1
+branch_at = place_from 4 1
 
 abbrev pub privilege_at : Place
-privilege_at = place 5 2
+privilege_at = place_from 5 2
 
 -- `address` of a sync packet.
 abbrev pub sync_address_at : Place
-sync_address_at = place 7 63
+sync_address_at = place_from 7 63
 
 -- `ecause`, `interrupt`, `thaddr` and `address` of a trap packet, and `tval` of an exception.
 abbrev pub ecause_at : Place
-ecause_at = place 7 6
+ecause_at = place_from 7 6
 
 abbrev pub interrupt_at : Place
-interrupt_at = place 13 1
+interrupt_at = place_from 13 1
 
 abbrev pub thaddr_at : Place
-thaddr_at = place 14 1
+thaddr_at = place_from 14 1
 
 abbrev pub trap_address_at : Place
-trap_address_at = place 15 63
+trap_address_at = place_from 15 63
 
 abbrev pub tval_at : Place
-tval_at = place 78 64
+tval_at = place_from 78 64
 
 -- `ienable`, `encoder_mode`, `qual_status` and `ioptions` of a support packet.
 abbrev pub ienable_at : Place
-ienable_at = place 4 1
+ienable_at = place_from 4 1
 
 abbrev pub encoder_mode_at : Place
-encoder_mode_at = place 5 1
+encoder_mode_at = place_from 5 1
 
 abbrev pub status_at : Place
-status_at = place 6 2
+status_at = place_from 6 2
 
 abbrev pub options_at : Place
-options_at = place 8 5
+options_at = place_from 8 5
 
 -- The `qual_status` no_change, ended_rep and ended_ntr.
 abbrev pub no_change : ℕ
@@ -83,8 +83,8 @@ ended_rep = 1
 abbrev pub ended_ntr : ℕ
 ended_ntr = 3
 
--- The `ioptions` of a trace whose address fields hold differences, and of one whose address fields hold addresses,
--- which is this project's profile; and of a support packet that closes a trace.
+-- The `ioptions` of a packet that opens a trace whose address fields hold differences; of one that opens a trace whose
+-- address fields hold addresses, which is this project's profile; and of one that closes a trace.
 abbrev pub differential : ℕ
 differential = 0
 
@@ -96,10 +96,10 @@ no_options = 0
 
 -- `branches` of format 1, and `branch_map` where no address follows.
 abbrev pub branches_at : Place
-branches_at = place 2 5
+branches_at = place_from 2 5
 
 abbrev pub full_map_at : Place
-full_map_at = place 7 31
+full_map_at = place_from 7 31
 
 -- The bit at which `branch_map` begins.
 abbrev pub map_from : ℕ
@@ -113,7 +113,8 @@ address_from = 2
 abbrev pub address_width : ℕ
 address_width = 63
 
--- The distances from its first bit to its top bit, and to `notify`, `updiscon` and `irreport` behind it.
+-- The distances from the first bit of this `address` to its top bit, and to `notify`, `updiscon` and `irreport` behind
+-- it.
 abbrev pub top_bit : ℕ
 top_bit = 62
 
@@ -126,22 +127,22 @@ updiscon_bit = 64
 abbrev pub irreport_bit : ℕ
 irreport_bit = 65
 
--- How many bits they have together.
+-- How many bits `address`, `notify`, `updiscon` and `irreport` have together.
 abbrev pub reported_width : ℕ
 reported_width = 66
 
 -- How many bits a sync packet has, a trap packet of an interrupt and of an exception, a support packet, and a full map.
 abbrev pub sync_width : ℕ
-sync_width = behind sync_address_at
+sync_width = bit_behind sync_address_at
 
 abbrev pub interrupt_width : ℕ
-interrupt_width = behind trap_address_at
+interrupt_width = bit_behind trap_address_at
 
 abbrev pub exception_width : ℕ
-exception_width = behind tval_at
+exception_width = bit_behind tval_at
 
 abbrev pub support_width : ℕ
-support_width = behind options_at
+support_width = bit_behind options_at
 
 abbrev pub map_packet_width : ℕ
-map_packet_width = behind full_map_at
+map_packet_width = bit_behind full_map_at

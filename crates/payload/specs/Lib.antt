@@ -13,5 +13,5 @@ pub mod FaultText
 pub mod Reading
 pub mod steps
 pub mod Closing
-pub mod Ended
+pub mod ClosedTrace
 pub mod AddressField

@@ -2,10 +2,10 @@
 use Rattle.std.specs.Prelude.{ℕ, ◌+◌, ◌*◌, ◌/◌, ◌%◌, ◌==◌, nat_lt, Bool, if◌then◌else◌, List, [], ◌∷◌}
 use Prim.Native.Nat.{zero, suc}
 
--- So many outcomes of a map, the oldest first.
-abbrev pub outcomes : ℕ → ℕ → List Bool
-outcomes zero map = []
-outcomes (suc count) map = (map % 2 == 0) ∷ outcomes count (map / 2)
+-- The first outcomes of a map, as many as this count, the oldest first.
+abbrev pub outcomes_in_map : ℕ → ℕ → List Bool
+outcomes_in_map zero map = []
+outcomes_in_map (suc count) map = (map % 2 == 0) ∷ outcomes_in_map count (map / 2)
 
 -- The map of outcomes.
 abbrev pub map_of : List Bool → ℕ

@@ -21,7 +21,7 @@ at place value = field place.width value
 abbrev pub branch_of : Bool → ℕ
 branch_of taken = if taken then 0 else 1
 
--- `interrupt` and `thaddr`: 1 where they hold.
+-- `interrupt` or `thaddr`: 1 where it holds, else 0.
 abbrev pub flag_of : Bool → ℕ
 flag_of holds = if holds then 1 else 0
 

@@ -6,15 +6,15 @@ use Rattle.payload.specs.Limits.{most_outcomes}
 use Rattle.payload.specs.declared.packet.Packet.{Packet}
 use Rattle.payload.specs.declared.packet.Packet.TheVariants as packet
 
--- Outcomes that an address packet may carry: none to 31.
+-- Outcomes that an address packet may have: 0 to 31.
 abbrev pub AreOutcomes : List Bool → Type 0
 AreOutcomes outcomes = length outcomes ≤ most_outcomes
 
--- Outcomes of a full branch map.
+-- Outcomes of a full branch map: 31.
 abbrev pub AreFull : List Bool → Type 0
 AreFull outcomes = length outcomes ≡ most_outcomes
 
--- The value that a trap reports: none with an interrupt.
+-- The value that a trap reports: 0 for an interrupt, and 64 bits for an exception.
 abbrev pub IsTrapValue : Bool → ℕ → Type 0
 IsTrapValue true tval = tval ≡ 0
 IsTrapValue false tval = tval < 2 ^ 64

@@ -4,7 +4,7 @@ use Rattle.std.specs.Prelude.{Err}
 use Rattle.payload.specs.Faults.{bits_of, part, field_at, is_sync, is_trap, is_interrupt, is_support, is_address_alone}
 use Rattle.payload.specs.Faults.{is_map_alone, address_behind_map, first_fault}
 use Rattle.payload.specs.Layout as layout
-use Rattle.payload.specs.Outcomes.{outcomes}
+use Rattle.payload.specs.Outcomes.{outcomes_in_map}
 use Rattle.payload.specs.declared.mode.Mode.{Mode}
 use Rattle.payload.specs.declared.mode.Mode.TheVariants as mode
 use Rattle.payload.specs.declared.packet.Packet.{Packet}
@@ -15,7 +15,7 @@ use Rattle.payload.specs.declared.packet.Report.{Report}
 use Rattle.payload.specs.declared.packet.Report.TheVariants as report
 use Rattle.payload.specs.declared.fault.PackFault.{PackFault}
 
--- The mode of `ioptions`, which are those of one of the two modes where there is no fault.
+-- The mode of `ioptions`. Where there is no fault, they are those of one of the two modes.
 abbrev pub mode_from : ℕ → Mode
 mode_from options = if options == layout.full then mode.Full else mode.Differential
 
@@ -44,15 +44,15 @@ trap_from n =
     (if is_interrupt n then 0 else field_at n layout.tval_at)
 
 -- The address packet of these outcomes, whose address field begins at this bit.
-abbrev pub address_from : ℕ → List Bool → ℕ → Packet
-address_from n taken from =
+abbrev pub address_packet_from : ℕ → List Bool → ℕ → Packet
+address_packet_from n taken from =
     packet.Address taken (2 * part n from layout.address_width)
     (report_from (part n (from + layout.top_bit) 1) (part n (from + layout.notify_bit) 1)
     (part n (from + layout.updiscon_bit) 1))
 
--- So many outcomes of the branch map that follows branches.
+-- The first outcomes of the branch map behind `branches`, as many as this count.
 abbrev pub outcomes_from : ℕ → ℕ → List Bool
-outcomes_from n count = outcomes count (part n layout.map_from count)
+outcomes_from n count = outcomes_in_map count (part n layout.map_from count)
 
 -- The packet that bits without a fault begin with.
 abbrev pub packet_in : ℕ → Packet
@@ -62,9 +62,9 @@ packet_in n =
     if is_support n then
     packet.Support
     (support_from (field_at n layout.ienable_at) (field_at n layout.status_at) (field_at n layout.options_at)) else
-    if is_address_alone n then address_from n [] layout.address_from else
+    if is_address_alone n then address_packet_from n [] layout.address_from else
     if is_map_alone n then packet.Map (outcomes_from n layout.full_map_at.width) else
-    address_from n (outcomes_from n (field_at n layout.branches_at)) (address_behind_map n)
+    address_packet_from n (outcomes_from n (field_at n layout.branches_at)) (address_behind_map n)
 
 -- A fault, or else the packet.
 abbrev pub fault_or : Option PackFault → Packet → Result Packet PackFault

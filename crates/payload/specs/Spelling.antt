@@ -25,7 +25,7 @@ pub record Spelt (bytes : List ℕ) (p : Packet) : Type 0 where
   pub unused : spare < 2 ^ unused_bits p
   pub extends : Extends bytes (fields_with spare p)
 
--- The shortest bytes of a number of so many bits.
+-- The shortest bytes of a number of this width.
 abbrev pub shortest_bytes : ℕ → ℕ → List ℕ
 shortest_bytes width n = low_bytes (fewest_bytes (magnitude width n)) (extended width n)
 

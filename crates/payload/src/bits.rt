@@ -40,7 +40,7 @@ impl Bits {
         }
     }
 
-    /// The bits of a number of so many bytes, which go on with copies of its top bit.
+    /// The bits of a number of this many bytes, which go on with copies of its top bit.
     #[inline(always)]
     #[tactic(auto, unfolding(crate::specs::Extension::extended))]
     fn going_on(count: usize, n: u128) -> Bits
@@ -133,7 +133,8 @@ impl Bits {
     }
 }
 
-/// The number that up to 15 bytes spell, by two words of them at most, which overlap where the count is no power of 2.
+/// The number that up to 15 bytes spell. At most two words of them are read; they overlap where the count is no power
+/// of 2.
 #[inline(always)]
 fn number_below_16(bytes: &[u8]) -> u128
     requires some { 1 ≤ length bytes.now }

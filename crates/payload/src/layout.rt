@@ -1,4 +1,4 @@
-//! Where the fields of packets lie, and the numbers that tell one packet from another.
+//! Where the fields of packets lie, and the numbers by which packets differ.
 //!
 //! The fields are those of the E-Trace specification's packet formats, with the widths of this project's profile.
 //! `specs/Layout.antt` has the same names for the definitions.
@@ -73,10 +73,10 @@ pub(crate) const ENDED_REP: u8 = 1;
 /// The `qual_status` ended_ntr.
 pub(crate) const ENDED_NTR: u8 = 3;
 
-/// The `ioptions` of a trace whose address fields hold differences.
+/// The `ioptions` of a packet that opens a trace whose address fields hold differences.
 pub(crate) const DIFFERENTIAL: u8 = 0;
 
-/// The `ioptions` of a trace whose address fields hold addresses: this project's profile.
+/// The `ioptions` of a packet that opens a trace whose address fields hold addresses: this project's profile.
 pub(crate) const FULL: u8 = 1;
 
 /// The `ioptions` of a support packet that closes a trace.
@@ -97,19 +97,19 @@ pub(crate) const ADDRESS_FROM: u32 = 2;
 /// How many bits `address` of formats 1 and 2 has.
 pub(crate) const ADDRESS_WIDTH: u32 = 63;
 
-/// The distance from its first bit to its top bit.
+/// The distance from the first bit of this `address` to its top bit.
 pub(crate) const TOP_BIT: u32 = 62;
 
-/// The distance from its first bit to `notify`, above which lie `updiscon` and `irreport`.
+/// The distance from the first bit of this `address` to `notify`, above which lie `updiscon` and `irreport`.
 pub(crate) const NOTIFY_BIT: u32 = 63;
 
-/// How many bits they have together.
+/// How many bits `address`, `notify`, `updiscon` and `irreport` have together.
 pub(crate) const REPORTED_WIDTH: u32 = 66;
 
 /// How many bits a sync packet has.
 pub(crate) const SYNC_WIDTH: u32 = SYNC_ADDRESS.from + SYNC_ADDRESS.width;
 
-/// How many bits a trap packet of an interrupt has; one of an exception has `tval` behind them.
+/// How many bits the trap packet of an interrupt has; that of an exception has `tval` behind them.
 pub(crate) const INTERRUPT_WIDTH: u32 = TRAP_ADDRESS.from + TRAP_ADDRESS.width;
 
 /// How many bits a support packet has.

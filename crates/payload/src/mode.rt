@@ -2,7 +2,8 @@
 ghost use Rattle.std.specs.Prelude.{◌≡◌};
 ghost use Rattle.payload.specs.AddressField.{aim, delta};
 
-/// What the address field of address packets (formats 1 and 2) holds, in a whole trace: the packet that opens it tells.
+/// What the address field of address packets (formats 1 and 2) holds. The packet that opens a trace announces the mode
+/// for the whole of it.
 #[derive(Clone, Copy, Debug, PartialEq, Eq)]
 pub enum Mode {
     /// The difference from the last reported address, modulo 2^64.

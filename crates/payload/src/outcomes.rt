@@ -1,7 +1,7 @@
 //! The outcomes of branches.
 ghost use Rattle.std.specs.Prelude.{◌≡◌, ◌^◌, ◌<◌, ◌≤◌, Bool, List, [], ◌∷◌, ◌++◌, ◌==◌, length, slice_get};
 ghost use Rattle.payload.specs.Limits.{most_outcomes};
-ghost use Rattle.payload.specs.Outcomes.{outcomes, map_width, map_of};
+ghost use Rattle.payload.specs.Outcomes.{outcomes_in_map, map_width, map_of};
 ghost use Rattle.payload.specs.OutcomesInverse.{length_outcomes, map_outcomes};
 
 use std::marker::Model;
@@ -20,7 +20,7 @@ pub struct Outcomes {
 impl Model for Outcomes {
     ghost Value = { List Bool };
 
-    ghost view = { λ o. outcomes o.count o.map };
+    ghost view = { λ o. outcomes_in_map o.count o.map };
 
     ghost inverse = { λ l. record { map = map_of l; count = length l } };
 
@@ -64,7 +64,7 @@ impl Outcomes {
         self.count == 0
     }
 
-    /// The outcome of the branch at a place, of which 0 is the oldest.
+    /// The outcome of the branch at a place, counted from 0 for the oldest; None where there is no such branch.
     pub fn get(&self, i: usize) -> Option<bool>
         ensures { result ≡ slice_get self.now i }
     {
@@ -79,7 +79,7 @@ impl Outcomes {
     pub(crate) fn of_map(count: u32, map: u32) -> Self
         requires few { count ≤ most_outcomes }
         requires below { map < 2 ^ count }
-        ensures { result ≡ outcomes count map }
+        ensures { result ≡ outcomes_in_map count map }
     {
         Outcomes { map, count }
     }
@@ -101,7 +101,7 @@ impl Default for Outcomes {
     }
 }
 
-/// How many bits the branch map of so many outcomes has.
+/// How many bits the branch map of this count of outcomes has.
 pub(crate) fn map_width(count: usize) -> u32
     requires { count ≤ most_outcomes }
     ensures value { result ≡ map_width count }

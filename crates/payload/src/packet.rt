@@ -33,11 +33,11 @@ pub enum Packet {
         /// The trap value, `tval`; 0 with an interrupt.
         tval: u64,
     },
-    /// The trace begins or ends: format 3, subformat 3.
+    /// The trace is opened or closed: format 3, subformat 3.
     Support(Support),
     /// How far the trace has come: format 1, or format 2 without outcomes.
     Address {
-        /// The outcomes of the branches since the last packet that told of them, the oldest first.
+        /// The outcomes of the branches that no packet reported before, the oldest first.
         outcomes: Outcomes,
         /// What names the address, even: its difference from the last reported one, modulo 2^64, or in full-address
         /// mode the address itself.
@@ -49,14 +49,14 @@ pub enum Packet {
     Map(Outcomes),
 }
 
-/// What a support packet tells.
+/// How a support packet opens or closes a trace.
 #[derive(Clone, Copy, Debug, PartialEq, Eq)]
 pub enum Support {
-    /// Tracing begins, with address fields of this mode (`ioptions`).
+    /// It opens the trace, and announces the mode of its address fields (`ioptions`).
     Open(Mode),
-    /// Tracing ended, and the last packet's address was reported because of it (`ended_rep`).
+    /// It closes the trace, and the last packet's address was reported only because of that (`ended_rep`).
     EndedRep,
-    /// Tracing ended, and the last packet's address would have been reported anyway (`ended_ntr`).
+    /// It closes the trace, and the last packet's address would have been reported anyway (`ended_ntr`).
     EndedNtr,
 }
 
@@ -109,7 +109,7 @@ impl Packet {
         }
     }
 
-    /// Whether the packet ends a trace: EndedRep or EndedNtr.
+    /// Whether the packet closes a trace: EndedRep or EndedNtr.
     #[inline]
     pub fn is_closing(&self) -> bool
         ensures { result ≡ is_closing_packet self.now }

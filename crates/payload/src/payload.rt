@@ -54,7 +54,7 @@ impl Payload {
         self.bytes.as_slice()
     }
 
-    /// Whether the bytes unpack to a packet that ends a trace, EndedRep or EndedNtr.
+    /// Whether the bytes unpack to a packet that closes a trace, EndedRep or EndedNtr.
     pub fn is_closing(&self) -> bool
         ensures { result ≡ is_closing self.now }
     {

@@ -1,4 +1,4 @@
-//! The shortest bytes of a number of so many bits, which go on with copies of its top bit.
+//! The shortest bytes of a number of a width, which go on with copies of its top bit.
 ghost use Rattle.std.specs.Prelude.{◌≡◌, ◌+◌, ◌-◌, ◌*◌, ◌%◌, ◌^◌, ◌<◌, ◌≤◌};
 ghost use Rattle.payload.specs.Extension.{extended, magnitude, fewest_bytes};
 ghost use Rattle.payload.specs.Limits.{most_bytes};
@@ -61,7 +61,7 @@ fn byte_count(magnitude: u128) -> usize
     (128 - magnitude.leading_zeros()) as usize / 8 + 1
 }
 
-/// The shortest bytes of an exception's bits, of which `rest` are those of `tval`.
+/// The shortest bytes of an exception's bits: `head` is the bits below `tval`, and `rest` is `tval`.
 pub(crate) fn spell_long(head: u128, rest: u64) -> Payload
     requires { head < 2 ^ 78 }
     ensures { result ≡ shortest_bytes 142 (head + 2 ^ 78 * rest) }
@@ -76,7 +76,7 @@ pub(crate) fn spell_long(head: u128, rest: u64) -> Payload
     }
 }
 
-/// The fewest bytes whose bits below the top one hold a magnitude of 141 bits, of which `rest` are the highest 63.
+/// The fewest bytes whose bits below the top one hold a magnitude of 141 bits; `rest` is the highest 63 of them.
 fn byte_count_long(head: u128, rest: u64) -> usize
     requires head { head < 2 ^ 78 }
     requires rest { rest < 2 ^ 63 }

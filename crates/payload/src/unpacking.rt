@@ -16,13 +16,13 @@ use crate::layout::*;
 use crate::outcomes::map_width;
 use crate::{MOST_BYTES, Mode, Outcomes, PackFault, Packet, Report, Support};
 
-/// The packet that bytes stand for, be they the shortest or longer, or else the first fault.
+/// The packet that bytes stand for, whether they are its shortest payload or longer; or else the first fault.
 #[inline(always)]
 pub fn unpack(bytes: &[u8]) -> Result<Packet, PackFault>
     ensures found { IfOk result (λ packet. InProfile packet × Spelt bytes.now packet) }
     ensures only { (packet : AnyPacket) → InProfile packet → Spelt bytes.now packet → result ≡ Ok packet }
     ensures fault { result_err result ≡ first_fault bytes.now }
-    // What is answered is a function of the bytes.
+    // The result is a function of the bytes.
     ensures value { result ≡ reading bytes.now }
 {
     unpacked(bytes)
@@ -30,8 +30,8 @@ pub fn unpack(bytes: &[u8]) -> Result<Packet, PackFault>
 
 /// The packet of bytes, read by its format, or else the first fault.
 ///
-/// It is no part of its callers and builds a packet of format 1 or 2 itself: each copy of a packet that was just built
-/// makes the machine wait for the bytes.
+/// It is compiled apart from its callers, and builds a packet of format 1 or 2 itself: each copy of a packet that was
+/// just built makes the machine wait for its bytes.
 #[inline(never)]
 #[tactic(auto, unfolding(crate::specs::steps::ReadingByKind::reading_by_place, crate::specs::steps::ReadingByKind::address_reading))]
 fn unpacked(bytes: &[u8]) -> Result<Packet, PackFault>
@@ -178,7 +178,7 @@ fn full_map_of(bits: &Bits) -> Result<Packet, PackFault>
     Ok(Packet::Map(first_outcomes(bits, FULL_MAP.width)))
 }
 
-/// So many outcomes of the branch map.
+/// The first outcomes of the branch map, as many as this count.
 fn first_outcomes(bits: &Bits, count: u32) -> Outcomes
     requires some { 1 ≤ count }
     requires few { count ≤ most_outcomes }

@@ -6,7 +6,7 @@ use Rattle.std.proofs.lemmas.Bool.{or_parts}
 use Rattle.std.proofs.lemmas.Option.{slice_get_within, same_Some}
 use Rattle.retire.specs.declared.event.Event.{Event}
 use Rattle.rvclass.specs.Words.{Words}
-use Rattle.payload.specs.Ended.{has_ended}
+use Rattle.payload.specs.ClosedTrace.{last_is_closing}
 use Rattle.payload.specs.Reading.{reading}
 use Rattle.payload.specs.declared.mode.Mode.{Mode}
 use Rattle.payload.specs.declared.packet.Packet.{Packet}
@@ -19,7 +19,7 @@ use Rattle.message.proofs.AcceptedLemmas.{AreAccepted-next, expected_after-next,
 use Rattle.message.proofs.Answering.{answer-unpacked}
 use Rattle.message.proofs.HartMessages.{expected_of}
 use Rattle.message.specs.Accepted.{AreAccepted, expected_after, newcomers}
-use Rattle.message.specs.Accepting.{accepting, harts_after, harts_by, state_after}
+use Rattle.message.specs.Accepting.{accepting, harts_after, harts_after_found, state_after}
 use Rattle.message.specs.Harts.{Harts, is_over}
 use Rattle.message.specs.OfHart.{packets_of}
 use Rattle.message.specs.declared.fault.DemuxFault.{DemuxFault}
@@ -28,7 +28,7 @@ use Rattle.message.specs.declared.message.Message.{Message}
 use Rattle.receiver.specs.Agreeing.{Agrees, opens_another}
 use Rattle.receiver.specs.Holds.{HasAccepted}
 use Rattle.receiver.specs.Received.{IsSameHart, Received}
-use Rattle.receiver.specs.Refused.{IsNotDecoded}
+use Rattle.receiver.specs.NotReceived.{IsNotDecoded}
 use Rattle.receiver.specs.declared.fault.ReceiveFault.{ReceiveFault}
 use Rattle.receiver.specs.declared.fault.ReceiveFault.TheVariants as fault
 use Rattle.receiver.proofs.HoldLemmas.{set-other}
@@ -61,7 +61,8 @@ pub expected_others : (expected : Harts) (message : Message) (other : ℕ) → o
     → slice_get (harts_after expected message) other ≡ slice_get expected other
 expected_others expected message other apart = by_hart (slice_get expected message.hart)
   where
-    by_hart : (found : Option Hart) → slice_get (harts_by expected message found) other ≡ slice_get expected other
+    by_hart : (found : Option Hart)
+        → slice_get (harts_after_found expected message found) other ≡ slice_get expected other
     by_hart None = refl
     by_hart (Some h) = set-other expected message.hart (state_after h message) other apart
 
@@ -100,7 +101,7 @@ accepted_answer harts messages received message packet has answer =
 pub going : (harts : ℕ) (messages : List Message) (message : Message) (packet : Packet)
     → AreAccepted (newcomers harts) messages
     → accepting (expected_after (newcomers harts) messages) message ≡ Ok packet
-    → has_ended (packets_of message.hart messages) ≡ false
+    → last_is_closing (packets_of message.hart messages) ≡ false
 going harts messages message packet all answer =
     open_at (slice_get expected message.hart) refl
     ((answer-unpacked (slice_get expected message.hart) message (Ok packet)).0 answer).0
@@ -110,27 +111,27 @@ going harts messages message packet all answer =
 
     open_at : (o : Option Hart) → slice_get expected message.hart ≡ o
         → IsSomeAnd o (λ h. IsFalse (is_over h) × (h.expected ≡ message.number))
-        → has_ended (packets_of message.hart messages) ≡ false
+        → last_is_closing (packets_of message.hart messages) ≡ false
     open_at None is never = absurd never
     open_at (Some h) is next =
         let counted = accepted_counted harts messages all in
         let within : message.hart < harts = omega (arith, slice_get_within expected message.hart h is, counted.count) in
         let same : h ≡ expected_of message.hart messages =
         same_Some h (expected_of message.hart messages) (sym is ∙ counted.each message.hart within) in
-        let closed : h.closed ≡ has_ended (packets_of message.hart messages) = ap (λ (h : Hart). h.closed) same in
+        let closed : h.closed ≡ last_is_closing (packets_of message.hart messages) = ap (λ (h : Hart). h.closed) same in
         sym closed ∙ (or_parts h.closed (not (nat_lt h.expected (2 ^ 63))) next.0).0
 
 -- Why a packet is not decoded, by what the decoder answers.
 pub not_decoded : (words : Words) (packets : List Packet) (packet : Packet) (why : DecodeFault)
     → (refusal why ≡ Err NotOpened) ↔ ((packets ≡ []) × ¬ IsOpen packet)
-    → (refusal why ≡ Err AfterClose) ↔ (has_ended packets ≡ true)
+    → (refusal why ≡ Err AfterClose) ↔ (last_is_closing packets ≡ true)
     → (why ≡ Memory) ⊎ ((log : List Event) → ¬ Describes words (packets ++ packet ∷ []) log)
     → (refusal why ≡ Err Memory → (list log : List Event) × Describes words packets list
     × Describes words (packets ++ packet ∷ []) log × (length list < length log))
     → IsNotDecoded words packets packet why
-not_decoded words packets packet why not_opened ended either described = record {
-  not_opened = (λ same. not_opened.0 (ap refusal same), λ first. let told = not_opened.1 first in cc);
-  ended = (λ same. ended.0 (ap refusal same), λ over. let told = ended.1 over in cc);
+not_decoded words packets packet why not_opened after_close either described = record {
+  not_opened = (λ same. not_opened.0 (ap refusal same), λ first. let refused = not_opened.1 first in cc);
+  after_close = (λ same. after_close.0 (ap refusal same), λ over. let refused = after_close.1 over in cc);
   memory = λ memory. described (ap refusal memory);
   reason = either;
 }
@@ -143,9 +144,9 @@ pub same_fault : (a b : DecodeFault) → ◌≡◌ {A = Result Unit ReceiveFault
     → a ≡ b
 same_fault a b is = cc
 
--- A message agrees with the mode that was told where the packet of its payload does.
-pub agrees_by : (told : Option Mode) (message : Message) (packet : Packet) → reading message.payload ≡ Ok packet
-    → opens_another told packet ≡ false → Agrees told message
-agrees_by told message packet read same other is =
+-- A message agrees with the mode that was announced where the packet of its payload does.
+pub agrees_by : (announced : Option Mode) (message : Message) (packet : Packet) → reading message.payload ≡ Ok packet
+    → opens_another announced packet ≡ false → Agrees announced message
+agrees_by announced message packet read same other is =
     let one : packet ≡ other = cc in
-    subst (λ p. opens_another told p ≡ false) one same
+    subst (λ p. opens_another announced p ≡ false) one same

@@ -15,10 +15,10 @@ use Rattle.payload.specs.Closing.{is_closing_packet}
 use Rattle.payload.specs.Reading.{reading}
 use Rattle.payload.specs.declared.packet.Packet.{Packet}
 use Rattle.decoder.specs.Describes.{Describes}
-use Rattle.decoder.specs.Stands.{Stands}
+use Rattle.decoder.specs.DecoderStands.{DecoderStands}
 use Rattle.decoder.specs.declared.decoding.Decoder.{Decoder}
 use Rattle.message.proofs.AcceptedLemmas.{slice_get-set}
-use Rattle.message.proofs.HartMessages.{packets_of-next, packets_of-other, has_ended-next}
+use Rattle.message.proofs.HartMessages.{packets_of-next, packets_of-other, last_is_closing-next}
 use Rattle.message.specs.Accepted.{newcomers}
 use Rattle.message.specs.Harts.{Harts}
 use Rattle.message.specs.OfHart.{packets_of}
@@ -42,7 +42,7 @@ replicate-at count y i x is =
 
 -- A receiver that accepted nothing.
 pub received_none : (programs : ℕ → Words) (harts : ℕ) (decoder : Decoder)
-    → ((words : Words) → Stands words [] [] decoder)
+    → ((words : Words) → DecoderStands words [] [] decoder)
     → HasReceived programs harts [] (record {
       expected = newcomers harts;
       decoders = replicate harts decoder;
@@ -57,10 +57,10 @@ received_none programs harts decoder stands = record {
     closed_count = length-replicate harts false;
     each = λ hart. record {
       stands = λ d l is_d is_l.
-          subst (λ d. Stands (programs hart) [] l d) (sym (replicate-at harts decoder hart d is_d))
-          (subst (λ l. Stands (programs hart) [] l decoder) (sym (replicate-at harts [] hart l is_l))
+          subst (λ d. DecoderStands (programs hart) [] l d) (sym (replicate-at harts decoder hart d is_d))
+          (subst (λ l. DecoderStands (programs hart) [] l decoder) (sym (replicate-at harts [] hart l is_l))
           (stands (programs hart)));
-      ended = λ flag is. replicate-at harts false hart flag is;
+      closed = λ flag is. replicate-at harts false hart flag is;
     };
   };
 }
@@ -89,7 +89,7 @@ pub holds_same : (words : Words) (hart : ℕ) (packets : List Packet) (old new :
 holds_same words hart packets old new same holds = record {
   stands = λ decoder list is_decoder is_list.
       holds.stands decoder list (sym same.decoder ∙ is_decoder) (sym same.list ∙ is_list);
-  ended = λ flag is. holds.ended flag (sym same.closed ∙ is);
+  closed = λ flag is. holds.closed flag (sym same.closed ∙ is);
 }
 
 -- Nothing changed of a hart where nothing changed at all.
@@ -151,7 +151,8 @@ module _ {A : Type 0} (expected : Harts) (decoders : List Decoder) (lists : List
   pub stands_here : (words : Words) (packets : List Packet) (decoder : Decoder) (list : Vec Event A)
       (received : Received) → before ≡ received
       → IsReceived before → HoldsHart words hart packets received → hart < length received.lists
-      → decoder ≡ get_or decoders at decoder → list ≡ get_or lists at list → Stands words packets list.items decoder
+      → decoder ≡ get_or decoders at decoder → list ≡ get_or lists at list
+      → DecoderStands words packets list.items decoder
   stands_here words packets decoder list received view all given inside is_decoder is_list =
       let holds = subst (HoldsHart words hart packets) (sym view) given in
       let known : hart < length (events_in lists) = subst (λ (r : Received). hart < length r.lists) (sym view) inside in
@@ -170,16 +171,16 @@ module _ {A : Type 0} (expected : Harts) (decoders : List Decoder) (lists : List
   -- What is held of the hart then.
   pub holds_after : (words : Words) (packets : List Packet) (packet : Packet) (decoder : Decoder) (list : Vec Event A)
       (flag : Bool)
-      → flag ≡ is_closing_packet packet → Stands words (packets ++ packet ∷ []) list.items decoder
+      → flag ≡ is_closing_packet packet → DecoderStands words (packets ++ packet ∷ []) list.items decoder
       → HoldsHart words hart (packets ++ packet ∷ []) (after decoder list flag)
   holds_after words packets packet decoder list flag ends fed = record {
     stands = λ d l is_d is_l.
         let same_d = set-here decoders at decoder hart d here is_d in
         let same_l = set-here (events_in lists) at list.items hart l here
         (sym (ap (λ ls. slice_get ls hart) (lists_after list)) ∙ is_l) in
-        subst (λ d. Stands words (packets ++ packet ∷ []) l d) (sym same_d)
-        (subst (λ l. Stands words (packets ++ packet ∷ []) l decoder) (sym same_l) fed);
-    ended = λ f is. set-here closed at flag hart f here is ∙ ends ∙ sym (has_ended-next packets packet);
+        subst (λ d. DecoderStands words (packets ++ packet ∷ []) l d) (sym same_d)
+        (subst (λ l. DecoderStands words (packets ++ packet ∷ []) l decoder) (sym same_l) fed);
+    closed = λ f is. set-here closed at flag hart f here is ∙ ends ∙ sym (last_is_closing-next packets packet);
   }
 
   -- Of the others nothing changed.
@@ -268,7 +269,7 @@ holds_kept programs harts messages old new expected holds same =
       decoders_count = holds.decoders_count;
       lists_count = holds.lists_count;
       closed_count = holds.closed_count;
-      each = λ hart. record { stands = (holds.each hart).stands; ended = (holds.each hart).ended };
+      each = λ hart. record { stands = (holds.each hart).stands; closed = (holds.each hart).closed };
     })
 
 -- The list of a hart that is known, which its packets describe.
@@ -295,7 +296,7 @@ holds_decoded programs harts messages received holds = record {
   lists_count = holds.lists_count;
   closed_count = holds.closed_count;
   described = λ hart list is. described hart list is (slice_get_cases received.decoders hart).1;
-  ended = λ hart. (holds.each hart).ended;
+  are_closed = λ hart. (holds.each hart).closed;
 }
   where
     described : (hart : ℕ) (list : List Event) → slice_get received.lists hart ≡ Some list

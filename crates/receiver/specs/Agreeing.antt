@@ -1,4 +1,4 @@
--- Packets that open a trace in the mode that was told before.
+-- Packets that open a trace in the mode that was announced before.
 use Rattle.std.specs.Prelude.{◌≡◌, Bool, true, false, Option, Some, Ok}
 use Rattle.payload.specs.Reading.{reading}
 use Rattle.payload.specs.declared.mode.Mode.{Mode}
@@ -12,13 +12,15 @@ use Rattle.message.specs.declared.message.Message.{Message}
 abbrev pub differ : Mode → Mode → Bool
 differ Differential Differential = false
 differ Full Full = false
-differ told mode = true
+differ announced mode = true
 
--- The packet opens a trace in another mode than the one that was told, if one was.
+-- The packet opens a trace in another mode than the one that was announced before, if one was.
 abbrev pub opens_another : Option Mode → Packet → Bool
-opens_another (Some told) (packet.Support (support.Open mode)) = differ told mode
-opens_another told other = false
+opens_another (Some announced) (packet.Support (support.Open mode)) = differ announced mode
+opens_another announced other = false
 
--- The packet of a message, if its payload is one, opens no trace in another mode than was told.
+-- The packet of a message, if its payload is one, opens no trace in another mode than the one that was announced
+-- before.
 abbrev pub Agrees : Option Mode → Message → Type 0
-Agrees told message = (packet : Packet) → reading message.payload ≡ Ok packet → opens_another told packet ≡ false
+Agrees announced message = (packet : Packet) → reading message.payload ≡ Ok packet → opens_another announced packet
+    ≡ false

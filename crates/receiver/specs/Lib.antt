@@ -1,4 +1,4 @@
 pub mod Received
 pub mod Holds
 pub mod Agreeing
-pub mod Refused
+pub mod NotReceived

@@ -16,13 +16,13 @@ pub record Received : Type 0 where
 abbrev pub events_in : {A : Type 0} → List (Vec Event A) → List (List Event)
 events_in lists = map (λ list. list.items) lists
 
--- Each hart has all of them.
+-- There is a decoder, a list and a flag for each hart of which messages are expected.
 pub record IsReceived (received : Received) : Type 0 where
   pub decoders : length received.decoders ≡ length received.expected
   pub lists : length received.lists ≡ length received.expected
   pub closed : length received.closed ≡ length received.expected
 
--- What is held of the hart is the same.
+-- What a receiver has of the hart is the same before and after.
 pub record IsSameHart (hart : ℕ) (old new : Received) : Type 0 where
   pub expected : slice_get new.expected hart ≡ slice_get old.expected hart
   pub decoder : slice_get new.decoders hart ≡ slice_get old.decoders hart

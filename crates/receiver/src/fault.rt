@@ -10,7 +10,7 @@ pub enum ReceiveFault {
     /// The demultiplexer refuses the message.
     #[error("{0}")]
     Demux(DemuxFault),
-    /// The packet of the message opens a trace in another mode than was told before.
+    /// The packet of the message opens a trace in another mode than the one that was announced before.
     #[error("open of another mode")]
     Mode,
     /// The packet of the message is not decoded.

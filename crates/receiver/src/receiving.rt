@@ -5,7 +5,7 @@ ghost use Rattle.std.specs.Prelude.{OnErr, OnOk, length, replicate, slice_get};
 ghost use Rattle.retire.specs.declared.event.Event.{Event as AnyEvent};
 ghost use Rattle.rvclass.specs.Fetch.{words_of};
 ghost use Rattle.rvclass.specs.Words.{Words};
-ghost use Rattle.payload.specs.Ended.{has_ended};
+ghost use Rattle.payload.specs.ClosedTrace.{last_is_closing};
 ghost use Rattle.payload.specs.Reading.{reading};
 ghost use Rattle.payload.specs.declared.packet.Packet.{Packet as AnyPacket};
 ghost use Rattle.decoder.specs.Describes.{Describes};
@@ -19,7 +19,7 @@ ghost use Rattle.message.specs.declared.message.Message.{Message as AnyMessage};
 ghost use Rattle.receiver.specs.Agreeing.{Agrees, opens_another};
 ghost use Rattle.receiver.specs.Holds.{AreDecoded, HasAccepted, HasReceived, Holds, HoldsHart};
 ghost use Rattle.receiver.specs.Received.{Received, IsReceived, IsSameHart, events_in};
-ghost use Rattle.receiver.specs.Refused.{IsNotDecoded, IsRefused};
+ghost use Rattle.receiver.specs.NotReceived.{IsNotDecoded, IsNotReceived};
 
 use crate::fault::ReceiveFault;
 use decoder::{DecodeFault, Decoder};
@@ -38,7 +38,7 @@ pub struct Receiver<A: Allocator = Global> {
     decoders: Vec<Decoder, A>,
     /// The events of each hart.
     lists: Vec<Vec<Event, A>, A>,
-    /// Of each hart whether its closing packet was decoded.
+    /// Whether each hart's closing packet was decoded.
     closed: Vec<bool, A>,
 }
 
@@ -61,7 +61,7 @@ impl<A: Allocator> Model for Receiver<A> {
 }
 
 impl<A: Allocator + Copy> Receiver<A> {
-    /// A receiver that knows the harts below `harts`, and accepted nothing of any.
+    /// A receiver that knows the harts below `harts`, and accepted no message yet.
     pub fn new(alloc: A, harts: u16) -> Result<Receiver<A>, AllocError>
         ensures { (programs : ℕ → Words) → IfOk result (λ receiver. HasReceived programs harts [] receiver) }
     {
@@ -74,8 +74,9 @@ impl<A: Allocator + Copy> Receiver<A> {
         })
     }
 
-    /// The packet of the message, where it is the next of a hart that is known and open: what a demultiplexer answers.
-    /// The hart's list waits for the packet to be decoded. A refusal changes nothing. No memory is taken.
+    /// Returns the packet of the message, where a demultiplexer accepts it: its hart is known and still open, and the
+    /// message is the hart's next. The packet's events are not in the hart's list yet: [`Receiver::decode`] adds them.
+    /// A refusal changes nothing. No memory is taken.
     pub fn accept(&mut self, message: &Message) -> Result<Packet, DemuxFault>
         ensures value { result ≡ accepting self.old.expected message.now }
         ensures state { self.new ≡ record self.old { expected = harts_after self.old.expected message.now } }
@@ -89,8 +90,8 @@ impl<A: Allocator + Copy> Receiver<A> {
         self.demux.accept(message)
     }
 
-    /// Adds to the hart's list the events that are known by the next of its packets, where the program is that of the
-    /// hart. A fault leaves the receiver as it was: the packet may be decoded again where memory was refused.
+    /// Decodes the hart's next packet, and adds the events that it settles to the hart's list. The program is that of
+    /// the hart. A fault leaves the receiver as it was; where memory was refused, the packet may be decoded again.
     pub fn decode(
         &mut self,
         program: &Program,
@@ -99,12 +100,12 @@ impl<A: Allocator + Copy> Receiver<A> {
     ) -> Result<(), DecodeFault>
         requires known { hart < length self.old.lists }
 
-        // Of the hart it holds what the packet tells too; of the others nothing changes.
+        // The receiver then holds for the hart what this packet describes too. What it holds for the others stays.
         ensures hart { (packets : List AnyPacket) → HoldsHart (words_of program.now) hart packets self.old
             → OnOk result (HoldsHart (words_of program.now) hart (packets ++ packet.now ∷ []) self.new) }
         ensures others { (other : ℕ) → other ≢ hart → IsSameHart other self.old self.new }
 
-        // With the packet of one more message of the hart the receiver holds what that message tells too.
+        // Where the packet is that of one more message of the hart, the receiver holds what that message describes too.
         ensures decoded { (programs : ℕ → Words) (harts : ℕ) (messages : List AnyMessage) (message : AnyMessage)
             → programs hart ≡ words_of program.now → message.hart ≡ hart → reading message.payload ≡ Ok packet.now
             → Holds programs harts messages self.old
@@ -119,8 +120,8 @@ impl<A: Allocator + Copy> Receiver<A> {
             × (length list < length log) }
         ensures not_opened { (packets : List AnyPacket) → HoldsHart (words_of program.now) hart packets self.old
             → (result ≡ Err NotOpened) ↔ ((packets ≡ []) × ¬ IsOpen packet.now) }
-        ensures ended { (packets : List AnyPacket) → HoldsHart (words_of program.now) hart packets self.old
-            → (result ≡ Err AfterClose) ↔ (has_ended packets ≡ true) }
+        ensures after_close { (packets : List AnyPacket) → HoldsHart (words_of program.now) hart packets self.old
+            → (result ≡ Err AfterClose) ↔ (last_is_closing packets ≡ true) }
         ensures expected { self.new.expected ≡ self.old.expected }
         ensures complete { IsReceived self.new }
         ensures refused { OnErr result (self.new ≡ self.old) }
@@ -143,13 +144,14 @@ impl<A: Allocator + Copy> Receiver<A> {
         list.reserve(total.saturating_sub(list.len()))
     }
 
-    /// Accepts the message and decodes its packet, where the program is that of its hart. Where a mode was told before,
-    /// by the header of a capture, no packet opens a trace in another one. A fault leaves the lists and the flags as
-    /// they were; of the hart whose packet is not decoded the next message is accepted then.
+    /// Accepts the message and decodes its packet. The program is that of the message's hart. Where a mode was
+    /// announced before, by the header of a capture, a packet that opens a trace in another mode is a fault. A fault
+    /// leaves the lists and the flags as they were. Where the message was accepted and the fault came after that, the
+    /// hart's next message is expected.
     pub fn receive(
         &mut self,
         program: &Program,
-        told: Option<Mode>,
+        announced: Option<Mode>,
         message: &Message,
     ) -> Result<(), ReceiveFault>
         ensures received { (programs : ℕ → Words) (harts : ℕ) (messages : List AnyMessage)
@@ -160,25 +162,26 @@ impl<A: Allocator + Copy> Receiver<A> {
         ensures received_held { (programs : ℕ → Words) (harts : ℕ) (messages : List AnyMessage)
             → programs message.now.hart ≡ words_of program.now → Holds programs harts messages self.old
             → OnOk result (Holds programs harts (messages ++ message.now ∷ []) self.new) }
-        // It is refused by the demultiplexer exactly where that is what the demultiplexer answers.
+        // The fault is Demux exactly where the demultiplexer refuses the message, and for its reason.
         ensures demux { (why : AnyDemuxFault) → (result ≡ Err (ReceiveFault.Demux why))
             ↔ (accepting self.old.expected message.now ≡ Err why) }
         ensures not_accepted { (why : AnyDemuxFault) → result ≡ Err (ReceiveFault.Demux why) → self.new ≡ self.old }
-        ensures refused { (programs : ℕ → Words) (harts : ℕ) (messages : List AnyMessage)
+        ensures not_received { (programs : ℕ → Words) (harts : ℕ) (messages : List AnyMessage)
             → programs message.now.hart ≡ words_of program.now → HasReceived programs harts messages self.old
-            → IfErr result (λ fault. IsRefused (words_of program.now) harts told messages message.now fault) }
-        // It is refused for its mode exactly where it is accepted and opens a trace in another one than was told.
+            → IfErr result (λ fault. IsNotReceived (words_of program.now) harts announced messages message.now fault) }
+        // The fault is Mode exactly where the message is accepted and its packet opens a trace in another mode than the
+        // one that was announced.
         ensures mode { (result ≡ Err ReceiveFault.Mode)
             ↔ ((packet : AnyPacket) × (accepting self.old.expected message.now ≡ Ok packet)
-            × (opens_another told packet ≡ true)) }
-        ensures agrees { OnOk result (Agrees told message.now) }
+            × (opens_another announced packet ≡ true)) }
+        ensures agrees { OnOk result (Agrees announced message.now) }
         ensures undecoded { (programs : ℕ → Words) (harts : ℕ) (messages : List AnyMessage) (packet : AnyPacket)
             (why : AnyDecodeFault) → programs message.now.hart ≡ words_of program.now
             → Holds programs harts messages self.old → accepting self.old.expected message.now ≡ Ok packet
             → result ≡ Err (ReceiveFault.Decode why)
             → IsNotDecoded (words_of program.now) (packets_of message.now.hart messages) packet why }
-        // Whatever was received before: the demultiplexer's part, that a fault leaves all else as it was, and the
-        // others.
+        // Whatever was received before: what is expected afterwards, that a fault leaves all else as it was, and that
+        // what is held of the other harts stays.
         ensures expected { self.new.expected ≡ harts_after self.old.expected message.now }
         ensures kept { OnErr result
             (self.new ≡ record self.old { expected = harts_after self.old.expected message.now }) }
@@ -188,7 +191,7 @@ impl<A: Allocator + Copy> Receiver<A> {
             Ok(packet) => packet,
             Err(fault) => return Err(ReceiveFault::Demux(fault)),
         };
-        if opens_another(told, &packet) {
+        if opens_another(announced, &packet) {
             return Err(ReceiveFault::Mode);
         }
         match self.decode(program, message.hart, &packet) {
@@ -197,21 +200,21 @@ impl<A: Allocator + Copy> Receiver<A> {
         }
     }
 
-    /// The events of each hart, as far as its messages tell them.
+    /// The events of each hart, as far as its messages settle them.
     pub fn lists(&self) -> &[Vec<Event, A>]
         ensures { events_in result.now ≡ self.now.lists }
     {
         &self.lists
     }
 
-    /// Of each hart whether its closing packet was decoded.
+    /// Whether each hart's closing packet was decoded.
     pub fn closed(&self) -> &[bool]
         ensures { result.now ≡ self.now.closed }
     {
         &self.closed
     }
 
-    /// The events of each hart, and of each whether its closing packet was decoded.
+    /// The events of each hart, and whether each hart's closing packet was decoded.
     pub fn into_parts(self) -> (Vec<Vec<Event, A>, A>, Vec<bool, A>)
         ensures lists { events_in result.0.items ≡ self.lists }
         ensures closed { result.1.items ≡ self.closed }
@@ -223,12 +226,12 @@ impl<A: Allocator + Copy> Receiver<A> {
     }
 }
 
-/// Whether a packet opens a trace in another mode than the one that was told, if one was.
-fn opens_another(told: Option<Mode>, packet: &Packet) -> bool
-    ensures { result ≡ opens_another told packet.now }
+/// Whether a packet opens a trace in another mode than the one that was announced, if one was.
+fn opens_another(announced: Option<Mode>, packet: &Packet) -> bool
+    ensures { result ≡ opens_another announced packet.now }
 {
-    match (told, packet) {
-        (Some(told), Packet::Support(Support::Open(mode))) => told != *mode,
+    match (announced, packet) {
+        (Some(announced), Packet::Support(Support::Open(mode))) => announced != *mode,
         _ => false,
     }
 }

@@ -1,4 +1,4 @@
-//! How many requests came, and which of them is refused.
+//! How many requests came, and which one is refused.
 
 use std::cell::Cell;
 
@@ -12,7 +12,7 @@ pub(crate) struct Count {
 }
 
 impl Count {
-    /// A count of no request, by which the request of this number is refused.
+    /// A count of no request yet. The request with this number will be refused.
     pub(crate) fn new(refused: u64) -> Count {
         Count {
             refused,
@@ -20,7 +20,7 @@ impl Count {
         }
     }
 
-    /// Counts a request, and answers whether it is refused.
+    /// Counts a request, and returns whether it is refused.
     pub(crate) fn refuses(&self) -> bool {
         let number = self.made.get();
         self.made.set(number.saturating_add(1));

@@ -3,10 +3,10 @@
 use crate::count::Count;
 use std::alloc::{AllocError, Allocator};
 
-/// An allocator that refuses one request and passes all others on to another one.
+/// An allocator that refuses one request for memory and hands all others on to another allocator.
 ///
-/// Collections hold a `&` to it. A list makes a request for its first room and at each growth. Its contract is that of
-/// any allocator; no contract says which request is refused, since a cell holds the count.
+/// Collections hold a `&` to it. A list makes a request for its first room and at each growth. The contract is that of
+/// any allocator. No contract says which request is refused, since a cell holds the count.
 #[derive(Drop)]
 pub struct Refusing<B: Allocator> {
     inner: B,
@@ -14,7 +14,7 @@ pub struct Refusing<B: Allocator> {
 }
 
 impl<B: Allocator> Refusing<B> {
-    /// An allocator over another one, which refuses the request of this number; the first one has number 0.
+    /// An allocator over another one. It refuses the request with this number; the first request has number 0.
     pub fn new(inner: B, refused: u64) -> Refusing<B> {
         Refusing {
             inner,
@@ -22,7 +22,7 @@ impl<B: Allocator> Refusing<B> {
         }
     }
 
-    /// How many requests came, with that which was refused.
+    /// How many requests came, the refused one among them.
     pub fn requests(&self) -> u64 {
         self.count.made()
     }

@@ -1,4 +1,4 @@
--- Eight digits, told from other bytes by their sum.
+-- Eight digits, which the sum of their values shows.
 use Rattle.std.proofs.Common.{◌≡◌, ◌≤◌, ◌<◌, ◌*◌, ◌+◌, ◌∙◌, ℕ, List, true, get_or, length, arith, refl, inl, inr}
 use Rattle.std.specs.Char.{digit_value}
 use Rattle.std.proofs.lemmas.Bool.{cases_Bool}

@@ -7,21 +7,22 @@ use Rattle.csv.specs.Machine.{Read, next_record}
 use Rattle.csv.specs.Reading.{default_config, is_bom, records_next, strip_bom}
 use Rattle.csv.specs.declared.parser.State.{State}
 use Rattle.csv.specs.declared.parser.State.TheVariants as st
-use Rattle.retire.specs.PlainText.{PlainIsParted, is_filled, is_line_end, is_plain, lines_parted, parted}
-use Rattle.retire.specs.steps.RowsLeft.{IsStart, records_left}
+use Rattle.retire.specs.PlainText.{PlainIsParted, is_filled_line, is_line_end, is_plain, lines_parted, parted}
+use Rattle.retire.specs.steps.RowsLeft.{MayStartRecord, records_left}
 use Rattle.retire.proofs.RecordsLemmas.{records_left-none, records_left-some}
 
 -- The records from the middle of one: its fields so far, and the bytes of the field at hand.
 abbrev records_within : State → List (List ℕ) → List ℕ → List ℕ → List (List (List ℕ))
 records_within s fields field text = records_next records_left (next_record default_config s fields field text)
 
-within-none : (s : State) (text : List ℕ) (o : Option Read) → IsStart s → next_record default_config s [] [] text ≡ o
+within-none : (s : State) (text : List ℕ) (o : Option Read) → MayStartRecord s
+    → next_record default_config s [] [] text ≡ o
     → records_left s text ≡ records_next records_left o
 within-none s text None start e = records_left-none s text e
 within-none s text (Some p) start e = records_left-some s text p start e
 
 -- The records that are left are those from the start of one.
-pub left-within : (s : State) (text : List ℕ) → IsStart s → records_left s text ≡ records_within s [] [] text
+pub left-within : (s : State) (text : List ℕ) → MayStartRecord s → records_left s text ≡ records_within s [] [] text
 left-within s text start = within-none s text (next_record default_config s [] [] text) start refl
 
 -- A field's bytes so far go before the first part.
@@ -32,7 +33,7 @@ attach field (part ∷ parts) = (field ++ part) ∷ parts
 -- The record at hand ends with the first line, and the other lines follow.
 abbrev row : List (List ℕ) → List ℕ → List (List ℕ) → List (List (List ℕ))
 row fields field [] = (fields ++ field ∷ []) ∷ []
-row fields field (first ∷ others) = (fields ++ attach field (parted first)) ∷ map parted (filter is_filled others)
+row fields field (first ∷ others) = (fields ++ attach field (parted first)) ∷ map parted (filter is_filled_line others)
 
 attach-nil-onto : (c : ℕ) (parts : List (List ℕ)) → attach [] (onto_first c parts) ≡ onto_first c parts
 attach-nil-onto c [] = refl
@@ -65,7 +66,7 @@ row-byte fields field c (first ∷ others) n = rw (n, attach-onto field c (parte
 
 -- A first line with a byte in it is no empty one.
 row-first : (c : ℕ) (lines : List (List ℕ))
-    → row [] [] (onto_first c lines) ≡ map parted (filter is_filled (onto_first c lines))
+    → row [] [] (onto_first c lines) ≡ map parted (filter is_filled_line (onto_first c lines))
 row-first c [] = rw (attach-nil (c ∷ [])) refl
 row-first c (first ∷ others) = rw (attach-nil (c ∷ first)) refl
 
@@ -75,7 +76,7 @@ Within text =
     → records_within s fields field text ≡ row fields field (slice_split is_line_end text)
 
 abbrev Left : List ℕ → Type 0
-Left text = (s : State) → IsStart s → records_left s text ≡ lines_parted text
+Left text = (s : State) → MayStartRecord s → records_left s text ≡ lines_parted text
 
 left-nil : Left []
 unfolding next_record
@@ -149,7 +150,7 @@ no_return c n = elim (cases_Bool (c == 13)) [
 ]
 
 -- A byte where a record may start.
-pub left-end : (c : ℕ) (text : List ℕ) (s : State) → IsStart s → is_line_end c ≡ true
+pub left-end : (c : ℕ) (text : List ℕ) (s : State) → MayStartRecord s → is_line_end c ≡ true
     → records_within s [] [] (c ∷ text) ≡ records_within st.StartRecord [] [] text
 unfolding next_record
 left-end c text s start y = elim (cases_Bool (c == 13)) [
@@ -157,7 +158,7 @@ left-end c text s start y = elim (cases_Bool (c == 13)) [
   | inr r ↦ let f : (c == 10) ≡ true = rw r at y in elim start [ inl e ↦ rw (e, r, f) refl | inr e ↦ rw (e, f) refl ]
 ]
 
-left-byte : (c : ℕ) (text : List ℕ) (s : State) → IsStart s → is_line_end c ≡ false
+left-byte : (c : ℕ) (text : List ℕ) (s : State) → MayStartRecord s → is_line_end c ≡ false
     → records_within s [] [] (c ∷ text) ≡ records_within st.StartField [] [] (c ∷ text)
 unfolding next_record
 left-byte c text s (inl e) n = rw (e, no_return c n, no_feed c n) refl
@@ -180,7 +181,7 @@ both (c ∷ text) h =
     (left-more c text more.0 within, within)
 
 -- From where a record may start.
-pub left-plain : (text : List ℕ) (s : State) → is_plain text ≡ true → IsStart s
+pub left-plain : (text : List ℕ) (s : State) → is_plain text ≡ true → MayStartRecord s
     → records_left s text ≡ lines_parted text
 left-plain text s h start = (both text h).0 s start
 

@@ -16,12 +16,12 @@ use Rattle.retire.specs.Number.{hex_value, is_prefix, number_of, digits_number}
 use Rattle.retire.specs.PlainLog.{EndsLine}
 use Rattle.retire.specs.steps.PlainRow.{EndsField, HasCell, HasDigits, HasField, HasRow, Spells}
 use Rattle.retire.specs.Row.{is_garbled, numbers_event, row_event}
-use Rattle.retire.specs.Log.{events_from, header, log_of, most_rows, records_of}
-use Rattle.retire.specs.steps.RowsLeft.{after, records_left}
+use Rattle.retire.specs.Log.{events_from, header, log_of_records, most_rows, records_of}
+use Rattle.retire.specs.steps.RowsLeft.{with_events, records_left}
 use Rattle.retire.specs.declared.event.Event.{Event}
 use Rattle.retire.specs.declared.fault.LogFault.{LogFault}
 use Rattle.std.specs.Cmp.Lexicographic.{pointwise, same_text}
-use Rattle.retire.proofs.EventsLemmas.{after-after, after-end, events_from-event}
+use Rattle.retire.proofs.EventsLemmas.{with_events-with_events, with_events-end, events_from-event}
 use Rattle.retire.proofs.PlainLemmas.{left-end, left-within}
 use Rattle.retire.proofs.HexLemmas.{all-AllDigits, digits_number-numeral, list_any-AllDigits}
 use Rattle.retire.proofs.HexLemmas.{without_prefix-AllDigits}
@@ -204,22 +204,22 @@ records_left-empty (c ∷ rest) e = absurd (omega (arith, e))
 
 -- At the end of the text the events are all of them.
 pub plain-end : (log : Result (List Event) LogFault) (row : ℕ) (events : List Event) (rest : List ℕ)
-    → log ≡ after events (events_from row (records_left st.StartRecord rest)) → length rest ≡ 0
+    → log ≡ with_events events (events_from row (records_left st.StartRecord rest)) → length rest ≡ 0
     → log ≡ Ok events
-plain-end log row events rest e empty = e ∙ rw (records_left-empty rest empty) (after-end events row)
+plain-end log row events rest e empty = e ∙ rw (records_left-empty rest empty) (with_events-end events row)
 
 -- One row more.
 pub plain-more : (log : Result (List Event) LogFault) (row : ℕ) (events : List Event) (event : Event)
-    (rest more : List ℕ) → log ≡ after events (events_from row (records_left st.StartRecord rest))
+    (rest more : List ℕ) → log ≡ with_events events (events_from row (records_left st.StartRecord rest))
     → row ≤ most_rows → HasRow row rest event more
-    → log ≡ after (events ++ event ∷ []) (events_from (row + 1) (records_left st.StartRecord more))
+    → log ≡ with_events (events ++ event ∷ []) (events_from (row + 1) (records_left st.StartRecord more))
 plain-more log row events event rest more e few (fields, known, left) =
     e ∙ rw (left, events_from-event row fields (records_left st.StartRecord more) event few known)
-    (after-after events (event ∷ []) _)
+    (with_events-with_events events (event ∷ []) _)
 
 -- A text that begins with the header's line holds the events of what follows it.
 header-line : (end rest : List ℕ) → EndsLine end rest
-    → log_of (records_of (join_with_byte 44 header ++ end)) ≡ events_from 1 (records_left st.StartRecord rest)
+    → log_of_records (records_of (join_with_byte 44 header ++ end)) ≡ events_from 1 (records_left st.StartRecord rest)
 unfolding strip_bom
 header-line end rest ends =
     rw
@@ -228,13 +228,13 @@ header-line end rest ends =
 
 pub plain-header : (text line end rest : List ℕ) → pointwise nat_eq (take (length line) text) line ≡ true
     → end ≡ drop (length line) text → line ≡ join_with_byte 44 header
-    → EndsLine end rest → log_of (records_of text) ≡ events_from 1 (records_left st.StartRecord rest)
+    → EndsLine end rest → log_of_records (records_of text) ≡ events_from 1 (records_left st.StartRecord rest)
 plain-header text line end rest e r l ends =
     let front : take (length line) text ≡ join_with_byte 44 header = same_text (take (length line) text) line (sym e)
     ∙ l in
     let whole : text ≡ join_with_byte 44 header ++ end = sym (take-append-drop (length line) text)
     ∙ ap (λ t. t ++ drop (length line) text) front ∙ ap (λ t. join_with_byte 44 header ++ t) (sym r) in
-    ap (λ t. log_of (records_of t)) whole ∙ header-line end rest ends
+    ap (λ t. log_of_records (records_of t)) whole ∙ header-line end rest ends
 
 -- One digit is a field.
 pub field-digit : (text : List ℕ) (value digit : ℕ) → 0 < length text → value ≡ digit

@@ -15,7 +15,7 @@ use Rattle.csv.specs.Reading.{strip_bom}
 use Rattle.csv.specs.Writing.{default_writer, fields_text, is_blank, row_body, row_text}
 use Rattle.csv.specs.declared.parser.State.TheVariants.{StartRecord}
 use Rattle.retire.specs.Log.{events_from, most_rows}
-use Rattle.retire.specs.LogText.{event_fields, event_line, hex, line_of}
+use Rattle.retire.specs.LogText.{event_fields, event_line, hex, line_of_fields}
 use Rattle.retire.specs.Number.{number_of}
 use Rattle.retire.specs.InRange.{IsInRange, IsRetirementType}
 use Rattle.retire.specs.ReadBack.{ReadsBack}
@@ -41,7 +41,7 @@ row_body-plain field [] (plain-cons f r plain p) = rw (plain, append-nil) refl
 row_body-plain field (next ∷ rest) (plain-cons f r plain p) = rw (plain, row_body-plain next rest p) refl
 
 row_text-plain : (a b : List ℕ) (rest : List (List ℕ)) → ArePlain (a ∷ b ∷ rest)
-    → row_text default_writer (a ∷ b ∷ rest) ≡ line_of (a ∷ b ∷ rest)
+    → row_text default_writer (a ∷ b ∷ rest) ≡ line_of_fields (a ∷ b ∷ rest)
 unfolding is_blank
 row_text-plain a b rest p = rw (row_body-plain a (b ∷ rest) p) refl
 
@@ -57,7 +57,8 @@ small_cause cause h = omega arith
 
 -- The first record of a line and what follows it.
 records_left-line : (a b : List ℕ) (fields : List (List ℕ)) (rest : List ℕ) → ArePlain (a ∷ b ∷ fields)
-    → records_left StartRecord (line_of (a ∷ b ∷ fields) ++ rest) ≡ (a ∷ b ∷ fields) ∷ records_left StartRecord rest
+    → records_left StartRecord (line_of_fields (a ∷ b ∷ fields) ++ rest)
+    ≡ (a ∷ b ∷ fields) ∷ records_left StartRecord rest
 records_left-line a b fields rest p =
     let first = rw (row_text-plain a b fields p) at (read-write (a ∷ b ∷ fields) rest) in
     records_left-some StartRecord _ _ (inl refl) first

@@ -2,7 +2,7 @@
 -- them. `src/itype.rt` has the same names for the code.
 use Rattle.std.specs.Prelude.{ℕ}
 
--- A retirement that is none of the others: a plain instruction, or a jump whose target the program tells.
+-- A retirement that is none of the others: a plain instruction, or an inferable jump, whose target the program gives.
 abbrev pub other : ℕ
 other = 0
 

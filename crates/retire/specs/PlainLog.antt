@@ -6,7 +6,8 @@ use Rattle.retire.specs.Log.{events_from, header, most_rows}
 use Rattle.retire.specs.LogText.{log_text}
 use Rattle.retire.specs.declared.event.Event.{Event}
 
--- A line ends here: at a line feed, with a carriage return before it or none, or at the end of the text.
+-- A text is the end of a line, and then the rest. A line ends at a line feed, with a carriage return before it or none,
+-- or at the end of the text.
 abbrev pub EndsLine : List ℕ → List ℕ → Type 0
 EndsLine text rest = (text ≡ 10 ∷ rest) ⊎ (text ≡ 13 ∷ 10 ∷ rest) ⊎ ((text ≡ []) × (rest ≡ []))
 
@@ -19,12 +20,12 @@ unfoldable pub AreLines : List (List (List ℕ)) → List ℕ → Type 0
 AreLines [] text = text ≡ []
 AreLines (fields ∷ rows) text = (rest : List ℕ) × IsLine fields text rest × AreLines rows rest
 
--- A text is the lines of rows from this number on, of which none has a fault.
+-- A text is the lines of rows from this number on, and no row has a fault.
 abbrev pub ArePlainRows : ℕ → List ℕ → Type 0
 ArePlainRows row text =
     (rows : List (List (List ℕ))) × (events : List Event) × AreLines rows text × (events_from row rows ≡ Ok events)
 
--- A text is the header's line, and then the lines of rows with no fault; a quote is no digit, so none is quoted.
+-- A text is the header's line, and then the lines of rows with no fault. No field is quoted, since a quote is no digit.
 abbrev pub IsPlainLog : List ℕ → Type 0
 IsPlainLog text = (rest : List ℕ) × IsLine header text rest × ArePlainRows 1 rest
 

@@ -1,7 +1,7 @@
 //! Reading a log that lies in memory.
 
 ghost use Rattle.std.specs.Prelude.{◌≡◌, ◌⊎◌, ◌≤◌, [], IfOk, IfErr, vec_len};
-ghost use Rattle.retire.specs.Log.{log_of, most_rows, records_of};
+ghost use Rattle.retire.specs.Log.{log_of_records, most_rows, records_of};
 ghost use Rattle.retire.specs.PlainLog.{IsPlainLog};
 
 use crate::event::Event;
@@ -10,7 +10,7 @@ use crate::plain::plain_log;
 use crate::read::read_from;
 use std::alloc::{Allocator, Global};
 
-/// The events of a log that is not plain, in a list that is empty.
+/// The events of a log that is not plain, pushed to a list that is empty.
 fn read_by_csv<A: Allocator>(
     events: Vec<Event, A>,
     global: Global,
@@ -19,12 +19,13 @@ fn read_by_csv<A: Allocator>(
     requires empty { events.items ≡ [] }
     requires none { vec_len events ≡ 0 }
     requires not_plain { IsPlainLog text.now → ⊥ }
-    ensures events { IfOk result (λ events. log_of (records_of text.now) ≡ Ok events.items) }
-    ensures faults { IfErr result (λ fault. (fault ≡ LogFault.Memory) ⊎ (log_of (records_of text.now) ≡ Err fault)) }
+    ensures events { IfOk result (λ events. log_of_records (records_of text.now) ≡ Ok events.items) }
+    ensures faults { IfErr result
+        (λ fault. (fault ≡ LogFault.Memory) ⊎ (log_of_records (records_of text.now) ≡ Err fault)) }
     ensures short { IfOk result (λ events. vec_len events ≤ most_rows) }
 {
     match read_from(events, global, text) {
-        // No reader fails here: where nothing is wrong with the text, memory was refused.
+        // Reading a slice does not fail, so this fault does not come. The contract allows `Memory` in its place.
         Err(LogFault::Read) => Err(LogFault::Memory),
         answer => answer,
     }
@@ -32,17 +33,18 @@ fn read_by_csv<A: Allocator>(
 
 /// Reads the events of a log that lies in memory, as [`read_log`](crate::read_log) does of any reader.
 ///
-/// Where no line has a quote or is empty, each ends at a line feed, with a carriage return before it or none, and no
-/// row has a fault, as in a log that [`write_log`](crate::write_log) writes, the rows are read straight from their
-/// bytes. `csv` reads any other text from its beginning, and names the fault. No reader fails, so there is no
-/// [`LogFault::Read`].
+/// The rows of a plain log are read straight from their bytes. In a plain log no line has a quote or is empty, each
+/// ends at a line feed, with a carriage return before it or none, and no row has a fault.
+/// [`write_log`](crate::write_log) writes such logs. `csv` reads any other text from its beginning, and names the
+/// fault. No reader fails, so there is no [`LogFault::Read`].
 pub fn read_log_from_slice<A: Allocator>(
     alloc: A,
     global: Global,
     text: &[u8],
 ) -> Result<Vec<Event, A>, LogFault>
-    ensures events { IfOk result (λ events. log_of (records_of text.now) ≡ Ok events.items) }
-    ensures faults { IfErr result (λ fault. (fault ≡ LogFault.Memory) ⊎ (log_of (records_of text.now) ≡ Err fault)) }
+    ensures events { IfOk result (λ events. log_of_records (records_of text.now) ≡ Ok events.items) }
+    ensures faults { IfErr result
+        (λ fault. (fault ≡ LogFault.Memory) ⊎ (log_of_records (records_of text.now) ≡ Err fault)) }
     ensures short { IfOk result (λ events. vec_len events ≤ most_rows) }
 {
     let mut events = Vec::new(alloc);

@@ -1,7 +1,8 @@
 //! The types of events: the values of `itype`, as the E-Trace specification's "Instruction Trace Interface" numbers
 //! them. `specs/Itype.antt` has the same names for the definitions.
 
-/// The type of a retirement that is none of the others: a plain instruction, or a jump whose target the program tells.
+/// The type of a retirement that is none of the others: a plain instruction, or an inferable jump, whose target the
+/// program gives.
 pub const ITYPE_OTHER: u8 = 0;
 
 /// An exception.

@@ -1,4 +1,4 @@
-//! What the definitions of a log promise of one another.
+//! Facts that follow from the definitions of logs.
 
 ghost use Rattle.retire.specs.InRange.{ReadsInRange};
 ghost use Rattle.retire.specs.ReadBack.{ReadsBack};

@@ -1,5 +1,5 @@
-//! The events of a hart, and logs of them: reading a log's text with every refusal named, and
-//! writing it so that it reads back.
+//! The events of a hart, and logs of them: reading the text of a log, with a fault for each reason why it is refused,
+//! and writing it so that it reads back.
 #![tactic(auto)]
 
 mod eight_digits;

@@ -3,7 +3,7 @@
 ghost use Rattle.std.specs.Prelude.{◌≡◌, ◌≤◌, ℕ, List, true, [], IfSome, IfOk, IfErr, Ok, vec_len};
 ghost use Rattle.std.specs.Option.{IsSomeAnd};
 ghost use Rattle.csv.specs.declared.parser.State.TheVariants.{StartRecord};
-ghost use Rattle.retire.specs.Log.{events_from, log_of, most_rows, records_of};
+ghost use Rattle.retire.specs.Log.{events_from, log_of_records, most_rows, records_of};
 ghost use Rattle.retire.specs.PlainLog.{ArePlainRows, EndsLine, IsPlainLog};
 ghost use Rattle.retire.specs.steps.PlainRow.{HasRow, IsPlainRow};
 ghost use Rattle.retire.specs.steps.RowsLeft.{records_left};
@@ -16,7 +16,7 @@ use crate::row::event_of_numbers;
 use crate::short_row::{PlainRow, short_row};
 use std::alloc::Allocator;
 
-/// The bytes of a short row, for a guess at how many rows a text has.
+/// The bytes of a short row, from which the number of rows of a text is guessed.
 const ROW_BYTES: usize = 12;
 
 /// What follows the end of a line.
@@ -33,7 +33,8 @@ fn line_end(text: &[u8]) -> Option<&[u8]>
     }
 }
 
-/// The row of this number at the front of a text, of any form; none where its line is not plain, or faulty.
+/// The row of this number at the front of a text, of any form. There is none where its line is not plain or has a
+/// fault.
 #[inline(always)]
 fn long_row(row: u32, text: &[u8]) -> Option<PlainRow<'_>>
     ensures row { IfSome result (λ r. HasRow row text.now r.event r.rest.now) }
@@ -54,7 +55,7 @@ fn long_row(row: u32, text: &[u8]) -> Option<PlainRow<'_>>
     }
 }
 
-/// The row of this number at the front of a text; none where its line is not plain, or faulty.
+/// The row of this number at the front of a text. There is none where its line is not plain or has a fault.
 #[inline(always)]
 fn row_before(row: u32, text: &[u8]) -> Option<PlainRow<'_>>
     ensures row { IfSome result (λ r. HasRow row text.now r.event r.rest.now) }
@@ -66,11 +67,12 @@ fn row_before(row: u32, text: &[u8]) -> Option<PlainRow<'_>>
     }
 }
 
-/// Reads the rows of a text into a list that is empty, and answers whether all of it was read. Memory may be refused.
+/// Reads the rows of a text into a list that is empty, and returns whether it read all of the text. Memory may be
+/// refused.
 fn plain_rows<A: Allocator>(events: &mut Vec<Event, A>, text: &[u8]) -> Result<bool, LogFault>
     requires empty { events.old.items ≡ [] }
     requires none { vec_len events.old ≡ 0 }
-    ensures told { IfOk result (λ all. all ≡ true
+    ensures holds { IfOk result (λ all. all ≡ true
         → events_from 1 (records_left StartRecord text.now) ≡ Ok events.new.items) }
     ensures reads { IfOk result (λ all. ArePlainRows 1 text.now → all ≡ true) }
     ensures short { vec_len events.new ≤ most_rows }
@@ -92,12 +94,12 @@ fn plain_rows<A: Allocator>(events: &mut Vec<Event, A>, text: &[u8]) -> Result<b
     Ok(rest.is_empty())
 }
 
-/// Reads the events of a text into a list that is empty. True says that the text is a log with no fault and that the
-/// list holds its events; false that the text is no plain log, and nothing of the list.
+/// Reads the events of a text into a list that is empty. `true` means that the text is a log with no fault, and that
+/// the list holds its events. `false` means that the text is no plain log; the list may hold anything then.
 pub fn plain_log<A: Allocator>(events: &mut Vec<Event, A>, text: &[u8]) -> Result<bool, LogFault>
     requires empty { events.old.items ≡ [] }
     requires none { vec_len events.old ≡ 0 }
-    ensures told { IfOk result (λ all. all ≡ true → log_of (records_of text.now) ≡ Ok events.new.items) }
+    ensures holds { IfOk result (λ all. all ≡ true → log_of_records (records_of text.now) ≡ Ok events.new.items) }
     ensures reads { IfOk result (λ all. IsPlainLog text.now → all ≡ true) }
     ensures short { vec_len events.new ≤ most_rows }
     ensures denied { IfErr result (λ fault. fault ≡ LogFault.Memory) }
@@ -108,7 +110,7 @@ pub fn plain_log<A: Allocator>(events: &mut Vec<Event, A>, text: &[u8]) -> Resul
     let Some(rows) = line_end(end) else {
         return Ok(false);
     };
-    // Where this room is refused or too little, the rows ask again.
+    // Where this room is refused or is too little, pushing the rows asks again.
     let _ = events.reserve((rows.len() / ROW_BYTES).min(MOST_ROWS as usize));
     plain_rows(events, rows)
 }

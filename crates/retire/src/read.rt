@@ -5,8 +5,8 @@ ghost use Rattle.csv.specs.Reading.{ReadRecord, Ready, default_config, reader_co
 ghost use Rattle.csv.specs.Reading.{source_of};
 ghost use Rattle.csv.specs.Records.{fields_of};
 ghost use Rattle.csv.specs.declared.reader.Trim.TheVariants as trim;
-ghost use Rattle.retire.specs.Log.{IsDenied, events_from, log_of, most_rows, records_of};
-ghost use Rattle.retire.specs.steps.RowsLeft.{Answers, IsStart, fault_of_error, records_left};
+ghost use Rattle.retire.specs.Log.{IsReadOrMemory, events_from, log_of_records, most_rows, records_of};
+ghost use Rattle.retire.specs.steps.RowsLeft.{Answers, MayStartRecord, fault_of_error, records_left};
 
 use crate::event::Event;
 use crate::fault::LogFault;
@@ -18,7 +18,7 @@ use std::io::Read;
 /// The most rows of a log.
 pub const MOST_ROWS: u32 = 16_777_216;
 
-/// What an error of the reader tells.
+/// The fault of an error of `csv`.
 fn fault_of(error: csv::Error) -> LogFault
     ensures { result ≡ fault_of_error error }
 {
@@ -40,7 +40,7 @@ fn next_record<R: Read + Drop>(
     ensures still { OnOk result (Ready reader.new) }
     ensures trim_same { OnOk result (reader_trim reader.new ≡ reader_trim reader.old) }
     ensures config_same { OnOk result (reader_config reader.new ≡ reader_config reader.old) }
-    ensures denied { IfErr result IsDenied }
+    ensures denied { IfErr result IsReadOrMemory }
 {
     match reader.read_byte_record(line) {
         Ok(found) => Ok(found),
@@ -59,7 +59,8 @@ fn read_rows<A: Allocator, R: Read + Drop>(
     requires config { reader_config reader.old ≡ default_config }
     requires empty { events.items ≡ [] }
     requires none { vec_len events ≡ 0 }
-    ensures told { (text : List ℕ) → source_of R.remaining reader.old ≡ Some text → IsStart (reader_state reader.old)
+    ensures answers { (text : List ℕ) → source_of R.remaining reader.old ≡ Some text
+        → MayStartRecord (reader_state reader.old)
         → Answers result (events_from 1 (records_left (reader_state reader.old) text)) }
     ensures short { IfOk result (λ events. vec_len events ≤ most_rows) }
 {
@@ -92,8 +93,9 @@ fn read_records<A: Allocator, R: Read + Drop>(
     requires config { reader_config reader.old ≡ default_config }
     requires empty { events.items ≡ [] }
     requires none { vec_len events ≡ 0 }
-    ensures told { (text : List ℕ) → source_of R.remaining reader.old ≡ Some text → IsStart (reader_state reader.old)
-        → Answers result (log_of (records_left (reader_state reader.old) text)) }
+    ensures answers { (text : List ℕ) → source_of R.remaining reader.old ≡ Some text
+        → MayStartRecord (reader_state reader.old)
+        → Answers result (log_of_records (records_left (reader_state reader.old) text)) }
     ensures short { IfOk result (λ events. vec_len events ≤ most_rows) }
 {
     let mut line = ByteRecord::new(global);
@@ -103,7 +105,7 @@ fn read_records<A: Allocator, R: Read + Drop>(
     read_rows(events, reader, &mut line)
 }
 
-/// The events of the log that a source gives, in a list that is empty.
+/// The events of the log that a source holds, pushed to a list that is empty.
 pub(crate) fn read_from<A: Allocator, R: Read + Drop>(
     events: Vec<Event, A>,
     global: Global,
@@ -112,9 +114,9 @@ pub(crate) fn read_from<A: Allocator, R: Read + Drop>(
     requires empty { events.items ≡ [] }
     requires none { vec_len events ≡ 0 }
     ensures events { IfSome (R.remaining source)
-        (λ text. IfOk result (λ events. log_of (records_of text) ≡ Ok events.items)) }
+        (λ text. IfOk result (λ events. log_of_records (records_of text) ≡ Ok events.items)) }
     ensures faults { IfSome (R.remaining source)
-        (λ text. IfErr result (λ fault. IsDenied fault ⊎ (log_of (records_of text) ≡ Err fault))) }
+        (λ text. IfErr result (λ fault. IsReadOrMemory fault ⊎ (log_of_records (records_of text) ≡ Err fault))) }
     ensures short { IfOk result (λ events. vec_len events ≤ most_rows) }
 {
     let mut reader = ReaderBuilder::new()
@@ -136,11 +138,10 @@ pub(crate) fn read_from<A: Allocator, R: Read + Drop>(
 /// at a line feed, a carriage return or both, empty lines are no rows and are not counted, the
 /// last row needs no line end, and a field may stand in quotes. Spaces are not trimmed.
 ///
-/// Of a log with faults the first faulty row is named, with the lowest fault that applies to it;
-/// [`LogFault::TooLong`] comes at row 16777217 even where that row is faulty itself.
-/// [`LogFault::Read`] comes only where the reader failed, and [`LogFault::Memory`] only where
-/// memory was refused; neither claims anything of the log. The list takes its memory from
-/// `alloc`, and `csv` its own from `global`. A log that lies in memory is read faster by
+/// The fault names the first faulty row, and is the lowest that applies to it; [`LogFault::TooLong`] comes at row
+/// 16777217 even where that row is faulty itself. [`LogFault::Read`] comes only where the reader failed, and
+/// [`LogFault::Memory`] only where memory was refused; neither says anything about the log. The list takes its memory
+/// from `alloc`, and `csv` its own from `global`. A log that lies in memory is read faster by
 /// [`read_log_from_slice`](crate::read_log_from_slice).
 pub fn read_log<A: Allocator, R: Read + Drop>(
     alloc: A,
@@ -148,9 +149,9 @@ pub fn read_log<A: Allocator, R: Read + Drop>(
     source: R,
 ) -> Result<Vec<Event, A>, LogFault>
     ensures events { IfSome (R.remaining source)
-        (λ text. IfOk result (λ events. log_of (records_of text) ≡ Ok events.items)) }
+        (λ text. IfOk result (λ events. log_of_records (records_of text) ≡ Ok events.items)) }
     ensures faults { IfSome (R.remaining source)
-        (λ text. IfErr result (λ fault. IsDenied fault ⊎ (log_of (records_of text) ≡ Err fault))) }
+        (λ text. IfErr result (λ fault. IsReadOrMemory fault ⊎ (log_of_records (records_of text) ≡ Err fault))) }
     ensures short { IfOk result (λ events. vec_len events ≤ most_rows) }
 {
     read_from(Vec::new(alloc), global, source)

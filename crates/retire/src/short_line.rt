@@ -69,7 +69,8 @@ fn pair_of(value: u8) -> u16
     PAIRS[usize::from(value)]
 }
 
-/// The line of a retirement; none where its address has not eight digits, or its type or privilege is above 9.
+/// The line of a retirement. There is none where the address does not have eight digits, or the type or the privilege
+/// is above 9.
 #[inline(always)]
 pub(crate) fn short_line(addr: u64, itype: u8, privilege: u8) -> Option<[u8; SHORT_LINE]>
     ensures { IfSome result (λ line. line ≡ event_line (Retire addr itype privilege)) }

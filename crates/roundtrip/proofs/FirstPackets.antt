@@ -22,72 +22,79 @@ use Rattle.decoder.specs.Describes.{Describes}
 use Rattle.decoder.specs.ModeOf.{mode_of}
 use Rattle.decoder.specs.Order.{MayPrecede, Begins}
 use Rattle.decoder.specs.Pieces.{Pieces}
-use Rattle.roundtrip.specs.Reach.{stretches, told, reach}
-use Rattle.roundtrip.proofs.EventTelling.{address_in_range, trap_told, in_stretch_told, at_cut_told, handler_told}
+use Rattle.roundtrip.specs.Reach.{stretches, settled_events, reach}
+use Rattle.roundtrip.proofs.EventDescribed.{address_in_range, trap_described, in_stretch_described, at_cut_described}
+use Rattle.roundtrip.proofs.EventDescribed.{handler_described}
 use Rattle.roundtrip.proofs.PacketOrder.{first_is_head, open_precedes}
-use Rattle.roundtrip.proofs.RuleFacts.{rule_tells_of}
-use Rattle.roundtrip.proofs.Telling.{Told, NotHandled, State, AtCut, InStretch, AfterTrap, explicit_before, explicit_in}
+use Rattle.roundtrip.proofs.RuleFacts.{rule_answers_of}
+use Rattle.roundtrip.proofs.RestDescribed.{RestDescribed, NotHandled, State, AtCut, InStretch, AfterTrap}
+use Rattle.roundtrip.proofs.RestDescribed.{explicit_before, explicit_in}
 
 module _ (words : Words) (program : IsProgram words) (period : ℕ) (mode : Mode) where
-  -- From any event of a log on, its pieces tell its events.
-  events_told : (events : List Event) (number : ℕ) (since : Option Event) (front : List Event)
+  -- From any event of a log on, its pieces describe its events.
+  events_described : (events : List Event) (number : ℕ) (since : Option Event) (front : List Event)
       (before_that before : Option Event) (reported : ℕ) (by_last : Rule) → FollowOn words before events
       → (state : State words period since front before_that before number events reported)
-      → Told words mode since reported by_last front events (explicit_in by_last state)
+      → RestDescribed words mode since reported by_last front events (explicit_in by_last state)
       (pieces words period front (spots number before_that before events None))
-  events_told [] number since front before_that before reported by_last follows (AtCut handled known) =
+  events_described [] number since front before_that before reported by_last follows (AtCut handled known) =
       record { fit = (tt, refl, tt); whole = refl; head = refl }
-  events_told [] number since front before_that before reported by_last follows (InStretch quiet known on) = absurd on
-  events_told [] number since front before_that before reported by_last follows (AfterTrap handles) = cc
-  events_told (Trap priv interrupt cause epc tval ∷ events) number since front before_that before reported by_last
+  events_described [] number since front before_that before reported by_last follows
+      (InStretch quiet known on) = absurd on
+  events_described [] number since front before_that before reported by_last follows (AfterTrap handles) = cc
+  events_described (Trap priv interrupt cause epc tval ∷ events) number since front before_that before reported by_last
       follows (AtCut handled known) =
       let trap = Trap priv interrupt cause epc tval in
-      trap_told words period mode epc priv interrupt cause tval number before reported by_last events _
+      trap_described words period mode epc priv interrupt cause tval number before reported by_last events _
       (with_handler words before (first_event events None)) refl
-      (λ since front reported by_last state. events_told events number since front before (Some trap) reported by_last
+      (λ since front reported by_last state. events_described events number since front before
+      (Some trap) reported by_last
       follows.2 state)
-  events_told (Trap priv interrupt cause epc tval ∷ events) number since front before_that before reported by_last
+  events_described (Trap priv interrupt cause epc tval ∷ events) number since front before_that before reported by_last
       follows (InStretch quiet known on) = absurd on
-  events_told (Trap priv interrupt cause epc tval ∷ events) number since front before_that before reported by_last
+  events_described (Trap priv interrupt cause epc tval ∷ events) number since front before_that before reported by_last
       follows (AfterTrap handles) = cc
-  events_told (Retire addr itype priv ∷ events) number since front before_that before reported by_last follows
+  events_described (Retire addr itype priv ∷ events) number since front before_that before reported by_last follows
       (AtCut handled known) =
       let last = Retire addr itype priv in
-      at_cut_told words period mode addr itype priv number before_that reported by_last events _
+      at_cut_described words period mode addr itype priv number before_that reported by_last events _
       (address_in_range words program addr itype priv follows.0) before _ handled known
-      (rule_tells_of words period number before_that before last (first_event events None))
-      (λ since front reported by_last state. events_told events (number + 1) since front before (Some last) reported
+      (rule_answers_of words period number before_that before last (first_event events None))
+      (λ since front reported by_last state. events_described events (number + 1) since front before
+      (Some last) reported
       by_last follows.2 state)
-  events_told (Retire addr itype priv ∷ events) number since front before_that before reported by_last follows
+  events_described (Retire addr itype priv ∷ events) number since front before_that before reported by_last follows
       (InStretch {since = first} {before = previous} quiet known on) =
       let last = Retire addr itype priv in
-      in_stretch_told words period mode addr itype priv number before_that reported by_last events _
+      in_stretch_described words period mode addr itype priv number before_that reported by_last events _
       (address_in_range words program addr itype priv follows.0) first front previous _ quiet known on
-      (rule_tells_of words period number before_that (Some previous) last (first_event events None))
-      (λ since front reported by_last state. events_told events (number + 1) since front (Some previous) (Some last)
+      (rule_answers_of words period number before_that (Some previous) last (first_event events None))
+      (λ since front reported by_last state. events_described events (number + 1) since front (Some previous)
+      (Some last)
       reported by_last follows.2 state)
-  events_told (Retire addr itype priv ∷ events) number since front before_that before reported by_last follows
+  events_described (Retire addr itype priv ∷ events) number since front before_that before reported by_last follows
       (AfterTrap {epc = epc} {priv = level} {interrupt = interrupt} {cause = cause} {tval = tval} handles) =
       let last = Retire addr itype priv in
       let trap = Trap level interrupt cause epc tval in
-      handler_told words period mode addr itype priv number before_that reported by_last events _
+      handler_described words period mode addr itype priv number before_that reported by_last events _
       (address_in_range words program addr itype priv follows.0) epc level interrupt cause tval _ handles
-      (rule_tells_of words period number before_that (Some trap) last (first_event events None))
-      (λ since front reported by_last state. events_told events (number + 1) since front (Some trap) (Some last)
+      (rule_answers_of words period number before_that (Some trap) last (first_event events None))
+      (λ since front reported by_last state. events_described events (number + 1) since front (Some trap) (Some last)
       reported by_last follows.2 state)
 
   first_not_handled : (log : List Event) → NotHandled words None None log
   first_not_handled [] = tt
   first_not_handled (event ∷ events) = refl
 
-  log_told : (log : List Event) → Legal words log
-      → Told words mode None 0 by.FullMap [] log (explicit_before period 0 None by.FullMap log)
+  log_described : (log : List Event) → Legal words log
+      → RestDescribed words mode None 0 by.MapOrNothing [] log (explicit_before period 0 None by.MapOrNothing log)
       (pieces_of words period log)
-  log_told log legal = events_told log 0 None [] None None 0 by.FullMap legal (AtCut (first_not_handled log) tt)
+  log_described log legal = events_described log 0 None [] None None 0 by.MapOrNothing legal
+      (AtCut (first_not_handled log) tt)
 
   -- The stretches of a log are the whole log.
   pub join-stretches : (log : List Event) → Legal words log → join (stretches words period log) ≡ log
-  join-stretches log legal = (log_told log legal).whole
+  join-stretches log legal = (log_described log legal).whole
 
   -- The packets of a legal log have its stretches for their pieces.
   pub packets_have_stretches : (log : List Event) → Legal words log
@@ -95,8 +102,8 @@ module _ (words : Words) (program : IsProgram words) (period : ℕ) (mode : Mode
   packets_have_stretches log legal =
       let pieces = pieces_of words period log in
       let order = subst (λ next. MayPrecede (packet.Support (Open mode)) next)
-      (sym (first_is_head mode 0 by.FullMap pieces)) (open_precedes mode 0 pieces) in
-      (order, refl, (log_told log legal).fit)
+      (sym (first_is_head mode 0 by.MapOrNothing pieces)) (open_precedes mode 0 pieces) in
+      (order, refl, (log_described log legal).fit)
 
   -- The packets of a legal log describe it.
   pub packets_describe : (log : List Event) → Legal words log → Describes words (packets words period mode log) log
@@ -109,11 +116,11 @@ module _ (words : Words) (program : IsProgram words) (period : ℕ) (mode : Mode
         each = packets_have_stretches log legal;
       }
 
-  -- The first of them describe what they tell, with which the log begins.
-  pub first_packets_describe_told : (log : List Event) → Legal words log → (count : ℕ) →
-      Describes words (take count (packets words period mode log)) (told words period mode log count)
-      × IsBeginning (told words period mode log count) log
-  first_packets_describe_told log legal count =
+  -- The first of them describe the events that they settle, with which the log begins.
+  pub first_packets_describe_settled : (log : List Event) → Legal words log → (count : ℕ) →
+      Describes words (take count (packets words period mode log)) (settled_events words period mode log count)
+      × IsBeginning (settled_events words period mode log count) log
+  first_packets_describe_settled log legal count =
       let all = packets words period mode log in
       let split : take count all ++ drop count all ≡ all = take-append-drop count all in
       front_describes words (take count all) (drop count all) log
@@ -127,12 +134,12 @@ module _ (words : Words) (program : IsProgram words) (period : ℕ) (mode : Mode
             (packets_have_stretches log legal);
       })
 
-  -- What they tell are the first events of the log, as many as they reach.
+  -- The events that they settle are the first events of the log, as many as they reach.
   pub take-reach : (log : List Event) → Legal words log → (count : ℕ)
-      → take (reach words period mode log count) log ≡ told words period mode log count
+      → take (reach words period mode log count) log ≡ settled_events words period mode log count
   take-reach log legal count =
-      let front = told words period mode log count in
-      let begins = (first_packets_describe_told log legal count).1 in
+      let front = settled_events words period mode log count in
+      let begins = (first_packets_describe_settled log legal count).1 in
       ap (take (length front)) begins.is ∙ take-append_seam front begins.rest
 
   -- The first packets of a legal log describe its first events.
@@ -140,4 +147,4 @@ module _ (words : Words) (program : IsProgram words) (period : ℕ) (mode : Mode
       → Describes words (take count (packets words period mode log)) (take (reach words period mode log count) log)
   first_packets_describe log legal count =
       subst (Describes words (take count (packets words period mode log))) (sym (take-reach log legal count))
-      (first_packets_describe_told log legal count).0
+      (first_packets_describe_settled log legal count).0

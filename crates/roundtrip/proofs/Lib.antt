@@ -1,7 +1,7 @@
 pub mod QuietLemmas
 pub mod RuleFacts
 pub mod PacketOrder
-pub mod Telling
-pub mod QuietTelling
-pub mod EventTelling
+pub mod RestDescribed
+pub mod QuietDescribed
+pub mod EventDescribed
 pub mod FirstPackets

@@ -46,7 +46,7 @@ not_closing mode reported front last by.Sync = refl
 not_closing mode reported front last (by.Target cut_off) = refl
 not_closing mode reported front last by.Explicit = refl
 not_closing mode reported front last by.Notify = refl
-not_closing mode reported front last by.FullMap = refl
+not_closing mode reported front last by.MapOrNothing = refl
 
 -- It may follow any packet.
 trap_follows : (before : Packet) (event : Event) (taken : Bool) (level : ℕ) (handler : Bool) (address : ℕ)
@@ -62,7 +62,7 @@ follows before mode reported front last by.Sync = tt
 follows before mode reported front last (by.Target cut_off) = tt
 follows before mode reported front last by.Explicit = tt
 follows before mode reported front last by.Notify = tt
-follows before mode reported front last by.FullMap = tt
+follows before mode reported front last by.MapOrNothing = tt
 
 -- The closing packet may follow the packet of the last piece.
 closes : (mode : Mode) (reported : ℕ) (front : List Event) (last : Event) (rule : Rule)
@@ -73,7 +73,7 @@ closes mode reported front last by.Sync = tt
 closes mode reported front last (by.Target cut_off) = tt
 closes mode reported front last by.Explicit = refl
 closes mode reported front last by.Notify = tt
-closes mode reported front last by.FullMap = tt
+closes mode reported front last by.MapOrNothing = tt
 
 -- The packet of a piece may come before those of the pieces after it.
 pub precedes : (mode : Mode) (reported : ℕ) (front : List Event) (last : Event) (rule : Rule) (after : ℕ)
@@ -86,7 +86,7 @@ precedes mode reported front last rule after (piece ∷ pieces) =
 
 -- And so may Open.
 pub open_precedes : (mode : Mode) (reported : ℕ) (pieces : List Piece)
-    → MayPrecede (packet.Support (Open mode)) (Some (head_packet mode reported by.FullMap pieces))
+    → MayPrecede (packet.Support (Open mode)) (Some (head_packet mode reported by.MapOrNothing pieces))
 open_precedes mode reported [] = (refl, tt)
 open_precedes mode reported (piece ∷ pieces) =
     (refl, follows (packet.Support (Open mode)) mode reported piece.front piece.last piece.by)
@@ -109,4 +109,4 @@ reported_after-packet_by mode reported front last by.Sync = last_place-last repo
 reported_after-packet_by mode reported front last (by.Target cut_off) = last_place-last reported front last
 reported_after-packet_by mode reported front last by.Explicit = last_place-last reported front last
 reported_after-packet_by mode reported front last by.Notify = last_place-last reported front last
-reported_after-packet_by mode reported front last by.FullMap = refl
+reported_after-packet_by mode reported front last by.MapOrNothing = refl

@@ -11,7 +11,7 @@ ghost use Rattle.roundtrip.specs.Reach.{reach};
 
 /// The first packets of a legal log describe the first events of it, as many as those packets settle; all of its
 /// packets describe the whole log. Both hold in each mode.
-pub fn first_packets_tell_the_first_events()
+pub fn first_packets_settle_the_first_events()
     ensures first { (words : Words) (period count : ℕ) (mode : Mode) (log : List Event) →
         IsProgram words →
         Legal words log →

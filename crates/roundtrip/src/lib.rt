@@ -1,9 +1,9 @@
-//! What the packets of an encoder tell a decoder: the packets of a legal log describe that log, and the first of them
-//! describe its first events.
+//! What the packets of an encoder describe to a decoder. The packets of a legal log describe that log, and the first of
+//! them describe its first events.
 //!
-//! It has one law and no other code: [`first_packets_tell_the_first_events`].
+//! It has one law and no other code: [`first_packets_settle_the_first_events`].
 #![tactic(auto)]
 
 mod laws;
 
-pub use laws::first_packets_tell_the_first_events;
+pub use laws::first_packets_settle_the_first_events;

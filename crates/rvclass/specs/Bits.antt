@@ -5,7 +5,7 @@ use Rattle.std.specs.Prelude.{ℕ, ◌+◌, ◌-◌, ◌/◌, ◌%◌, ◌^◌, 
 abbrev pub bits : ℕ → ℕ → ℕ → ℕ
 bits word high low = word / 2 ^ low % 2 ^ (high + 1 - low)
 
--- A number of this many bits at 64 bits, by copies of its top bit.
+-- A number of this many bits, sign-extended to 64 bits.
 abbrev pub sign_extended : ℕ → ℕ → ℕ
 sign_extended width n = if nat_lt n (2 ^ (width - 1)) then n else n + (2 ^ 64 - 2 ^ width)
 

@@ -8,9 +8,9 @@ use Rattle.rvclass.specs.Word32.{class32}
 use Rattle.rvclass.specs.Words.{Words}
 use Rattle.rvclass.specs.declared.class.Class.TheVariants.{NotRetirable}
 
--- This many bytes stand in the image from an address on.
-abbrev pub holds : Image → ℕ → ℕ → Bool
-holds p addr count = nat_le p.base addr && nat_le (addr + count) (p.base + length p.bytes)
+-- The image has this many bytes from an address on.
+abbrev pub has_bytes : Image → ℕ → ℕ → Bool
+has_bytes p addr count = nat_le p.base addr && nat_le (addr + count) (p.base + length p.bytes)
 
 -- The byte at an address.
 abbrev pub byte_at : Image → ℕ → ℕ
@@ -32,13 +32,13 @@ is_compressed half = not (bits half 1 0 == 0b11)
 abbrev pub is_longer : ℕ → Bool
 is_longer half = bits half 4 0 == 0b11111
 
--- The class and the length of the word at an address; that a word of more than 32 bits does not
--- retire, and is told by its first 16 bits, is this project's profile.
+-- The class and the length of the word at an address, if a whole word stands there. This project's profile: a word of
+-- more than 32 bits does not retire, and counts as a word of 2 bytes, its first 16 bits.
 unfoldable pub words_of : Image → Words
 words_of p addr =
     if not (addr % 2 == 0) then None else
-    if not (holds p addr 2) then None else
+    if not (has_bytes p addr 2) then None else
     if is_compressed (half_at p addr) then Some (class16 addr (half_at p addr), 2) else
     if is_longer (half_at p addr) then Some (NotRetirable, 2) else
-    if not (holds p addr 4) then None else
+    if not (has_bytes p addr 4) then None else
     Some (class32 addr (word_at p addr), 4)

@@ -1,7 +1,7 @@
 -- The image of a program in memory.
 use Rattle.std.specs.Prelude.{◌≡◌, ◌+◌, ◌%◌, ◌^◌, ◌<◌, ◌≤◌, ℕ, List, length}
 
--- Bytes from an address on.
+-- The bytes of a program, from a base address on.
 pub record Image : Type 0 where
   pub base : ℕ
   pub bytes : List ℕ
@@ -10,7 +10,7 @@ pub record Image : Type 0 where
 abbrev pub image_at : ℕ → List ℕ → Image
 image_at base bytes = record { base = base; bytes = bytes }
 
--- What the image of every program keeps, by this project's profile.
+-- The bounds of every program's image, by this project's profile.
 pub record IsImage (p : Image) : Type 0 where
   pub even : p.base % 2 ≡ 0
   pub small : length p.bytes ≤ 2 ^ 24

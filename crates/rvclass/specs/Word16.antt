@@ -6,7 +6,7 @@ use Rattle.rvclass.specs.Offset.{cb_offset, cj_offset}
 use Rattle.rvclass.specs.declared.class.Class.{Class}
 use Rattle.rvclass.specs.declared.class.Class.TheVariants.{Plain, Jump, Branch, Uninferable, NotRetirable}
 
--- The word stands in this quadrant with this funct3.
+-- The word has this quadrant, its bits 1:0, and this funct3.
 abbrev pub is_at : ℕ → ℕ → ℕ → Bool
 is_at quadrant funct w = (bits w 1 0 == quadrant) && (bits w 15 13 == funct)
 

@@ -11,7 +11,7 @@ use Rattle.rvclass.specs.declared.class.Return.TheVariants.{Mret, Sret}
 abbrev pub opcode : ℕ → ℕ
 opcode w = bits w 6 0
 
--- The field that tells instructions of one opcode apart.
+-- The field that distinguishes the instructions of one opcode.
 abbrev pub funct3 : ℕ → ℕ
 funct3 w = bits w 14 12
 
@@ -19,17 +19,17 @@ funct3 w = bits w 14 12
 abbrev pub rs1 : ℕ → ℕ
 rs1 w = bits w 19 15
 
--- The word has the opcode JAL.
+-- The word is JAL, by its opcode.
 abbrev pub is_jal : ℕ → Bool
 is_jal w = opcode w == 0b1101111
 
--- The word has the opcode JALR, of which all funct3 but 0 are reserved.
+-- The word is JALR: that opcode, with funct3 0. The other values of funct3 are reserved.
 abbrev pub is_jalr : ℕ → Bool
 is_jalr w = (opcode w == 0b1100111) && (funct3 w == 0)
 
--- The word has the opcode BRANCH, of which funct3 2 and 3 are reserved.
-abbrev pub is_branch : ℕ → Bool
-is_branch w = (opcode w == 0b1100011) && (not (funct3 w == 2) && not (funct3 w == 3))
+-- The word is a conditional branch: the opcode BRANCH, with any funct3 but 2 and 3, which are reserved.
+abbrev pub is_branch_word : ℕ → Bool
+is_branch_word w = (opcode w == 0b1100011) && (not (funct3 w == 2) && not (funct3 w == 3))
 
 -- The word is ECALL, which raises an exception and does not retire.
 abbrev pub is_ecall : ℕ → Bool
@@ -47,14 +47,13 @@ is_sret w = w == 0x10200073
 abbrev pub is_mret : ℕ → Bool
 is_mret w = w == 0x30200073
 
--- The class of a 32-bit word at an address; that JALR with rs1 0 is inferable, and every other JALR
--- not, is this project's profile.
+-- The class of a 32-bit word at an address. This project's profile: JALR is inferable where rs1 is 0, and only there.
 unfoldable pub class32 : ℕ → ℕ → Class
 class32 addr w =
     if is_jal w then Jump (moved 21 addr (j_offset w)) else
     if is_jalr w && (rs1 w == 0) then Jump (moved 12 0 (i_offset w)) else
     if is_jalr w then Uninferable else
-    if is_branch w then Branch (moved 13 addr (b_offset w)) else
+    if is_branch_word w then Branch (moved 13 addr (b_offset w)) else
     if is_ecall w || is_ebreak w then NotRetirable else
     if is_sret w then TrapReturn Sret else
     if is_mret w then TrapReturn Mret else

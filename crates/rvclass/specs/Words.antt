@@ -10,13 +10,13 @@ Word = Class × ℕ
 abbrev pub Words : Type 0
 Words = ℕ → Option Word
 
--- What the words of every program keep.
+-- The words of every program stand at even addresses, have at least 2 bytes, and end below 2^64.
 pub record IsProgram (words : Words) : Type 0 where
   pub even : (addr : ℕ) (w : Word) → words addr ≡ Some w → addr % 2 ≡ 0
   pub long : (addr : ℕ) (w : Word) → words addr ≡ Some w → 2 ≤ w.1
   pub below : (addr : ℕ) (w : Word) → words addr ≡ Some w → addr + w.1 < 2 ^ 64
 
--- Every word stands whole among this many bytes from the base on.
+-- Every word lies whole within this many bytes from the base on.
 pub record LiesIn (words : Words) (base count : ℕ) : Type 0 where
   pub from : (addr : ℕ) (w : Word) → words addr ≡ Some w → base ≤ addr
   pub until : (addr : ℕ) (w : Word) → words addr ≡ Some w → addr + w.1 ≤ base + count

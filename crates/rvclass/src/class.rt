@@ -11,7 +11,7 @@ pub enum Class {
     Branch(u64),
     /// To an address that a register holds.
     Uninferable,
-    /// Back from a trap, to an address and a privilege that the trap left.
+    /// Back from a trap, to an address and a privilege that registers hold.
     TrapReturn(Return),
     /// Nowhere: the word raises an exception each time.
     NotRetirable,

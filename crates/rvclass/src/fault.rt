@@ -6,10 +6,10 @@ ghost use Rattle.rvclass.specs.FaultText.{program_fault_text};
 use std::error::Error;
 use std::fmt;
 
-/// Why bytes make no program. Where more than one applies, the first in this order is told.
+/// Why bytes make no program. Where several of these apply, the fault is the first in this order.
 #[derive(Clone, Copy, Debug, PartialEq, Eq)]
 pub enum ProgramFault {
-    /// The base is no address of a word, since those are even.
+    /// The base is odd; a word stands at an even address.
     OddBase,
     /// There are more than 2^24 bytes.
     TooLarge,

@@ -21,7 +21,7 @@ const MAX_BYTES: usize = 1 << 24;
 pub struct Program {
     base: u64,
     bytes: Vec<u8>,
-    /// At how many places four bytes stand.
+    /// The number of places from which four bytes stand: the length less 3, or 0.
     windows: u64,
 }
 
@@ -35,7 +35,7 @@ impl Model for Program {
 }
 
 impl Program {
-    /// The program of these bytes from the address `base` on. Their number may be odd, and 0.
+    /// The program of these bytes from the address `base` on. There may be an odd number of bytes, or none.
     pub fn new(base: u64, bytes: Vec<u8>) -> Result<Program, ProgramFault>
         ensures exact { result ≡ program_of base bytes.items }
         ensures image { IfOk result (λ p. p ≡ image_at base bytes.items) }
@@ -71,9 +71,9 @@ impl Program {
         self.bytes.len()
     }
 
-    /// The class of the word at an address, and its length in bytes, 2 or 4. There is none where the
-    /// address is odd or outside the image, or where the image ends before the word does. A word of
-    /// more than 32 bits is told by its first 16 bits, as one of length 2 that does not retire.
+    /// The class of the word at an address, and its length in bytes, 2 or 4. There is none where the address is odd or
+    /// outside the image, or where the image ends before the word does. A word of more than 32 bits does not retire and
+    /// has length 2, by its first 16 bits alone.
     #[inline(always)]
     pub fn at(&self, addr: u64) -> Option<(Class, u8)>
         ensures word { result ≡ words_of self.now addr }
@@ -84,8 +84,8 @@ impl Program {
     }
 }
 
-/// The word at an address of the image that these bytes are from `base` on; at so many places of it
-/// four bytes stand.
+/// The word at an address of the image that has these bytes from `base` on. `windows` is the number of places from
+/// which four bytes stand.
 #[inline(always)]
 #[tactic(auto, unfolding(crate::specs::Fetch::words_of))]
 fn word_of(base: u64, bytes: &[u8], windows: u64, addr: u64) -> Option<(Class, u8)>
@@ -96,7 +96,7 @@ fn word_of(base: u64, bytes: &[u8], windows: u64, addr: u64) -> Option<(Class, u
     if !addr.is_multiple_of(2) {
         return None;
     }
-    // Far behind the image where the address is below its base.
+    // An address below the base wraps around to a place far behind the image.
     let place = addr.wrapping_sub(base);
     let word = if place < windows {
         word_at(bytes, place as usize)

@@ -1,4 +1,4 @@
--- What the bytes of a word tell one by one is the turn of the word.
+-- The bytes of a word, read one by one, give the turn of the word.
 use Rattle.std.proofs.Common.{◌≡◌, ◌≤◌, ◌+◌, ◌*◌, ◌==◌, ◌∙◌, ℕ, Bool, true, false, List, [], ◌∷◌, Option, Some, None}
 use Rattle.std.proofs.Common.{Result, Ok, Err, refl, sym, ap, arith, inl, inr, nat_lt}
 use Rattle.std.specs.Prelude.{if◌then◌else◌}
@@ -15,15 +15,15 @@ use Rattle.schedule.specs.declared.word.Word.{Word}
 use Rattle.schedule.specs.declared.word.Word.TheVariants as word
 use Rattle.schedule.specs.steps.Words.{at_number, number_past, past, turn_at, turn_by, with_byte, with_digit}
 
--- What these bytes tell behind others.
-abbrev told_from : ℕ → Word → List ℕ → Word
-told_from harts told bytes = fold (λ told byte. with_byte harts byte told) told bytes
+-- A word that begins so, once these bytes are read behind it.
+abbrev read_from : ℕ → Word → List ℕ → Word
+read_from harts so bytes = fold (λ so byte. with_byte harts byte so) so bytes
 
--- What the bytes of a word tell.
-abbrev pub told : ℕ → List ℕ → Word
-told harts bytes = told_from harts word.Empty bytes
+-- The word that these bytes make.
+abbrev pub read : ℕ → List ℕ → Word
+read harts bytes = read_from harts word.Empty bytes
 
-stays_wrong : (harts : ℕ) (bytes : List ℕ) → told_from harts word.Wrong bytes ≡ word.Wrong
+stays_wrong : (harts : ℕ) (bytes : List ℕ) → read_from harts word.Wrong bytes ≡ word.Wrong
 stays_wrong harts [] = refl
 stays_wrong harts (byte ∷ bytes) = stays_wrong harts bytes
 
@@ -48,7 +48,7 @@ turn_by-at harts n false = refl
 
 -- A number with more digits behind it.
 numbers : (harts n : ℕ) (bytes : List ℕ)
-    → turn_by (told_from harts (at_number harts n) bytes)
+    → turn_by (read_from harts (at_number harts n) bytes)
     ≡ (if list_all (λ byte. is_digit byte 10) bytes then hart_turn harts (digits_value_after 10 n bytes) else None)
 numbers harts n [] = turn_by-at harts n (nat_lt n harts)
 numbers harts n (byte ∷ bytes) = elim (cases_Bool (nat_lt n harts)) [
@@ -65,14 +65,14 @@ numbers harts n (byte ∷ bytes) = elim (cases_Bool (nat_lt n harts)) [
       (no_hart harts (digits_value_after 10 n (byte ∷ bytes)) (omega (arith, most, above)))))
 ]
 
-letter : (harts : ℕ) (bytes : List ℕ) → turn_by (told_from harts word.Collect bytes) ≡ turn_of harts (99 ∷ bytes)
+letter : (harts : ℕ) (bytes : List ℕ) → turn_by (read_from harts word.Collect bytes) ≡ turn_of harts (99 ∷ bytes)
 letter harts [] = refl
 letter harts (byte ∷ bytes) = ap turn_by (stays_wrong harts bytes)
 
--- The turn of a word is what its bytes tell.
-pub turn_by-told : (harts byte : ℕ) (bytes : List ℕ)
-    → turn_by (told harts (byte ∷ bytes)) ≡ turn_of harts (byte ∷ bytes)
-turn_by-told harts byte bytes = elim (cases_Bool (byte == 99)) [
+-- The bytes of a word make its turn.
+pub turn_by-read : (harts byte : ℕ) (bytes : List ℕ)
+    → turn_by (read harts (byte ∷ bytes)) ≡ turn_of harts (byte ∷ bytes)
+turn_by-read harts byte bytes = elim (cases_Bool (byte == 99)) [
   | inl c ↦ rw (eqb-true byte 99 c) (letter harts bytes)
   | inr other ↦ elim (cases_Bool (is_digit byte 10)) [
     | inl digit ↦ rw (other, digit) (numbers harts (0 * 10 + digit_value byte) bytes)
@@ -104,7 +104,7 @@ begun-byte harts byte (word.Hart number) = begun-digit harts byte number (is_dig
 begun-byte harts byte word.Collect = tt
 begun-byte harts byte word.Wrong = tt
 
-begun-bytes : (harts : ℕ) (so : Word) (bytes : List ℕ) → IsBegun so → IsBegun (told_from harts so bytes)
+begun-bytes : (harts : ℕ) (so : Word) (bytes : List ℕ) → IsBegun so → IsBegun (read_from harts so bytes)
 begun-bytes harts so [] begun = begun
 begun-bytes harts so (byte ∷ bytes) begun = begun-bytes harts (with_byte harts byte so) bytes (begun-byte harts byte so)
 
@@ -117,7 +117,7 @@ too_many : (b : Bool) (found : Result (Option Turn) ScheduleFault) (number : ℕ
 too_many true found number rest = refl
 too_many false found number rest = refl
 
--- A word that is begun is told before those behind it.
+-- The turn of a word that is begun, or its fault, comes before those of the words behind it.
 past-begun : (number : ℕ) (so : Word) (rest : Behind) → IsBegun so
     → past (turn_at number so) (rest (number_past (turn_at number so) number))
     ≡ (if nat_lt most_turns number then Err fault.TooLong else with_turn number (turn_by so) (rest (number + 1)))
@@ -128,13 +128,13 @@ past-begun number (word.Hart hart) rest begun =
 past-begun number word.Wrong rest begun = too_many (nat_lt most_turns number) (Err (fault.Word number)) number rest
 
 -- So is each word.
-pub past-told : (harts number byte : ℕ) (bytes : List ℕ) (rest : Behind)
-    → past (turn_at number (told harts (byte ∷ bytes)))
-    (rest (number_past (turn_at number (told harts (byte ∷ bytes))) number))
+pub past-read : (harts number byte : ℕ) (bytes : List ℕ) (rest : Behind)
+    → past (turn_at number (read harts (byte ∷ bytes)))
+    (rest (number_past (turn_at number (read harts (byte ∷ bytes))) number))
     ≡ (if nat_lt most_turns number then Err fault.TooLong
     else with_turn number (turn_of harts (byte ∷ bytes)) (rest (number + 1)))
-past-told harts number byte bytes rest =
-    past-begun number (told harts (byte ∷ bytes)) rest
+past-read harts number byte bytes rest =
+    past-begun number (read harts (byte ∷ bytes)) rest
     (begun-bytes harts (with_byte harts byte word.Empty) bytes (begun-byte harts byte word.Empty))
     ∙ ap (λ t. if nat_lt most_turns number then Err fault.TooLong else with_turn number t (rest (number + 1)))
-    (turn_by-told harts byte bytes)
+    (turn_by-read harts byte bytes)

@@ -6,7 +6,7 @@ ghost use Rattle.schedule.specs.FaultText.{schedule_fault_text};
 use std::error::Error;
 use std::fmt;
 
-/// Why a text is no schedule. Of several faults in a text, the first one is told.
+/// Why a text is no schedule. Of several faults in a text, the first one is returned.
 #[derive(Clone, Copy, Debug, PartialEq, Eq)]
 pub enum ScheduleFault {
     /// The word with this number, counted from 1, is no turn.

@@ -1,4 +1,4 @@
-//! The schedule of a replay: in which order harts send their messages and messages are taken, as a text tells it.
+//! The schedule of a replay: a text with the order in which harts send their messages and messages are taken.
 //!
 //! [`read_schedule`] reads such a text. The turns are those of the crate `funnel`.
 #![tactic(auto)]

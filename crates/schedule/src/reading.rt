@@ -9,12 +9,12 @@ use crate::word::Word;
 use funnel::Turn;
 use std::alloc::Allocator;
 
-/// The turns that a text tells, of the harts below `harts`.
+/// The turns that a text has, for the harts below `harts`.
 ///
-/// Its words are parted by spaces, line feeds or carriage returns. A word is `c`, by which the front message is taken,
-/// or the decimal number of a hart, leading zeros allowed, by which that hart sends. The first word that is neither is
-/// told, or that there are more than 16,777,216 words where each of these is a turn. Memory is taken for the turns
-/// alone.
+/// Words are parted by spaces, line feeds or carriage returns. A word is `c`, by which the front message is taken, or
+/// the decimal number of a hart, by which that hart sends. Leading zeros are allowed. The fault names the first word
+/// that is neither. Where the first 16,777,216 words are turns and another word follows, the fault is that there are
+/// too many. Memory is taken for the turns alone.
 pub fn read_schedule<A: Allocator>(
     alloc: A,
     harts: u16,
@@ -48,7 +48,7 @@ fn is_blank(byte: u8) -> bool
     byte == b' ' || byte == b'\n' || byte == b'\r'
 }
 
-/// Adds the turn of the word behind those of these turns, where it is not empty.
+/// Adds the turn of the word behind these turns. An empty word has none.
 fn add<A: Allocator>(turns: &mut Vec<Turn, A>, word: Word) -> Result<(), ScheduleFault>
     ensures added { OnOk result (IsAdded (turn_at (vec_len turns.old + 1) word) turns.old.items turns.new.items) }
     ensures faults { IfErr result (λ why.

@@ -9,21 +9,21 @@ use funnel::Turn;
 /// The most turns of a schedule.
 const MOST_TURNS: usize = 16_777_216;
 
-/// What the bytes of a word tell so far.
+/// What a word is, by its bytes so far.
 #[derive(Clone, Copy)]
 pub(crate) enum Word {
-    /// There are none.
+    /// It has no byte.
     Empty,
-    /// The front message is taken.
+    /// It is `c`: the front message is taken.
     Collect,
-    /// The hart with this number sends.
+    /// It is this number: the hart with this number sends.
     Hart(u16),
     /// No turn begins so.
     Wrong,
 }
 
 impl Word {
-    /// What they tell with one byte more, where the harts are those below `harts`.
+    /// What the word is with one byte more, where the harts are those below `harts`.
     pub(crate) fn with_byte(self, harts: u16, byte: u8) -> Word
         ensures { result ≡ with_byte harts byte self }
     {
@@ -41,7 +41,7 @@ impl Word {
         }
     }
 
-    /// The turn of the whole word, which has this number, counted from 1; none where it is empty.
+    /// The turn of the whole word, which has this number, counted from 1; `None` where it is empty.
     pub(crate) fn turn(self, number: usize) -> Result<Option<Turn>, ScheduleFault>
         ensures { result ≡ turn_at number self }
     {
@@ -61,7 +61,7 @@ impl Word {
     }
 }
 
-/// What a number tells with one digit more behind it.
+/// What a word of digits that make this number is with one byte more behind them.
 fn with_digit(harts: u16, byte: u8, number: u16) -> Word
     ensures { result ≡ with_digit harts byte number }
 {

@@ -1,5 +1,5 @@
 //! What a command line of `tracebench` may ask for: one struct for each subcommand, and the limits of its numbers.
-//! Reading words and doing what they ask both stand on this, and on nothing of each other.
+//! Both `cli`, which reads words, and `commands`, which does what they ask, use this crate. Neither uses the other.
 #![tactic(auto)]
 
 mod limits;

@@ -23,7 +23,7 @@ pub struct Encode<'a> {
     pub period: u16,
     /// Whether packets name addresses by differences or in full.
     pub mode: Mode,
-    /// Which format the capture has. It limits the count of logs also where lines are wanted.
+    /// The version of the capture. It limits the count of logs, also where lines of hexadecimal are wanted.
     pub version: Version,
     /// Whether the messages are wanted as lines of hexadecimal.
     pub hex: bool,
@@ -45,9 +45,9 @@ pub struct Dump<'a> {
 pub struct Decode<'a> {
     /// The address of the image's first byte, not yet read as a number.
     pub base: &'a str,
-    /// How many harts a capture with no header may have messages of, 1 to 1024.
+    /// The count of harts of a capture with no header, 1 to 1024.
     pub harts: u16,
-    /// Whether messages may be missing from the capture.
+    /// Whether messages of the capture may be lost.
     pub lossy: bool,
     /// The path of the image.
     pub image: &'a str,

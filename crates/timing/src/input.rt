@@ -21,7 +21,7 @@ impl Input {
         Input::of(rt, words.as_slice())
     }
 
-    /// Reads the files that these words name, of which the first is the program's own name.
+    /// Reads the files that these words name. The first word is the program's own name.
     fn of<R: Files + AllocGlobal>(rt: &R, words: &[String]) -> Result<Input, Fault> {
         let [_, base, image, logs @ ..] = words else {
             return Err(Fault::Words);

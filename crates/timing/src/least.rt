@@ -12,12 +12,12 @@ pub(crate) trait Phase: Drop {
     /// What a run makes. It is freed after the clock was read.
     type Made: Drop;
 
-    /// Runs once, and answers what it made and a number that the work gives.
+    /// Runs once, and returns what it made and a number that the work gives.
     fn run(&mut self) -> Result<(Self::Made, u64), Fault>;
 }
 
-/// Runs a phase several times, and writes its name, its least time for each of so many items and the number that it
-/// gives.
+/// Runs a phase several times, and writes its name, its least time for each of its items, of which there are `items`,
+/// and the number that it gives.
 pub(crate) fn measure<R: Clock, E: Write, P: Phase>(
     rt: &R,
     err: &mut E,
@@ -34,11 +34,11 @@ pub(crate) fn measure<R: Clock, E: Write, P: Phase>(
         answer = number;
         drop(made);
     }
-    tell(err, name, items, least, answer)
+    write_time(err, name, items, least, answer)
 }
 
-/// Writes a name, a time for each of so many items and a number.
-pub(crate) fn tell<E: Write>(
+/// Writes a line: a name, a time for each of this count of items in nanoseconds, and a number.
+pub(crate) fn write_time<E: Write>(
     err: &mut E,
     name: &str,
     items: usize,

@@ -1,7 +1,7 @@
 //! The phases of logs through the funnel: by turns, and over threads.
 
 use crate::fault::Fault;
-use crate::least::{Phase, RUNS, measure, tell};
+use crate::least::{Phase, RUNS, measure, write_time};
 use crate::packets::{MODE, PERIOD};
 use bench::{Config, Open, Outcome, Turn, replay, run};
 use encoder::Source;
@@ -108,7 +108,7 @@ pub(crate) fn measure_runs<R: Clock + AllocGlobal + Threads + Wait + Sync, E: Wr
         decoded = decoded_in(&outcome);
         least = least.min(start.elapsed(rt)?.as_nanos());
     }
-    tell(err, name, event_count(logs), least, decoded)
+    write_time(err, name, event_count(logs), least, decoded)
 }
 
 /// How many events the logs have.
@@ -120,7 +120,7 @@ fn event_count(logs: &[LegalLog<'_>]) -> usize {
     count
 }
 
-/// Logs go through a funnel that holds so many messages, and no packets are kept.
+/// Logs go through a funnel of this capacity, in messages, and no packets are kept.
 fn config_of(capacity: u32) -> Config {
     Config {
         period: PERIOD,

@@ -1,7 +1,7 @@
 //! The phases over a funnel: messages that are sent and taken.
 
 use crate::fault::Fault;
-use crate::least::{Phase, RUNS, tell};
+use crate::least::{Phase, RUNS, write_time};
 use crossbeam_channel::bounded_with;
 use crossbeam_channel::protocol::{Lesson, Outcome, Protocol};
 use funnel::{Outlet, Port, open};
@@ -78,7 +78,7 @@ impl Lesson<Message, ()> for Anything {
     ghost fact = { λ view queue. Unit {0} };
 }
 
-/// The same on a channel by itself.
+/// In one thread, each message is sent and then taken on a bare channel.
 #[derive(Drop)]
 pub(crate) struct Bare<'a, R> {
     pub(crate) rt: &'a R,
@@ -93,7 +93,7 @@ impl<R: Wait> Phase for Bare<'_, R> {
     }
 }
 
-/// Sends and takes on a channel by itself.
+/// How many messages are sent and then taken on a bare channel.
 fn through_a_channel<R: Wait>(rt: &R, alloc: Global) -> Result<u64, Fault> {
     let (sender, receiver, mut pass) = bounded_with::<Message, (), Anything, Global>(
         alloc,
@@ -121,7 +121,7 @@ fn through_a_channel<R: Wait>(rt: &R, alloc: Global) -> Result<u64, Fault> {
     Ok(taken)
 }
 
-/// A funnel that is measured, of which each hart sends in a thread of its own.
+/// A funnel that is measured, where each hart sends in a thread of its own.
 #[derive(Clone, Copy)]
 pub(crate) struct Senders {
     pub(crate) name: &'static str,
@@ -149,7 +149,7 @@ pub(crate) fn measure_senders<R: Clock + Threads + Wait + Sync, E: Write>(
         least = least.min(start.elapsed(rt)?.as_nanos());
     }
     let count = u64::from(senders.harts).saturating_mul(senders.each);
-    tell(err, senders.name, count as usize, least, taken)
+    write_time(err, senders.name, count as usize, least, taken)
 }
 
 /// Starts a thread for each port, and takes to the end.
@@ -167,12 +167,12 @@ fn through_threads<R: Threads + Wait + Sync>(
     })
 }
 
-/// Starts a thread that sends so many messages through a port.
+/// Starts a thread that sends this many messages through a port.
 fn start<'s, E, R: Wait + Sync>(scope: &Scope<'s, E>, rt: &'s R, port: Port, count: u64) {
     let _ = scope.spawn(move || send(rt, port, count));
 }
 
-/// Sends so many messages.
+/// Sends this many messages.
 fn send<R: Wait>(rt: &R, mut port: Port, count: u64) {
     for _ in 0..count {
         let Ok(payload) = payload() else {

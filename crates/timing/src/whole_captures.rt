@@ -50,7 +50,7 @@ impl Phase for CaptureDecoding<'_> {
     }
 }
 
-/// From the capture of a log to its stretches, read so that messages may be missing.
+/// From the capture of a log to its stretches, read so that messages may be lost.
 #[derive(Drop)]
 pub(crate) struct LossyDecoding<'a> {
     pub(crate) alloc: Global,

@@ -62,7 +62,7 @@ pub(crate) fn program_of<R: Abort + AllocGlobal>(rt: &R, words: &[u32]) -> Progr
     program_with(rt, words, &[])
 }
 
-/// The program of so many words C.NOP, from the base on.
+/// The program of this many words C.NOP, from the base on.
 pub(crate) fn short_words<R: Abort + AllocGlobal>(rt: &R, count: u32) -> Program {
     let mut image = Vec::new(rt.alloc());
     for _ in 0..count {
@@ -81,7 +81,7 @@ pub(crate) fn short_log<R: Abort + AllocGlobal>(rt: &R, count: u32) -> Vec<Event
     log
 }
 
-/// A retirement so far from the base.
+/// A retirement at this offset from the base.
 pub(crate) fn retired(offset: u64, itype: u8, privilege: u8) -> Event {
     Event::Retire {
         addr: BASE.wrapping_add(offset),
@@ -101,7 +101,7 @@ pub(crate) fn trap(epc: u64, privilege: u8, interrupt: bool, cause: u8, tval: u6
     }
 }
 
-/// An event: a retirement so far from the base, with its type and privilege; or a trap at an address, with its
+/// An event: a retirement at an offset from the base, with its type and privilege; or a trap at an address, with its
 /// privilege, whether it is an interrupt, its cause and its value.
 #[derive(Clone, Copy)]
 pub(crate) enum Step {

@@ -1,4 +1,4 @@
-//! What is left of logs of whose messages some are lost (`losses`).
+//! What is left of logs where some of their messages are lost (`losses`).
 
 mod collected;
 mod faults;

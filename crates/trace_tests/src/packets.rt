@@ -42,7 +42,7 @@ pub(crate) fn packets_of<R: Abort + AllocGlobal>(
     packets
 }
 
-/// The payloads of packets, all of which are of the profile.
+/// The payloads of packets, which all have to be of the profile.
 pub(crate) fn payloads_of<R: Abort + AllocGlobal>(rt: &R, packets: &[Packet]) -> Vec<Payload> {
     let mut payloads = Vec::new(rt.alloc());
     for packet in packets {
@@ -64,7 +64,7 @@ pub(crate) fn legal_log<'p, R: Abort + AllocGlobal>(
         .expect(rt, "a legal log")
 }
 
-/// The payloads that a source gives, which gives none behind them.
+/// The payloads that a source gives. It gives none behind them.
 pub(crate) fn sourced<R: Abort + AllocGlobal>(
     rt: &R,
     log: &LegalLog<'_>,

@@ -1,4 +1,4 @@
-//! Each request for memory refused in turn, to what decodes a capture.
+//! Each request for memory of what decodes a capture is refused in turn.
 
 use crate::fixtures::Step::{self, Retires, Traps};
 use crate::fixtures::{BASE, BRANCH_LOOP, log_of, program_of};
@@ -39,7 +39,7 @@ const CAPTURE: [u8; 134] = [
 /// harts.
 const BEFORE: usize = 4;
 
-/// Where decoding ends where one of the requests behind these is refused: at which message, and how many events of each
+/// Where decoding ends if one of the requests behind these is refused: at which message, and how many events of each
 /// hart were known before it.
 ///
 /// The list of the first hart grows to 4, 32 and 64 events, and that of the second to 4 and 8. There is room for the
@@ -52,7 +52,7 @@ const MEMORY: CaptureFault = CaptureFault::Decode(DecodeFault::Memory);
 /// What a call returned.
 type Answer<'h> = Result<CaptureOutcome<&'h Refusing<Global>>, AllocError>;
 
-/// Ends the test unless a hart has so many of its events, the first ones, and is closed just where it has them all.
+/// Ends the test unless a hart has this many of its events, the first ones, and is closed just where it has them all.
 fn has_first<R: Abort + AllocGlobal>(
     rt: &R,
     place: (usize, usize),
@@ -67,8 +67,8 @@ fn has_first<R: Abort + AllocGlobal>(
     same_at(rt, place, closed, Some(count == steps.len()));
 }
 
-/// Ends the test unless this is the answer where the request at this place is refused: an error where that is one for
-/// the outcome itself, and else the outcome, with what was decoded before.
+/// Ends the test unless this is the answer where the request at this place is refused: an error where the request is
+/// for the outcome itself; else the outcome, with what was decoded before.
 fn ends_at<R: Abort + AllocGlobal>(rt: &R, place: usize, answer: Answer<'_>) {
     let Ok(outcome) = answer else {
         assert!(rt; place < BEFORE, "{place}: no outcome");

@@ -3,7 +3,7 @@
 use std::fmt::Debug;
 use std::process::Abort;
 
-/// Ends the test where they differ, and tells the place: a row of a table, a round of a loop, or what is looked at.
+/// Ends the test where they differ, and names the place: a row of a table, a round of a loop, or what is looked at.
 pub(crate) fn same_at<P: Debug + Drop, T: PartialEq + Debug + Drop>(
     rt: &impl Abort,
     place: P,

@@ -1,5 +1,5 @@
-//! Whole captures (`captures`): of worked logs with each byte changed, of many harts, of long logs, to writers that fail,
-//! and as lines.
+//! Whole captures (`captures`): of worked logs with each byte changed, of many harts, of long logs, to writers that
+//! fail, and as lines.
 
 mod by_bytes;
 mod changed;
@@ -72,8 +72,8 @@ fn add_messages<R: Abort + AllocGlobal>(
     }
 }
 
-/// What stands before the messages of so many harts, at the period 1,024 in differential mode, in a capture of this
-/// version.
+/// What stands before the messages of these harts in a capture of this version, at the period 1,024 in differential
+/// mode.
 fn start_of<R: Abort + AllocGlobal>(rt: &R, version: Version, harts: u16) -> Vec<u8> {
     let mut start = Vec::new(rt.alloc());
     if version == Version::Two {
@@ -83,7 +83,7 @@ fn start_of<R: Abort + AllocGlobal>(rt: &R, version: Version, harts: u16) -> Vec
     start
 }
 
-/// The capture of so many harts of which each sends these payloads, at the period 1,024 in differential mode.
+/// The capture of these harts, where each sends these payloads, at the period 1,024 in differential mode.
 fn capture_by_hand<R: Abort + AllocGlobal>(
     rt: &R,
     version: Version,
@@ -97,7 +97,7 @@ fn capture_by_hand<R: Abort + AllocGlobal>(
     capture
 }
 
-/// Whether an outcome is whole: each of so many harts has this log and closed, and there is no fault.
+/// Whether an outcome is whole: it has this many harts, each has this log and is closed, and there is no fault.
 fn is_whole(outcome: &CaptureOutcome, harts: usize, log: &[Event]) -> bool {
     let mut whole = outcome.fault.is_none();
     for (list, closed) in outcome.harts.iter().zip(outcome.closed.iter()) {

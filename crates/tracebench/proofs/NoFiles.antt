@@ -6,12 +6,12 @@ use Rattle.subcommands.specs.declared.words.Asked.TheVariants.{Bench, Check, Dec
 use Rattle.commands.specs.Benching.{BenchesLogs}
 use Rattle.commands.specs.CarriedOut.{IsCarriedOut}
 use Rattle.commands.specs.Checking.{WritesLines}
-use Rattle.commands.specs.Decoded.{WritesTold}
+use Rattle.commands.specs.Decoded.{WritesLogs}
 use Rattle.commands.specs.Dumping.{WritesDump}
 use Rattle.commands.specs.Encoding.{WritesMessages}
-use Rattle.commands.specs.Faults.{Path, end_of, status_of}
+use Rattle.commands.specs.Faults.{Path, final_status, status_of}
 use Rattle.commands.specs.Finding.{After, IsFoundFrom}
-use Rattle.commands.specs.Found.{AreAskedLogs, AreFew, AreLegalLogs, IsAskedProgram, IsBase, IsProgram, IsRead}
+use Rattle.commands.specs.Found.{AreAskedLogs, AreFew, AreLegalLogs, IsAskedProgram, IsBase, IsProgramAt, IsRead}
 use Rattle.commands.specs.Found.{program_at}
 use Rattle.commands.specs.Known.{Content, content_in}
 use Rattle.commands.specs.Printed.{First, GoesOn, Printed}
@@ -41,7 +41,7 @@ no_image base path (Ok bytes) read program made = read
 no_image base path (Err why) read program made = cc
 
 -- No program is found.
-no_program : (base : ℕ) (path : Path) → NeverFound (IsProgram none base path)
+no_program : (base : ℕ) (path : Path) → NeverFound (IsProgramAt none base path)
 no_program base path program found = no_image base path found.bytes found.read program found.made
 
 -- Nothing is found from what was, where that never leads to a value.
@@ -60,8 +60,8 @@ not_after Finds Next never value found = not_from Finds Next found.0 never found
 no_asked : (most : ℕ) (text : List ℕ) (image : Path) (paths : List Path)
     → NeverFound (IsAskedProgram none most text image paths)
 no_asked most text image paths =
-    not_after (IsBase text) (λ base. After (AreFew most paths) (λ _. IsProgram none base image)) (λ base is.
-    not_after (AreFew most paths) (λ _. IsProgram none base image) (λ few counted. no_program base image))
+    not_after (IsBase text) (λ base. After (AreFew most paths) (λ _. IsProgramAt none base image)) (λ base is.
+    not_after (AreFew most paths) (λ _. IsProgramAt none base image) (λ few counted. no_program base image))
 
 -- No logs are found.
 no_logs : (most : ℕ) (text : List ℕ) (image : Path) (paths : List Path)
@@ -101,10 +101,10 @@ not_ended (Dump asked) status old new done =
     (λ bytes read dump. no_bytes asked.capture bytes read) done.prints
 not_ended (Decode asked) status old new done =
     let printed : Printed = record { text = done.text; ended = Ok status } in
-    not_first (IsBase asked.base.now) (λ base. First (IsProgram none base asked.image) (λ program.
-    First (IsRead none asked.capture) (WritesTold asked.lossy asked.harts program))) printed status refl
-    (λ base is prints. not_first (IsProgram none base asked.image) (λ program.
-    First (IsRead none asked.capture) (WritesTold asked.lossy asked.harts program)) printed status refl
+    not_first (IsBase asked.base.now) (λ base. First (IsProgramAt none base asked.image) (λ program.
+    First (IsRead none asked.capture) (WritesLogs asked.lossy asked.harts program))) printed status refl
+    (λ base is prints. not_first (IsProgramAt none base asked.image) (λ program.
+    First (IsRead none asked.capture) (WritesLogs asked.lossy asked.harts program)) printed status refl
     (λ program made logs. no_program base asked.image program made) prints) done.prints
 not_ended (Replay asked) status old new done =
     not_first (AreAskedLogs none _ asked.base.now asked.image asked.logs.items) (ReplaysLogs none asked)
@@ -135,7 +135,7 @@ faulty fault.Memory = λ is. omega arith
 
 -- What was carried out of no files did not end with status 0.
 ended_faulty : (asked : Asked) (ended : Result Status Fault) (old new : Option (List ℕ))
-    → IsCarriedOut none asked ended old new → code_of (end_of ended) ≢ 0
+    → IsCarriedOut none asked ended old new → code_of (final_status ended) ≢ 0
 ended_faulty asked (Ok status) old new done = absurd (not_ended asked status old new done)
 ended_faulty asked (Err why) old new done = faulty why
 
@@ -144,7 +144,7 @@ not_done : {E : Type 0} (words : List (List ℕ)) (code : ℕ) (old new : Option
     (contents : E → Option (List ℕ)) (err_old err_new : E)
     → AreCarriedOut none words code old new contents err_old err_new → code ≢ 0
 not_done words code old new contents err_old err_new carried =
-    let faulty : code_of (end_of carried.done.ended) ≢ 0
+    let faulty : code_of (final_status carried.done.ended) ≢ 0
     = ended_faulty carried.asked carried.done.ended old new carried.done.carried in
     λ is. faulty (ap code_of (sym carried.done.ends) ∙ (sym carried.coded ∙ is))
 

@@ -4,26 +4,26 @@ ghost use Rattle.std.specs.Prelude.{◌≡◌, ◌⊎◌, ◌≤◌, Err, map, s
 ghost use Rattle.cli.specs.Asking.{AreRefused, AskNoCheck};
 ghost use Rattle.subcommands.specs.Kind.{IsCheck};
 ghost use Rattle.subcommands.specs.Limits.{IsWithinLimits};
-ghost use Rattle.tracebench.specs.Words.{AreCarriedOut, IsDone, Tells};
+ghost use Rattle.tracebench.specs.Words.{AreCarriedOut, IsDone, ReportsFault};
 
-use crate::words_fault::tell_words;
+use crate::words_fault::report_words_error;
 use cli::asked;
-use commands::{Fault, Files, Status, carry_out, tell};
+use commands::{Fault, Files, Status, carry_out, report_error};
 use std::alloc::Global;
 use std::io::Write;
 use std::sync::Wait;
 use std::thread::Threads;
 use subcommands::Asked;
 
-/// Does what the words ask for, the program's name first among them, and answers the exit status: 0
-/// where all is done, 1 where a capture is not good or a log does not come back whole, 2 where the words,
-/// the image, a log or the schedule is refused or a log is illegal, 3 where a file is not read, the output
-/// is not written, memory is refused or there is a stop of `replay` or `bench`.
+/// Does what the words ask for, and returns the exit status. The program's name is the first word. The status is 0
+/// where all is done, 1 where a capture is not good or a log does not come back whole, 2 where the words, the base, the
+/// count of logs, the image, a log or the schedule is refused or a log is illegal, and 3 where a file is not read, the
+/// output is not written, memory is refused or there is a stop of `replay` or `bench`.
 ///
-/// The first fault is told on `err`, in the order words, base, count of logs, image, each log in turn,
-/// schedule, capture: one line, or `clap`'s own text where the words are at fault. That `err` itself fails changes no
-/// status. Illegal logs are no fault of `check`, which has a line for each log on `out`. `bench` alone starts threads,
-/// and waits for them.
+/// The first fault is reported on `err`, in the order words, base, count of logs, image, each log in turn, schedule,
+/// capture. It has one line there, or `clap`'s own text where the words are at fault. Where a write to `err` fails, the
+/// status stays the same. Illegal logs are no fault of `check`, which has a line for each log on `out`. Only `bench`
+/// starts threads, and it waits for them.
 pub fn command<F: Files, O: Write, E: Write, R: Threads + Wait + Sync>(
     alloc: Global,
     rt: &R,
@@ -33,29 +33,29 @@ pub fn command<F: Files, O: Write, E: Write, R: Threads + Wait + Sync>(
     err: &mut E,
 ) -> u8
     ensures statuses { result ≤ 3 }
-    // Words that `clap` refuses end with status 2, or with 3 as memory that is refused.
+    // Where `clap` refuses the words, nothing is written, and the status is 2, or 3 for want of memory.
     ensures words { AreRefused (map string_bytes words.now) → (out.new ≡ out.old) × ((result ≡ 2)
-        ⊎ ((result ≡ 3) × Tells E.contents (Err Fault.Memory) err.old err.new)) }
+        ⊎ ((result ≡ 3) × ReportsFault E.contents (Err Fault.Memory) err.old err.new)) }
     // Where the input is refused, nothing is written, but for the lines of `check`.
     ensures refused { AskNoCheck (map string_bytes words.now) → result ≡ 2 → out.new ≡ out.old }
-    // Where all is done, nothing is told.
+    // Where all is done, nothing is written to `err`.
     ensures quiet { result ≡ 0 → err.new ≡ err.old }
-    // Else what the words ask for is carried out, of what files tell, unless memory for the words themselves is
-    // refused.
+    // Where `clap` does not refuse the words, what they ask for is carried out on what is known of the files, unless
+    // memory for the words themselves is refused.
     ensures printed { AreRefused (map string_bytes words.now)
-        ⊎ (((result ≡ 3) × (out.new ≡ out.old) × Tells E.contents (Err Fault.Memory) err.old err.new)
+        ⊎ (((result ≡ 3) × (out.new ≡ out.old) × ReportsFault E.contents (Err Fault.Memory) err.old err.new)
         ⊎ AreCarriedOut (F.content files.old) (map string_bytes words.now) result (O.contents out.old)
         (O.contents out.new)
         E.contents err.old err.new) }
 {
     let status = match asked(alloc, words) {
         Ok(asked) => run(alloc, rt, files, &asked, out, err),
-        Err(error) => tell_words(err, &error),
+        Err(error) => report_words_error(err, &error),
     };
     status.code()
 }
 
-/// Carries out what is asked, and tells the fault that ends it.
+/// Carries out what is asked, and reports the fault that ends it.
 fn run<F: Files, O: Write, E: Write, R: Threads + Wait + Sync>(
     alloc: Global,
     rt: &R,
@@ -72,6 +72,6 @@ fn run<F: Files, O: Write, E: Write, R: Threads + Wait + Sync>(
 {
     match carry_out(alloc, rt, files, asked, out) {
         Ok(status) => status,
-        Err(fault) => tell(err, &fault),
+        Err(fault) => report_error(err, &fault),
     }
 }

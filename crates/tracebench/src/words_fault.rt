@@ -1,22 +1,23 @@
-//! What is told of words that ask for nothing.
+//! The error of words that ask for nothing.
 
 ghost use Rattle.std.specs.Prelude.{◌≡◌, ◌≢◌, Err};
 ghost use Rattle.cli.specs.Errors.{kind_of};
-ghost use Rattle.tracebench.specs.Words.{Tells};
+ghost use Rattle.tracebench.specs.Words.{ReportsFault};
 
 use cli::{Error, ErrorKind};
-use commands::{Fault, Status, tell};
+use commands::{Fault, Status, report_error};
 use std::io::Write;
 
-/// Tells why words ask for nothing, by `clap`'s own text, and answers how the command ends.
-pub(crate) fn tell_words<E: Write>(err: &mut E, error: &Error) -> Status
+/// Reports why words ask for nothing, by `clap`'s own text, and returns how the command ends. Where memory was refused,
+/// the line of that fault is written instead.
+pub(crate) fn report_words_error<E: Write>(err: &mut E, error: &Error) -> Status
     ensures memory { kind_of error.now ≡ ErrorKind.OutOfMemory → result ≡ Status.Machine }
     ensures line { kind_of error.now ≡ ErrorKind.OutOfMemory
-        → Tells E.contents (Err Fault.Memory) err.old err.new }
+        → ReportsFault E.contents (Err Fault.Memory) err.old err.new }
     ensures words { kind_of error.now ≢ ErrorKind.OutOfMemory → result ≡ Status.Refused }
 {
     if error.kind() == ErrorKind::OutOfMemory {
-        return tell(err, &Fault::Memory);
+        return report_error(err, &Fault::Memory);
     }
     let _ = write!(err, "{error}");
     Status::Refused

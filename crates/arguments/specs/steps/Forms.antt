@@ -11,7 +11,7 @@ flag_rule name = record (new_rule name) { long = Some name; action = Some SetTru
 abbrev pub file_rule : Text → Rule
 file_rule name = record (new_rule name) { action = Some Set; required = true }
 
--- `--name N`, which is `default` where it is not there.
+-- `--name N`. Where it is not given, N is `default`.
 abbrev pub number_rule : Text → Text → Rule
 number_rule name default = record (new_rule name) {
   long = Some name;

@@ -8,8 +8,9 @@ use Rattle.bench.specs.Collected.{Collected}
 use Rattle.bench.specs.Working.{CarryFirst}
 use Rattle.bench.specs.steps.Taking.{IsCutOff, IsTakenOf}
 
--- Of a hart whose worker was started: where the messages that were taken of it carry the first payloads of its log,
--- they came, or memory for it was refused. Of any other hart memory was refused when no more had come than were taken.
+-- The collector has these logs. Where the worker of a hart was started, and the messages that were taken of it carry
+-- the first payloads of its log, these messages came, or memory for the hart was refused. For any other hart the thread
+-- was refused: fewer of its messages came than were taken, or none was taken.
 pub record AreGathered (period : ℕ) (mode : Mode) (logs : List ProgramLog) (started : List Bool) (taken : List Message)
     (collected : Collected) : Type 0 where
   pub own : collected.logs ≡ logs

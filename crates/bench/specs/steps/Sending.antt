@@ -7,17 +7,17 @@ use Rattle.funnel.specs.Held.{Held}
 use Rattle.funnel.specs.Machine.{Funnel, sent_by}
 use Rattle.bench.specs.declared.sender.Sender.{Sender}
 
--- A hart that has this log, sends at this period and in this mode, and sent so many messages.
+-- A hart that has this log, sends at this period and in this mode, and sent this many messages.
 abbrev pub sender_at : {B : Type 0} → ℕ → Mode → ProgramLog → ℕ → Sender B
 sender_at period mode log count =
     record { source = record { log = log; period = period; mode = mode; number = count }; number = count }
 
--- The message of this number of a hart with which it sends a payload, where it has one.
+-- The message of a hart with this number and this payload, where there is a payload.
 abbrev pub message_with : ℕ → ℕ → Option (List ℕ) → Option Message
 message_with hart number None = None
 message_with hart number (Some payload) = Some (record { hart = hart; number = number; payload = payload })
 
--- Each of the harts with these logs stands where it sent nothing.
+-- There is a sender for each log, which sent nothing.
 pub record AreNewSenders {B : Type 0} (period : ℕ) (mode : Mode) (logs : List ProgramLog) (senders : List (Sender B))
     : Type 0 where
   pub count : length senders ≡ length logs

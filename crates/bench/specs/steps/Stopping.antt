@@ -1,6 +1,6 @@
--- Which stop is told.
+-- Which stop a run returns.
 use Rattle.std.specs.Prelude.{ℕ, ◌≡◌, Bool, true, List, Option, Some, None, slice_get}
-use Rattle.bench.specs.Stopping.{AreClosed, IsEndedHart, IsFirst, IsOpenHart, NoneEnded}
+use Rattle.bench.specs.Stopping.{AreClosed, ClosedUnlessRefused, IsFirst, IsOpenHart, IsOpenNotRefused}
 use Rattle.bench.specs.declared.outcome.HartOutcome.{HartOutcome}
 use Rattle.bench.specs.declared.stop.Stop.{Stop}
 use Rattle.bench.specs.declared.stop.Stop.TheVariants as stop
@@ -13,12 +13,13 @@ IsHandedBack harts handed_back hart = IsOpenHart harts hart × (slice_get handed
 abbrev pub IsOfNone : (ℕ → Type 0) → Type 0
 IsOfNone P = (hart : ℕ) → ¬ P hart
 
--- Of the harts that are not closed the first is told of which a payload was handed back; where there is none, the first
--- for which memory was not refused; where there is none either, the first. There is no stop where every hart is closed.
-abbrev pub IsTold : {A : Type 0} → List (HartOutcome A) → List Bool → Option Stop → Type 0
-IsTold harts handed_back (Some (stop.HandedBack hart)) = IsFirst (IsHandedBack harts handed_back) hart
-IsTold harts handed_back (Some (stop.Ended hart)) =
-    IsFirst (IsEndedHart harts) hart × IsOfNone (IsHandedBack harts handed_back)
-IsTold harts handed_back (Some (stop.Memory hart)) =
-    IsFirst (IsOpenHart harts) hart × NoneEnded harts × IsOfNone (IsHandedBack harts handed_back)
-IsTold harts handed_back None = AreClosed harts
+-- The stop names a hart that is not closed. `HandedBack` names the first whose payload was handed back. Where there is
+-- no such hart, `Ended` names the first for which neither memory nor its thread was refused. Where there is none of
+-- these either, `Memory` names the first. There is no stop where every hart is closed.
+abbrev pub NamesFirst : {A : Type 0} → List (HartOutcome A) → List Bool → Option Stop → Type 0
+NamesFirst harts handed_back (Some (stop.HandedBack hart)) = IsFirst (IsHandedBack harts handed_back) hart
+NamesFirst harts handed_back (Some (stop.Ended hart)) =
+    IsFirst (IsOpenNotRefused harts) hart × IsOfNone (IsHandedBack harts handed_back)
+NamesFirst harts handed_back (Some (stop.Memory hart)) =
+    IsFirst (IsOpenHart harts) hart × ClosedUnlessRefused harts × IsOfNone (IsHandedBack harts handed_back)
+NamesFirst harts handed_back None = AreClosed harts

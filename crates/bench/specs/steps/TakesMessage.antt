@@ -12,14 +12,15 @@ use Rattle.decoder.specs.declared.fault.DecodeFault.TheVariants as decode_fault
 use Rattle.message.specs.Accepting.{accepting, harts_after}
 use Rattle.message.specs.declared.fault.DemuxFault.{DemuxFault}
 use Rattle.message.specs.declared.message.Message.{Message}
-use Rattle.receiver.specs.Refused.{IsNotDecoded}
-use Rattle.bench.specs.Collected.{Accepts, Came, Collected, HasCollected, HasDecoded, IsMessageOf, IsRefusedHart}
-use Rattle.bench.specs.Collected.{IsSameOf, Taken, with_packet}
+use Rattle.receiver.specs.NotReceived.{IsNotDecoded}
+use Rattle.bench.specs.Collected.{Accepts, Collected, HasCollected, HasDecoded, HasOutcome, IsMessageOf, IsRefusedHart}
+use Rattle.bench.specs.Collected.{IsSameOf, Taken, one_packet_more}
 use Rattle.bench.specs.Got.{Got}
 use Rattle.bench.specs.declared.collecting.CollectFault.{CollectFault}
 use Rattle.bench.specs.declared.collecting.CollectFault.TheVariants as fault
 
--- The clauses of `Collector::take_in`, for a message, the answer to it and what the collector had before and has then.
+-- The clauses of `Collector::take_in`, for a message, the result of the call, and what the collector had before it and
+-- has after it.
 pub record TakesMessage (message : Message) (result : Result (Unit {0}) CollectFault) (old new : Collected)
     : Type 0 where
   pub logs : (new.logs ≡ old.logs) × (new.keep ≡ old.keep)
@@ -31,10 +32,10 @@ pub record TakesMessage (message : Message) (result : Result (Unit {0}) CollectF
       → HasCollected period mode log count message.hart old
       → IsMessageOf period mode log count message → IfErr result (λ why. why ≡ fault.Memory)
   pub others : (hart : ℕ) → hart ≢ message.hart → IsSameOf hart old new
-  pub memory : (got : Got) (refused : Bool) → Came message.hart got refused old → result ≡ Err fault.Memory
-      → Came message.hart got true new
-  pub undecoded : (got : Got) (refused : Bool) (why : DecodeFault) → Came message.hart got refused old
-      → result ≡ Err (fault.Decode why) → Came message.hart got refused new
+  pub memory : (got : Got) (refused : Bool) → HasOutcome message.hart got refused old → result ≡ Err fault.Memory
+      → HasOutcome message.hart got true new
+  pub undecoded : (got : Got) (refused : Bool) (why : DecodeFault) → HasOutcome message.hart got refused old
+      → result ≡ Err (fault.Decode why) → HasOutcome message.hart got refused new
   pub not_accepted : (why : DemuxFault) → result ≡ Err (fault.Demux why) → new ≡ old
   pub demux : ¬ IsRefusedHart message.hart old → (why : DemuxFault)
       → (result ≡ Err (fault.Demux why)) ↔ (accepting old.received.expected message ≡ Err why)
@@ -52,7 +53,7 @@ pub record TakesMessage (message : Message) (result : Result (Unit {0}) CollectF
   pub counts : (packet : Packet) (taken : Taken) → Accepts message packet old
       → slice_get old.harts message.hart ≡ Some taken
       → OnOk result (slice_get new.harts message.hart
-      ≡ Some (with_packet old.keep packet (length message.payload) taken))
+      ≡ Some (one_packet_more old.keep packet (length message.payload) taken))
   pub expected : ¬ IsRefusedHart message.hart old
       → new.received.expected ≡ harts_after old.received.expected message
   pub kept : OnErr result (new.received ≡ record old.received { expected = harts_after old.received.expected message })

@@ -6,34 +6,34 @@ use Rattle.payload.specs.declared.mode.Mode.{Mode}
 use Rattle.encoder.specs.Packets.{packets}
 use Rattle.message.specs.OfHart.{of_hart}
 use Rattle.message.specs.declared.message.Message.{Message}
-use Rattle.bench.specs.Collected.{Came, Collected, HasCollected, IsMessageOf, IsRefusedHart, Taken}
+use Rattle.bench.specs.Collected.{Collected, HasCollected, HasOutcome, IsMessageOf, IsRefusedHart, Taken}
 use Rattle.bench.specs.Got.{got_after, kept}
 use Rattle.bench.specs.declared.stop.Stop.{Stop}
 use Rattle.bench.specs.declared.stop.Stop.TheVariants as stop
 
--- Memory for the hart was refused, when fewer of its messages had come than were taken, or none was taken, and not all
--- of its log's.
+-- Memory for the hart was refused. Fewer of its messages came than were taken, or none was taken, and not all of its
+-- log's came.
 pub record IsCutOff (period : ℕ) (mode : Mode) (log : ProgramLog) (taken hart : ℕ) (collected : Collected)
     : Type 0 where
   pub count : ℕ
   pub within : count ≤ taken
   pub lacks : 0 < taken → count < taken
   pub few : count < length (packets (words_of log.program) period mode log.events)
-  pub came : Came hart (kept collected.keep (got_after period mode log count)) true collected
+  pub came : HasOutcome hart (kept collected.keep (got_after period mode log count)) true collected
 
--- All of the messages that were taken of the hart came, so many, or memory for it was refused.
+-- All messages of the hart that were taken came, this many, or memory for the hart was refused.
 abbrev pub IsTakenOf : ℕ → Mode → ProgramLog → ℕ → ℕ → Collected → Type 0
 IsTakenOf period mode log taken hart collected =
     HasCollected period mode log taken hart collected ⊎ IsCutOff period mode log taken hart collected
 
--- Of each hart the messages among these came, or memory for it was refused.
-pub record AreTaken (period : ℕ) (mode : Mode) (logs : List ProgramLog) (taken : List Message)
+-- The collector has these logs. The messages of each hart among these came, unless memory for the hart was refused.
+pub record CameUnlessRefused (period : ℕ) (mode : Mode) (logs : List ProgramLog) (taken : List Message)
     (collected : Collected) : Type 0 where
   pub own : collected.logs ≡ logs
   pub each : (hart : ℕ) (log : ProgramLog) → slice_get logs hart ≡ Some log
       → IsTakenOf period mode log (length (of_hart hart taken)) hart collected
 
--- Of each hart for which memory was refused fewer messages came than were taken.
+-- Where memory for a hart was refused, fewer messages of it came than were taken.
 abbrev pub LacksSome : List Message → Collected → Type 0
 LacksSome taken collected =
     (hart : ℕ) (log : ProgramLog) (at : Taken) → slice_get collected.logs hart ≡ Some log
@@ -51,16 +51,18 @@ abbrev pub IsFrontNext : ℕ → Mode → List ProgramLog → List Message → L
 IsFrontNext period mode logs taken [] = Unit {0}
 IsFrontNext period mode logs taken (message ∷ waiting) = IsNext period mode logs taken message
 
--- Messages came of those that were taken of a funnel, and the front one of those that wait is the next of its hart.
+-- The messages that were taken of a funnel came, unless memory for their hart was refused, and the front one of those
+-- that wait is the next of its hart.
 pub record IsReady (waiting : List Message) (collected : Collected) : Type 0 where
   pub period : ℕ
   pub mode : Mode
   pub logs : List ProgramLog
   pub taken : List Message
-  pub came : AreTaken period mode logs taken collected
+  pub came : CameUnlessRefused period mode logs taken collected
   pub next : IsFrontNext period mode logs taken waiting
 
--- There is no stop where memory for no hart was refused, and else it names such a hart.
+-- There is no stop exactly where memory was refused for no hart. Otherwise the stop is of the kind `Memory` and names a
+-- hart for which memory was refused.
 abbrev pub NamesRefusedHart : Option Stop → Collected → Type 0
 NamesRefusedHart None collected = (hart : ℕ) → hart < length collected.logs → ¬ IsRefusedHart hart collected
 NamesRefusedHart (Some (stop.Memory hart)) collected = (hart < length collected.logs) × IsRefusedHart hart collected

@@ -1,4 +1,4 @@
--- What a receiver holds of the messages of bytes.
+-- What a receiver holds once it has received the messages of bytes.
 use Rattle.std.specs.Prelude.{ℕ, ◌≡◌, ◌++◌, All, List, Option}
 use Rattle.rvclass.specs.Words.{Words}
 use Rattle.payload.specs.declared.mode.Mode.{Mode}
@@ -15,21 +15,21 @@ use Rattle.captures.specs.Decoded.{Stops}
 use Rattle.captures.specs.declared.outcome.CaptureFault.{CaptureFault}
 use Rattle.captures.specs.declared.outcome.CaptureFault.TheVariants as fault
 
--- A receiver accepted the messages with which the bytes begin, none of which opens a trace in another mode than was
--- told, and holds what they tell, and it stops before the rest.
-pub record HasCollected (words : Words) (harts : ℕ) (told : Option Mode) (bytes : List ℕ) (received : Received)
+-- A receiver accepted the messages with which the bytes begin, and holds what they decode to. None of them opens a
+-- trace in another mode than the announced one, if one is announced. Receiving stops before the rest.
+pub record HasReceivedUpTo (words : Words) (harts : ℕ) (announced : Option Mode) (bytes : List ℕ) (received : Received)
     (stop : Option (ℕ × CaptureFault)) : Type 0 where
   pub messages : List Message
   pub rest : List ℕ
   pub ranges : All IsMessage messages
   pub whole : bytes ≡ capture messages ++ rest
   pub accepted : AreAccepted (newcomers harts) messages
-  pub agree : All (Agrees told) messages
+  pub agree : All (Agrees announced) messages
   pub holds : Holds (λ hart. words) harts messages received
-  pub stops : Stops words harts told messages rest stop
+  pub stops : Stops words harts announced messages rest stop
 
--- What is told of a capture whose next message is not received.
-abbrev pub told_as : ReceiveFault → CaptureFault
-told_as (receiving.Demux why) = fault.Demux why
-told_as receiving.Mode = fault.Mode
-told_as (receiving.Decode why) = fault.Decode why
+-- The fault of a capture of which the next message is refused.
+abbrev pub as_capture_fault : ReceiveFault → CaptureFault
+as_capture_fault (receiving.Demux why) = fault.Demux why
+as_capture_fault receiving.Mode = fault.Mode
+as_capture_fault (receiving.Decode why) = fault.Decode why

@@ -12,7 +12,7 @@ use Rattle.captures.specs.declared.capture_reading.ReadFault.TheVariants as faul
 abbrev pub AreRead : List ℕ → List Message → Type 0
 AreRead bytes messages = All IsMessage messages × (bytes ≡ capture messages)
 
--- So many messages stand before bytes that begin none.
+-- The bytes are those of so many messages, behind which no whole message stands, for this reason.
 pub record AreCutOff (bytes : List ℕ) (number : ℕ) (why : MessageFault) : Type 0 where
   pub messages : List Message
   pub rest : List ℕ

@@ -45,9 +45,9 @@ const FAULTS: [Row; 19] = [
 ];
 
 #[test]
-fn lowest_fault_is_told(rt: HostRuntime) {
+fn lowest_fault_is_named(rt: HostRuntime) {
     for (harts, capacity, of_queue, of_channel) in FAULTS {
-        let told = faults(rt.alloc(), harts, capacity);
-        same_at(&rt, (harts, capacity), told, (of_queue, of_channel));
+        let found = faults(rt.alloc(), harts, capacity);
+        same_at(&rt, (harts, capacity), found, (of_queue, of_channel));
     }
 }

@@ -27,7 +27,7 @@ pub(crate) enum Fate {
     HandedBack,
 }
 
-/// What becomes of a payload of this byte at a port. Where one comes back, it is that one.
+/// What becomes of a payload of this byte at a port. Where a payload comes back, it is that one.
 pub(crate) fn fate_of<A: Allocator, R: Abort + Wait>(rt: &R, port: &mut Port<A>, byte: u8) -> Fate
     ensures { port.new.funnel ≡ port.old.funnel }
 {
@@ -74,7 +74,7 @@ pub(crate) fn has_ended<A: Allocator, R: Abort + Wait>(rt: &R, outlet: &mut Outl
     same_at(rt, "the end", outlet.take(rt), Err(Ended));
 }
 
-/// The two ports of a funnel of two harts, and its outlet; nothing where it is not opened.
+/// The two ports of a funnel of two harts, and its outlet; None where it is not opened.
 pub(crate) fn two<A: Allocator + Clone, R: Abort>(
     rt: &R,
     alloc: A,
@@ -91,7 +91,7 @@ pub(crate) fn two<A: Allocator + Clone, R: Abort>(
     Some((first, second, outlet))
 }
 
-/// A port that finishes leaves a receipt by which it sent so many messages, of which so many were taken.
+/// A port that finishes leaves a receipt by which it sent this many messages, and this many of them were taken.
 pub(crate) fn settles<A: Allocator, R: Abort>(
     rt: &R,
     outlet: &mut Outlet<A>,

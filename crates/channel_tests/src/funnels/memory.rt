@@ -13,7 +13,8 @@ use std::process::Abort;
 /// How many messages the funnel has room for.
 const CAPACITY: u32 = 100;
 
-/// A new queue of 64 harts takes so many messages, gives one more back, gives them in turn, and then none.
+/// A new queue of 64 harts takes as many messages as its capacity, gives one more back, then gives them in turn, and
+/// then none.
 fn fills_and_empties<A: Allocator, R: Abort>(rt: &R, core: &mut Core<A>)
     requires { core.old.harts ≡ 64 }
 {
@@ -35,8 +36,8 @@ fn fills_and_empties<A: Allocator, R: Abort>(rt: &R, core: &mut Core<A>)
     same_at(rt, "empty", core.take(), None);
 }
 
-/// Whether so much memory is enough for a queue, which takes no more then and gives none back. It is all free
-/// afterwards.
+/// Whether this much memory is enough for a queue. The queue then takes no more and gives none back, and all memory is
+/// free afterwards.
 pub(crate) fn is_made<R: Abort + AllocGlobal>(rt: &R, size: usize) -> bool {
     let heap = LocalHeap::new(rt.alloc(), size).expect(rt, "memory");
     let enough = match Core::new(&heap, 64, CAPACITY) {

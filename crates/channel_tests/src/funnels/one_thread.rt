@@ -3,7 +3,7 @@
 use super::made::{ENDED, OPEN, comes, is_closed, sends, settles, two};
 
 #[test]
-fn a_receipt_tells_what_was_sent_and_taken(rt: HostRuntime) {
+fn a_receipt_says_what_was_sent_and_taken(rt: HostRuntime) {
     let (mut first, mut second, mut outlet) = two(&rt, rt.alloc(), 4).expect(&rt, "a funnel");
     sends(&rt, &mut first, OPEN);
     sends(&rt, &mut second, OPEN);

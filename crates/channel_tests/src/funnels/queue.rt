@@ -10,8 +10,8 @@ use std::process::Abort;
 /// A message that waits: its hart, its number and its payload's byte.
 pub(crate) type Waiting = (u16, u64, u8);
 
-/// A queue of this capacity, in which so many messages wait, takes this message where it has room, and gives it back
-/// where it has none.
+/// A queue of this capacity, in which this many messages wait, takes the message that is offered where it has room, and
+/// gives it back where it has none.
 pub(crate) fn answers<R: Abort>(
     rt: &R,
     core: &mut Core,
@@ -32,7 +32,8 @@ pub(crate) fn answers<R: Abort>(
     same_at(rt, (capacity, number), answer, wanted);
 }
 
-/// The front message of a queue is this one, which is taken, or there is none. Where it is not, the place is told.
+/// The front message of a queue is this one, which is taken; or the queue is empty. Where that is not so, the failure
+/// names the place.
 pub(crate) fn gives<R: Abort>(rt: &R, core: &mut Core, place: (u32, u64), front: Option<Waiting>)
     ensures { core.new.harts ≡ core.old.harts }
 {

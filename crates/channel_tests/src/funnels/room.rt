@@ -16,15 +16,15 @@ pub(crate) fn ends_of<R: Abort + AllocGlobal>(rt: &R, capacity: u32) -> (Port, O
     (ports.pop().expect(rt, "a port"), outlet)
 }
 
-// Sends so many payloads, which fill the channel. What becomes of them is not asked: where a sender starts late, the
-// outlet may have been dropped.
+// Sends this many payloads, which fill the channel. What becomes of them is not asked: where the sender's thread is
+// slow to start, the outlet may have been dropped.
 pub(crate) fn fill<R: Abort + Wait>(rt: &R, port: &mut Port, capacity: u32) {
     for _ in 0..capacity {
         fate_of(rt, port, OPEN);
     }
 }
 
-// Fills the channel, sends the closing payload, asks that this becomes of it, and raises the flag.
+// Fills the channel, sends the closing payload, ends the test unless this becomes of it, and raises the flag.
 fn send_all<R: Abort + Wait>(
     rt: &R,
     mut port: Port,
@@ -45,7 +45,7 @@ fn stays_down<R: Abort + Clock>(rt: &R, flag: &AtomicBool) {
     }
 }
 
-// Lets a sender go on that waits: takes a message where its payload is to be sent, or else drops the outlet.
+// Lets a waiting sender go on: takes a message where its payload is to be sent, or else drops the outlet.
 fn let_go<R: Abort + Wait>(rt: &R, mut outlet: Outlet, wanted: Fate) -> Option<Outlet> {
     if wanted == Fate::HandedBack {
         return None;
@@ -54,7 +54,7 @@ fn let_go<R: Abort + Wait>(rt: &R, mut outlet: Outlet, wanted: Fate) -> Option<O
     Some(outlet)
 }
 
-// What waits behind the first message comes, the closing payload last.
+// The messages behind the first one come, that with the closing payload last.
 fn comes_whole<R: Abort + Wait>(rt: &R, mut outlet: Outlet, capacity: u32) {
     let last = u64::from(capacity);
     for number in 1..last {
@@ -63,8 +63,8 @@ fn comes_whole<R: Abort + Wait>(rt: &R, mut outlet: Outlet, capacity: u32) {
     comes(rt, &mut outlet, 0, last, ENDED);
 }
 
-// A sender that fills the channel waits with its closing payload until it is let go, and then this becomes of it. The
-// scope ends when the sender does.
+// A sender that fills the channel waits with its closing payload until it is let go, and then this becomes of the
+// payload. The scope ends when the sender does.
 fn is_held<R: Abort + AllocGlobal + Clock + Threads + Wait + Sync>(
     rt: &R,
     capacity: u32,

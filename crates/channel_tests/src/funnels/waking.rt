@@ -2,8 +2,8 @@
 //!
 //! A port that no one calls looks for room again by itself, 10 ms later. So a payload that a sleeping port sends sooner
 //! shows that the port was called. The rounds in which it does are counted. On a loaded machine a port that is called
-//! may go on late in some rounds, and in a few it may find room before it ever sleeps; a port that is never called is
-//! early in none but those few.
+//! may go on only after 10 ms in some rounds, and in a few it may find room before it ever sleeps. A port that is never
+//! called sends sooner only in those few.
 
 use super::made::{OPEN, comes, sends};
 use super::room::{ends_of, fill};
@@ -23,7 +23,7 @@ const CAPACITY: u32 = 8;
 /// How many of them are taken down to the low-water mark.
 const DEPTH: u64 = 4;
 
-/// How many milliseconds a port sleeps at least that no one calls.
+/// How many milliseconds a port that no one calls sleeps at least.
 const LONGEST: u128 = 10;
 
 /// How many rounds there are at most.
@@ -35,8 +35,8 @@ const ENOUGH: u64 = 10;
 /// What is raised in place of a round where no more come.
 const DONE: u64 = u64::MAX;
 
-/// Sends a payload through a port that finds no room, and raises the round before. Whether it was sent sooner than by a
-/// port that no one calls.
+/// Raises the round, and then sends a payload through a port that finds no room. Returns whether it was sent sooner
+/// than by a port that no one calls.
 fn is_called<R: Abort + Clock + Wait>(
     rt: &R,
     port: &mut Port,
@@ -51,7 +51,7 @@ fn is_called<R: Abort + Clock + Wait>(
 }
 
 /// Fills the funnel. In each round waits with one payload more until the funnel is drained to its low-water mark, and
-/// fills it again, until the port was called in enough rounds. In how many it was.
+/// fills it again, until the port was called in enough rounds. Returns in how many rounds it was called.
 fn wait_in_rounds<R: Abort + Clock + Wait>(rt: &R, mut port: Port, raised: &AtomicU64) -> u64 {
     fill(rt, &mut port, CAPACITY);
     let mut called = 0u64;
@@ -87,7 +87,7 @@ fn drain<R: Abort + Wait>(rt: &R, outlet: &mut Outlet, first: u64) {
     }
 }
 
-/// In how many rounds a port that waits is called, of as many as it takes for enough.
+/// In how many rounds a port that waits is called, over as many rounds as it takes for enough.
 fn rounds<R: Abort + AllocGlobal + Clock + Threads + Wait + Sync>(rt: &R) -> u64 {
     let (port, mut outlet) = ends_of(rt, CAPACITY);
     let raised = AtomicU64::new(0);

@@ -22,7 +22,7 @@ impl Promise<Receipt> for Sending {
 
 type Worker = PromisedHandle<Receipt, Sending>;
 
-// Sends so many payloads, none of which is closing.
+// Sends this many payloads, none of them closing.
 pub(crate) fn send_open<R: Abort + Wait>(rt: &R, port: &mut Port, count: u64)
     ensures { port.new.funnel ≡ port.old.funnel }
 {
@@ -31,7 +31,7 @@ pub(crate) fn send_open<R: Abort + Wait>(rt: &R, port: &mut Port, count: u64)
     }
 }
 
-// Sends so many payloads, of which the last alone is closing.
+// Sends this many payloads; the last one alone is closing.
 fn send_all<R: Abort + Wait>(rt: &R, mut port: Port, count: u64) -> Receipt
     ensures { result.funnel ≡ port.funnel }
 {
@@ -80,8 +80,8 @@ fn start_all<'s, E, R: Abort + AllocGlobal + Wait + Sync>(
     workers
 }
 
-// The message is the next of its hart, and closing where it is the last of so many. Where it is not, the capacity
-// and the hart are told.
+// The message is the next of its hart, and closing where it is the last of this count. Where it is not, the failure
+// names the capacity and the hart.
 fn is_next<R: Abort>(rt: &R, message: &Message, next: &mut [u64; 64], capacity: u32, count: u64) {
     let number = next
         .get_mut(usize::from(message.hart))
@@ -114,7 +114,7 @@ pub(crate) fn take_next<R: Abort + Wait>(
     true
 }
 
-// Takes so many messages, each the next of its hart.
+// Takes this many messages, each the next of its hart.
 fn take_some<R: Abort + Wait>(
     rt: &R,
     outlet: &mut Outlet,
@@ -131,7 +131,7 @@ fn take_some<R: Abort + Wait>(
     }
 }
 
-// Joins all workers: each sent so many payloads, and the outlet tells how many were taken.
+// Joins all workers: each sent this count of payloads, and the outlet returns how many of them were taken.
 fn settle_all<R: Abort + Threads>(
     rt: &R,
     mut workers: Vec<Worker>,
@@ -150,9 +150,9 @@ fn settle_all<R: Abort + Threads>(
     }
 }
 
-// Starts the workers, takes until so many messages are left, settles the receipts, and takes what is left, for which
-// the channel has room. No end is left by then that sends, so a lost message shows as the channel's end. Where none are
-// left, each receipt has to say that all its hart sent was taken.
+// Starts the workers, takes until this many messages are left, settles the receipts, and takes what is left, for which
+// the channel has room. No sending end is left by then, so a lost message shows as the channel's end. Where no messages
+// are left, each receipt has to say that all its hart sent was taken.
 fn conduct<'s, E, R: Abort + AllocGlobal + Threads + Wait + Sync>(
     scope: &Scope<'s, E>,
     rt: &'s R,
@@ -175,8 +175,8 @@ fn conduct<'s, E, R: Abort + AllocGlobal + Threads + Wait + Sync>(
     same_at(rt, (capacity, "the end"), outlet.take(rt), Err(Ended));
 }
 
-// All that so many workers send is taken in order, their receipts say so while so many messages are left, and then the
-// channel ends.
+// All that the workers of these harts send is taken in order, their receipts say so while this many messages are left,
+// and then the channel ends.
 fn is_settled<R: Abort + AllocGlobal + Threads + Wait + Sync>(
     rt: &R,
     harts: u16,
@@ -194,7 +194,7 @@ fn is_settled<R: Abort + AllocGlobal + Threads + Wait + Sync>(
     )
 }
 
-// The same, where the channel is full of messages that are left, or has room for all.
+// The same, where the messages that are left fill the channel, or all of them are left.
 pub(crate) fn is_whole<R: Abort + AllocGlobal + Threads + Wait + Sync>(
     rt: &R,
     harts: u16,

@@ -18,7 +18,7 @@ const ENDED: &[u8] = &[0x4f];
 
 const RESERVED: &[u8] = &[0x53];
 
-/// Why a reserved packet is not accepted.
+/// Why a packet of the reserved privilege is refused.
 const BAD: DemuxFault = DemuxFault::Packet(PackFault::BadPrivilege);
 
 /// By which call a message is handed over.
@@ -28,8 +28,8 @@ enum Call {
     AcceptLossy,
 }
 
-/// A message: by which call it is handed over, its hart, its number and its payload; and how many were missed before
-/// it, or why it is not accepted.
+/// A message: by which call it is handed over, its hart, its number and its payload; and how many numbers are missing
+/// before it, or why it is refused.
 type Row = (Call, u16, u64, &'static [u8], Result<u64, DemuxFault>);
 
 /// A name, a count of harts, messages in order, and the rows from which on harts 0 and 1 are closed.
@@ -38,8 +38,8 @@ type Run = (&'static str, u16, &'static [Row], [usize; 2]);
 const NEVER: [usize; 2] = [usize::MAX, usize::MAX];
 
 const RUNS: [Run; 4] = [
-    ("none may be missed", 2, &WITHOUT_LOSSES, [13, 17]),
-    ("some may be missed", 2, &AFTER_LOSSES, [14, usize::MAX]),
+    ("none may be missing", 2, &WITHOUT_LOSSES, [13, 17]),
+    ("some may be missing", 2, &AFTER_LOSSES, [14, usize::MAX]),
     ("both calls", 1, &BOTH_CALLS, NEVER),
     ("no more than 2^63", 1, &TO_THE_LAST, NEVER),
 ];
@@ -114,7 +114,7 @@ const TO_THE_LAST: [Row; 7] = [
     (Accept, 0, LAST + 2, OPEN, Err(AfterClose)),
 ];
 
-/// What a call answers to a message, and how many were missed before it.
+/// What a call returns for a message, with how many numbers are missing before it.
 fn answer(demux: &mut Demux, call: Call, message: &Message) -> Result<(Packet, u64), DemuxFault> {
     match call {
         Accept => match demux.accept(message) {
@@ -126,17 +126,17 @@ fn answer(demux: &mut Demux, call: Call, message: &Message) -> Result<(Packet, u
 }
 
 /// Ends the test unless a message is accepted, or refused, as its row says.
-fn is_told(rt: &impl Abort, place: (&str, usize), demux: &mut Demux, row: Row) {
-    let (call, hart, number, bytes, told) = row;
-    let want = match told {
-        Ok(missed) => Ok((payload::unpack(bytes).expect(rt, "a packet"), missed)),
+fn answers_as(rt: &impl Abort, place: (&str, usize), demux: &mut Demux, row: Row) {
+    let (call, hart, number, bytes, missing) = row;
+    let want = match missing {
+        Ok(missing) => Ok((payload::unpack(bytes).expect(rt, "a packet"), missing)),
         Err(fault) => Err(fault),
     };
     let message = message(rt, hart, number, bytes);
     same_at(rt, place, answer(demux, call, &message), want);
 }
 
-/// Whether harts 0 and 1 are closed, and others.
+/// Whether harts 0 and 1 are closed, and two others.
 fn closed(demux: &Demux) -> [bool; 4] {
     [
         demux.is_closed(0),
@@ -146,11 +146,11 @@ fn closed(demux: &Demux) -> [bool; 4] {
     ]
 }
 
-/// Ends the test unless each row is answered as it says, and those harts are closed behind it that have to be.
-fn are_told<R: Abort + AllocGlobal>(rt: &R, (name, harts, rows, [first, second]): Run) {
+/// Ends the test unless each row is answered as it says, and just those harts are closed behind it that have to be.
+fn answer_as<R: Abort + AllocGlobal>(rt: &R, (name, harts, rows, [first, second]): Run) {
     let mut demux = Demux::new(rt.alloc(), harts).expect(rt, "memory");
     for (place, row) in rows.iter().enumerate() {
-        is_told(rt, (name, place), &mut demux, *row);
+        answers_as(rt, (name, place), &mut demux, *row);
         let want = [place >= first, place >= second, false, false];
         same_at(rt, (name, place), closed(&demux), want);
     }
@@ -161,6 +161,6 @@ fn messages_by_table(rt: HostRuntime) {
     let open = Packet::Support(Support::Open(Mode::Differential));
     same_at(&rt, "open", payload::unpack(OPEN), Ok(open));
     for run in RUNS {
-        are_told(&rt, run);
+        answer_as(&rt, run);
     }
 }

@@ -14,18 +14,18 @@ use std::process::Abort;
 /// The bytes of a message.
 const WHOLE: [u8; 16] = [7, 0, 9, 0, 0, 0, 0, 0, 0, 0, 5, 0x73, 0, 0, 0, 0x20];
 
-/// A header, and what it tells.
+/// A header, and its settings.
 const HEADER: [u8; 16] = [
     0xff, 0xff, 0x72, 0x76, 0x74, 0x72, 0x61, 0x63, 0x65, 0x32, 0, 1, 0x34, 0x12, 0x21, 0x03,
 ];
 
-const TOLD: Header = Header {
+const SETTINGS: Header = Header {
     mode: Mode::Full,
     period: 0x1234,
     harts: 0x0321,
 };
 
-/// A reader of some bytes, one a call, that answers an error at one call.
+/// A reader of some bytes, one a call, that fails with an error of this kind at one call, after this many.
 #[derive(Drop)]
 struct FailingReader<'a> {
     rest: &'a [u8],
@@ -50,7 +50,7 @@ fn start_of(rest: &[u8], calls: usize, kind: ErrorKind) -> Result<Start, Message
     read_start(&mut FailingReader { rest, calls, kind })
 }
 
-/// Ends the test unless so many bytes of the message, and of the header, are read with this fault.
+/// Ends the test unless reading this many bytes of the message, and of the header, returns this fault.
 pub(crate) fn are_refused(
     rt: &impl Abort,
     length: usize,
@@ -70,8 +70,8 @@ pub(crate) fn are_refused(
     same_at(rt, place, start, Err(fault));
 }
 
-/// Ends the test unless the message and the header are read by readers that fail at one call, and this is answered
-/// behind the message.
+/// Ends the test unless the message and the header are read by readers that fail at one call, and reading behind the
+/// message returns this.
 pub(crate) fn are_read(
     rt: &impl Abort,
     calls: usize,
@@ -87,7 +87,7 @@ pub(crate) fn are_read(
     same_at(rt, (kind, calls), read_message(&mut reader), Ok(Some(sent)));
     same_at(rt, (kind, calls), read_message(&mut reader), behind);
     let start = start_of(&HEADER, calls, kind);
-    same_at(rt, (kind, calls), start, Ok(Start::Version2(TOLD)));
+    same_at(rt, (kind, calls), start, Ok(Start::Version2(SETTINGS)));
 }
 
 #[test]
@@ -105,8 +105,8 @@ fn readers_of_one_byte_a_call(rt: HostRuntime) {
     are_read(&rt, 5, ErrorKind::Interrupted, Ok(None));
 }
 
-/// Ends the test unless a message, and a header, are written so by writers that fail at one call, behind so many, of
-/// which each then holds the first bytes of it, that many.
+/// Ends the test unless a message, and a header, are written so to writers that fail at one call, after this many. Each
+/// writer then holds as many of the first bytes.
 pub(crate) fn are_written<R: Abort + AllocGlobal>(
     rt: &R,
     calls: usize,
@@ -124,7 +124,7 @@ pub(crate) fn are_written<R: Abort + AllocGlobal>(
         held: Vec::new(rt.alloc()),
         calls,
     };
-    same_at(rt, calls, write_header(&mut writer, &TOLD), end);
+    same_at(rt, calls, write_header(&mut writer, &SETTINGS), end);
     same_at(rt, calls, writer.held.as_slice(), &HEADER[..length]);
 }
 

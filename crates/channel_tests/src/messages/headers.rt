@@ -19,7 +19,7 @@ const HEADER: Header = Header {
     harts: 1,
 };
 
-/// A mode, a period, a count of harts, and the bytes that tell them.
+/// A mode, a period, a count of harts, and the bytes of them.
 const HEADERS: [(Mode, u16, u16, [u8; 5]); 5] = [
     (Mode::Differential, 1024, 1, [0, 0x00, 0x04, 0x01, 0x00]),
     (Mode::Full, 1024, 1, [1, 0x00, 0x04, 0x01, 0x00]),
@@ -52,11 +52,11 @@ pub(crate) fn reads(
     settings: [u8; 5],
     header: Result<Header, MessageFault>,
 ) {
-    let (told, start) = match header {
+    let (wanted, start) = match header {
         Ok(header) => (Ok(Some(header)), Ok(Start::Version2(header))),
         Err(fault) => (Err(fault), Err(fault)),
     };
-    same_at(rt, settings, Messages::new(bytes).header(), told);
+    same_at(rt, settings, Messages::new(bytes).header(), wanted);
     same_at(rt, settings, read_start(&mut &bytes[..]), start);
 }
 
@@ -91,7 +91,7 @@ fn messages_follow_a_header(rt: HostRuntime) {
     same_at(&rt, "no other message", messages.next(), Ok(None));
 }
 
-/// Ends the test unless bytes are no header, and what is read of them is so.
+/// Ends the test unless bytes have no header, and the start that is read of them is this.
 pub(crate) fn bear_no_mark<P: Copy + Debug + Drop>(
     rt: &impl Abort,
     place: P,
@@ -115,7 +115,7 @@ fn what_bears_no_mark_is_version_1(rt: HostRuntime) {
 }
 
 /// Ends the test unless bytes that begin as a header does are short: as messages where the mark is cut, and as a header
-/// behind it.
+/// where they are cut behind it.
 pub(crate) fn are_short(rt: &impl Abort, bytes: &[u8]) {
     let length = bytes.len();
     let mut messages = Messages::new(bytes);
@@ -139,7 +139,7 @@ fn cut_headers_are_short(rt: HostRuntime) {
     are_short(&rt, &bytes[..12]);
 }
 
-/// Settings that tell no header: another mode, a period of 0, no harts, and more harts than there may be.
+/// Settings of no header: another mode, a period of 0, no harts, and more harts than there may be.
 const BAD_SETTINGS: [[u8; 5]; 5] = [
     [2, 0x00, 0x04, 0x01, 0x00],
     [255, 0x00, 0x04, 0x01, 0x00],

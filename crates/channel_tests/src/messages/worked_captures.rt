@@ -25,8 +25,8 @@ fn capture_is_written(rt: HostRuntime) {
     same_at(&rt, "the capture", bytes.as_slice(), GAP.as_slice());
 }
 
-/// Ends the test unless so many messages of the capture are read from its beginning, both ways, and this is answered
-/// behind them.
+/// Ends the test unless this count of messages of the capture is read from its beginning, both ways, and reading ends
+/// so behind them.
 pub(crate) fn are_read(rt: &impl Abort, bytes: &[u8], count: usize, end: Result<(), MessageFault>) {
     let length = bytes.len();
     let mut rest = bytes;
@@ -43,7 +43,7 @@ pub(crate) fn are_read(rt: &impl Abort, bytes: &[u8], count: usize, end: Result<
     }
 }
 
-/// What reading answers.
+/// What reading returns.
 type Read = Result<Option<Message>, MessageFault>;
 
 /// Ends the test unless this message is read: its hart, its number and its payload.
@@ -68,7 +68,7 @@ fn end_at(rt: &impl Abort, length: usize, read: Read, end: Result<(), MessageFau
 
 const SHORT: Result<(), MessageFault> = Err(MessageFault::Short);
 
-/// Lengths of beginnings of the capture, how many messages each has, and what is answered behind them.
+/// Lengths of beginnings of the capture, how many messages each has, and how reading ends behind them.
 const BEGINNINGS: [(usize, usize, Result<(), MessageFault>); 8] = [
     (0, 0, Ok(())),
     (1, 0, SHORT),
@@ -80,7 +80,7 @@ const BEGINNINGS: [(usize, usize, Result<(), MessageFault>); 8] = [
     (40, 3, Ok(())),
 ];
 
-/// At the end, and in memory also at a fault, the same is answered again.
+/// At the end, and in memory also at a fault, reading again returns the same.
 #[test]
 fn capture_is_read_and_cut_it_is_short(rt: HostRuntime) {
     for (length, count, end) in BEGINNINGS {
@@ -102,7 +102,7 @@ fn bytes_stand_in_their_order(rt: HostRuntime) {
     same_at(&rt, "read", read, Ok(Some(sent)));
 }
 
-/// Ends the test unless bytes are refused for the length that they tell, both ways.
+/// Ends the test unless bytes are refused for the length that they hold, both ways.
 fn refuses_length(rt: &impl Abort, length: u8, mut bytes: &[u8]) {
     let place = usize::from(length);
     let bad = Err(MessageFault::BadLength);
@@ -111,7 +111,7 @@ fn refuses_length(rt: &impl Abort, length: u8, mut bytes: &[u8]) {
 }
 
 /// Ends the test unless a length of a payload is taken where it is 1 to 18, and else is refused, also where no byte of
-/// the payload stands.
+/// the payload is there.
 pub(crate) fn is_taken(rt: &impl Abort, length: u8) {
     let mut bytes = [7; 29];
     bytes[10] = length;

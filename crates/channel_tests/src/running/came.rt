@@ -8,7 +8,7 @@ use std::fmt::Debug;
 use std::process::Abort;
 
 /// What came of a hart, but for its events: how many packets, how many bytes their payloads had, how many packets were
-/// kept, whether it closed, and whether memory was refused.
+/// kept, whether it is closed, and whether memory was refused.
 #[derive(Clone, Copy, Debug, PartialEq, Eq)]
 pub(crate) struct End {
     pub(crate) taken: u64,
@@ -29,7 +29,7 @@ pub(crate) fn end_of<A: Allocator>(came: &HartOutcome<A>) -> End {
     }
 }
 
-/// Ends the test unless this came of a hart, whose events are the first of these, and all of them where it closed.
+/// Ends the test unless this came of a hart, whose events are the first of these, and all of them where it is closed.
 pub(crate) fn came_at<P: Copy + Debug + Drop, A: Allocator>(
     rt: &impl Abort,
     place: P,

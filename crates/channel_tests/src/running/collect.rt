@@ -24,7 +24,7 @@ pub(crate) struct Sent {
 /// A period that is longer than both logs.
 const PERIOD: u16 = 1024;
 
-/// Takes the first messages of a log of this period in, this many.
+/// Takes in the first messages of a log, this many, at this period.
 pub(crate) fn send<A: Allocator + Copy>(
     collector: &mut Collector<'_, '_, A>,
     log: &LegalLog<'_>,
@@ -53,8 +53,8 @@ pub(crate) fn send<A: Allocator + Copy>(
     sent
 }
 
-/// What comes of all messages of the first log, five packets of nine bytes, and of three of the second, of as many
-/// bytes as were sent; of each, so many packets are kept.
+/// What comes of all messages of the first log, five packets of nine bytes, and of three messages of the second, of as
+/// many bytes as were sent. These counts of packets are kept.
 fn ends(bytes: u64, kept: [usize; 2]) -> [End; 2] {
     let whole = End {
         taken: 5,
@@ -74,7 +74,7 @@ fn ends(bytes: u64, kept: [usize; 2]) -> [End; 2] {
 }
 
 /// Ends the test unless all messages of the first log are taken in, though more are asked for, and three of the second,
-/// and they come to what they should, with so many packets kept.
+/// and they come to what they should, with these counts of packets kept.
 fn comes<R: Abort + AllocGlobal>(rt: &R, logs: &[LegalLog<'_>; 2], keep: bool, kept: [usize; 2]) {
     let mut collector = Collector::new(rt.alloc(), logs, keep).expect(rt, "memory");
     same_at(
@@ -128,7 +128,7 @@ const ANSWERS: [Answer; 5] = [
     ),
 ];
 
-/// Ends the test unless this is answered to a message of these bytes.
+/// Ends the test unless this is returned for a message of these bytes.
 fn answers<A: Allocator + Copy>(
     rt: &impl Abort,
     collector: &mut Collector<'_, '_, A>,

@@ -1,4 +1,4 @@
-//! Calls that may answer that memory is refused, with the most harts and with more than 65,536 messages of one hart.
+//! Calls that may return that memory is refused, with the most harts and with more than 65,536 messages of one hart.
 
 use super::collect::send;
 use super::made::{came_back, kinds, legal_log, program, retired};
@@ -20,7 +20,7 @@ const CONFIG: Config = Config {
     keep: true,
 };
 
-/// The logs of so many harts, the last of which takes the branch 65,600 times.
+/// The logs of this many harts; the last hart takes the branch 65,600 times.
 fn long_logs<'p, R: Abort + AllocGlobal>(
     rt: &R,
     program: &'p Program,
@@ -33,13 +33,13 @@ fn long_logs<'p, R: Abort + AllocGlobal>(
     logs
 }
 
-/// How many messages a log has where each event has a packet of its own: these, the one that opens, and the one that
-/// closes.
+/// How many messages a log has where each event has a packet of its own: these, the one that opens the trace, and the
+/// one that closes it.
 fn messages_of(log: &LegalLog<'_>) -> u64 {
     (log.events().len() as u64).saturating_add(2)
 }
 
-/// Takes all messages of a log in.
+/// Takes in all messages of a log.
 fn takes_all<R: Abort>(rt: &R, collector: &mut Collector<'_, '_>, hart: usize, log: &LegalLog<'_>) {
     let hart = u16::try_from(hart).expect(rt, "a hart");
     let count = messages_of(log);
@@ -70,7 +70,7 @@ fn a_collector_of_65535_harts_takes_messages_in(rt: HostRuntime) {
     takes_all(&rt, &mut collector, 65_534, last);
 }
 
-/// Adds turns by which each of so many messages of a hart is taken at once.
+/// Adds turns by which a hart sends this many messages and each is taken at once.
 fn add_turns<R: Abort>(rt: &R, turns: &mut Vec<Turn>, hart: usize, count: u64) {
     let hart = u16::try_from(hart).expect(rt, "a hart");
     for _ in 0..count {

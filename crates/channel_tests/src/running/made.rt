@@ -81,7 +81,7 @@ pub(crate) fn logs<'p, R: Abort + AllocGlobal>(rt: &R, program: &'p Program) -> 
     ]
 }
 
-/// The logs of so many harts, of both kinds in turn.
+/// The logs of this many harts, of both kinds in turn.
 pub(crate) fn kinds<'p, R: Abort + AllocGlobal>(
     rt: &R,
     program: &'p Program,

@@ -52,7 +52,8 @@ fn memory_is_refused_for_the_first_hart(rt: HostRuntime) {
     reports_at(&rt, "a run", &outcome, &logs, FIRST_REFUSED);
 }
 
-/// Takes the messages of a log in; while that of this number is, all that is free of the heap is held.
+/// Takes in the messages of a log. While the message with the number `refused` is taken in, all free memory of the heap
+/// is held.
 fn send(
     rt: &impl Abort,
     heap: &LocalHeap,

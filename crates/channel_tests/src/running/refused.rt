@@ -1,5 +1,5 @@
-//! Each request for memory refused in turn: those of a replay, of a run of two harts, and of what a report is written
-//! into.
+//! Each request for memory is refused in turn: those of a replay, of a run of two harts, and of what a report is
+//! written into.
 
 use super::made::{TURNS, WHOLE, logs, program, reports_at};
 use super::memory::FIRST_REFUSED;
@@ -46,8 +46,9 @@ const REFUSED: [&str; 5] = [
 /// What a call returned.
 type Answer<'h> = Result<Outcome<&'h Refusing<Global>>, Setup>;
 
-/// Ends the test unless this is the answer where the request at this place is refused, behind so many that come before
-/// anything is sent: the fault, or an outcome with its report, which takes no memory of the outcome's.
+/// Ends the test unless this is the answer where the request at this place is refused. That is the fault for a request
+/// that comes before anything is sent, as the first `before` do; else an outcome with its report, which takes no memory
+/// of the outcome's.
 fn ends_at<R: Abort + AllocGlobal>(
     rt: &R,
     place: usize,
@@ -101,7 +102,7 @@ impl Gate for OneAfterTheOther {
     }
 }
 
-// No stop is that of a payload that was handed back, or of a channel that ended.
+// No stop is one of a payload that was handed back, or of a channel that ended.
 #[test]
 fn each_request_of_a_run(rt: HostRuntime) {
     let program = program(&rt);
@@ -124,7 +125,7 @@ const BEGINNINGS: [&str; 3] = [
     hart 1: 4 events, 4 packets, 9 payload bytes, decoded 4, whole\n",
 ];
 
-// A report takes no memory but what its text is written into.
+// A report takes no memory but that which its text is written into.
 #[test]
 fn each_request_of_a_report(rt: HostRuntime) {
     let program = program(&rt);

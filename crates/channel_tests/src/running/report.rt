@@ -8,7 +8,7 @@ use legalpath::LegalLog;
 use retire::{Event, WriteFault};
 use std::process::Abort;
 
-/// What came of a hart whose events these are, with so many packets of so many payload bytes.
+/// What came of a hart with these events, this many packets and this many payload bytes.
 fn hart<R: AllocGlobal>(
     rt: &R,
     decoded: Vec<Event>,
@@ -145,8 +145,8 @@ fn stops(rt: HostRuntime) {
     }
 }
 
-/// Ends the test unless a writer that fails at one call, behind so many, holds the first bytes of this report, that
-/// many, and its fault is returned.
+/// Ends the test unless a writer that fails at one call, after this many, holds as many of the first bytes of this
+/// report, and its fault is returned.
 pub(crate) fn cut_at<R: Abort + AllocGlobal>(
     rt: &R,
     calls: usize,
@@ -162,13 +162,13 @@ pub(crate) fn cut_at<R: Abort + AllocGlobal>(
         logs.len() == outcome.harts.len(),
         "another number of harts"
     );
-    let told = report(outcome, logs, &mut sink);
+    let found = report(outcome, logs, &mut sink);
     let fault = if calls < want.len() {
         Err(WriteFault::Write)
     } else {
         Ok(())
     };
-    same_at(rt, calls, told, fault);
+    same_at(rt, calls, found, fault);
     same_at(
         rt,
         calls,

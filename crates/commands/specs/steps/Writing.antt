@@ -1,4 +1,4 @@
--- How the writing of logs ends.
+-- How writing the decoded logs ends.
 use Rattle.std.specs.Prelude.{◌≡◌, ◌⊎◌, ℕ, ◌++◌, Bool, List, ◌∷◌, Option, Result, Err, length}
 use Rattle.std.specs.Io.KnownBytes.{Appends}
 use Rattle.captures.specs.declared.outcome.CaptureFault.{CaptureFault}
@@ -10,7 +10,7 @@ use Rattle.commands.specs.declared.fault.Fault.{Fault}
 use Rattle.commands.specs.declared.fault.Fault.TheVariants as fault
 use Rattle.commands.specs.declared.status.Status.{Status}
 
--- The texts of the first harts were appended, and the line of the next one, whose log was not begun.
+-- The texts of some first harts were appended, and then the line of the next hart without any of its log.
 pub record StopsBehindLine (lists : List (List Event)) (old new : Option (List ℕ)) : Type 0 where
   pub front : List (List Event)
   pub next : List Event
@@ -18,8 +18,8 @@ pub record StopsBehindLine (lists : List (List Event)) (old new : Option (List �
   pub parted : lists ≡ front ++ next ∷ later
   pub appended : Appends old new (harts_text 0 front ++ hart_line (length front))
 
--- The texts of all harts were appended, and the end is that of decoding, whatever its fault; or else the output failed,
--- or memory for the text of a log was refused, which is behind the line of its hart.
+-- The texts of all harts were appended, and the run ends as decoding did, at a fault too. Or else the output failed. Or
+-- memory for the text of a log was refused, once the line of its hart was written.
 abbrev pub EndsWriting : List (List Event) → List Bool → Option (ℕ × CaptureFault) → Result Status Fault
     → Option (List ℕ) → Option (List ℕ) → Type 0
 EndsWriting lists closed stop ended old new =

@@ -3,7 +3,8 @@ use Rattle.decoder.specs.declared.fault.DecodeFault.{DecodeFault}
 use Rattle.decoder.specs.declared.fault.DecodeFault.TheVariants.{NotOpened, OffProgram, MissedNotify, Branches}
 use Rattle.decoder.specs.declared.fault.DecodeFault.TheVariants.{WrongPlace, WrongPrivilege, AfterClose, Memory}
 
--- The fault is one of the events that a packet reports: the trace is open, and no room was refused.
+-- The fault is about the events that a packet reports. It is not about a trace that is not open, and not about refused
+-- memory.
 abbrev pub IsOnTheWay : DecodeFault → Type 0
 IsOnTheWay NotOpened = ⊥
 IsOnTheWay OffProgram = Unit {0}

@@ -4,8 +4,8 @@ use Rattle.rvclass.specs.Fetch.{words_of}
 use Rattle.rvclass.specs.Image.{Image}
 use Rattle.rvclass.specs.Words.{IsProgram, LiesIn}
 
--- So many retirements a walk has at most: 32 times as many as halfwords lie in the program's image, where all of its
--- words stand, so that none is met twice with as many outcomes left.
+-- A walk has at most this many retirements: 32 for each halfword of the program's image, which has at most 2^24 bytes.
+-- All words of the program stand in the image, and a walk meets none twice with the same number of outcomes left.
 pub record IsLongest (program : Image) (longest : ℕ) : Type 0 where
   pub value : longest ≡ 32 * (length program.bytes / 2)
   pub small : length program.bytes ≤ 2 ^ 24

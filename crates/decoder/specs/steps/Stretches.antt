@@ -7,7 +7,7 @@ use Rattle.rvclass.specs.Words.{Words}
 use Rattle.legalpath.specs.Legal.{FollowOn}
 use Rattle.legalpath.specs.Right.{Right}
 use Rattle.decoder.specs.steps.Faults.{IsOnTheWay}
-use Rattle.decoder.specs.steps.Walks.{event_of, end_of, IsHere, WalksOn}
+use Rattle.decoder.specs.steps.Walks.{event_of, goal_end, IsHere, WalksOn}
 use Rattle.decoder.specs.declared.fault.DecodeFault.{DecodeFault}
 use Rattle.decoder.specs.declared.stretch.Stretch.{Stretch}
 use Rattle.decoder.specs.declared.stretch.Stretch.TheVariants.{Nothing, One, Two, Walk}
@@ -58,7 +58,7 @@ Gives words Nothing events = events ≡ []
 Gives words (One event) events = events ≡ event ∷ []
 Gives words (Two trap event) events = events ≡ trap ∷ event ∷ []
 Gives words (Walk walk) events =
-    IsHere words walk.from × WalksOn words (event_of walk.from) walk.outcomes (end_of walk.goal) events ×
+    IsHere words walk.from × WalksOn words (event_of walk.from) walk.outcomes (goal_end walk.goal) events ×
     (walk.walked.count ≡ length events) ×
     (last_or (Some (event_of walk.from)) events ≡ Some walk.walked.last)
 
@@ -67,23 +67,23 @@ abbrev pub RightBefore : Words → Option Event → Type 0
 RightBefore words None = Unit {0}
 RightBefore words (Some before) = Right words before
 
--- The stretch has events that fit and may follow the event before.
+-- The stretch has events that fit and may follow the event before, where that is right.
 pub record Suits (words : Words) (before : Option Event) (Fit : List Event → Type 0) (stretch : Stretch) : Type 0 where
   pub events : List Event
   pub gives : Gives words stretch events
   pub fits : RightBefore words before → Fit events × FollowOn words before events
 
--- These events fit and may follow the event before.
+-- These events fit and may follow the event before, where that is right.
 abbrev pub SuitsOne : Words → Option Event → (List Event → Type 0) → List Event → Type 0
 SuitsOne words before Fit events = RightBefore words before → Fit events × FollowOn words before events
 
--- No events fit and may follow the event before, and the fault is of a kind that tells so.
+-- No events fit and may follow the event before, where that is right. The fault is one of those on the way.
 pub record SuitsNone (words : Words) (before : Option Event) (Fit : List Event → Type 0) (fault : DecodeFault) : Type
     0 where
   pub named : IsOnTheWay fault
   pub none : RightBefore words before → (events : List Event) → Fit events → FollowOn words before events → ⊥
 
--- There is room for the events of the stretch.
+-- There is room for the events of the stretch behind `len` events.
 abbrev pub HasRoomFor : Words → Stretch → ℕ → ℕ → Type 0
 HasRoomFor words stretch len capacity =
     (events : List Event) × Gives words stretch events × (len + length events ≤ capacity)
@@ -92,8 +92,8 @@ HasRoomFor words stretch len capacity =
 abbrev pub AddsStretch : Words → Stretch → List Event → List Event → Type 0
 AddsStretch words stretch old new = (events : List Event) → Gives words stretch events → new ≡ old ++ events
 
--- A walk that is written was added, and only where what stands before it is in the list; of any other stretch nothing
--- was added.
+-- A walk that is written was added, and then what comes before it is written too. Of any other stretch nothing was
+-- added.
 abbrev pub AddsSoFar : Words → Progress → Stretch → List Event → List Event → Type 0
 AddsSoFar words ahead (Walk walk) old new =
     AddsAs ahead walk.walked.progress (AddsStretch words (Walk walk) old new) (new ≡ old)

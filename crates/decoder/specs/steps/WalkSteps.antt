@@ -1,5 +1,4 @@
--- How this crate's code finds a walk, one retirement after the other. What a walk is is said in the
--- file on walks.
+-- How this crate's code finds a walk, one retirement after the other. What a walk is is defined in `Walk.antt`.
 use Rattle.std.specs.Prelude.{ℕ, zero, suc, ◌+◌, ◌≡◌, ◌≤◌, ◌==◌, ◌&&◌, if◌then◌else◌, Bool, true, false, List, [], ◌∷◌}
 use Rattle.std.specs.Prelude.{length, drop, Option, Some, None, Result, Ok, Err}
 use Rattle.std.specs.List.{last_or}
@@ -45,7 +44,8 @@ abbrev pub retirement : ℕ → ℕ → Option (ℕ × List Bool) → Option (Ev
 retirement addr priv None = None
 retirement addr priv (Some (itype, taken)) = Some (Retire addr itype priv, taken)
 
--- The retirement at an address and of a privilege on this word, with the outcomes that it leaves.
+-- The retirement at an address and of a privilege on this word, if there is one and it may retire there, with the
+-- outcomes that it leaves.
 abbrev pub retire_on : ℕ → ℕ → Option Word → List Bool → Option (Event × List Bool)
 retire_on addr priv None taken = None
 retire_on addr priv (Some word) taken =
@@ -56,7 +56,8 @@ abbrev pub is_empty : List Bool → Bool
 is_empty [] = true
 is_empty (taken ∷ rest) = false
 
--- A walk ends at this retirement, with these outcomes left.
+-- A walk to this end ends at this retirement, which leaves these outcomes. A walk to a target does not end by such a
+-- step.
 abbrev pub stops : End → Event → List Bool → Bool
 stops AtBranch event taken = is_branch event && is_empty taken
 stops (AtAddress addr) event taken = (place event == addr) && is_empty taken
@@ -77,20 +78,21 @@ next_move words end (Some (event, taken)) =
     if is_backward words event then Stop else
     On event taken
 
--- A step to this retirement, if there is one, which is the last: no outcome is left.
+-- The last step, to this retirement, if there is one and it leaves no outcome.
 abbrev pub last_move : Option (Event × List Bool) → Move
 last_move None = Stop
 last_move (Some (event, [])) = Last event
 last_move (Some (event, outcome ∷ taken)) = Stop
 
--- A step from a discontinuity on this word, at this privilege.
+-- A step from an uninferable discontinuity on this word, at this privilege. Only a walk to a target takes it, and it is
+-- the last.
 abbrev pub target_move : Words → Option Word → ℕ → List Bool → End → Move
 target_move words word priv taken AtBranch = Stop
 target_move words word priv taken (AtAddress addr) = Stop
 target_move words word priv taken (AtTarget addr) =
     if may_stay_on word priv then last_move (retire_on addr priv (words addr) taken) else Stop
 
--- A step from an event that leads here.
+-- A step from this event, by where it leads: to one address, to any, or to none.
 abbrev pub move_to : Words → Event → List Bool → End → Next → Move
 move_to words event taken end (One to) =
     next_move words end (retire_on to (privilege event) (words to) taken)
@@ -102,54 +104,55 @@ unfoldable pub advance : Words → Event → List Bool → End → Move
 advance words event taken end = move_to words event taken end (successor words event)
 
 -- The event and then the walk, if there is one.
-abbrev pub behind : Event → Option (List Event) → Option (List Event)
-behind event None = None
-behind event (Some walk) = Some (event ∷ walk)
+abbrev pub event_then : Event → Option (List Event) → Option (List Event)
+event_then event None = None
+event_then event (Some walk) = Some (event ∷ walk)
 
 -- The walk that begins with this step, and goes on so.
 abbrev pub follow : Move → (Event → List Bool → Option (List Event)) → Option (List Event)
 follow Stop rest = None
 follow (Last event) rest = Some (event ∷ [])
-follow (On event taken) rest = behind event (rest event taken)
+follow (On event taken) rest = event_then event (rest event taken)
 
--- The walk of at most so many steps.
+-- The walk from this event with these outcomes to this end, if one has at most this many steps.
 unfoldable pub walk_within : Words → ℕ → Event → List Bool → End → Option (List Event)
 walk_within words zero event taken end = None
 walk_within words (suc steps) event taken end =
     follow (advance words event taken end) (λ next left. walk_within words steps next left end)
 
--- The step that the code answers, with the retirement that was reached and the outcomes after so many.
+-- The step that the code returns, to the retirement that was reached, after which `used` outcomes are used.
 abbrev pub move_of : List Bool → Here → ℕ → Step → Move
 move_of taken here used Goes = On (event_of here) (drop used taken)
 move_of taken here used Ends = Last (event_of here)
 move_of taken here used (Fails fault) = Stop
 
--- Where a step goes on from a retirement, it is kept where that leads; else a fault is one of its kind.
+-- Where the walk goes on from a retirement, where that leads is kept. Where it fails, the fault is one of those on the
+-- way.
 abbrev pub StepCarries : Words → Here → Step → Type 0
 StepCarries words here Goes = Carries words here
 StepCarries words here Ends = Unit {0}
 StepCarries words here (Fails fault) = IsOnTheWay fault
 
--- The number of the outcomes is kept with them, and they are no more than a packet has.
+-- The number of the outcomes is kept with them, and it is at most that of a packet.
 abbrev pub IsCourse : Course → Type 0
 IsCourse course = (course.count ≡ length course.outcomes) × (course.count ≤ most_outcomes)
 
--- The type that the code answers, and the outcomes after so many.
-abbrev pub type_told : List Bool → ℕ → Result ℕ DecodeFault → Option (ℕ × List Bool)
-type_told taken used (Ok itype) = Some (itype, drop used taken)
-type_told taken used (Err fault) = None
+-- The type that the code returns, and the outcomes after the first `used`.
+abbrev pub type_returned : List Bool → ℕ → Result ℕ DecodeFault → Option (ℕ × List Bool)
+type_returned taken used (Ok itype) = Some (itype, drop used taken)
+type_returned taken used (Err fault) = None
 
--- The length and the last event of a walk from this event.
+-- The length of a walk from this event, if there is one, and the last event after it.
 abbrev pub summary : Event → Option (List Event) → Option (ℕ × Option Event)
 summary from None = None
 summary from (Some walk) = Some (length walk, last_or (Some from) walk)
 
--- The length and the last event that the code answers.
+-- The length and the last event that the code returns.
 abbrev pub summary_of : Result Walked DecodeFault → Option (ℕ × Option Event)
 summary_of (Ok walked) = Some (walked.count, Some walked.last)
 summary_of (Err fault) = None
 
--- So many steps more.
+-- The summary with this many steps more.
 abbrev pub plus : ℕ → Option (ℕ × Option Event) → Option (ℕ × Option Event)
 plus steps None = None
-plus steps (Some told) = Some (steps + told.0, told.1)
+plus steps (Some found) = Some (steps + found.0, found.1)

@@ -14,23 +14,23 @@ use Rattle.decoder.specs.declared.stepping.Goal.TheVariants as goal
 use Rattle.decoder.specs.declared.stepping.Here.{Here}
 use Rattle.decoder.specs.declared.walking.Walked.{Walked}
 
--- The retirement.
+-- The retirement as an event.
 abbrev pub event_of : Here → Event
 event_of here = Retire here.addr here.itype here.privilege
 
 -- Where a walk to this goal ends.
-abbrev pub end_of : Goal → End
-end_of goal.Branch = AtBranch
-end_of (goal.Address addr) = AtAddress addr
-end_of (goal.Target addr) = AtTarget addr
+abbrev pub goal_end : Goal → End
+goal_end goal.Branch = AtBranch
+goal_end (goal.Address addr) = AtAddress addr
+goal_end (goal.Target addr) = AtTarget addr
 
--- The retirement leads where it is kept that it leads, and its privilege may stay where that is kept.
+-- The field `next` holds where the retirement leads, and `stays` whether its privilege may stay.
 abbrev pub Carries : Words → Here → Type 0
 Carries words here =
     (leads_from here.addr here.itype (words here.addr) ≡ here.next) ×
     (may_stay_on (words here.addr) here.privilege ≡ here.stays)
 
--- The retirement is kept with where it leads, and its privilege is one of the three.
+-- The same, and the retirement's privilege is one of the three.
 abbrev pub IsHere : Words → Here → Type 0
 IsHere words here = Carries words here × IsPrivilege here.privilege
 
@@ -39,7 +39,7 @@ pub record WalksOn (words : Words) (from : Event) (taken : List Bool) (end : End
   pub fits : IsWalk words from taken end walk
   pub follows : FollowOn words (Some from) walk
 
--- There is such a walk, of so many retirements, and this is the last of them.
+-- There is such a walk, and this is its number of retirements and the last of them.
 pub record Finds (words : Words) (from : Here) (taken : List Bool) (end : End) (walked : Walked) : Type 0 where
   pub walk : List Event
   pub walks : WalksOn words (event_of from) taken end walk
@@ -50,13 +50,13 @@ pub record Finds (words : Words) (from : Here) (taken : List Bool) (end : End) (
 abbrev pub FindsNone : Words → Here → List Bool → End → Type 0
 FindsNone words from taken end = (walk : List Event) → WalksOn words (event_of from) taken end walk → ⊥
 
--- There is such a walk of this many retirements, and behind so many events there is room for it.
+-- There is such a walk of `count` retirements, and behind `len` events there is room for it.
 abbrev pub HasRoom : Words → Here → List Bool → End → ℕ → ℕ → ℕ → Type 0
 HasRoom words from taken end count len capacity =
     (walk : List Event) × WalksOn words (event_of from) taken end walk × (count ≡ length walk) ×
     (len + length walk ≤ capacity)
 
--- Such a walk, of which there is one at most, was added.
+-- Such a walk was added, if there is one. There is one at most.
 abbrev pub Adds : Words → Here → List Bool → End → List Event → List Event → Type 0
 Adds words from taken end old new =
     (walk : List Event) → WalksOn words (event_of from) taken end walk → new ≡ old ++ walk

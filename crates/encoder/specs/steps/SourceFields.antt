@@ -7,7 +7,7 @@ use Rattle.payload.specs.declared.packet.Packet.{Packet}
 use Rattle.encoder.specs.Packets.{packets}
 use Rattle.encoder.specs.PacketsSoFar.{packets_so_far}
 use Rattle.encoder.specs.SourceAt.{SourceAt}
-use Rattle.encoder.specs.Stands.{Stands}
+use Rattle.encoder.specs.EncoderStands.{EncoderStands}
 use Rattle.encoder.specs.declared.encoder.Encoder.{Encoder}
 use Rattle.encoder.specs.declared.source.Stage.{Stage}
 use Rattle.encoder.specs.declared.source.Stage.TheVariants as stage
@@ -16,7 +16,7 @@ use Rattle.encoder.specs.declared.source.Stage.TheVariants as stage
 abbrev pub packets_of_log : ℕ → Mode → ProgramLog → List Packet
 packets_of_log period mode log = packets (words_of log.program) period mode log.events
 
--- How many packets of a log come before the next one, at this stage, where so many events were taken.
+-- How many packets of a log come before the next one, at this stage and after this many events were taken.
 abbrev pub number_at : ℕ → Mode → ProgramLog → Stage → ℕ → ℕ
 number_at period mode log stage.Opening taken = 0
 number_at period mode log stage.Running taken =
@@ -24,7 +24,7 @@ number_at period mode log stage.Running taken =
 number_at period mode log stage.Closing taken = length (packets_of_log period mode log) - 1
 number_at period mode log stage.Ended taken = length (packets_of_log period mode log)
 
--- A source of a log stands here by its fields.
+-- Where a source of a log stands, by its fields.
 abbrev pub stands_at : ProgramLog → Encoder → Stage → ℕ → SourceAt
 stands_at log encoder stage taken = record {
   log = log;
@@ -33,14 +33,15 @@ stands_at log encoder stage taken = record {
   number = number_at (encoder.between + 1) encoder.mode log stage taken;
 }
 
--- So many events were taken at this stage: none, some, or all.
-abbrev pub AreTaken : Stage → ℕ → ℕ → Type 0
-AreTaken stage.Opening taken all = taken ≡ 0
-AreTaken stage.Running taken all = taken ≤ all
-AreTaken stage.Closing taken all = taken ≡ all
-AreTaken stage.Ended taken all = taken ≡ all
+-- This many of all events were taken at this stage: none before Open, at most all while the packets of events come, and
+-- all from then on.
+abbrev pub AreTakenAtStage : Stage → ℕ → ℕ → Type 0
+AreTakenAtStage stage.Opening taken all = taken ≡ 0
+AreTakenAtStage stage.Running taken all = taken ≤ all
+AreTakenAtStage stage.Closing taken all = taken ≡ all
+AreTakenAtStage stage.Ended taken all = taken ≡ all
 
 -- A source's encoder stands for the events that were taken.
 pub record IsSource (log : ProgramLog) (encoder : Encoder) (stage : Stage) (taken : ℕ) : Type 0 where
-  pub within : AreTaken stage taken (length log.events)
-  pub stands : Stands (words_of log.program) (encoder.between + 1) encoder.mode (take taken log.events) encoder
+  pub within : AreTakenAtStage stage taken (length log.events)
+  pub stands : EncoderStands (words_of log.program) (encoder.between + 1) encoder.mode (take taken log.events) encoder

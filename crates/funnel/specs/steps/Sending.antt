@@ -11,8 +11,8 @@ use Rattle.funnel.specs.Ends.{is_finished}
 use Rattle.funnel.specs.declared.rule.View.{View}
 use Rattle.funnel.specs.steps.Passes.{knows, sent_of, IsPort}
 
--- The pass has a seat at the channel and is of a port that is not finished; the message is the next of that port, and
--- the test tells whether it is closing.
+-- The pass has a seat at the channel and is of a port that is not finished. The message is the next of that port, and
+-- the flag says whether its payload is closing.
 pub record MaySend {Q M L A : Type 0} (channel : Rows (Badge (Key Message)) (Doing Message View) Q M (Key Message) L A)
     (pass : Pass Message View) (message : Message) (closing : Bool) : Type 0 where
   pub closing_is : closing ≡ is_closing message.payload

@@ -1,5 +1,5 @@
--- How this crate's code judges a log, event by event: what each leaves to the next, and the tests by
--- that. What a log's answer means is said in the files on legal logs and on first faults.
+-- How this crate's code judges a log, event by event: what each event leaves to the next, and how the next is tested by
+-- that. The files on legal logs and on first faults say what the result for a log means.
 use Rattle.std.specs.Prelude.{ℕ, ◌+◌, ◌%◌, ◌==◌, ◌&&◌, ◌||◌, nat_le, nat_lt, not, max, if◌then◌else◌, Bool, true, false}
 use Rattle.std.specs.Prelude.{List, [], ◌∷◌, Option, Some, None, Result, Ok, Err}
 use Rattle.isa.specs.Privilege.{is_privilege}
@@ -28,7 +28,7 @@ is_type_of Uninferable itype = itype == types.uninferable
 is_type_of (TrapReturn ret) itype = itype == types.trap_return
 is_type_of NeverRetires itype = false
 
--- This is a privilege, and one that was left.
+-- The number is a privilege level, within the bounds that were left.
 abbrev pub was_left : Left → ℕ → Bool
 was_left left priv = is_privilege priv && (nat_le left.least priv && nat_le priv left.greatest)
 
@@ -36,7 +36,7 @@ was_left left priv = is_privilege priv && (nat_le left.least priv && nat_le priv
 abbrev pub left_at_start : Left
 left_at_start = record { next = Any; least = 0; greatest = 3 }
 
--- The least privilege after a retirement of this class at this one.
+-- The least privilege that may follow a retirement of a word of this class at this privilege.
 abbrev pub least_after : Class → ℕ → ℕ
 least_after (TrapReturn ret) priv = 0
 least_after _ priv = priv
@@ -58,8 +58,7 @@ abbrev pub is_never : Class → Bool
 is_never NeverRetires = true
 is_never _ = false
 
--- What a retirement on this word, if there is one, leaves after what was left to it, or why it is
--- refused.
+-- What a retirement of this word, if there is one, leaves after what was left to it, or why it is illegal.
 abbrev pub judge_retirement : Left → ℕ → ℕ → ℕ → Option Word → Result Left Why
 judge_retirement left addr itype priv None = Err OffProgram
 judge_retirement left addr itype priv (Some word) =
@@ -69,7 +68,7 @@ judge_retirement left addr itype priv (Some word) =
     if not (may_retire_at word.0 priv && was_left left priv) then Err WrongPrivilege else
     Ok (left_by_retirement addr itype priv word)
 
--- What a trap leaves after what was left to it, or why it is refused.
+-- What a trap leaves after what was left to it, or why it is illegal.
 abbrev pub judge_trap : Left → ℕ → ℕ → Bool → ℕ → ℕ → Result Left Why
 judge_trap left epc priv interrupt cause tval =
     if not (nat_lt cause 64 && (not interrupt || (tval == 0))) then Err WrongType else
@@ -77,17 +76,17 @@ judge_trap left epc priv interrupt cause tval =
     if not ((epc % 2 == 0) && may_stand_at left.next epc) then Err WrongEpc else
     Ok (left_by_trap priv)
 
--- What an event leaves after what was left to it, or why it is refused.
+-- What an event leaves after what was left to it, or why it is illegal.
 abbrev pub judge : Words → Left → Event → Result Left Why
 judge words left (Retire addr itype priv) = judge_retirement left addr itype priv (words addr)
 judge words left (Trap priv interrupt cause epc tval) =
     judge_trap left epc priv interrupt cause tval
 
--- What a log is answered.
+-- The result for a log: nothing, or its first fault.
 abbrev pub Answer : Type 0
 Answer = Result (Unit {0}) PathFault
 
--- A log's answer once an event at this row was judged, by the answer for what follows it.
+-- The result for events whose first, at this row, was judged so; `follows` is the result for the others.
 abbrev pub answer_after : ℕ → Result Left Why → (Left → Answer) → Answer
 answer_after row (Err why) follows = Err (record { row = row; why = why })
 answer_after row (Ok left) follows = follows left

@@ -8,13 +8,13 @@ use Rattle.rvclass.specs.Image.{Image}
 use Rattle.rvclass.specs.Words.{Words}
 use Rattle.legalpath.specs.ProgramLog.{ProgramLog, IsLegalLog}
 use Rattle.payload.specs.Closing.{is_closing_packet}
-use Rattle.payload.specs.Ended.{has_ended}
+use Rattle.payload.specs.ClosedTrace.{last_is_closing}
 use Rattle.payload.specs.Spelling.{payload_of}
 use Rattle.payload.specs.declared.mode.Mode.{Mode}
 use Rattle.payload.specs.declared.packet.Packet.{Packet}
 use Rattle.encoder.specs.Packets.{packets}
 use Rattle.decoder.specs.Resuming.{HasMode}
-use Rattle.decoder.specs.Stands.{Stands}
+use Rattle.decoder.specs.DecoderStands.{DecoderStands}
 use Rattle.decoder.specs.declared.decoding.Decoder.{Decoder}
 use Rattle.decoder.specs.declared.fault.DecodeFault.TheVariants.{Memory}
 use Rattle.message.specs.Harts.{Harts}
@@ -32,22 +32,22 @@ use Rattle.losses.specs.declared.fault.LossyFault.TheVariants as fault
 use Rattle.losses.specs.declared.hart_trace.HartTrace.{HartTrace}
 use Rattle.losses.specs.declared.part.HartPieces.{HartPieces}
 
--- Nothing is under way.
+-- Nothing of a hart is under way: its decoder stands for no packet and has no mode, and there is no event.
 pub record IsNewTrace {A : Type 0} (trace : HartTrace A) : Type 0 where
-  pub stands : (words : Words) → Stands words [] [] trace.decoder
-  pub untold : HasMode None trace.decoder
+  pub stands : (words : Words) → DecoderStands words [] [] trace.decoder
+  pub no_mode : HasMode None trace.decoder
   pub empty : trace.stretch.items ≡ []
 
--- Nothing is collected.
+-- Nothing of a hart is collected: there is no part, and it is not closed.
 abbrev pub IsNewPieces : {A : Type 0} → HartPieces A → Type 0
 IsNewPieces pieces = (pieces.parts.items ≡ []) × (pieces.closed ≡ false)
 
--- Whether a trace is closed after further packets.
+-- Whether a trace is closed after further packets: by the last of them, or as it was where there is none.
 abbrev pub closed_by : Bool → List Packet → Bool
 closed_by closed [] = closed
 closed_by closed (packet ∷ packets) = closed_by (is_closing_packet packet) packets
 
--- Of the messages of a hart's log those before these that are left are collected.
+-- Of the messages of a hart's log that come, all but those still left are collected.
 pub record FollowsHart (program : Image) (period : ℕ) (handed mode : Mode) (log : ProgramLog) (hart : ℕ)
     (messages left : List Message) (expects : Hart) (decoder : Decoder) (events : List Event) (parts : List LogPart)
     (closed : Bool) : Type 0 where
@@ -58,9 +58,9 @@ pub record FollowsHart (program : Image) (period : ℕ) (handed mode : Mode) (lo
   pub stays : (packet : Packet) (later : List Packet)
       → drop expects.expected (packets (words_of program) period mode log.events) ≡ packet ∷ later
       → expects.closed ≡ false
-  pub ended : has_ended (packets_of hart messages) ≡ closed_by closed (packets_of hart left)
+  pub flag : last_is_closing (packets_of hart messages) ≡ closed_by closed (packets_of hart left)
 
--- Of the messages of legal logs of a program those before these that are left are collected.
+-- Of the messages of legal logs of a program that come, all but those still left are collected.
 pub record FollowsAll {A : Type 0} (program : Image) (period : ℕ) (handed : Mode) (own : ℕ → Mode) (logs : List
     ProgramLog)
     (messages left : List Message) (harts : Harts) (traces : List (HartTrace A)) (pieces : List (HartPieces A))
@@ -75,25 +75,27 @@ pub record FollowsAll {A : Type 0} (program : Image) (period : ℕ) (handed : Mo
       → FollowsHart program period handed (own hart) log hart messages left expects trace.decoder trace.stretch.items
       (parts_in collected.parts.items) collected.closed
 
--- Why a packet is not taken at a place.
+-- The fault for a packet that is not taken, whose message stands at this place: it names the place, or says that memory
+-- was refused.
 abbrev pub IsNotTaken : ℕ → LossyFault → Type 0
 IsNotTaken place (fault.Demux at why) = ⊥
 IsNotTaken place (fault.Decode at why) = (at ≡ place) × (why ≢ Memory)
 IsNotTaken place fault.Memory = Unit {0}
 
--- Why a message is not collected at a place, where the demultiplexer expects this.
+-- The fault for a message at this place that is not collected, where this is expected of each hart. The demultiplexer
+-- refuses the message; or it accepts it, and its packet is not decoded; or memory was refused.
 abbrev pub IsNotCollected : Harts → Message → ℕ → LossyFault → Type 0
 IsNotCollected harts message place (fault.Demux at why) = (at ≡ place) × (accepting_lossy harts message ≡ Err why)
 IsNotCollected harts message place (fault.Decode at why) =
     (at ≡ place) × IsOk (accepting_lossy harts message) × (why ≢ Memory)
 IsNotCollected harts message place fault.Memory = Unit {0}
 
--- A hart's stretch is ended: it is the last of its parts, where it has an event.
+-- The stretch of a hart that was under way became the last of its parts, where it has an event.
 pub record IsEnded {A : Type 0} (trace : HartTrace A) (before after : HartPieces A) : Type 0 where
   pub parts : parts_in after.parts.items ≡ parts_in before.parts.items ++ stretch trace.stretch.items
   pub closed : after.closed ≡ before.closed
 
--- The stretch of each hart is ended.
+-- The stretch of each hart became the last of its parts, where it has an event.
 pub record AreEnded {A : Type 0} (traces : List (HartTrace A)) (before after : List (HartPieces A)) : Type 0 where
   pub count : length after ≡ length before
   pub each : (hart : ℕ) (trace : HartTrace A) (old new : HartPieces A) → slice_get traces hart ≡ Some trace

@@ -1,4 +1,4 @@
--- What the packets of a block give a decoder.
+-- What a decoder stands for by the packets of a block.
 use Rattle.std.specs.Prelude.{◌≡◌, ◌⊎◌, ℕ, zero, suc, List, [], ◌∷◌, None, Option}
 use Rattle.std.specs.Option.{unwrap_or}
 use Rattle.retire.specs.declared.event.Event.{Event}
@@ -9,41 +9,42 @@ use Rattle.payload.specs.declared.packet.Packet.TheVariants as packet
 use Rattle.payload.specs.declared.packet.Support.TheVariants as support
 use Rattle.decoder.specs.Describes.{Describes}
 use Rattle.decoder.specs.Resuming.{HasMode, IsClosed, PassesOver}
-use Rattle.decoder.specs.Stands.{Stands}
+use Rattle.decoder.specs.DecoderStands.{DecoderStands}
 use Rattle.decoder.specs.declared.decoding.Decoder.{Decoder}
 use Rattle.losses.specs.Parts.{begins_stretch, here_or_later}
 
--- The packets from the first on that begins a stretch.
+-- The packets from the first on that begins a stretch; none where none does.
 abbrev pub from_start : List Packet → List Packet
 from_start [] = []
 from_start (packet ∷ packets) = here_or_later (begins_stretch packet) (packet ∷ packets) (from_start packets)
 
--- The trace that packets from such a one on stand for: a synchronisation packet stands behind one that opens the trace
--- in this mode.
+-- The trace that packets make up, the first of which begins a stretch: a synchronisation packet stands behind one that
+-- opens the trace in this mode.
 abbrev pub trace_of : Mode → List Packet → List Packet
 trace_of mode (packet.Sync taken priv address ∷ packets) =
     packet.Support (support.Open mode) ∷ packet.Sync taken priv address ∷ packets
 trace_of mode other = other
 
--- The packets from the start of a stretch on describe these events; where there are none, there is no event.
+-- The packets, the first of which begins a stretch, describe these events. Where there is no packet, there is no event.
 abbrev pub DescribesFrom : Words → Mode → List Packet → List Event → Type 0
 DescribesFrom words mode [] events = events ≡ []
 DescribesFrom words mode (packet ∷ packets) events = Describes words (trace_of mode (packet ∷ packets)) events
 
 -- What a decoder stands for within a block with this first number, by the packets that came from the start of its
--- stretch on: before the first packet of the trace for none; and it passes over packets before a stretch begins.
+-- stretch on. Until a stretch begins, it stands for no packet in the block with number 0, and passes over packets in
+-- each other block.
 abbrev pub StandsFrom : Words → Mode → List Packet → ℕ → List Event → Decoder → Type 0
-StandsFrom words mode [] zero events decoder = Stands words [] [] decoder × (events ≡ [])
+StandsFrom words mode [] zero events decoder = DecoderStands words [] [] decoder × (events ≡ [])
 StandsFrom words mode [] (suc first) events decoder = PassesOver mode decoder × (events ≡ [])
 StandsFrom words mode (packet ∷ packets) first events decoder =
-    Stands words (trace_of mode (packet ∷ packets)) events decoder
+    DecoderStands words (trace_of mode (packet ∷ packets)) events decoder
 
--- A decoder follows a block of which these packets came and gave these events: it is open. It reads in this mode, which
--- was told, or handed in where none was; or the packet that tells it comes next.
+-- A decoder follows a block, whose packets so far are these and gave these events: it is open. It reads in this mode,
+-- which was announced, or handed in where none was; or the packet that announces it comes next.
 pub record FollowsBlock (words : Words) (handed mode : Mode) (first : ℕ) (packets : List Packet) (events : List Event)
     (decoder : Decoder) : Type 0 where
-  pub told : Option Mode
-  pub has_mode : HasMode told decoder
-  pub right : (unwrap_or told handed ≡ mode) ⊎ ((first ≡ 0) × (packets ≡ []) × (told ≡ None))
+  pub announced : Option Mode
+  pub has_mode : HasMode announced decoder
+  pub right : (unwrap_or announced handed ≡ mode) ⊎ ((first ≡ 0) × (packets ≡ []) × (announced ≡ None))
   pub not_closed : ¬ IsClosed decoder
   pub stands : StandsFrom words mode (from_start packets) first events decoder

@@ -12,14 +12,15 @@ abbrev pub message_of : List ℕ → List ℕ → Message
 message_of head payload =
     record { hart = little_number 2 head; number = little_number 8 (drop 2 head); payload = payload }
 
--- The message of a head and the payload that so many of the bytes behind it are, where they are that many.
+-- The message of a head and of this many bytes behind it; or why there is none: the count is no payload's length, or
+-- there are fewer bytes.
 abbrev pub with_payload : List ℕ → List ℕ → ℕ → Result (Option Message) MessageFault
 with_payload head rest count =
     if count == 0 || nat_lt most_bytes count then Err fault.BadLength else
     if nat_lt (length rest) count then Err fault.Short else
     Ok (Some (message_of head (take count rest)))
 
--- What bytes begin with: nothing where there are none, a fault, or a message.
+-- What bytes begin with: nothing where there are none; else a message, or why they begin with no whole one.
 abbrev pub first_message : List ℕ → Result (Option Message) MessageFault
 first_message bytes =
     if length bytes == 0 then Ok None else

@@ -17,17 +17,17 @@ use Rattle.payload.specs.declared.fault.PackFault.{PackFault}
 use Rattle.payload.specs.declared.fault.PackFault.TheVariants.{Empty, TooLong, BadPad, Unsupported, BadPrivilege}
 use Rattle.payload.specs.declared.fault.PackFault.TheVariants.{BadReport}
 
--- A packet of so many bits, where all further bits are copies of its last.
+-- The packet, of this width, where all further bits are copies of its last one; else BadPad.
 abbrev pub padded : ℕ → ℕ → Packet → Result Packet PackFault
 padded width n p = if nat_lt (magnitude 144 n) (2 ^ (width - 1)) then Ok p else Err BadPad
 
--- Bits of format 3, subformat 0.
+-- What bits of format 3, subformat 0 unpack to.
 unfoldable pub sync_reading : ℕ → Result Packet PackFault
 sync_reading n =
     if field_at n layout.privilege_at == 2 then Err BadPrivilege else
     padded layout.sync_width n (sync_from n)
 
--- Bits of format 3, subformat 1.
+-- What bits of format 3, subformat 1 unpack to.
 unfoldable pub trap_reading : ℕ → Result Packet PackFault
 trap_reading n =
     if field_at n layout.privilege_at == 2 then Err BadPrivilege else
@@ -42,7 +42,7 @@ abbrev pub has_fields : ℕ → ℕ → ℕ → ℕ → Bool
 has_fields n enable status options =
     (enable_of n == enable) && ((field_at n layout.status_at == status) && (field_at n layout.options_at == options))
 
--- Bits of format 3, subformat 3.
+-- What bits of format 3, subformat 3 unpack to.
 unfoldable pub support_reading : ℕ → Result Packet PackFault
 support_reading n =
     if has_fields n 1 layout.no_change layout.differential then
@@ -55,7 +55,7 @@ support_reading n =
     padded layout.support_width n (packet.Support support.EndedNtr) else
     Err Unsupported
 
--- What `notify`, `updiscon` and `irreport` report behind an address field's top bit.
+-- The report for which `notify`, `updiscon` and `irreport` stand behind an address field with this top bit, if they do.
 unfoldable pub report_in : ℕ → ℕ → Option Report
 report_in top tail =
     if tail == 7 * top then Some report.Plain else
@@ -63,29 +63,30 @@ report_in top tail =
     if tail == 7 - 7 * top then Some report.Notify else
     None
 
--- An address packet with these outcomes, whose field begins at this bit, where this is what its last bits report.
+-- The address packet with these outcomes, whose address field begins at this bit, where the bits behind the field stand
+-- for this report; BadReport where they stand for none.
 abbrev pub reported : ℕ → List Bool → ℕ → Option Report → Result Packet PackFault
 reported n taken from None = Err BadReport
 reported n taken from (Some report) =
     padded (from + layout.reported_width) n (packet.Address taken (2 * part n from layout.address_width) report)
 
--- Bits of format 1 or 2 with these outcomes, whose address field begins at this bit.
+-- What bits of format 1 or 2 with these outcomes unpack to, whose address field begins at this bit.
 unfoldable pub address_reading : ℕ → List Bool → ℕ → Result Packet PackFault
 unfolding report_in
 address_reading n taken from =
     reported n taken from (report_in (part n (from + layout.top_bit) 1) (part n (from + layout.notify_bit) 3))
 
--- Bits of format 1 without branches.
+-- What bits of format 1 without branches unpack to.
 unfoldable pub map_reading : ℕ → Result Packet PackFault
 map_reading n = padded layout.map_packet_width n (packet.Map (outcomes_from n layout.full_map_at.width))
 
--- Bits of format 1.
+-- What bits of format 1 unpack to.
 abbrev pub branches_reading : ℕ → Result Packet PackFault
 branches_reading n =
     if field_at n layout.branches_at == 0 then map_reading n else
     address_reading n (outcomes_from n (field_at n layout.branches_at)) (address_behind_map n)
 
--- The packet of these bits, by their format.
+-- What bits unpack to, by their format.
 abbrev pub reading_of_bits : ℕ → Result Packet PackFault
 reading_of_bits n =
     if is_sync n then sync_reading n else
@@ -95,6 +96,7 @@ reading_of_bits n =
     if field_at n layout.format_at == 1 then branches_reading n else
     Err Unsupported
 
+-- What bytes unpack to, by the kind of their packet.
 unfoldable pub reading_by_kind : List ℕ → Result Packet PackFault
 reading_by_kind bytes =
     if length bytes == 0 then Err Empty else
@@ -109,7 +111,7 @@ address_place n =
     if is_map_with_address n then Some (outcomes_from n (field_at n layout.branches_at), address_behind_map n) else
     None
 
--- Bits that have no address field of format 1 or 2.
+-- What bits unpack to that have no address field of format 1 or 2.
 abbrev pub reading_with_no_place : ℕ → Result Packet PackFault
 reading_with_no_place n =
     if is_sync n then sync_reading n else
@@ -118,7 +120,7 @@ reading_with_no_place n =
     if field_at n layout.format_at == 1 then map_reading n else
     Err Unsupported
 
--- Bits whose address field begins at this place, if they have one.
+-- What bits unpack to whose address field begins at this place, or that have none.
 abbrev pub reading_at_place : ℕ → Option (List Bool × ℕ) → Result Packet PackFault
 reading_at_place n (Some place) = address_reading n place.0 place.1
 reading_at_place n None = reading_with_no_place n

@@ -1,4 +1,4 @@
--- What the front of a text holds, where it has no quotes.
+-- What the front of a text holds, where no field is quoted.
 use Rattle.std.specs.Prelude.{◌≡◌, ◌+◌, ◌≤◌, ◌++◌, ⊤, ℕ, List, [], ◌∷◌, take, length, true, false, Option, Some, Ok}
 use Rattle.std.specs.Prelude.{if◌then◌else◌}
 use Rattle.std.specs.List.{list_all, list_any}
@@ -17,7 +17,7 @@ unfoldable pub digit_count : List ℕ → ℕ
 digit_count [] = 0
 digit_count (byte ∷ rest) = if is_hex_digit byte then digit_count rest + 1 else 0
 
--- A text begins with so many hexadecimal digits, at most sixteen, of this value.
+-- A text begins with this many hexadecimal digits, at most sixteen, and they spell this value.
 abbrev pub HasDigits : List ℕ → ℕ → ℕ → Type 0
 HasDigits text value count =
     (count ≤ 16) × (count ≤ length text) × (list_all is_hex_digit (take count text) ≡ true)

@@ -31,15 +31,16 @@ enum Before {
     Nothing,
     /// The one that opens the trace.
     Opened,
-    /// A synchronisation on the first word behind it, or on the second, or on the first in supervisor mode.
+    /// A synchronisation behind that: on the first word, on the second, or on the first in supervisor mode.
     Started,
     Second,
     Lower,
-    /// Behind the one on the first word an address packet that waits, of the second word or of none, or a trap.
+    /// Behind the synchronisation on the first word: an address packet that waits, which reports the second word or no
+    /// word, or a trap.
     Waiting,
     Astray,
     Trapped,
-    /// A closed trace of no event, and of two.
+    /// A closed trace: of no event, and of two.
     Ended,
     Closed,
 }
@@ -76,8 +77,8 @@ fn go_on_alike<R: Abort>(
     }
 }
 
-/// The packet of a row is refused as it says and changes neither the log nor what `is_closed` answers; and what the
-/// decoder is left with goes on as one does that was never fed the packet.
+/// The packet of a row is refused as it says, and changes neither the log nor what `is_closed` returns. The decoder
+/// then goes on as one does that was never fed the packet.
 fn is_refused<R: Abort + AllocGlobal>(rt: &R, place: Place, row: &Row) {
     let (words, before, next, fault) = *row;
     let program = program_of(rt, words);
@@ -239,7 +240,7 @@ const ON_THE_WAY: [Row; 4] = [
 
 const UNTESTED: [Row; 1] = [(&[BRANCH_LOOP], Astray, ENDED_REP, Branches)];
 
-/// The tables above, each with a name that tells what its rows show.
+/// The tables above, each with a name that says what its rows show.
 const TABLES: [(&str, &[Row]); 12] = [
     ("not opened", &BEFORE_OPEN),
     ("off program", &OFF_THE_PROGRAM),

@@ -108,7 +108,7 @@ const ROWS: [Row; 8] = [
 ];
 
 /// The turns of a row are as it says.
-fn is_told<R: Abort + AllocGlobal>(rt: &R, i: usize, (what, words, turns): Row) {
+fn answers_as<R: Abort + AllocGlobal>(rt: &R, i: usize, (what, words, turns): Row) {
     let program = program_of(rt, words);
     let mut log = Vec::new(rt.alloc());
     let mut decoder = Decoder::default();
@@ -126,6 +126,6 @@ fn is_told<R: Abort + AllocGlobal>(rt: &R, i: usize, (what, words, turns): Row) 
 #[test]
 fn turns_by_table(rt: HostRuntime) {
     for (i, row) in ROWS.iter().enumerate() {
-        is_told(&rt, i, *row);
+        answers_as(&rt, i, *row);
     }
 }

@@ -16,7 +16,7 @@ use std::process::Abort;
 
 const PLAIN_WORDS: &[Step] = &[Retires(0, 0, 3), Retires(4, 0, 3)];
 
-/// Each of these turns comes to what is told of it, where the stretch is of the first words.
+/// Each of these turns comes to what it says, where the stretch is of the first words.
 fn go_on<R: Abort + AllocGlobal>(
     rt: &R,
     place: Place,
@@ -48,7 +48,7 @@ const PASSED_OVER: [Turn; 8] = [
     (Trap(0, true, 1, true), Ok(()), 0),
 ];
 
-/// Four words, and a loss behind the packet that tells of the second: it waited, so it adds nothing, and the stretch
+/// Four words, and a loss behind the packet that reports the second: it waited, so it adds nothing, and the stretch
 /// begins with the synchronisation on the third.
 const LOST: [Turn; 3] = [(OPEN, Ok(()), 0), (START, Ok(()), 1), (Plain(4), Ok(()), 1)];
 
@@ -147,8 +147,8 @@ fn packets_that_close_a_trace_close_it(rt: HostRuntime) {
 }
 
 /// The packets of a decoder, the modes that it is resumed with, a synchronisation behind each, and what a field then
-/// holds that names the second word. The mode that was told is kept; the one handed in is taken where none was, the
-/// last one of several.
+/// holds that names the second word. A mode that a packet announced is kept. Where none did, the mode handed in is
+/// taken, the last one of several.
 const MODES: [(&[Sent], &[Mode], u64); 7] = [
     (&[], &[Differential], 4),
     (&[], &[Full], BASE + 4),
@@ -159,7 +159,7 @@ const MODES: [(&[Sent], &[Mode], u64); 7] = [
     (&[], &[Full, Differential], 4),
 ];
 
-/// After the packets of a row, resumed in its modes, a field that holds what it tells names the second word.
+/// After the packets of a row, resumed in its modes, a field that holds the row's number names the second word.
 fn is_read<R: Abort + AllocGlobal>(
     rt: &R,
     row: usize,
@@ -200,8 +200,8 @@ fn modes_by_table(rt: HostRuntime) {
     }
 }
 
-/// A synchronisation off the program is refused, and one for which memory is, and the decoder goes on to pass over
-/// packets.
+/// A synchronisation off the program is refused, and so is one where memory is refused. The decoder then goes on
+/// passing over packets.
 #[test]
 fn synchronisation_that_is_refused(rt: HostRuntime) {
     let program = program_of(&rt, &[NOP]);

@@ -209,11 +209,11 @@ fn is_log_of<R: Abort + AllocGlobal>(rt: &R, i: usize, row: &Row) {
         let closed = decoder.is_closed();
         let packet = unpack(payload).expect(rt, "a payload");
         let answer = decoder.feed(&program, &packet, &mut log);
-        let told = (closed, answer, begins(log.as_slice(), steps));
-        same_at(rt, i, told, (false, Ok(()), true));
+        let found = (closed, answer, begins(log.as_slice(), steps));
+        same_at(rt, i, found, (false, Ok(()), true));
     }
-    let told = (decoder.is_closed(), is_log(log.as_slice(), steps));
-    same_at(rt, i, told, (true, true));
+    let found = (decoder.is_closed(), is_log(log.as_slice(), steps));
+    same_at(rt, i, found, (true, true));
 }
 
 #[test]

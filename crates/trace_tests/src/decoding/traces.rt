@@ -13,7 +13,7 @@ use std::process::Abort;
 #[derive(Clone, Copy)]
 pub(crate) enum Sent {
     /// One that opens or closes the trace.
-    Told(Support),
+    Support(Support),
     /// A synchronisation: its address, whether a branch there was taken, and the privilege.
     Sync(u64, bool, u8),
     /// An address packet without outcomes that waits, one that reports a target, and one that notifies: what the field
@@ -29,13 +29,13 @@ pub(crate) enum Sent {
     Trap(u64, bool, u8, bool),
 }
 
-pub(crate) const OPEN: Sent = Sent::Told(Support::Open(Mode::Differential));
+pub(crate) const OPEN: Sent = Sent::Support(Support::Open(Mode::Differential));
 
-pub(crate) const OPEN_FULL: Sent = Sent::Told(Support::Open(Mode::Full));
+pub(crate) const OPEN_FULL: Sent = Sent::Support(Support::Open(Mode::Full));
 
-pub(crate) const ENDED_REP: Sent = Sent::Told(Support::EndedRep);
+pub(crate) const ENDED_REP: Sent = Sent::Support(Support::EndedRep);
 
-pub(crate) const ENDED_NTR: Sent = Sent::Told(Support::EndedNtr);
+pub(crate) const ENDED_NTR: Sent = Sent::Support(Support::EndedNtr);
 
 /// A synchronisation at the base, at machine level.
 pub(crate) const START: Sent = Sent::Sync(0, false, 3);
@@ -58,7 +58,7 @@ fn address(taken: &[bool], delta: u64, report: Report) -> Packet {
 /// The packet that is sent.
 pub(crate) fn packet_of(sent: Sent) -> Packet {
     match sent {
-        Sent::Told(support) => Packet::Support(support),
+        Sent::Support(support) => Packet::Support(support),
         Sent::Sync(offset, taken, privilege) => Packet::Sync {
             taken,
             privilege,
@@ -130,8 +130,8 @@ pub(crate) type Turn = (Sent, Result<(), DecodeFault>, usize);
 /// What is looked at, and the row of its table or which time it is.
 pub(crate) type Place = (&'static str, usize);
 
-/// Each of these turns comes to what is told of it: the answer, the events of the list, of which there are so many, and
-/// whether the decoder is closed before it and behind it.
+/// Each of these turns comes to what it says: the answer, how many events the list has, and whether the decoder is
+/// closed before it and behind it. The events of the list are the first of these steps.
 pub(crate) fn go<R: Abort>(
     rt: &R,
     (what, row): Place,
@@ -152,7 +152,7 @@ pub(crate) fn go<R: Abort>(
             log.len(),
             begins(log.as_slice(), steps),
         );
-        let told = (*answer, late, (closes, *count, true));
-        same_at(rt, (what, row, i), (found, before, behind), told);
+        let wanted = (*answer, late, (closes, *count, true));
+        same_at(rt, (what, row, i), (found, before, behind), wanted);
     }
 }

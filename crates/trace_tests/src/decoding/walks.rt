@@ -1,4 +1,4 @@
-//! Walks over small programs: how many events the list has behind them, or the fault that is told.
+//! Walks over small programs: how many events the list has behind them, or the fault that is returned.
 
 use super::traces::Sent::{self, Map, Notify, Sync, Updiscon, Walk};
 use super::traces::{OPEN, Place, copy_of, fed, feed, is_log};
@@ -148,7 +148,7 @@ fn count_behind(
 
 /// The packet of a row comes to what the row says, behind the one event of the first word: in a list without room,
 /// where the walk is measured, and in one with room, where it is written as it is found. A fault leaves the one event.
-fn is_told<R: Abort + AllocGlobal>(rt: &R, place: Place, row: &Row) {
+fn answers_as<R: Abort + AllocGlobal>(rt: &R, place: Place, row: &Row) {
     let (words, (itype, privilege), sent, wanted) = *row;
     let program = program_of(rt, words);
     let (mut decoder, log) = fed(rt, &program, &[OPEN, Sync(0, itype == 5, privilege)]);
@@ -167,7 +167,7 @@ fn is_told<R: Abort + AllocGlobal>(rt: &R, place: Place, row: &Row) {
     }
 }
 
-/// The tables above, each with a name that tells what its rows show.
+/// The tables above, each with a name that says what its rows show.
 const TABLES: [(&str, &[Row]); 6] = [
     ("walks that are found", &FOUND),
     ("words that do not retire", &OFF_THE_PROGRAM),
@@ -177,16 +177,16 @@ const TABLES: [(&str, &[Row]); 6] = [
     ("privileges that words forbid", &PRIVILEGES),
 ];
 
-/// Each row is as it says.
-fn are_told<R: Abort + AllocGlobal>(rt: &R, what: &'static str, rows: &[Row]) {
+/// Each row comes to what it says.
+fn answer_as<R: Abort + AllocGlobal>(rt: &R, what: &'static str, rows: &[Row]) {
     for (i, row) in rows.iter().enumerate() {
-        is_told(rt, (what, i), row);
+        answers_as(rt, (what, i), row);
     }
 }
 
 #[test]
 fn walks_by_table(rt: HostRuntime) {
     for (what, rows) in TABLES {
-        are_told(&rt, what, rows);
+        answer_as(&rt, what, rows);
     }
 }

@@ -1,4 +1,4 @@
-//! Each request for memory refused in turn, to what reads logs and to what writes them.
+//! Each request for memory of what reads logs, and of what writes them, is refused in turn.
 
 use super::texts::{RETIRED, ROW, text_of_rows};
 use crate::fixtures::add;
@@ -53,10 +53,10 @@ const SHORT: Rows = (
 /// How a log is read, its first row, the row that follows 32 times, and what comes of each request that is refused: `m`
 /// is memory, and `e` the events.
 ///
-/// A reader's list grows to 4, 8, 16, 32 and 64 events. That of a text in memory first asks for room by the text's
-/// length, and grows so where that is refused; where rows are short the room is too little, and the list asks once more:
-/// at a plain row, or at one that `csv` reads because the first row is not plain. `csv` takes its memory of `Global`
-/// alone.
+/// A reader's list grows to 4, 8, 16, 32 and 64 events. The list of a text in memory first asks for room by the text's
+/// length, and grows as a reader's does where that is refused. Where rows are short that room is too little, and the
+/// list asks once more: at a plain row, or at one that `csv` reads because the first row is not plain. `csv` takes its
+/// memory of `Global` alone.
 const LOGS: [(By, &str, Rows, &str); 6] = [
     (By::Reader, ROW, LONG, "mmmmm"),
     (By::Reader, QUOTED, SHORT, "mmmmm"),

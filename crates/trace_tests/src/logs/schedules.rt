@@ -1,4 +1,4 @@
-//! What texts tell.
+//! What schedules hold.
 
 use crate::fixtures::add;
 use crate::same::same_at;
@@ -8,7 +8,7 @@ use linked_list_allocator::LocalHeap;
 use schedule::{ScheduleFault, read_schedule};
 use std::process::Abort;
 
-/// A count of harts, a text, and the turns that it tells, with none behind them.
+/// A count of harts, a text, and the turns that it holds, with none behind them.
 const TURNS: [(u16, &str, [Option<Turn>; 4]); 8] = [
     (2, "", [None; 4]),
     (2, " \r\n ", [None; 4]),
@@ -40,23 +40,23 @@ const TURNS: [(u16, &str, [Option<Turn>; 4]); 8] = [
     (65535, "65534", [Some(Hart(65534)), None, None, None]),
 ];
 
-/// A text tells these turns where there are so many harts.
-fn tells<R: Abort + AllocGlobal>(rt: &R, harts: u16, text: &str, told: &[Option<Turn>; 4]) {
+/// A text holds these turns where there are this many harts.
+fn holds<R: Abort + AllocGlobal>(rt: &R, harts: u16, text: &str, wanted: &[Option<Turn>; 4]) {
     let turns = read_schedule(rt.alloc(), harts, text.as_bytes()).expect(rt, "turns");
-    for (place, turn) in told.iter().enumerate() {
+    for (place, turn) in wanted.iter().enumerate() {
         same_at(rt, (text, place), turns.get(place).copied(), *turn);
     }
     same_at(rt, text, turns.get(4).copied(), None);
 }
 
 #[test]
-fn tells_turns(rt: HostRuntime) {
-    for (harts, text, told) in &TURNS {
-        tells(&rt, *harts, text, told);
+fn holds_turns(rt: HostRuntime) {
+    for (harts, text, wanted) in &TURNS {
+        holds(&rt, *harts, text, wanted);
     }
 }
 
-/// The text of a turn of hart 0 and one of the collector, so many times.
+/// The text of a turn of hart 0 and one of the collector, this many times.
 fn text_of_pairs<R: Abort + AllocGlobal>(rt: &R, count: u32) -> Vec<u8> {
     let mut text = Vec::new(rt.alloc());
     for _ in 0..count {
@@ -103,7 +103,7 @@ const FAULTS: [(u16, &str, u32); 22] = [
     (2, "0 \u{661}", 2),
 ];
 
-/// A text is refused at this word where there are so many harts.
+/// A text is refused at this word where there are this many harts.
 fn refuses<R: Abort + AllocGlobal>(rt: &R, harts: u16, text: &str, word: u32) {
     let fault = read_schedule(rt.alloc(), harts, text.as_bytes()).err();
     same_at(rt, (harts, text), fault, Some(ScheduleFault::Word(word)));
@@ -116,9 +116,9 @@ fn refuses_words(rt: HostRuntime) {
     }
 }
 
-/// Without memory Memory is answered.
+/// Without memory the fault is Memory.
 #[test]
-fn tells_that_memory_is_refused(rt: HostRuntime) {
+fn memory_is_refused(rt: HostRuntime) {
     let heap = LocalHeap::new(rt.alloc(), 0).expect(&rt, "memory");
     let fault = read_schedule(&heap, 1, b"0 c 0 c 0 c 0 c 0 c 0 c 0 c 0 c").err();
     same_at(&rt, "no memory", fault, Some(ScheduleFault::Memory));

@@ -22,7 +22,7 @@ pub(crate) const RETIRED: Event = Event::Retire {
     privilege: 3,
 };
 
-/// The text of a log of a row so many times.
+/// The text of a log that has this row this many times.
 pub(crate) fn text_of_rows<R: Abort + AllocGlobal>(rt: &R, row: &str, count: usize) -> Vec<u8> {
     let mut text = Vec::new(rt.alloc());
     add(rt, &mut text, HEADER.as_bytes());

@@ -25,7 +25,7 @@ pub(crate) fn add<R: Abort>(
     messages.push(message).ok().expect(rt, "memory");
 }
 
-/// What is left of the logs of so many harts. Where nothing is collected, the place is told.
+/// What is left of the logs of these harts. Where nothing is collected, the failure names the place.
 pub(crate) fn pieces_of<P: Debug + Drop, R: Abort + AllocGlobal>(
     rt: &R,
     place: P,
@@ -57,7 +57,7 @@ fn position_of(tens: u8, ones: u8) -> usize {
     10 * usize::from(number_of(tens)) + usize::from(number_of(ones))
 }
 
-/// The part of which this is the text.
+/// The part with this text.
 fn part_of(text: &[u8]) -> Option<Wanted> {
     match text {
         [b'g', b'a', b'p', b' ', missing, ..] => {
@@ -71,8 +71,8 @@ fn part_of(text: &[u8]) -> Option<Wanted> {
     }
 }
 
-/// The parts of which this is the text: `gap 1` where so many messages are missing, and `00-11` for the events from a
-/// position on up to another, with a space between each two.
+/// The parts with this text: `gap 1` for a gap of this many messages, and `00-11` for the events from a position on up
+/// to another, with a space between each two.
 pub(crate) fn parts_of<R: Abort + AllocGlobal>(rt: &R, text: &[u8]) -> Vec<Wanted> {
     let mut parts = Vec::new(rt.alloc());
     for part in text.chunks(6) {
@@ -94,8 +94,8 @@ fn is_wanted(log: &[Event], part: &Part, wanted: Wanted) -> bool {
     }
 }
 
-/// These are the parts that are wanted of a log, and its hart is closed where that is wanted. Where they are
-/// not, the place is told.
+/// These are the parts that are wanted of a log, and its hart is closed where that is wanted. Where they are not, the
+/// failure names the place.
 pub(crate) fn are_wanted<P: Copy + Debug + Drop, R: Abort>(
     rt: &R,
     place: P,

@@ -1,4 +1,4 @@
-//! Messages of which nothing is collected.
+//! Messages that are refused.
 
 use super::collected::add;
 use super::small_logs::{NOPS, payload_of};
@@ -82,8 +82,8 @@ const ROWS: [Row; 10] = [
     ),
 ];
 
-/// The messages of a row are not collected for its reason.
-fn is_told<R: Abort + AllocGlobal>(
+/// The messages of a row are refused with its fault.
+fn is_refused<R: Abort + AllocGlobal>(
     rt: &R,
     program: &Program,
     place: usize,
@@ -93,24 +93,24 @@ fn is_told<R: Abort + AllocGlobal>(
     for (hart, number, payload) in sent {
         add(rt, &mut messages, *hart, *number, payload);
     }
-    let told = collect_lossy(rt.alloc(), program, *count, Mode::Differential, &messages).err();
-    same_at(rt, place, told, Some(*fault));
+    let found = collect_lossy(rt.alloc(), program, *count, Mode::Differential, &messages).err();
+    same_at(rt, place, found, Some(*fault));
 }
 
-/// None of the messages of each row are collected.
-fn are_told<R: Abort + AllocGlobal>(rt: &R, program: &Program, rows: &[Row]) {
+/// The messages of each row are refused.
+fn are_refused<R: Abort + AllocGlobal>(rt: &R, program: &Program, rows: &[Row]) {
     for (place, row) in rows.iter().enumerate() {
-        is_told(rt, program, place, row);
+        is_refused(rt, program, place, row);
     }
 }
 
-/// A message that is refused and a packet that is not decoded are told with their places, behind those of other harts
-/// too: a number that comes twice or is lower is a repeat; one of 2^63 is a gap, and one that would follow 2^63 - 1
-/// comes after the end; and a hart may not be known, as none is where there are no harts.
+/// The fault names the place of the message that is refused or of the packet that is not decoded, behind those of other
+/// harts too. A number that comes twice or is lower is a repeat; one of 2^63 is a gap, and one that would follow
+/// 2^63 - 1 comes after the end. A hart may not be known, as none is where there are no harts.
 #[test]
 fn faults_have_places(rt: HostRuntime) {
     let program = program_of(&rt, &NOPS);
-    are_told(&rt, &program, &ROWS);
+    are_refused(&rt, &program, &ROWS);
 }
 
 /// Faults and their texts, in which no place stands.
@@ -125,15 +125,15 @@ const TEXTS: [(LossyFault, &str); 4] = [
 ];
 
 /// This is the text of the fault.
-fn tells<R: Abort + AllocGlobal>(rt: &R, fault: LossyFault, text: &str) {
-    let told = format!(in rt.alloc(); "{fault}").expect(rt, "memory");
-    same_at(rt, fault, told.as_str(), text);
+fn prints<R: Abort + AllocGlobal>(rt: &R, fault: LossyFault, text: &str) {
+    let printed = format!(in rt.alloc(); "{fault}").expect(rt, "memory");
+    same_at(rt, fault, printed.as_str(), text);
 }
 
 #[test]
 fn faults_as_text(rt: HostRuntime) {
     for (fault, text) in TEXTS {
-        tells(&rt, fault, text);
+        prints(&rt, fault, text);
     }
 }
 
@@ -145,13 +145,13 @@ fn no_harts(rt: HostRuntime) {
     assert!(rt; harts.is_empty());
 }
 
-/// Without memory Memory is answered.
+/// Without memory the fault is Memory.
 #[test]
 fn no_memory(rt: HostRuntime) {
     let program = program_of(&rt, &NOPS);
     let mut messages = Vec::new(rt.alloc());
     add(&rt, &mut messages, 0, 0, payload_of(0));
     let heap = LocalHeap::new(rt.alloc(), 0).expect(&rt, "memory");
-    let told = collect_lossy(&heap, &program, 1, Mode::Differential, &messages).err();
-    same_at(&rt, "no memory", told, Some(LossyFault::Memory));
+    let found = collect_lossy(&heap, &program, 1, Mode::Differential, &messages).err();
+    same_at(&rt, "no memory", found, Some(LossyFault::Memory));
 }

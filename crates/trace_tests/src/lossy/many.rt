@@ -10,7 +10,7 @@ use message::Message;
 use payload::{Mode, Payload};
 use std::process::Abort;
 
-/// The messages of so many harts but those with the number 1.
+/// The messages of these harts, but those with the number 1.
 fn messages_of<R: Abort + AllocGlobal>(rt: &R, harts: u16) -> Vec<Message> {
     let mut messages = Vec::new(rt.alloc());
     for hart in 0..harts {
@@ -46,8 +46,8 @@ fn messages_but<R: Abort + AllocGlobal>(rt: &R, payloads: &[Payload]) -> Vec<Mes
     messages
 }
 
-/// What is left where each event has a message whose number is the event's and 1, up to this count of events, and those
-/// are lost whose number ends in 500.
+/// What is left of this count of events where each has a message, whose number is the event's and 1 more, and the
+/// messages are lost whose numbers end in 500.
 fn wanted_of<R: Abort + AllocGlobal>(rt: &R, count: usize) -> Vec<Wanted> {
     let mut wanted = Vec::new(rt.alloc());
     let mut begins = 0;
@@ -62,7 +62,7 @@ fn wanted_of<R: Abort + AllocGlobal>(rt: &R, count: usize) -> Vec<Wanted> {
     wanted
 }
 
-/// Of 70,002 messages of a hart, one for each event between those that open and close the trace, 70 are lost.
+/// A hart sends 70,002 messages: one for each event, between those that open and close the trace. 70 of them are lost.
 #[test]
 fn many_messages(rt: HostRuntime) {
     let program = short_words(&rt, 70_000);

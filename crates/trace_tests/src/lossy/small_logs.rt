@@ -22,7 +22,7 @@ pub(crate) fn payload_of(number: u64) -> &'static [u8] {
     }
 }
 
-/// The payload with this number, with addresses told in this mode.
+/// The payload with this number, with the address fields of this mode.
 fn payload_in(mode: Mode, number: u64) -> &'static [u8] {
     match (mode, number) {
         (Mode::Full, 0) => b"\x1f\x01",
@@ -31,12 +31,12 @@ fn payload_in(mode: Mode, number: u64) -> &'static [u8] {
     }
 }
 
-/// The messages of hart 0 with these digits, and all five of hart 1, mixed, with addresses told in this mode.
-fn messages_of<R: Abort + AllocGlobal>(rt: &R, told: Mode, digits: &[u8]) -> Vec<Message> {
+/// The messages of hart 0 with these digits, and all five of hart 1, mixed, with the address fields of this mode.
+fn messages_of<R: Abort + AllocGlobal>(rt: &R, mode: Mode, digits: &[u8]) -> Vec<Message> {
     let mut messages = Vec::new(rt.alloc());
     for digit in b'0'..b'5' {
         let number = u64::from(digit - b'0');
-        let payload = payload_in(told, number);
+        let payload = payload_in(mode, number);
         if digits.contains(&digit) {
             add(rt, &mut messages, 0, number, payload);
         }
@@ -48,12 +48,12 @@ fn messages_of<R: Abort + AllocGlobal>(rt: &R, told: Mode, digits: &[u8]) -> Vec
 /// All three events.
 const ALL: &[u8] = b"00-03";
 
-/// The mode that is handed in, that in which addresses are told, the digits of the messages of hart 0 that come, the
-/// text of the parts that are wanted of its log, and whether it is closed.
+/// The mode that is handed in, the mode of the address fields, the digits of the messages of hart 0 that come, the text
+/// of the parts that are wanted of its log, and whether it is closed.
 type Row = (Mode, Mode, &'static [u8], &'static [u8], bool);
 
-/// Full addresses are read where the packet that opens the trace tells so, whatever mode is handed in, and where the
-/// mode that is handed in does and this packet is lost.
+/// Address fields are read in the mode that the packet which opens the trace announces, whatever mode is handed in.
+/// Where that packet is lost, they are read in the mode that is handed in.
 const ROWS: [Row; 11] = [
     (D, D, b"01234", ALL, true),
     (D, D, b"1234", b"gap 1 00-03", true),
@@ -77,10 +77,10 @@ fn are_those_of<R: Abort + AllocGlobal>(
     rt: &R,
     program: &Program,
     place: usize,
-    (handed, told, digits, wanted, closed): &Row,
+    (handed, mode, digits, wanted, closed): &Row,
 ) {
     let log = [retired(0, 0, 3), retired(4, 0, 3), retired(8, 0, 3)];
-    let messages = messages_of(rt, *told, digits);
+    let messages = messages_of(rt, *mode, digits);
     let harts = pieces_of(rt, place, program, 2, *handed, &messages);
     match harts.as_slice() {
         [first, second] => {

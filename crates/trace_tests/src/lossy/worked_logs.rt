@@ -37,8 +37,8 @@ fn messages_but<R: Abort + AllocGlobal>(rt: &R, payloads: &[Payload], lost: &[u8
     messages
 }
 
-/// Of the log of these events, with synchronisations of this period, a hart sends so many messages in this mode, and
-/// the parts of a row are left.
+/// A hart sends the log of these events at this period and in this mode, in this count of messages. Of them those of a
+/// row are lost, and its parts are left.
 fn is_left<R: Abort + AllocGlobal>(
     rt: &R,
     program: &Program,
@@ -102,10 +102,10 @@ const TRAPPED: [Step; 11] = [
     Retires(4, 5, 3),
 ];
 
-/// That log, of ten packets: 0 opens the trace; 1 is a synchronisation at event 0; 2 tells the
-/// jump back, event 2; 3 waits, of event 3 before the trap; 4 is the trap with its handler, events 4 and 5; 5 tells
-/// where mret led, event 7; 6 is a synchronisation at event 8; 7 waits, of where the jump to ra led, event 9; 8 waits,
-/// of the last event; 9 closes the trace.
+/// That log, of ten packets: 0 opens the trace; 1 is a synchronisation at event 0; 2 reports the jump back, event 2; 3
+/// reports event 3, before the trap, and waits; 4 is the trap with its handler, events 4 and 5; 5 reports where mret
+/// led, event 7; 6 is a synchronisation at event 8; 7 reports where the jump to ra led, event 9, and waits; 8 reports
+/// the last event and waits; 9 closes the trace.
 #[test]
 fn a_trap_and_a_jump_back(rt: HostRuntime) {
     let program = program_of(&rt, &WORDS);
@@ -124,8 +124,8 @@ const OF_A_FULL_MAP: [Row; 7] = [
 ];
 
 /// The log of a branch to itself that is taken 32 times and then not, of five packets: 0 opens the trace; 1 is a
-/// synchronisation at event 0; 2 is a full branch map, of events 1 to 31, which waits for nothing; 3 waits, of the last
-/// event; 4 closes the trace.
+/// synchronisation at event 0; 2 is a full branch map, of events 1 to 31, which waits for nothing; 3 reports the last
+/// event and waits; 4 closes the trace.
 #[test]
 fn a_full_branch_map(rt: HostRuntime) {
     let program = program_of(&rt, &[BRANCH_LOOP]);

@@ -20,7 +20,7 @@ fn number(bytes: &[u8], from: usize, to: usize) -> u32 {
     value
 }
 
-/// The bits of a packet with a privilege, which has so many.
+/// How many bits a packet with a privilege has, which are these, or the fault of its privilege.
 fn bits_of_privileged(bytes: &[u8], width: usize) -> Result<usize, PackFault> {
     match number(bytes, 5, 7) {
         2 => Err(PackFault::BadPrivilege),
@@ -28,7 +28,7 @@ fn bits_of_privileged(bytes: &[u8], width: usize) -> Result<usize, PackFault> {
     }
 }
 
-/// The bits of a support packet: with ienable, encoder_mode, qual_status and ioptions.
+/// How many bits a support packet has: with ienable, encoder_mode, qual_status and ioptions.
 fn bits_of_support(bytes: &[u8]) -> Result<usize, PackFault> {
     let modes = (bit(bytes, 4), bit(bytes, 5));
     match (modes, number(bytes, 6, 8), number(bytes, 8, 13)) {
@@ -37,8 +37,8 @@ fn bits_of_support(bytes: &[u8]) -> Result<usize, PackFault> {
     }
 }
 
-/// The bits of an address packet whose address field begins behind so many: its last ones are notify, updiscon and
-/// irreport.
+/// How many bits an address packet has whose address field begins behind this many. Its last bits are notify, updiscon
+/// and irreport.
 fn bits_of_address(bytes: &[u8], before: usize) -> Result<usize, PackFault> {
     let width = before.saturating_add(66);
     let top = bit(bytes, width.saturating_sub(4));
@@ -53,7 +53,7 @@ fn bits_of_address(bytes: &[u8], before: usize) -> Result<usize, PackFault> {
     }
 }
 
-/// The bits of a packet with a branch map.
+/// How many bits a packet with a branch map has.
 fn bits_of_branches(bytes: &[u8]) -> Result<usize, PackFault> {
     match number(bytes, 2, 7) {
         0 => Ok(38),
@@ -65,7 +65,7 @@ fn bits_of_branches(bytes: &[u8]) -> Result<usize, PackFault> {
     }
 }
 
-/// How many bits the packet has with whose bits these bytes begin.
+/// How many bits the packet has with which these bytes begin.
 fn bits_of(bytes: &[u8]) -> Result<usize, PackFault> {
     match (number(bytes, 0, 2), number(bytes, 2, 4)) {
         (1, _) => bits_of_branches(bytes),
@@ -78,7 +78,7 @@ fn bits_of(bytes: &[u8]) -> Result<usize, PackFault> {
     }
 }
 
-/// Whether each bit that is given behind a packet of so many is its last one.
+/// Whether each bit behind a packet of this width is the same as its last one.
 fn is_padded(bytes: &[u8], width: usize) -> bool {
     let last = bit(bytes, width.saturating_sub(1));
     let mut same = true;

@@ -12,7 +12,7 @@ pub(crate) const ENDED_REP: Form = Form::Supports(Support::EndedRep);
 
 pub(crate) const ENDED_NTR: Form = Form::Supports(Support::EndedNtr);
 
-/// A packet by what its row tells of it.
+/// A packet as its row gives it.
 #[derive(Clone, Copy)]
 pub(crate) enum Form {
     Supports(Support),
@@ -22,13 +22,13 @@ pub(crate) enum Form {
     Excepts(u8, bool, u64, u64),
     /// At privilege 3, of a cause, at an address.
     Interrupts(u8, u64),
-    /// Outcomes, a difference or an address, and what it reports.
+    /// Outcomes, a difference or an address, and why it is reported.
     Addresses(&'static str, u64, Report),
     /// Outcomes: the oldest first, a taken branch as `1`, another as `0`.
     Maps(&'static str),
 }
 
-/// The outcomes that digits tell, the first 31 of them.
+/// The outcomes that digits stand for, the first 31 of them.
 fn outcomes_in(digits: &str) -> Outcomes {
     let mut outcomes = Outcomes::new();
     for digit in digits.bytes() {
@@ -86,14 +86,14 @@ pub(crate) fn packet_of(form: Form) -> Packet {
     }
 }
 
-/// The payload of a packet, which has to be of the profile. Where this is called, nothing of the contract is read
-/// again.
+/// The payload of a packet, which has to be of the profile. All tests call this, so that the contract of [`pack`] is met
+/// at one place.
 pub(crate) fn payload_of<R: Abort>(rt: &R, packet: &Packet) -> Payload {
     assert!(rt; packet.in_profile(), "{packet:?} is not of the profile");
     pack(packet)
 }
 
-/// This is read of bytes.
+/// Bytes unpack to this.
 pub(crate) fn is_read<R: Abort>(rt: &R, bytes: &[u8], want: Result<Packet, PackFault>) {
     same_at(rt, bytes, unpack(bytes), want);
 }

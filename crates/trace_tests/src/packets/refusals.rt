@@ -81,7 +81,7 @@ const NAMES: [(PackFault, &'static str); 6] = [
 #[test]
 fn names_faults(rt: HostRuntime) {
     for (fault, name) in NAMES {
-        let told = format!(in rt.alloc(); "{fault}").expect(&rt, "memory");
-        same_at(&rt, fault, told.as_str(), name);
+        let printed = format!(in rt.alloc(); "{fault}").expect(&rt, "memory");
+        same_at(&rt, fault, printed.as_str(), name);
     }
 }

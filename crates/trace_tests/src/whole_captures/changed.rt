@@ -10,8 +10,8 @@ use retire::Event;
 use rvclass::Program;
 use std::process::Abort;
 
-/// The words of a program, the capture of a hart that runs it, its log, and of each message where it begins and how many
-/// events are known before it.
+/// The words of a program, the capture of a hart that runs it, its log, and for each message where it begins and how
+/// many events are known before it.
 type Row = (
     &'static [u32],
     &'static [u8],
@@ -67,9 +67,9 @@ fn message_with(messages: &[(usize, usize)], place: usize) -> (u64, usize) {
     found
 }
 
-/// Whether an outcome has the events before the changed message, and ends as it has to where so many messages are
-/// accepted, and no more for this reason: there, and with no other events if the changed message is the one that is not
-/// accepted; or at a packet that is not decoded, from the changed message on and before that end.
+/// Whether an outcome has the events that were known before the changed message, and ends as it has to where this many
+/// messages are accepted and the next one is not, for this reason. It ends there, with no other events if the changed
+/// message is the one that is not accepted; or before, from the changed message on, at a packet that is not decoded.
 fn is_right(
     outcome: &CaptureOutcome,
     known: &[Event],

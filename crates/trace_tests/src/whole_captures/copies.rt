@@ -14,7 +14,7 @@ use std::process::Abort;
 /// The payloads of a branch to itself, three words from the base, that is taken 33 times.
 const PAYLOADS: [&[u8]; 5] = [b"\x1f", b"\x63\x03\0\0\x20", b"\x01", b"\x05", b"\x4f"];
 
-/// The log of each of so many harts.
+/// The same log for each of these harts.
 pub(super) fn copies_of<'p, R: Abort + AllocGlobal>(
     rt: &R,
     program: &'p Program,
@@ -28,8 +28,8 @@ pub(super) fn copies_of<'p, R: Abort + AllocGlobal>(
     logs
 }
 
-/// The capture of the log in each of so many harts is the one by hand, and decodes to the log in each of them. Where a
-/// header counts them, whatever is asked for.
+/// The capture of the same log of each of these harts is the one by hand, and decodes to the log of each. Where a
+/// header counts the harts, it does so whatever count is asked for.
 fn come_back<R: Abort + AllocGlobal>(rt: &R, version: Version, harts: u16, asked: u16) {
     let program = program_of(rt, &[NOP, NOP, RET, BRANCH_LOOP]);
     let log = log_of(rt, &[Retires(12, 5, 3); 33]);
@@ -42,7 +42,7 @@ fn come_back<R: Abort + AllocGlobal>(rt: &R, version: Version, harts: u16, asked
     assert!(rt; whole, "{version:?}, {harts} harts");
 }
 
-/// A hundred harts, and as many as there are at most.
+/// A hundred harts, and the most that there may be.
 #[test]
 fn copies_of_a_log(rt: HostRuntime) {
     for (version, harts, asked) in [

@@ -13,8 +13,8 @@ use std::process::Abort;
 /// The payloads of two words.
 const PAYLOADS: [&[u8]; 4] = [b"\x1f", b"\x73\0\0\0\x20", b"\x0a", b"\x4f"];
 
-/// A writer of one byte a call that fails after so many calls holds as many bytes of the whole; the call returns Write
-/// just where that is not all.
+/// A writer that takes a byte a call, and fails after this many calls, holds as many bytes of the whole. The call
+/// returns Write just where that is not all.
 fn is_cut<R: Abort + AllocGlobal>(
     rt: &R,
     logs: &[LegalLog<'_>],

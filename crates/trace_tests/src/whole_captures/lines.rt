@@ -24,7 +24,7 @@ fn encoded<R: Abort + AllocGlobal>(rt: &R, logs: &[LegalLog<'_>]) -> Vec<u8> {
     text
 }
 
-/// The lines of so many harts of which each sends these payloads.
+/// The lines of these harts, where each sends these payloads.
 fn lines_of<R: Abort + AllocGlobal>(rt: &R, harts: u16, payloads: &[Payload]) -> Vec<u8> {
     let mut text = Vec::new(rt.alloc());
     for hart in 0..harts {

@@ -8,7 +8,8 @@ use captures::read_messages;
 use message::Version;
 use std::process::Abort;
 
-/// The capture of so many retirements of as many words, at this period, has so many messages, and decodes to them.
+/// The capture of a log that retires each of this count of words once, at this period, has this many messages, and
+/// decodes to the log.
 fn comes_back<R: Abort + AllocGlobal>(rt: &R, count: u32, period: u16, messages: usize) {
     let program = short_words(rt, count);
     let log = short_log(rt, count);
@@ -20,8 +21,8 @@ fn comes_back<R: Abort + AllocGlobal>(rt: &R, count: u32, period: u16, messages:
     same_at(rt, count, whole.messages.len(), messages);
 }
 
-/// Beside the packets that open and close the trace: 512 synchronisations, before each but the first an address, and the
-/// last address; and a synchronisation for each event.
+/// Beside the packets that open and close the trace, the first log has 512 synchronisations, an address before each but
+/// the first, and the last address. The second has a synchronisation for each event.
 #[test]
 fn long_logs(rt: HostRuntime) {
     comes_back(&rt, 524_288, 1024, 1_026);

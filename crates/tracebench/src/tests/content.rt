@@ -1,4 +1,4 @@
-//! What the program does over files of which all is known.
+//! What the program does over files whose content is known.
 
 ghost use Rattle.std.specs.Prelude.{◌≢◌};
 
@@ -9,7 +9,7 @@ use std::process::Abort;
 use std::sync::Wait;
 use std::thread::Threads;
 
-/// A line of words for each subcommand, of which the first file is `image.bin`.
+/// A line of words for each subcommand. The first file of each is `image.bin`.
 pub(crate) const LINES: [&str; 6] = [
     "tracebench check --base 80000000 image.bin log.csv",
     "tracebench encode --base 80000000 image.bin log.csv",

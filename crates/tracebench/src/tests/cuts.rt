@@ -60,7 +60,7 @@ $ tracebench decode --base 80000000 image.bin log.capture:52
 > 80000000,0,3,,
 > 80000004,0,3,,
 
-# The same behind a header: below 11 bytes it is no header, and then a cut header is told, as message 0.
+# The same behind a header: below 11 bytes it is no header, and then a cut header is reported, as message 0.
 file headed.capture
 |= ffff727674726163653200 00 0004 0100
 |< log.capture

@@ -2,10 +2,11 @@
 
 /// Captures without a header and behind one, refused messages, many harts.
 pub(crate) const TEXT: &str = r"
-# Small captures, each without a header and behind one, whose count of harts holds and not the one that is asked for.
+# Small captures, each without a header and behind one. The header's count of harts holds, and not the one that is asked
+# for.
 file image.bin
 |= 13000000 13000000
-# nothing is missing
+# nothing is lost
 file bare.capture
 |~ 0 0 1f
 |~ 0 1 7300000020
@@ -357,7 +358,7 @@ $ tracebench decode --base 80000000 --harts 2 one.bin log.capture
 ! tracebench: message 5: stranger
 ? 1
 
-# A capture of 1,024 harts with no header, none of which retired anything, and one that ends before the last closing
+# A capture of 1,024 harts with no header, where no hart retired anything, and one that ends before the last closing
 # packet.
 file log.capture
 |*1024~ @ 0 1f\n@ 1 cf00

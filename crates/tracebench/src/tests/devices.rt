@@ -3,7 +3,7 @@
 /// Each is run with an output that fails at each of its calls in turn.
 pub(crate) const TEXT: &str = r"
 # Two words `nop` and logs of them; captures of only the message that opens a trace, of a trace whose third message is
-# lost, and of one whose first is.
+# lost, and of one whose first message is lost.
 file image.bin
 |= 13000000 13000000
 file log.csv
@@ -20,7 +20,7 @@ file gap.capture
 |~ 0 0 1f
 |~ 0 1 7300000020
 |~ 0 3 4f
-file late.capture
+file unopened.capture
 |~ 0 1 7300000020
 
 # Runs of each subcommand, with and without a fault.
@@ -59,7 +59,7 @@ $ tracebench decode --base 80000000 image.bin gap.capture
 > 80000000,0,3,,
 ! tracebench: message 2: gap, expected number 2
 ? 1
-$ tracebench decode --base 80000000 --lossy image.bin late.capture
+$ tracebench decode --base 80000000 --lossy image.bin unopened.capture
 > hart 0
 > gap: 1 messages
 > stretch: 1 events

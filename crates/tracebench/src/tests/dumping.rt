@@ -2,8 +2,8 @@
 
 /// The text of each packet, of whole captures and of headers; messages in any order.
 pub(crate) const TEXT: &str = r"
-# The text of each packet, without a header and behind one of differences and one of full addresses, whatever the
-# packets open.
+# The text of each packet, without a header and behind one of differences and one of full addresses, whatever mode the
+# packets announce.
 file packets.capture
 |~ 65535 18446744073709551615 1f
 |~ 65535 18446744073709551615 1f01
@@ -128,7 +128,7 @@ file log.capture
 $ tracebench dump log.capture
 > capture 2 mode=diff period=4660 harts=801
 
-# A message whose length is not 1 to 18 is told behind those before it.
+# A message whose length is not 1 to 18 is reported behind those before it.
 file log.capture
 |~ 0 0 1f
 |~ 0 1 00

@@ -338,7 +338,7 @@ $ tracebench decode --base 80000000 image.bin log.capture
 > hart 0
 >< log.csv
 
-# An exception whose handler is the next event: the handler's address is sent, and none of the exception.
+# An exception whose handler is the next event: the handler's address is sent, and not the exception's.
 file image.bin
 |= 13000000 73000000
 |*248= 00

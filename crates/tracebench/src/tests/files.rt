@@ -1,7 +1,7 @@
 //! Files in memory.
 
 ghost use Rattle.std.specs.Prelude.{◌≡◌, [], MatchOption, map, string_bytes};
-ghost use Rattle.commands.specs.Known.{Absent, Told, content_in};
+ghost use Rattle.commands.specs.Known.{Absent, Present, content_in};
 
 use commands::{FileFault, Files};
 use std::alloc::Global;
@@ -14,7 +14,7 @@ struct File {
     bytes: Vec<u8>,
 }
 
-/// Files, the newest first: of two of one name it is the one that counts.
+/// Files, the newest first: where two have one name, the newest counts.
 #[derive(Drop)]
 pub(crate) struct Shelf {
     alloc: Global,
@@ -47,8 +47,8 @@ impl Shelf {
         file.bytes.extend_from_slice(bytes).expect(rt, "memory");
     }
 
-    /// Adds the file that a path `NAME:COUNT` names: so many of the first bytes of the file `NAME`. Any other path adds
-    /// none.
+    /// Adds the file that a path `NAME:COUNT` names: this count of the first bytes of the file `NAME`. Any other path
+    /// adds none.
     pub(crate) fn cut(&mut self, rt: &impl Abort, path: &str) {
         let mut copy = Vec::new(self.alloc);
         match self.beginning(path) {
@@ -70,7 +70,7 @@ impl Shelf {
     pub(crate) fn content(&self, name: &str) -> Option<&[u8]>
         ensures { let files = map (λ file. (string_bytes file.name, file.bytes.items)) self.now.files.items in
             MatchOption result (content_in files name.now ≡ Absent) (λ bytes. content_in files name.now
-            ≡ Told bytes.now) }
+            ≡ Present bytes.now) }
     {
         for file in &self.files {
             if file.name.as_str() == name {

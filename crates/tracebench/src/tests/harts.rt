@@ -37,8 +37,8 @@ $ tracebench encode --base 80000000 --full image.bin 1024*log.csv
 $ tracebench decode --base 80000000 image.bin full.capture
 >*1024 hart @\naddr,itype,priv,cause,tval\n80000000,0,3,,\n80000004,0,3,,
 
-# Nothing of the capture is lost; then of each hart the third message is, and then the first and the third, where the
-# messages of the harts come in turns.
+# No message of the capture is lost; then the third of each hart is, and then the first and the third. The messages of
+# the harts come in turns.
 $ tracebench decode --base 80000000 --lossy image.bin log.capture
 >*1024 hart @\nstretch: 2 events\naddr,itype,priv,cause,tval\n80000000,0,3,,\n80000004,0,3,,
 $ tracebench decode --base 80000000 --lossy --harts 1024 image.bin messages.capture

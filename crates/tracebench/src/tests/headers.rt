@@ -1,8 +1,8 @@
-//! What the header of a capture tells, and headers that are refused.
+//! What the header of a capture says, and headers that are refused.
 
-/// Headers with each setting that is none, of another mode, and of other counts of harts.
+/// Headers with each setting that is not valid, of another mode, and of other counts of harts.
 pub(crate) const TEXT: &str = r"
-# Settings of a header that are none, and one of another mode than the trace opens in.
+# Headers with settings that are not valid, and one of another mode than the trace opens in.
 file image.bin
 |= 13000000 13000000
 file log.capture
@@ -80,7 +80,7 @@ $ tracebench dump bad.capture
 > 0 2 address addr=4 map=- plain
 > 0 3 close ended_rep
 
-# The header tells how many harts there are, whatever the words say; of a faulty one the words do.
+# The header says how many harts there are, whatever the words say; where it is faulty the words do.
 file counted.capture
 |= ffff727674726163653200 00 0004 0200
 |< log.capture
@@ -106,7 +106,7 @@ $ tracebench decode --base 80000000 --harts 3 image.bin counted.capture
 ! tracebench: capture header is not valid
 ? 1
 
-# In a dump the line of the header comes first, and its mode names the address field, whatever the messages tell.
+# In a dump the line of the header comes first. Its mode names the address field, whatever mode the messages announce.
 file log.capture
 |= ffff727674726163653200 00 0004 0100
 |~ 0 0 1f01

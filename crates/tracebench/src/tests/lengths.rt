@@ -1,6 +1,6 @@
 //! Logs, captures and schedules of more than 65,536 rows, messages and turns.
 
-/// Logs of 70,000 rows, whose expected texts are one row or one message so often.
+/// Logs of 70,000 rows, whose expected texts repeat one row or one message.
 pub(crate) const LOGS: &str = r#"
 # 70,000 `nop` of two bytes, each retired once.
 file image.bin
@@ -49,7 +49,7 @@ $ tracebench encode --base 80000000 --period 65535 --hex image.bin log.csv
 > 0 5 4f
 "#;
 
-/// Captures of more than 65,536 messages, and of fewer that stand for more events.
+/// Captures of more than 65,536 messages, and of fewer messages that stand for more than 65,536 events.
 pub(crate) const CAPTURES: &str = r"
 # A branch to itself that is taken 70,000 times, where each retirement gives a synchronisation.
 file branch.bin
@@ -97,7 +97,7 @@ $ tracebench decode --base 80000000 --lossy branch.bin repeated.capture
 ! tracebench: message 70001: repeat
 ? 1
 
-# At a period of 280, of each 279 retirements behind a synchronisation eight packets map 31 branches each, and a ninth
+# At a period of 280, eight packets map 31 branches each of the 279 retirements behind a synchronisation, and a ninth
 # packet maps the last 31 with the last address.
 file log.csv
 | addr,itype,priv,cause,tval
@@ -149,9 +149,9 @@ $ tracebench decode --base 80000000 --lossy nops.bin log.capture
 >*70000 @{80000000+2},0,3,,
 ";
 
-/// Captures with many losses: of each ten numbers four are missing.
+/// Captures with many losses: four of each ten numbers are missing.
 pub(crate) const LOSSES: &str = r"
-# A jump to itself, of which each retirement gives a synchronisation. The numbers that end in 4, 5, 6 and 0 are missing.
+# A jump to itself, where each retirement gives a synchronisation. The numbers that end in 4, 5, 6 and 0 are missing.
 file image.bin
 |= 6f000000
 file log.capture
@@ -175,7 +175,7 @@ $ tracebench decode --base 80000000 --lossy image.bin log.capture
 >*1199< ten.txt
 ? 1
 
-# More messages are missing at one place than a number of 16 bits counts, and as many as may be.
+# More numbers are missing at one place than 16 bits count, and the most that may be missing.
 file log.capture
 |~ 0 0 1f
 |~ 0 70000 7300000020
@@ -196,7 +196,7 @@ $ tracebench decode --base 80000000 --lossy image.bin log.capture
 
 /// Turns and runs over threads with more than 65,536 messages.
 pub(crate) const RUNS: &str = r"
-# One hart sends 70,002 messages, each of which is taken at once.
+# One hart sends 70,002 messages, and each is taken at once.
 file image.bin
 |= 63000000
 file log.csv

@@ -1,4 +1,4 @@
-//! Captures of which messages may be missing, to logs.
+//! Captures of which messages may be lost, to logs.
 
 /// What is left of a capture where messages are lost.
 pub(crate) const TEXT: &str = r"
@@ -17,7 +17,7 @@ $ tracebench encode --base 80000000 --period 2 --hex image.bin log.csv
 > 0 3 7302000020
 > 0 4 cf00
 
-# Of these none is lost, each in turn, three at once, and all.
+# None of these messages is lost; then each in turn, three at once, and all.
 file log.capture
 |~ 0 0 1f
 |~ 0 1 7300000020
@@ -111,7 +111,7 @@ $ tracebench decode --base 80000000 --lossy image.bin log.capture
 ! tracebench: hart 0: no closing packet
 ? 1
 
-# The lowest hart that is not closed is told, whatever gaps there are; the header counts the harts.
+# The lowest hart that is not closed is reported, whatever gaps there are; the header counts the harts.
 file log.capture
 |= ffff727674726163653200 00 0200 0200
 |~ 0 0 1f
@@ -148,8 +148,8 @@ $ tracebench decode --base 80000000 --lossy image.bin log.capture
 ! tracebench: hart 1: no closing packet
 ? 1
 
-# Where the message that opens the trace is lost, the header tells what the address fields hold; where it came, it tells
-# so itself.
+# Where the message that opens the trace is lost, the header announces the mode of the address fields; where it came, it
+# announces the mode itself.
 file log.capture
 |= ffff727674726163653200 01 0004 0100
 |~ 0 1 7300000020
@@ -218,7 +218,7 @@ $ tracebench decode --base 80000000 --lossy image.bin log.capture
 ! tracebench: message 0: gap, expected number 0
 ? 1
 
-# A base, an image or a capture that is refused is told as it is where no message may be missing.
+# A base, an image or a capture that is refused is reported as it is where no message may be lost.
 file log.capture
 $ tracebench decode --base x --lossy image.bin log.capture
 ! tracebench: base is not a number

@@ -20,24 +20,24 @@ pub(crate) enum Way {
     Failing,
 }
 
-/// A run, and what it has to write and tell.
+/// A run, and what it has to print and report.
 #[derive(Drop)]
 pub(crate) struct Run {
     /// `$` or `%`, and words; nothing where no run is meant.
     line: &'static str,
     pub(crate) status: u64,
     pub(crate) written: Vec<u8>,
-    pub(crate) told: Vec<u8>,
+    pub(crate) reported: Vec<u8>,
 }
 
 impl Run {
-    /// A run of this line, of which nothing is expected yet.
+    /// A run of this line; nothing is expected of it yet.
     pub(crate) fn new(alloc: Global, line: &'static str) -> Run {
         Run {
             line,
             status: 0,
             written: Vec::new(alloc),
-            told: Vec::new(alloc),
+            reported: Vec::new(alloc),
         }
     }
 
@@ -47,7 +47,7 @@ impl Run {
     }
 }
 
-/// A writer that takes a byte at each call, and fails so at one of them, which may be that of a flush.
+/// A writer that takes a byte at each call, and fails with an error of this kind at one call, which may be a flush.
 #[derive(Drop)]
 struct FailsAt {
     kind: ErrorKind,
@@ -57,7 +57,7 @@ struct FailsAt {
 }
 
 impl FailsAt {
-    /// A writer that fails so at this of its calls, counted from 1.
+    /// A writer that fails with an error of this kind at this one of its calls, counted from 1.
     fn new(alloc: Global, kind: ErrorKind, call: usize) -> FailsAt {
         FailsAt {
             kind,
@@ -67,7 +67,7 @@ impl FailsAt {
         }
     }
 
-    /// Counts a call, and fails at the one that is to.
+    /// Counts a call, and fails at the one that has to.
     fn step(&mut self) -> io::Result<()> {
         self.calls = self.calls.saturating_add(1);
         if self.calls == self.call {
@@ -94,19 +94,19 @@ impl Write for FailsAt {
     }
 }
 
-/// Ends the test where this did not come of a run: a status, what is written and what is told.
+/// Ends the test where this did not come of a run: a status, what is printed and what is reported.
 pub(crate) fn ends(
     rt: &impl Abort,
     (line, call): (&str, usize),
     found: (u8, &[u8], &[u8]),
     wanted: (u64, &[u8], &[u8]),
 ) {
-    let (status, written, told) = found;
+    let (status, written, reported) = found;
     assert!(rt;
-        (u64::from(status), written, told) == wanted,
+        (u64::from(status), written, reported) == wanted,
         "{line}, call {call}: status {status}, {:?}, {:?}",
         str::from_utf8(written),
-        str::from_utf8(told)
+        str::from_utf8(reported)
     );
 }
 
@@ -123,7 +123,7 @@ fn add_word<R: Abort + AllocGlobal>(rt: &R, words: &mut Vec<String>, word: &str,
     words.push(text).expect(rt, "memory");
 }
 
-/// The words of a line, with this number for a range in braces; `COUNT*WORD` is a word so often.
+/// The words of a line, with this number for a range in braces; `COUNT*WORD` repeats a word.
 pub(crate) fn words_of<R: Abort + AllocGlobal>(rt: &R, line: &str, number: u64) -> Vec<String> {
     let mut words = Vec::new(rt.alloc());
     for word in line.split_whitespace() {
@@ -179,7 +179,7 @@ pub(crate) fn is_played<R: Abort + AllocGlobal + Threads + Wait + Sync>(
     }
 }
 
-/// The words ask for what is written, or what is told refuses them.
+/// The words ask for what is printed, or they are refused with what is reported.
 fn is_asked<R: Abort + AllocGlobal>(rt: &R, words: &[String], run: &Run) {
     let mut out = String::new(rt.alloc());
     let mut err = String::new(rt.alloc());
@@ -188,11 +188,11 @@ fn is_asked<R: Abort + AllocGlobal>(rt: &R, words: &[String], run: &Run) {
         Err(error) => push(rt, &mut err, error),
     }
     let found = (0, out.as_bytes(), err.as_bytes());
-    let wanted = (run.status, run.written.as_slice(), run.told.as_slice());
+    let wanted = (run.status, run.written.as_slice(), run.reported.as_slice());
     ends(rt, (run.line, 0), found, wanted);
 }
 
-/// The run comes to what has to come of it, and to the same where what it tells is not taken.
+/// The run comes to what has to come of it, and to the same where what it reports is not taken.
 fn is_run<R: Abort + AllocGlobal + Threads + Wait + Sync>(
     rt: &R,
     shelf: &mut Shelf,
@@ -203,12 +203,12 @@ fn is_run<R: Abort + AllocGlobal + Threads + Wait + Sync>(
     let mut err = Vec::new(rt.alloc());
     let status = command(rt.alloc(), rt, shelf, words, &mut out, &mut err);
     let found = (status, out.as_slice(), err.as_slice());
-    let wanted = (run.status, run.written.as_slice(), run.told.as_slice());
+    let wanted = (run.status, run.written.as_slice(), run.reported.as_slice());
     ends(rt, (run.line, 0), found, wanted);
     line_fails_at(rt, shelf, words, run, (ErrorKind::TimedOut, 1), &[]);
 }
 
-/// The output fails at this of its calls, so the run ends with this status, having written and told this.
+/// The output fails at this one of its calls, so the run ends with this status, having printed and reported this.
 fn output_fails_at<R: Abort + AllocGlobal + Threads + Wait + Sync>(
     rt: &R,
     shelf: &mut Shelf,
@@ -223,35 +223,35 @@ fn output_fails_at<R: Abort + AllocGlobal + Threads + Wait + Sync>(
     ends(rt, (line, call), found, wanted);
 }
 
-/// What is told fails at this of its calls and in this way, so that this much of it is taken; nothing else changes.
+/// The standard error fails at this one of its calls and in this way, so that it takes this much; nothing else changes.
 fn line_fails_at<R: Abort + AllocGlobal + Threads + Wait + Sync>(
     rt: &R,
     shelf: &mut Shelf,
     words: &[String],
     run: &Run,
     (kind, call): (ErrorKind, usize),
-    told: &[u8],
+    reported: &[u8],
 ) {
     let mut out = Vec::new(rt.alloc());
     let mut err = FailsAt::new(rt.alloc(), kind, call);
     let status = command(rt.alloc(), rt, shelf, words, &mut out, &mut err);
     let found = (status, out.as_slice(), err.bytes.as_slice());
-    let wanted = (run.status, run.written.as_slice(), told);
+    let wanted = (run.status, run.written.as_slice(), reported);
     ends(rt, (run.line, call), found, wanted);
 }
 
-/// What is told where the output fails.
+/// What is reported where the output fails.
 const FAILED: &[u8] = b"tracebench: output cannot be written\n";
 
-/// The output fails at each of its calls in turn, at each byte's and at that of the flush behind them: what was written
-/// is the beginning of the text. What is told fails at each of its calls; an interrupted write is made again.
+/// The output fails at each of its calls in turn, at each byte's and at that of the flush behind them: what was printed
+/// is the beginning of the text. The standard error fails at each of its calls; an interrupted write is made again.
 fn fails_at_each_call<R: Abort + AllocGlobal + Threads + Wait + Sync>(
     rt: &R,
     shelf: &mut Shelf,
     words: &[String],
     run: &Run,
 ) {
-    let wanted = (run.status, run.written.as_slice(), run.told.as_slice());
+    let wanted = (run.status, run.written.as_slice(), run.reported.as_slice());
     for taken in 0..run.written.len().saturating_add(1) {
         let begun = (3, run.written.get(..taken).unwrap_or(&[]), FAILED);
         let call = taken.saturating_add(1);
@@ -259,9 +259,9 @@ fn fails_at_each_call<R: Abort + AllocGlobal + Threads + Wait + Sync>(
     }
     let behind = run.written.len().saturating_add(2);
     output_fails_at(rt, shelf, words, (run.line, behind), wanted);
-    for taken in 0..run.told.len() {
+    for taken in 0..run.reported.len() {
         let call = taken.saturating_add(1);
-        let begun = run.told.get(..taken).unwrap_or(&[]);
+        let begun = run.reported.get(..taken).unwrap_or(&[]);
         line_fails_at(rt, shelf, words, run, (ErrorKind::TimedOut, call), begun);
         line_fails_at(
             rt,
@@ -269,7 +269,7 @@ fn fails_at_each_call<R: Abort + AllocGlobal + Threads + Wait + Sync>(
             words,
             run,
             (ErrorKind::Interrupted, call),
-            run.told.as_slice(),
+            run.reported.as_slice(),
         );
     }
 }

@@ -1,21 +1,21 @@
-//! Transcripts: files, runs of the program over them, and what each writes and tells.
+//! Transcripts: files, runs of the program over them, and what each prints and reports.
 //!
 //! A line of a transcript begins with
 //!
 //! - `#`: a remark; so is a line with nothing in it;
-//! - `file NAME`: a file, of what the lines that begin with `|` add to it;
+//! - `file NAME`: a file, which holds what the lines that begin with `|` add to it;
 //! - `$`: a run of the program with these words, or `%`: the request that they are, as it is displayed for debugging;
-//! - `>`: what is written, `!`: what is told, and `?`: the exit status where it is not 0.
+//! - `>`: what is printed, `!`: what is reported, and `?`: the exit status where it is not 0.
 //!
 //! Behind `|`, `>` and `!` stands a text; or `=` and bytes in hexadecimal; or `~` and a message, as its hart, its
-//! number and its payload; or `<` and a file's name, for what stands in it; or `+` and a text without an end of line.
-//! A `*` and a count before these stand for so many of them, each with its number, from 0, for each `@`, in lines that
-//! `\n` parts; `*{A..B}` numbers them from A to B instead. `@{A+S}` stands for the hexadecimal number A, and S more for
-//! each number from 0 on.
+//! number and its payload; or `<` and a file's name, for what that file holds; or `+` and a text without an end of
+//! line. `*` and a count before these repeat them that often, in lines that `\n` parts; each `@` then stands for the
+//! number of the repetition, from 0 on. `*{A..B}` numbers them from A to B instead. `@{A+S}` stands for the hexadecimal
+//! number A at number 0, and for S more at each further number.
 //!
-//! Of the words of a run, `COUNT*WORD` is a word so often, `{A..B}` stands for a run with each number from A to B,
-//! `NAME:COUNT` for a file's first bytes, and `full` for a file that memory is refused for. A file takes the place of
-//! one that had its name before. Each run is played once more with a standard error that fails. A request has no
+//! Among the words of a run, `COUNT*WORD` repeats a word, `{A..B}` stands for a run with each number from A to B,
+//! `NAME:COUNT` names a file's first bytes, and `full` names a file that memory is refused for. A file takes the place
+//! of one that had its name before. Each run is played once more with a standard error that fails. A request has no
 //! status.
 
 use super::files::Shelf;
@@ -61,7 +61,7 @@ fn expect<R: Abort + AllocGlobal>(rt: &R, shelf: &Shelf, run: &mut Run, line: &s
     if let Some(text) = line.strip_prefix('>') {
         add_line(rt, shelf, &mut run.written, text);
     } else if let Some(text) = line.strip_prefix('!') {
-        add_line(rt, shelf, &mut run.told, text);
+        add_line(rt, shelf, &mut run.reported, text);
     } else {
         run.status = number_of(rt, line.strip_prefix("? ").expect(rt, "a status"));
     }

@@ -47,7 +47,8 @@ $ tracebench encode --base 80000000 --hex image.bin two.csv none.csv two.csv
 > 2 2 0a
 > 2 3 4f
 
-# Up to 1,024 harts, and up to 64 where version 1 is asked for, also of lines; the count is told before the image.
+# Up to 1,024 harts, and up to 64 where version 1 is asked for, also of lines; a greater count is reported before the
+# image.
 $ tracebench encode --base 80000000 --hex image.bin 1024*none.csv
 >*1024 @ 0 1f\n@ 1 cf00
 $ tracebench encode --base 80000000 --hex image.bin 1025*none.csv
@@ -65,7 +66,7 @@ $ tracebench encode --base 80000000 --v1 no.bin 65*none.csv
 ! tracebench: more than 64 logs
 ? 2
 
-# Each of 1,024 harts sends its two messages, each of which is taken at once.
+# Each of 1,024 harts sends its two messages, and each message is taken at once.
 file turns.txt
 |*1024 @ c @ c
 $ tracebench replay --base 80000000 image.bin turns.txt 1024*none.csv
@@ -75,7 +76,7 @@ $ tracebench replay --base 80000000 image.bin turns.txt 1025*none.csv
 ! tracebench: more than 1024 logs
 ? 2
 
-# A run over threads has up to 64 harts; the count is told before the image.
+# A run over threads has up to 64 harts; a greater count is reported before the image.
 $ tracebench bench --base 80000000 image.bin 64*none.csv
 >*64 hart @: 0 events, 2 packets, 3 payload bytes, decoded 0, whole
 > result: whole

@@ -1,8 +1,8 @@
-//! What words ask for, and what is told of words that ask for nothing.
+//! What words ask for, and what is reported of words that ask for nothing.
 
 /// Each line of words with the request, or with `clap`'s text.
 pub(crate) const TEXT: &str = r#"
-# No subcommand, and one that there is not.
+# No subcommand, and one that does not exist.
 % tracebench
 ! error: 'tracebench' requires a subcommand but one was not provided
 !   [subcommands: check, encode, dump, decode, replay, bench, help]

@@ -4,7 +4,7 @@ use Rattle.std.specs.Option.{option_to_list}
 use Rattle.legalpath.specs.ProgramLog.{ProgramLog}
 use Rattle.payload.specs.declared.mode.Mode.{Mode}
 use Rattle.funnel.specs.Machine.{Funnel, take_front}
-use Rattle.bench.specs.steps.Taking.{AreTaken, IsFrontNext, IsNext, LacksSome}
+use Rattle.bench.specs.steps.Taking.{CameUnlessRefused, IsFrontNext, IsNext, LacksSome}
 use Rattle.bench.proofs.TakingIn.{lacks_more, names_own, names_same, next_in_front, takes_more}
 use Rattle.bench.proofs.replaying.collect.Goals.{After-take_message}
 use Rattle.bench.proofs.replaying.collect.Goals as goal
@@ -25,16 +25,16 @@ module _ (g : _) (c : After-take_message g) where
 
   taken : (period : ℕ) (mode : Mode) (logs : List ProgramLog) (state : Funnel) → state.queue ≡ c.args.core.now.queue
       → IsFrontNext period mode logs state.taken state.queue
-      → AreTaken period mode logs state.taken c.args.collector.now
-      → AreTaken period mode logs (take_front state).taken c.take_message.new.self
+      → CameUnlessRefused period mode logs state.taken c.args.collector.now
+      → CameUnlessRefused period mode logs (take_front state).taken c.take_message.new.self
   taken period mode logs state waits next came =
-      subst (λ some. AreTaken period mode logs some c.take_message.new.self) (sym (taken_of state waits))
+      subst (λ some. CameUnlessRefused period mode logs some c.take_message.new.self) (sym (taken_of state waits))
       (takes_more period mode logs state.taken c.in-Some.message c.take_message.result c.args.collector.now
       c.take_message.new.self c.take_message.ensures came (next_in period mode logs state waits next))
 
   lacks : (period : ℕ) (mode : Mode) (logs : List ProgramLog) (state : Funnel) → state.queue ≡ c.args.core.now.queue
       → IsFrontNext period mode logs state.taken state.queue
-      → AreTaken period mode logs state.taken c.args.collector.now
+      → CameUnlessRefused period mode logs state.taken c.args.collector.now
       → LacksSome state.taken c.args.collector.now → LacksSome (take_front state).taken c.take_message.new.self
   lacks period mode logs state waits next came lack =
       subst (λ some. LacksSome some c.take_message.new.self) (sym (taken_of state waits))

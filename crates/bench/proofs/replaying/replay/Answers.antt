@@ -4,7 +4,7 @@ use Rattle.std.proofs.lemmas.List.{take_all}
 use Rattle.std.proofs.lemmas.Option.{slice_get-get_or}
 use Rattle.funnel.specs.declared.turn.Turn.TheVariants as turn
 use Rattle.bench.specs.Replayed.{replayed}
-use Rattle.bench.specs.steps.Taking.{AreTaken, LacksSome}
+use Rattle.bench.specs.steps.Taking.{CameUnlessRefused, LacksSome}
 use Rattle.bench.proofs.ReplayEnds.{are_beginnings, are_those_taken, lack_some, names_refused}
 use Rattle.bench.proofs.ReplayTurns.{after_collect, after_hart, as_many, is_ready, starts}
 use Rattle.bench.proofs.replaying.replay.Goals as goal
@@ -65,7 +65,7 @@ returns-clause-taken g c =
     let config = c.args.config in
     let logs = c.args.logs.now in
     let all = take_all c.loop-turn.turn-index c.args.turns.now c.loop-turn-test.false in
-    let taken = subst (λ turns. AreTaken config.period config.mode logs
+    let taken = subst (λ turns. CameUnlessRefused config.period config.mode logs
     (replayed config.period config.mode config.capacity logs turns).taken
     c.loop-turn.collector) all r.taken in
     are_those_taken config logs _ c.loop-turn.collector c.finish-outcome.result.harts.items
@@ -85,7 +85,7 @@ returns-clause-lacks g c =
     let config = c.args.config in
     let logs = c.args.logs.now in
     let all = take_all c.loop-turn.turn-index c.args.turns.now c.loop-turn-test.false in
-    let taken = subst (λ turns. AreTaken config.period config.mode logs
+    let taken = subst (λ turns. CameUnlessRefused config.period config.mode logs
     (replayed config.period config.mode config.capacity logs turns).taken
     c.loop-turn.collector) all r.taken in
     let lacks = subst (λ turns. LacksSome (replayed config.period config.mode config.capacity logs turns).taken

@@ -6,9 +6,9 @@ use Rattle.std.proofs.lemmas.Option.{slice_get_read}
 use Rattle.output.specs.Begun.{AppendsBeginning}
 use Rattle.output.proofs.Beginnings.{whole_begun}
 use Rattle.bench.specs.Got.{got_of}
-use Rattle.bench.specs.Report.{hart_line, hart_lines}
-use Rattle.bench.proofs.ReportLemmas.{are_whole-all, are_whole-next, got_at, hart_begun, hart_lines-all}
-use Rattle.bench.proofs.ReportLemmas.{hart_lines-next, length-gots}
+use Rattle.bench.specs.Report.{report_line, report_lines}
+use Rattle.bench.proofs.ReportLemmas.{are_whole-all, are_whole-next, got_at, hart_begun, report_lines-all}
+use Rattle.bench.proofs.ReportLemmas.{report_lines-next, length-gots}
 use Rattle.bench.proofs.reporting.write_harts.Goals as goal
 
 pub loop-hart-preserved : goal.loop-hart-preserved
@@ -22,16 +22,16 @@ loop-hart-preserved g c =
     let log = slice_get_read logs (length logs) hart c.index-logs-hart.result refl
     (omega (arith, known, c.requires)) c.index-logs-hart.is in
     let more = are_whole-next (map got_of harts) logs hart one c.index-logs-hart.result got log in
-    let lines = hart_lines-next 0 (map got_of harts) logs hart one c.index-logs-hart.result got log in
+    let lines = report_lines-next 0 (map got_of harts) logs hart one c.index-logs-hart.result got log in
     let next : hart + 1 ≡ suc hart = omega arith in
-    let first = hart_lines 0 (take hart (map got_of harts)) (take hart logs) in
+    let first = report_lines 0 (take hart (map got_of harts)) (take hart logs) in
     let place : 0 + hart ≡ hart = omega arith in
     let here = subst (λ h. Appends (g.W.Write.contents c.loop-hart.sink) (g.W.Write.contents c.write_hart.new.sink)
-    (hart_line h one c.index-logs-hart.result))
+    (report_line h one c.index-logs-hart.result))
     (sym place) c.in-Ok.ensures.text in
     let written = Appends-trans (g.W.Write.contents c.args.sink.now) (g.W.Write.contents c.loop-hart.sink)
     (g.W.Write.contents c.write_hart.new.sink)
-    first (hart_line (0 + hart) one c.index-logs-hart.result) c.loop-hart.invariant.text here in
+    first (report_line (0 + hart) one c.index-logs-hart.result) c.loop-hart.invariant.text here in
     record {
       whole = rw (next, c.in-Ok.ensures.whole, c.loop-hart.invariant.whole) (sym more);
       text = rw next
@@ -52,7 +52,7 @@ returns-clause-text g c =
     let gots = map got_of c.args.harts.now in
     let known = length-gots c.args.harts.now in
     let over = c.loop-hart-test.false in
-    let all = hart_lines-all gots c.args.logs.now c.loop-hart.hart
+    let all = report_lines-all gots c.args.logs.now c.loop-hart.hart
     (omega (arith, known, over)) (omega (arith, c.requires, over)) in
     subst (Appends (g.W.Write.contents c.args.sink.now) (g.W.Write.contents c.loop-hart.sink)) all
     c.loop-hart.invariant.text
@@ -73,10 +73,10 @@ returns-in-Err-clause-begun g c =
     hart_begun (map got_of harts) logs hart one c.index-logs-hart.result (g.W.Write.contents c.args.sink.now) mid new
     got log
     c.loop-hart.invariant.text
-    (subst (λ h. AppendsBeginning (hart_line h one c.index-logs-hart.result) mid new) (sym place)
+    (subst (λ h. AppendsBeginning (report_line h one c.index-logs-hart.result) mid new) (sym place)
     c.write_hart.ensures.begun)
 
 pub returns-clause-begun : goal.returns-clause-begun
 returns-clause-begun g c =
-    whole_begun (hart_lines 0 (map got_of c.args.harts.now) c.args.logs.now) (g.W.Write.contents c.args.sink.now)
+    whole_begun (report_lines 0 (map got_of c.args.harts.now) c.args.logs.now) (g.W.Write.contents c.args.sink.now)
     (g.W.Write.contents c.loop-hart.sink) (returns-clause-text g c)

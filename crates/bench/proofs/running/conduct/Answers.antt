@@ -5,7 +5,7 @@ use Rattle.funnel.specs.Ends.{OutletView}
 use Rattle.bench.specs.Beginnings.{AreCarried, AreThoseTaken, LackSomeTaken}
 use Rattle.bench.specs.Stopping.{LacksPayloads}
 use Rattle.bench.specs.steps.Gathering.{AreGathered}
-use Rattle.bench.specs.steps.Taking.{AreTaken}
+use Rattle.bench.specs.steps.Taking.{CameUnlessRefused}
 use Rattle.bench.proofs.ReplayEnds.{are_beginnings, are_those_taken, lack_some_taken, none_is_closed}
 use Rattle.bench.proofs.SettledHarts.{are_carried, gathered_taken, handed_back_as}
 use Rattle.bench.proofs.running.conduct.Goals as goal
@@ -34,7 +34,7 @@ module _ (g : _) (c : goal.After-drop-handed_back-2 g) where
   flags = c.start_all-workers.ensures.flags
 
   -- And taken, now that the workers are settled.
-  taken : AreTaken c.args.config.period c.args.config.mode c.args.logs.now c.collect.new.outlet.taken
+  taken : CameUnlessRefused c.args.config.period c.args.config.mode c.args.logs.now c.collect.new.outlet.taken
       c.collect.new.collector
   taken =
       gathered_taken c.args.config.period c.args.config.mode c.args.logs.now c.start_all-workers.new.started

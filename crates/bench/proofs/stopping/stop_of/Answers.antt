@@ -2,8 +2,8 @@
 use Rattle.bench.proofs.FirstHarts.{open_refused}
 use Rattle.bench.proofs.stopping.stop_of.Goals as goal
 
-pub returns-in-Some-clause-told : goal.returns-in-Some-clause-told
-returns-in-Some-clause-told g c = c.in-Some.ensures.some
+pub returns-in-Some-clause-first : goal.returns-in-Some-clause-first
+returns-in-Some-clause-first g c = c.in-Some.ensures.some
 
 pub returns-in-Some-clause-names : goal.returns-in-Some-clause-names
 returns-in-Some-clause-names g c = c.in-Some.ensures.some.0.0
@@ -11,14 +11,14 @@ returns-in-Some-clause-names g c = c.in-Some.ensures.some.0.0
 pub returns-in-Some-clause-back : goal.returns-in-Some-clause-back
 returns-in-Some-clause-back g c = c.in-Some.ensures.some.0.1
 
-pub returns-in-Some-first_ended-clause-told : goal.returns-in-Some-first_ended-clause-told
-returns-in-Some-first_ended-clause-told g c = (c.in-Some-first_ended.ensures.some, c.in_default.ensures.none)
+pub returns-in-Some-first_ended-clause-first : goal.returns-in-Some-first_ended-clause-first
+returns-in-Some-first_ended-clause-first g c = (c.in-Some-first_ended.ensures.some, c.in_default.ensures.none)
 
 pub returns-in-Some-first_ended-clause-names : goal.returns-in-Some-first_ended-clause-names
 returns-in-Some-first_ended-clause-names g c = c.in-Some-first_ended.ensures.some
 
-pub returns-in-Some-first_open-clause-told : goal.returns-in-Some-first_open-clause-told
-returns-in-Some-first_open-clause-told g c =
+pub returns-in-Some-first_open-clause-first : goal.returns-in-Some-first_open-clause-first
+returns-in-Some-first_open-clause-first g c =
     (c.in-Some-first_open.ensures.some, c.in_default-first_ended.ensures.none, c.in_default.ensures.none)
 
 pub returns-in-Some-first_open-clause-names : goal.returns-in-Some-first_open-clause-names

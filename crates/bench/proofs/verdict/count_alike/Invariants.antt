@@ -1,4 +1,4 @@
--- The events so far are alike, so the others tell how many more are.
+-- The events so far are alike, so the count goes on with the others.
 use Rattle.std.proofs.Common.{◌≡◌, ◌≤◌, ◌+◌, length, drop}
 use Rattle.bench.specs.Verdict.{count_alike}
 use Rattle.bench.proofs.verdict.count_alike.Given as goal

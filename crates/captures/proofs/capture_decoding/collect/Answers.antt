@@ -20,9 +20,9 @@ loop-message-preserved g c =
     let shorter =
     subst (λ o. IfSome o (λ (m : Message). length next < length left)) found c.in-Ok-Some.ensures.shorter in (
       λ harts has.
-          reaches_more words harts c.args.told c.args.messages left next c.loop-message.number c.loop-message.receiver
-          c.receive.new.self c.in-Ok-Some.message (c.loop-message.invariant.0 harts has) is here c.in-Ok.ensures.agrees
-          (λ messages. c.in-Ok.ensures.received (λ hart. words) harts messages refl),
+          reaches_more words harts c.args.announced c.args.messages left next c.loop-message.number
+          c.loop-message.receiver c.receive.new.self c.in-Ok-Some.message (c.loop-message.invariant.0 harts has) is
+          here c.in-Ok.ensures.agrees (λ messages. c.in-Ok.ensures.received (λ hart. words) harts messages refl),
       omega (arith, c.loop-message.invariant.1, shorter),
     )
 
@@ -35,9 +35,9 @@ returns-in-Err-receive g c = λ harts has.
     let is = subst (λ o. IfSome o (λ m. IsMessage m)) found c.in-Ok-Some.ensures.ranges in
     let here =
     subst (λ o. IfSome o (λ (m : Message). left ≡ message_bytes m ++ next)) found c.in-Ok-Some.ensures.message in
-    collected_at words harts c.args.told c.args.messages left next c.loop-message.number c.loop-message.receiver
-    c.receive.new.self c.in-Ok-Some.message c.in-Err-receive.fault c.told_as.result
+    collected_at words harts c.args.announced c.args.messages left next c.loop-message.number c.loop-message.receiver
+    c.receive.new.self c.in-Ok-Some.message c.in-Err-receive.fault c.as_capture_fault.result
     (c.loop-message.invariant.0 harts has) is here
     (λ messages. c.in-Err-receive.ensures.held (λ hart. words) harts messages)
-    (λ messages. c.in-Err-receive.ensures.refused (λ hart. words) harts messages refl)
-    c.told_as.ensures
+    (λ messages. c.in-Err-receive.ensures.not_received (λ hart. words) harts messages refl)
+    c.as_capture_fault.ensures

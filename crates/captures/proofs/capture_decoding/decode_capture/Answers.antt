@@ -41,11 +41,11 @@ returns-in-Ok-None-clause-decoded g c =
 pub returns-in-Err-clause-decoded : goal.returns-in-Err-clause-decoded
 returns-in-Err-clause-decoded g c =
     let bytes = c.new-messages.ensures in
-    let told = c.in-Err.ensures in
+    let ensured = c.in-Err.ensures in
     let none : BeginsNoHeader c.args.bytes.now c.in-Err.fault =
-    no_header c.args.bytes.now c.in-Err.fault told.fault
-    (λ is. subst IsCutHeader bytes (told.short.0 (ap (λ f. Err f) is)))
-    (λ is. subst HasBadHeader bytes (told.bad_header.0 (ap (λ f. Err f) is))) in
+    no_header c.args.bytes.now c.in-Err.fault ensured.fault
+    (λ is. subst IsCutHeader bytes (ensured.short.0 (ap (λ f. Err f) is)))
+    (λ is. subst HasBadHeader bytes (ensured.bad_header.0 (ap (λ f. Err f) is))) in
     IfOk-weaker c.decode_nothing.result _ _
     (λ outcome here. NoHeader c.in-Err.fault none here.2 here.0 here.1)
     c.decode_nothing.ensures

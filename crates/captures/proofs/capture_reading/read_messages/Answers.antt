@@ -11,19 +11,19 @@ use Rattle.captures.specs.declared.capture_reading.ReadFault.TheVariants as faul
 -- What stands in front of the messages.
 begins : (g : _) (c : After-all_messages g) → BeginsWith c.in-Ok.header c.args.bytes.now c.header.new.self
 begins g c =
-    let told = c.in-Ok.ensures in
+    let ensured = c.in-Ok.ensures in
     subst (λ bytes. BeginsWith c.in-Ok.header bytes c.header.new.self) c.new-left.ensures
-    (begins_with c.new-left.result c.header.new.self c.in-Ok.header told.header
-    (λ is. told.none.0 (ap (λ h. Ok h) is)) (λ is. told.stays (ap (λ h. Ok h) is)))
+    (begins_with c.new-left.result c.header.new.self c.in-Ok.header ensured.header
+    (λ is. ensured.none.0 (ap (λ h. Ok h) is)) (λ is. ensured.stays (ap (λ h. Ok h) is)))
 
 pub returns-in-Err-clause-memory : goal.returns-in-Err-clause-memory
 returns-in-Err-clause-memory g c = λ header messages whole.
     let bytes = c.new-left.ensures in
-    let told = c.in-Err.ensures in
+    let ensured = c.in-Err.ensures in
     let none =
-    no_header c.args.bytes.now c.in-Err.fault told.fault
-    (λ is. subst IsCutHeader bytes (told.short.0 (ap (λ f. Err f) is)))
-    (λ is. subst HasBadHeader bytes (told.bad_header.0 (ap (λ f. Err f) is))) in
+    no_header c.args.bytes.now c.in-Err.fault ensured.fault
+    (λ is. subst IsCutHeader bytes (ensured.short.0 (ap (λ f. Err f) is)))
+    (λ is. subst HasBadHeader bytes (ensured.bad_header.0 (ap (λ f. Err f) is))) in
     never_both c.args.bytes.now header messages (fault.Message 0 c.in-Err.fault) whole
     (AtHeader (record { first = refl; none = none }))
 

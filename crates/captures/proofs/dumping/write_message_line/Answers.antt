@@ -12,14 +12,14 @@ returns-in-Ok-clause-text g c =
     ∙ ap reading c.bytes.ensures.same in
     subst
     (λ read. Appends (g.W.Write.contents c.args.sink.now) (g.W.Write.contents c.write_text.new.out)
-    (line_with c.args.told c.args.message.now read)) same c.in-Ok.ensures.whole
+    (line_with c.args.mode c.args.message.now read)) same c.in-Ok.ensures.whole
 
 pub returns-in-Ok-clause-begun : goal.returns-in-Ok-clause-begun
 returns-in-Ok-clause-begun g c =
     let same : c.unpack-unpacked.result ≡ reading c.args.message.now.payload = c.unpack-unpacked.ensures.value
     ∙ ap reading c.bytes.ensures.same in
     subst
-    (λ read. AppendsBeginning (line_with c.args.told c.args.message.now read) (g.W.Write.contents c.args.sink.now)
+    (λ read. AppendsBeginning (line_with c.args.mode c.args.message.now read) (g.W.Write.contents c.args.sink.now)
     (g.W.Write.contents c.write_text.new.out)) same c.write_text.ensures.begun
 
 pub returns-in-Err-clause-begun : goal.returns-in-Err-clause-begun
@@ -27,5 +27,5 @@ returns-in-Err-clause-begun g c =
     let same : c.unpack-unpacked.result ≡ reading c.args.message.now.payload = c.unpack-unpacked.ensures.value
     ∙ ap reading c.bytes.ensures.same in
     subst
-    (λ read. AppendsBeginning (line_with c.args.told c.args.message.now read) (g.W.Write.contents c.args.sink.now)
+    (λ read. AppendsBeginning (line_with c.args.mode c.args.message.now read) (g.W.Write.contents c.args.sink.now)
     (g.W.Write.contents c.write_text.new.out)) same c.write_text.ensures.begun

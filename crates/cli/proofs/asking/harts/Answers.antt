@@ -3,7 +3,7 @@ use Rattle.std.proofs.Common.{◌∙◌, codes, arith}
 use Rattle.std.specs.Str.Parse.{ExplainsUnsignedError, HasUnsignedDigitsIfOk}
 use Rattle.clap.proofs.WalkLemmas.{one_text-rows}
 use Rattle.clap.specs.Words.{found_of}
-use Rattle.cli.proofs.NumberLemmas.{read_as_told}
+use Rattle.cli.proofs.NumberLemmas.{read_as_spelt}
 use Rattle.cli.proofs.asking.harts.Goals as goal
 
 pub returns : goal.returns
@@ -12,11 +12,11 @@ returns c =
     let is = c.clamp.ensures in (
       omega (arith, is),
       omega (arith, is),
-      (λ text value tells.
+      (λ text value spelt.
           let reads = c.get_one.ensures.value text (one_text-rows given (codes "harts") ∙ value) in
-          let told = c.unwrap_or.ensures
-          ∙ read_as_told 16 (λ t r. ExplainsUnsignedError 10 t r) (λ t r. HasUnsignedDigitsIfOk t r) 1024 text
+          let same = c.unwrap_or.ensures
+          ∙ read_as_spelt 16 (λ t r. ExplainsUnsignedError 10 t r) (λ t r. HasUnsignedDigitsIfOk t r) 1024 text
           c.get_one.result 1
-          (omega arith) reads tells in
-          omega (arith, is, told, tells.1, tells.2)),
+          (omega arith) reads spelt in
+          omega (arith, is, same, spelt.1, spelt.2)),
     )

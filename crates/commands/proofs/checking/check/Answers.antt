@@ -74,7 +74,7 @@ returns-clause-printed g c =
     let mid = contents c.judge_all-ended.new.out in
     let lines = subst (λ logs. PrintsUnlessDenied (WritesLines content program logs) ⊤ ended (contents c.args.out.now)
     mid) c.as_slice-paths.ensures.value
-    (subst (λ told. PrintsUnlessDenied (WritesLines told program c.as_slice-paths.result.now) ⊤ ended
+    (subst (λ known. PrintsUnlessDenied (WritesLines known program c.as_slice-paths.result.now) ⊤ ended
     (contents c.args.out.now) mid)
     c.in-Ok.ensures.kept c.judge_all-ended.ensures.printed) in
     goes_on (WritesLines content program asked.logs.items) (Checks content asked) ⊤ (CanCheck content asked) ended
@@ -91,7 +91,7 @@ returns-clause-begun g c = λ memory.
     let old = contents c.args.out.now in
     let mid = contents c.judge_all-ended.new.out in
     let lines = subst (λ logs. AppendsFirstLines content program logs old mid) c.as_slice-paths.ensures.value
-    (subst (λ told. AppendsFirstLines told program c.as_slice-paths.result.now old mid)
+    (subst (λ known. AppendsFirstLines known program c.as_slice-paths.result.now old mid)
     c.in-Ok.ensures.kept (c.judge_all-ended.ensures.begun memory)) in
     inr (
       program,
@@ -110,7 +110,7 @@ returns-then-is_err-clause-cut g c =
     let new = contents c.flush.new.self in
     let lines = subst (λ logs. BeginsPrinted (WritesFirstLines content program logs) old mid)
     c.as_slice-paths.ensures.value
-    (subst (λ told. BeginsPrinted (WritesFirstLines told program c.as_slice-paths.result.now) old mid)
+    (subst (λ known. BeginsPrinted (WritesFirstLines known program c.as_slice-paths.result.now) old mid)
     c.in-Ok.ensures.kept c.judge_all-ended.ensures.cut) in
     inr (cut_kept (WritesFirstLines content program asked.logs.items) (ChecksFirst content asked) old mid new
     (λ printed lines. (program, there g (goal.at.returns-then-is_err-clause-cut g c).After-judge_all-ended, lines))
@@ -127,7 +127,7 @@ returns-clause-cut g c =
     let new = contents c.flush.new.self in
     let lines = subst (λ logs. BeginsPrinted (WritesFirstLines content program logs) old mid)
     c.as_slice-paths.ensures.value
-    (subst (λ told. BeginsPrinted (WritesFirstLines told program c.as_slice-paths.result.now) old mid)
+    (subst (λ known. BeginsPrinted (WritesFirstLines known program c.as_slice-paths.result.now) old mid)
     c.in-Ok.ensures.kept c.judge_all-ended.ensures.cut) in
     inr (cut_kept (WritesFirstLines content program asked.logs.items) (ChecksFirst content asked) old mid new
     (λ printed lines. (program, there g (goal.at.returns-clause-cut g c).After-judge_all-ended, lines)) lines

@@ -24,7 +24,7 @@ returns-in-Err-clause-printed g c =
     let i = c.loop-path.path-index in
     let d : Path = record { ref_ptr = (0, 0); now = [] } in
     let why = c.in-Err.why in
-    let unread = subst (λ told. (why ≡ fault.Memory) ⊎ IsLog told (get_or paths i d) (Err why))
+    let unread = subst (λ known. (why ≡ fault.Memory) ⊎ IsLog known (get_or paths i d) (Err why))
     c.loop-path.invariant.kept c.in-Err.ensures.fault in
     lines_end content c.args.program.now paths i d c.loop-path.status (contents c.args.out.now)
     (contents c.loop-path.out)
@@ -53,7 +53,7 @@ loop-path-preserved g c =
     let status = c.loop-path.status in
     let events = c.in-Ok.events.items in
     let illegal = c.illegal_row-illegal.result in
-    let read = subst (λ told. IsLog told (get_or paths i d) (Ok events)) c.loop-path.invariant.kept
+    let read = subst (λ known. IsLog known (get_or paths i d) (Ok events)) c.loop-path.invariant.kept
     c.in-Ok.ensures.log in
     let verdict = subst (λ log. IsVerdict (words_of program) log illegal) c.as_slice.ensures.value
     c.illegal_row-illegal.ensures in
@@ -61,12 +61,12 @@ loop-path-preserved g c =
     let line = subst (λ count. Appends mid new (verdict_line (get_or paths i d).now count illegal)) count
     c.in-Ok-write_line.ensures.text in
     let found : c.is_some.result ≡ is_some illegal = c.is_some.ensures in
-    let told : c.if-is_some.status ≡ (if is_some illegal then Refused else status) = elim c.if-is_some.branch [
+    let now_is : c.if-is_some.status ≡ (if is_some illegal then Refused else status) = elim c.if-is_some.branch [
       | then-is_some w ↦ w.status-is ∙ ap (λ b. if b then Refused else status) (sym w.if-is_some.true ∙ found)
       | else-is_some w ↦ w.status-is ∙ ap (λ b. if b then Refused else status) (sym w.if-is_some.false ∙ found)
     ] in record {
       printed = subst (λ status. IsPrinted (WritesLines content program (take (i + 1) paths)) (Ok status) old new)
-          (sym told)
+          (sym now_is)
           (lines_more content program paths i d status old mid c.loop-path-test.true c.loop-path.invariant.printed
           events illegal new read verdict line);
       kept = grind (arith, common_steps);
@@ -91,7 +91,7 @@ returns-in-Err-write_line-clause-cut g c =
     let new = contents c.write_line.new.out in
     let events = c.in-Ok.events.items in
     let illegal = c.illegal_row-illegal.result in
-    let read = subst (λ told. IsLog told (get_or paths i d) (Ok events)) c.loop-path.invariant.kept
+    let read = subst (λ known. IsLog known (get_or paths i d) (Ok events)) c.loop-path.invariant.kept
     c.in-Ok.ensures.log in
     let verdict = subst (λ log. IsVerdict (words_of program) log illegal) c.as_slice.ensures.value
     c.illegal_row-illegal.ensures in

@@ -3,7 +3,7 @@ use Rattle.commands.specs.Checking.{WritesLines}
 use Rattle.commands.specs.Printed.{IsPrinted}
 use Rattle.commands.proofs.checking.judge_all.Given as goal
 
--- The lines of the logs so far are written, and the files still tell the same.
+-- The lines of the logs so far are written, and the files still have the same content.
 abbrev pub invariant-loop-path : goal.invariant-loop-path
 invariant-loop-path g l = record {
   printed : IsPrinted (WritesLines (g.F.Files.content l.fn.files) l.program (take l.path-index l.logs)) (Ok l.status)

@@ -2,16 +2,16 @@
 use Rattle.std.proofs.Common.{◌≡◌, ◌⊎◌, refl, subst, ℕ, List, Bool, Option, Result, true, false}
 use Rattle.std.proofs.Common.{Ok, Err}
 use Rattle.commands.specs.Begun.{IsCutOf}
-use Rattle.commands.specs.Decoded.{Decodes, WritesTold}
-use Rattle.commands.specs.Found.{IsProgram, IsRead}
-use Rattle.commands.specs.Inputs.{CanDecode, CanTell}
+use Rattle.commands.specs.Decoded.{Decodes, WritesLogs}
+use Rattle.commands.specs.Found.{IsProgramAt, IsRead}
+use Rattle.commands.specs.Inputs.{CanDecode, CanWriteLogs}
 use Rattle.commands.specs.Known.{Content}
 use Rattle.commands.specs.Printed.{PrintsUnlessDenied}
 use Rattle.commands.specs.declared.fault.Fault.{Fault}
 use Rattle.commands.specs.declared.fault.Fault.TheVariants as fault
 use Rattle.commands.specs.declared.status.Status.{Status}
 use Rattle.subcommands.specs.declared.words.Decode.{Decode}
-use Rattle.commands.proofs.DecodedRuns.{told_cut, told_printed}
+use Rattle.commands.proofs.DecodedRuns.{logs_cut, logs_printed}
 use Rattle.commands.proofs.Runs.{ends_silently}
 use Rattle.commands.proofs.decoding.decode.Goals.{In-Ok-content_of}
 use Rattle.commands.proofs.decoding.decode.Goals as goal
@@ -22,7 +22,7 @@ returns-in-Err-program_of-clause-printed g c =
     let content = g.F.Files.content c.args.files.now in
     let base = c.in-Ok.base in
     let why = c.in-Err-program_of.why in
-    ends_silently (Decodes content asked) (CanDecode content asked) (IsProgram content base asked.image (Err why)) why
+    ends_silently (Decodes content asked) (CanDecode content asked) (IsProgramAt content base asked.image (Err why)) why
     (g.O.Write.contents c.args.out.now) c.in-Err-program_of.ensures.fault
     (λ none. (Ok base, c.in-Ok.ensures.found, (Err why, none, refl)))
 
@@ -33,10 +33,10 @@ returns-in-Err-content_of-clause-printed g c =
     let base = c.in-Ok.base in
     let program = c.in-Ok-program_of.program in
     let why = c.in-Err-content_of.why in
-    let told = subst (λ told. (why ≡ fault.Memory) ⊎ IsRead told asked.capture (Err why))
+    let lacked = subst (λ known. (why ≡ fault.Memory) ⊎ IsRead known asked.capture (Err why))
     c.in-Ok-program_of.ensures.kept c.in-Err-content_of.ensures.lacked in
     ends_silently (Decodes content asked) (CanDecode content asked) (IsRead content asked.capture (Err why)) why
-    (g.O.Write.contents c.args.out.now) told
+    (g.O.Write.contents c.args.out.now) lacked
     (λ none. (
       Ok base,
       c.in-Ok.ensures.found,
@@ -61,29 +61,29 @@ module _ (g : _) (c : In-Ok-content_of g) (slice : List ℕ) (same : slice ≡ c
   -- The file that was read is the capture.
   read : IsRead content asked.capture (Ok c.in-Ok-content_of.bytes.items)
   read =
-      subst (λ told. IsRead told asked.capture (Ok c.in-Ok-content_of.bytes.items)) c.in-Ok-program_of.ensures.kept
+      subst (λ known. IsRead known asked.capture (Ok c.in-Ok-content_of.bytes.items)) c.in-Ok-program_of.ensures.kept
       c.in-Ok-content_of.ensures.held
 
-  -- What is printed of what the capture tells is what is printed.
+  -- What is printed of the capture is what `decode` prints.
   printed : (ended : Result Status Fault) (new : Option (List ℕ))
-      → PrintsUnlessDenied (WritesTold lossy asked.harts c.in-Ok-program_of.program slice)
-      (CanTell lossy asked.harts c.in-Ok-program_of.program slice) ended old new
+      → PrintsUnlessDenied (WritesLogs lossy asked.harts c.in-Ok-program_of.program slice)
+      (CanWriteLogs lossy asked.harts c.in-Ok-program_of.program slice) ended old new
       → PrintsUnlessDenied (Decodes content asked) (CanDecode content asked) ended old new
-  printed ended new told =
-      told_printed content asked c.in-Ok.base c.in-Ok-program_of.program c.in-Ok-content_of.bytes.items
+  printed ended new writes =
+      logs_printed content asked c.in-Ok.base c.in-Ok-program_of.program c.in-Ok-content_of.bytes.items
       c.in-Ok.ensures.found c.in-Ok-program_of.ensures.program read lossy ended old new is
-      (subst (λ bytes. PrintsUnlessDenied (WritesTold lossy asked.harts c.in-Ok-program_of.program bytes)
-      (CanTell lossy asked.harts c.in-Ok-program_of.program bytes) ended old new) same told)
+      (subst (λ bytes. PrintsUnlessDenied (WritesLogs lossy asked.harts c.in-Ok-program_of.program bytes)
+      (CanWriteLogs lossy asked.harts c.in-Ok-program_of.program bytes) ended old new) same writes)
 
   -- And so is a cut of it.
   cut : (new : Option (List ℕ))
-      → IsCutOf (WritesTold lossy asked.harts c.in-Ok-program_of.program slice) old new
+      → IsCutOf (WritesLogs lossy asked.harts c.in-Ok-program_of.program slice) old new
       → IsCutOf (Decodes content asked) old new
-  cut new told =
-      told_cut content asked c.in-Ok.base c.in-Ok-program_of.program c.in-Ok-content_of.bytes.items
+  cut new begins =
+      logs_cut content asked c.in-Ok.base c.in-Ok-program_of.program c.in-Ok-content_of.bytes.items
       c.in-Ok.ensures.found c.in-Ok-program_of.ensures.program read lossy old new is
-      (subst (λ bytes. IsCutOf (WritesTold lossy asked.harts c.in-Ok-program_of.program bytes) old new)
-      same told)
+      (subst (λ bytes. IsCutOf (WritesLogs lossy asked.harts c.in-Ok-program_of.program bytes) old new)
+      same begins)
 
 pub returns-then-asked-clause-printed : goal.returns-then-asked-clause-printed
 returns-then-asked-clause-printed g c =

@@ -69,8 +69,8 @@ returns-in_err-write_log-clause-memory g c = λ memory.
     let contents = g.O.Write.contents in
     let list = c.index-logs-hart.result in
     let why = c.in_err-write_log.field-0.0 in
-    let told : c.from_residual-in_err-write_log.result ≡ Err (write_fault why) = grind (arith, common_steps) in
-    let refused : why ≡ write.Memory = write_memory why (cc (sym told ∙ memory)) in
+    let failed : c.from_residual-in_err-write_log.result ≡ Err (write_fault why) = grind (arith, common_steps) in
+    let refused : why ≡ write.Memory = write_memory why (cc (sym failed ∙ memory)) in
     let head : Appends (contents c.loop-hart.out) (contents c.write_text.new.out) (hart_line c.loop-hart.hart-counter) =
     grind (arith, common_steps) in
     subst (λ out. StopsBehindLine (events_in c.args.logs.now) (contents c.args.out.now) (contents out))

@@ -1,4 +1,4 @@
--- What a header may tell goes by the version, which the prover does not part.
+-- What a header may hold goes by the version, and the prover does not part versions.
 use Rattle.commands.proofs.Headers.{few_harts}
 use Rattle.commands.proofs.encoding.write_messages.Goals as goal
 

@@ -1,7 +1,7 @@
 -- The prover tries no chain of steps by itself: what each step found is handed to it, in order.
 use Rattle.std.proofs.Common.{◌≡◌, ◌⊎◌, Err}
 use Rattle.std.proofs.lemmas.Result.{IfErr-weaker}
-use Rattle.commands.specs.Found.{IsAskedProgram, IsProgram}
+use Rattle.commands.specs.Found.{IsAskedProgram, IsProgramAt}
 use Rattle.commands.specs.declared.fault.Fault.TheVariants as fault
 use Rattle.commands.proofs.FirstSteps.{program_lacked}
 use Rattle.commands.proofs.inputs.asked_program.Goals as goal
@@ -12,7 +12,7 @@ returns-clause-fault g c =
     let base = c.in_ok-base.base in
     let text = c.args.base.now in
     let paths = c.args.paths.now in
-    IfErr-weaker c.program_of.result (λ why. (why ≡ fault.Memory) ⊎ IsProgram content base c.args.image (Err why))
+    IfErr-weaker c.program_of.result (λ why. (why ≡ fault.Memory) ⊎ IsProgramAt content base c.args.image (Err why))
     (λ why. (why ≡ fault.Memory) ⊎ IsAskedProgram content c.args.most text c.args.image paths (Err why))
     (program_lacked content c.args.most text c.args.image paths base c.in_ok-check_count.field-0
     c.in_ok-base.ensures.found

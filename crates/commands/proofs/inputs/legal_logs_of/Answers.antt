@@ -15,7 +15,7 @@ returns-in-Err-clause-fault g c =
     let i = c.loop-path.path-index in
     let d : Path = record { ref_ptr = (0, 0); now = [] } in
     let why = c.in-Err.why in
-    let one = subst (λ told. (why ≡ fault.Memory) ⊎ IsLegalLogAt told program (get_or paths i d) (Err why))
+    let one = subst (λ known. (why ≡ fault.Memory) ⊎ IsLegalLogAt known program (get_or paths i d) (Err why))
     c.loop-path.invariant.kept c.in-Err.ensures.fault in
     first_refused content program paths i d c.loop-path.logs.items why c.loop-path-test.true c.loop-path.invariant.logs
     one
@@ -29,7 +29,7 @@ loop-path-preserved g c =
     let d : Path = record { ref_ptr = (0, 0); now = [] } in
     let log = c.in-Ok.log in
     let all : c.push.new.self.items ≡ c.loop-path.logs.items ++ log ∷ [] = grind (arith, common_steps) in
-    let one = subst (λ told. IsLegalLogAt told program (get_or paths i d) (Ok log)) c.loop-path.invariant.kept
+    let one = subst (λ known. IsLegalLogAt known program (get_or paths i d) (Ok log)) c.loop-path.invariant.kept
     c.in-Ok.ensures.log in record {
       count = grind (arith, common_steps);
       logs = logs_more content program paths i d c.loop-path.logs.items c.push.new.self.items log c.loop-path-test.true

@@ -3,7 +3,7 @@ use Rattle.std.specs.List.{AllZip}
 use Rattle.commands.specs.Found.{IsLegalLogAt}
 use Rattle.commands.proofs.inputs.legal_logs_of.Given as goal
 
--- The logs so far are the legal ones at the paths so far, and the files still tell the same.
+-- The logs so far are the legal ones at the paths so far, and the files still have the same content.
 abbrev pub invariant-loop-path : goal.invariant-loop-path
 invariant-loop-path g l = record {
   count : vec_len l.logs ≡ l.path-index;

@@ -1,7 +1,7 @@
 -- The prover tries no record of its own: what was read, and the events that it holds, are handed to it.
 use Rattle.std.proofs.Common.{◌≡◌, ◌⊎◌, subst, sym, Ok, Err, IfErr, arith}
 use Rattle.std.proofs.lemmas.Grind.{common_steps}
-use Rattle.retire.specs.Log.{log_of, records_of}
+use Rattle.retire.specs.Log.{log_of_records, records_of}
 use Rattle.retire.specs.declared.fault.LogFault.TheVariants as log
 use Rattle.commands.specs.Found.{IsLog}
 use Rattle.commands.specs.declared.fault.Fault.TheVariants as fault
@@ -19,13 +19,15 @@ pub returns-in-Ok-clause-log : goal.returns-in-Ok-clause-log
 returns-in-Ok-clause-log g c =
     log_read (g.F.Files.content c.args.files.now) c.args.path c.in_ok-bytes.bytes.items c.in-Ok.events.items
     c.in_ok-bytes.ensures.held
-    (subst (λ text. log_of (records_of text) ≡ Ok c.in-Ok.events.items) c.as_slice.ensures.value c.in-Ok.ensures.events)
+    (subst (λ text. log_of_records (records_of text) ≡ Ok c.in-Ok.events.items) c.as_slice.ensures.value
+    c.in-Ok.ensures.events)
 
 pub returns-clause-fault : goal.returns-clause-fault
 returns-clause-fault g c =
     let content = g.F.Files.content c.args.files.now in
     let why = c.in-Err.why in
-    let faults = subst (λ text. (why ≡ log.Memory) ⊎ (log_of (records_of text) ≡ Err why)) c.as_slice.ensures.value
+    let faults = subst (λ text. (why ≡ log.Memory) ⊎ (log_of_records (records_of text) ≡ Err why))
+    c.as_slice.ensures.value
     c.in-Err.ensures.faults in
     subst (λ r. (r ≡ fault.Memory) ⊎ IsLog content c.args.path (Err r)) (sym c.of_log.ensures)
     (log_refused content c.args.path c.in_ok-bytes.bytes.items why c.in_ok-bytes.ensures.held faults)

@@ -1,7 +1,7 @@
 -- What was collected is what is found: the steps are handed on, in order, which no tactic does.
 use Rattle.std.proofs.Common.{ap, subst, Ok, Err}
 use Rattle.losses.specs.Collects.{GivesFault, GivesPieces}
-use Rattle.commands.specs.Pieces.{mode_by}
+use Rattle.commands.specs.Pieces.{mode_of_header}
 use Rattle.commands.specs.declared.fault.Fault.{Fault}
 use Rattle.commands.proofs.lossy_decoding.pieces_of.Goals as goal
 
@@ -19,20 +19,21 @@ returns-in-Ok-collect_lossy-clause-found c =
     let messages = c.in-Ok.whole.messages.items in
     let pieces = c.in-Ok-collect_lossy.pieces.items in
     let known = c.in-Ok-collect_lossy.ensures in
-    let gives : GivesPieces program c.harts_by.result c.mode_by.result c.as_slice.result.now pieces = record {
+    let harts = c.harts_counted.result in
+    let mode = c.mode_of_header.result in
+    let gives : GivesPieces program harts mode c.as_slice.result.now pieces = record {
       count = known.count;
       taken = known.accepted;
-      told = known.told;
+      described = known.described;
       parts = λ period own logs are count. known.parts period own logs are count;
     } in
     record {
       whole = Ok (header, messages);
       read = c.in-Ok.ensures.read;
       collected =
-          subst (λ harts. GivesPieces program harts (mode_by header) messages pieces) c.harts_by.ensures
-          (subst (λ mode. GivesPieces program c.harts_by.result mode messages pieces) c.mode_by.ensures
-          (subst (λ all. GivesPieces program c.harts_by.result c.mode_by.result all pieces) c.as_slice.ensures.value
-          gives));
+          subst (λ harts. GivesPieces program harts (mode_of_header header) messages pieces) c.harts_counted.ensures
+          (subst (λ mode. GivesPieces program harts mode messages pieces) c.mode_of_header.ensures
+          (subst (λ all. GivesPieces program harts mode all pieces) c.as_slice.ensures.value gives));
     }
 
 pub returns-clause-fault : goal.returns-clause-fault
@@ -42,7 +43,9 @@ returns-clause-fault c =
     let messages = c.in-Ok.whole.messages.items in
     let fault = c.in-Err-collect_lossy.fault in
     let known = c.in-Err-collect_lossy.ensures in
-    let gives : GivesFault program c.harts_by.result c.mode_by.result c.as_slice.result.now fault = record {
+    let harts = c.harts_counted.result in
+    let mode = c.mode_of_header.result in
+    let gives : GivesFault program harts mode c.as_slice.result.now fault = record {
       stops = known.stops;
       memory = λ period own logs are count. known.memory period own logs are count;
     } in
@@ -52,9 +55,8 @@ returns-clause-fault c =
       collected = (
         fault,
         c.of_losses.ensures.value,
-        subst (λ harts. GivesFault program harts (mode_by header) messages fault) c.harts_by.ensures
-            (subst (λ mode. GivesFault program c.harts_by.result mode messages fault) c.mode_by.ensures
-            (subst (λ all. GivesFault program c.harts_by.result c.mode_by.result all fault) c.as_slice.ensures.value
-            gives)),
+        subst (λ harts. GivesFault program harts (mode_of_header header) messages fault) c.harts_counted.ensures
+            (subst (λ mode. GivesFault program harts mode messages fault) c.mode_of_header.ensures
+            (subst (λ all. GivesFault program harts mode all fault) c.as_slice.ensures.value gives)),
       );
     }

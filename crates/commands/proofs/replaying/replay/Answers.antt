@@ -84,7 +84,7 @@ returns-in-Ok-legal_logs_of-clause-printed g c =
     (subst (λ logs. PrintsUnlessDenied (ReplaysLogs content asked logs) (CanReplayLogs content asked logs) ended old
     new)
     c.as_slice.ensures.value
-    (subst (λ told. PrintsUnlessDenied (ReplaysLogs told asked slice) (CanReplayLogs told asked slice) ended old new)
+    (subst (λ known. PrintsUnlessDenied (ReplaysLogs known asked slice) (CanReplayLogs known asked slice) ended old new)
     (c.in-Ok-legal_logs_of.ensures.kept ∙ c.in-Ok.ensures.kept) c.replay_logs.ensures.printed))
 
 pub returns-in-Ok-legal_logs_of-clause-cut : goal.returns-in-Ok-legal_logs_of-clause-cut
@@ -99,6 +99,6 @@ returns-in-Ok-legal_logs_of-clause-cut g c =
     cut_leads (ReplaysLogs content asked logs) (Replays content asked) old new
     (λ printed replays. (Ok logs, there, replays))
     (subst (λ logs. IsCutOf (ReplaysLogs content asked logs) old new) c.as_slice.ensures.value
-    (subst (λ told. IsCutOf (ReplaysLogs told asked slice) old new) (c.in-Ok-legal_logs_of.ensures.kept
+    (subst (λ known. IsCutOf (ReplaysLogs known asked slice) old new) (c.in-Ok-legal_logs_of.ensures.kept
     ∙ c.in-Ok.ensures.kept)
     c.replay_logs.ensures.cut))

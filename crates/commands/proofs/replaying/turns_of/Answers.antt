@@ -1,4 +1,4 @@
--- The prover tries no record of its own: what was read, and the turns that it tells, are handed to it.
+-- The prover tries no record of its own: what was read, and the turns that it spells, are handed to it.
 use Rattle.std.proofs.Common.{◌≡◌, ◌⊎◌, subst, sym, Ok, Err, IfErr, arith}
 use Rattle.std.proofs.lemmas.Grind.{common_steps}
 use Rattle.schedule.specs.Schedule.{schedule_of}

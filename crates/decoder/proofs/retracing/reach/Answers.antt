@@ -19,7 +19,7 @@ returns c =
     } in
     reaches_there (words_of c.args.program.now) c.args.course.now.outcomes here c.type_of.new.used c.args.addr
     c.args.here.now.privilege c.in-Ok.itype (c.in-Some.class, c.in-Some.length)
-    (drop c.args.used.now c.args.course.now.outcomes) c.in-Some.ensures.word c.in-Ok.ensures.told refl (
+    (drop c.args.used.now c.args.course.now.outcomes) c.in-Some.ensures.word c.in-Ok.ensures.returned refl (
       ap (leads_from c.args.addr c.in-Ok.itype) at ∙ sym c.leads-here.ensures,
       ap (λ w. may_stay_on w c.args.here.now.privilege) at ∙ sym c.may_stay-here.ensures,
     )

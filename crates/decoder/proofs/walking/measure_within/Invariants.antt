@@ -2,14 +2,14 @@
 use Rattle.std.proofs.Common.{◌≡◌, ◌-◌, drop}
 use Rattle.rvclass.specs.Fetch.{words_of}
 use Rattle.decoder.specs.steps.WalkSteps as steps
-use Rattle.decoder.specs.steps.Walks.{event_of, end_of, Carries}
+use Rattle.decoder.specs.steps.Walks.{event_of, goal_end, Carries}
 use Rattle.decoder.proofs.walking.measure_within.Given as goal
 
 abbrev pub invariant-loop-done : goal.invariant-loop-done
 invariant-loop-done l =
     Carries (words_of l.program) l.here
     × (steps.summary (event_of l.fn.from)
-    (steps.walk_within (words_of l.program) l.limit (event_of l.fn.from) l.course.outcomes (end_of l.course.goal))
+    (steps.walk_within (words_of l.program) l.limit (event_of l.fn.from) l.course.outcomes (goal_end l.course.goal))
     ≡ steps.plus l.done (steps.summary (event_of l.here)
     (steps.walk_within (words_of l.program) (l.limit - l.done) (event_of l.here) (drop l.used l.course.outcomes)
-    (end_of l.course.goal))))
+    (goal_end l.course.goal))))

@@ -1,32 +1,32 @@
 -- What is said of the steps is said of walks by inductions over them.
 use Rattle.rvclass.specs.Fetch.{words_of}
-use Rattle.decoder.proofs.FoundAsTold.{told_finds, told_adds, told_short, told_none}
+use Rattle.decoder.proofs.FoundAsReturned.{returned_finds, returned_adds, returned_short, returned_none}
 use Rattle.decoder.proofs.walking.write_found.Goals as goal
 
 pub returns-clause-found : goal.returns-clause-found
 returns-clause-found g c =
-    told_finds (words_of c.args.program.now) c.requires.longest.words c.args.program.now.base _
+    returned_finds (words_of c.args.program.now) c.requires.longest.words c.args.program.now.base _
     c.requires.longest.within c.args.from c.requires.from c.new-course.result c.new-course.ensures.course _
     c.requires.longest.value c.args.outcomes.now c.args.goal c.new-course.ensures.outcomes c.new-course.ensures.goal _
-    c.write_found_within.ensures.told
+    c.write_found_within.ensures.summary
 
 pub returns-clause-short : goal.returns-clause-short
 returns-clause-short g c =
-    told_short (words_of c.args.program.now) c.requires.longest.words c.args.program.now.base _
+    returned_short (words_of c.args.program.now) c.requires.longest.words c.args.program.now.base _
     c.requires.longest.within c.args.from c.requires.from c.new-course.result c.new-course.ensures.course _
     c.requires.longest.value c.args.outcomes.now c.args.goal c.new-course.ensures.outcomes c.new-course.ensures.goal _
-    c.write_found_within.ensures.told
+    c.write_found_within.ensures.summary
 
 pub returns-clause-adds : goal.returns-clause-adds
 returns-clause-adds g c =
-    told_adds (words_of c.args.program.now) c.requires.longest.words c.args.program.now.base _
+    returned_adds (words_of c.args.program.now) c.requires.longest.words c.args.program.now.base _
     c.requires.longest.within c.args.from c.requires.from c.new-course.result c.new-course.ensures.course _
     c.requires.longest.value c.args.outcomes.now c.args.goal c.new-course.ensures.outcomes c.new-course.ensures.goal _ _
     _ c.write_found_within.ensures.adds
 
 pub returns-clause-none : goal.returns-clause-none
 returns-clause-none g c =
-    told_none (words_of c.args.program.now) c.requires.longest.words c.args.program.now.base _
+    returned_none (words_of c.args.program.now) c.requires.longest.words c.args.program.now.base _
     c.requires.longest.within c.args.from c.requires.from c.new-course.result c.new-course.ensures.course _
     c.requires.longest.value c.args.outcomes.now c.args.goal c.new-course.ensures.outcomes c.new-course.ensures.goal _
-    c.write_found_within.ensures.told
+    c.write_found_within.ensures.summary

@@ -2,12 +2,12 @@
 use Rattle.std.proofs.Common.{◌≡◌, ◌*◌, ◌-◌, ◌/◌, length, drop, vec_len, vec_capacity}
 use Rattle.rvclass.specs.Fetch.{words_of}
 use Rattle.decoder.specs.steps.Retracing.{Adding}
-use Rattle.decoder.specs.steps.Walks.{event_of, end_of}
+use Rattle.decoder.specs.steps.Walks.{event_of, goal_end}
 use Rattle.decoder.proofs.walking.write_within.Given as goal
 
 abbrev pub invariant-loop : goal.invariant-loop
 invariant-loop g l =
     (vec_capacity l.log ≡ vec_capacity l.initial.log)
     × Adding (words_of l.program) (32 * (length l.program.bytes / 2)) (event_of l.fn.from) l.course.outcomes
-    (end_of l.course.goal) l.initial.log.items (l.count - l.counter) l.here (drop l.used l.course.outcomes)
+    (goal_end l.course.goal) l.initial.log.items (l.count - l.counter) l.here (drop l.used l.course.outcomes)
     l.log.items (vec_len l.log) (vec_capacity l.log)

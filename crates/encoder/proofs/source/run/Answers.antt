@@ -5,12 +5,12 @@ use Rattle.std.specs.Option.{option_to_list}
 use Rattle.retire.specs.declared.event.Event.TheVariants.{Retire}
 use Rattle.rvclass.specs.Fetch.{words_of}
 use Rattle.encoder.specs.PacketsSoFar.{packets_so_far}
-use Rattle.encoder.specs.Stands.{Stands}
+use Rattle.encoder.specs.EncoderStands.{EncoderStands}
 use Rattle.encoder.proofs.PacketsInTurn.{steps_on}
 use Rattle.encoder.proofs.source.run.Goals as goal
 
 module _ (c : goal.In-Some) where
-  stepped : Stands (words_of c.args.program.now) (c.args.encoder.now.between + 1) c.args.encoder.now.mode
+  stepped : EncoderStands (words_of c.args.program.now) (c.args.encoder.now.between + 1) c.args.encoder.now.mode
       (take (c.pass-next.result + 1) c.args.events.now) c.step.new.self
       × (packets_so_far (words_of c.args.program.now) (c.args.encoder.now.between + 1) c.args.encoder.now.mode
       (take (c.pass-next.result + 1) c.args.events.now) ≡ packets_so_far (words_of c.args.program.now)

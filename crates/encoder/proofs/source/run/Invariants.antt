@@ -1,7 +1,7 @@
 use Rattle.std.proofs.Common.{◌≡◌, ◌+◌, ◌≤◌, length, take}
 use Rattle.rvclass.specs.Fetch.{words_of}
 use Rattle.encoder.specs.PacketsSoFar.{packets_so_far}
-use Rattle.encoder.specs.Stands.{Stands}
+use Rattle.encoder.specs.EncoderStands.{EncoderStands}
 use Rattle.encoder.proofs.source.run.Given as goal
 
 -- The encoder stands for the events that were taken, and these gave no packet more.
@@ -11,6 +11,6 @@ invariant-loop l =
     let mode = l.fn.encoder.mode in
     (l.counter ≤ l.taken) × (l.taken ≤ length l.events) × (l.encoder.between ≡ l.fn.encoder.between)
     × (l.encoder.mode ≡ mode)
-    × Stands (words_of l.program) period mode (take l.taken l.events) l.encoder
+    × EncoderStands (words_of l.program) period mode (take l.taken l.events) l.encoder
     × (packets_so_far (words_of l.program) period mode (take l.taken l.events)
     ≡ packets_so_far (words_of l.program) period mode (take l.fn.taken l.events))

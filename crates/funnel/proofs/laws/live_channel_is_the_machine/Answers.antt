@@ -9,8 +9,8 @@ pub returns-clause-new : goal.returns-clause-new
 returns-clause-new c = new-live
 
 pub returns-clause-hands_out : goal.returns-clause-hands_out
-returns-clause-hands_out c = λ queue views state pass made taken told list before kept live is at.
-    hands_out-live queue views state kept live pass before made taken told list is at
+returns-clause-hands_out c = λ queue views state pass made taken settled list before kept live is at.
+    hands_out-live queue views state kept live pass before made taken settled list is at
 
 pub returns-clause-sends : goal.returns-clause-sends
 returns-clause-sends c = λ queue views state capacity pass message before after kept live room at sends kept-then.

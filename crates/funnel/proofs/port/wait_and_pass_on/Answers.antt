@@ -6,10 +6,10 @@ use Rattle.funnel.proofs.port.wait_and_pass_on.Goals as goal
 pub loop-preserved : goal.loop-preserved
 loop-preserved g c =
     let before = c.loop.invariant in
-    let told = rw c.in-Err-Full.field-0-is at c.in-Err-Full.ensures.refused in
+    let refused = rw c.in-Err-Full.field-0-is at c.in-Err-Full.ensures.refused in
     record {
-      may = still_may _ _ _ _ _ _ before.may c.try_pass_on.ensures.seat told.1 told.0;
+      may = still_may _ _ _ _ _ _ before.may c.try_pass_on.ensures.seat refused.1 refused.0;
       funnel = c.try_pass_on.ensures.funnel ∙ before.funnel;
-      known = told.1 ∙ before.known;
-      same = told.0 ∙ before.same;
+      known = refused.1 ∙ before.known;
+      same = refused.0 ∙ before.same;
     }

@@ -7,8 +7,8 @@ use Rattle.message.specs.Harts.{newcomer}
 use Rattle.payload.specs.declared.mode.Mode.{Mode}
 use Rattle.losses.specs.Losses.{AreOfLogs}
 use Rattle.losses.specs.steps.Collecting.{FollowsAll}
-use Rattle.losses.specs.steps.Telling.{TellsAll}
-use Rattle.losses.proofs.AllRuns.{tells_first, told_last}
+use Rattle.losses.specs.steps.FollowingRuns.{FollowsEveryHart}
+use Rattle.losses.proofs.AllRuns.{every_hart_first, described_last}
 use Rattle.losses.proofs.Collected.{follows_first, collected_last}
 use Rattle.losses.proofs.collecting.collect_lossy.Goals.{After-take_all}
 use Rattle.losses.proofs.collecting.collect_lossy.Goals as goal
@@ -24,24 +24,24 @@ module _ (g : _) (c : After-take_all g) where
       c.in-Ok.collection.traces.items c.in-Ok.collection.pieces.items of_logs count c.in-Ok.ensures.demux
       c.in-Ok.ensures.traces c.in-Ok.ensures.pieces
 
-  tells : TellsAll (words_of c.args.program.now) c.args.mode [] c.in-Ok.collection.demux
+  every_hart : FollowsEveryHart (words_of c.args.program.now) c.args.mode [] c.in-Ok.collection.demux
       c.in-Ok.collection.traces.items c.in-Ok.collection.pieces.items
-  tells = tells_first (words_of c.args.program.now) c.args.mode c.args.harts c.in-Ok.collection.demux
+  every_hart = every_hart_first (words_of c.args.program.now) c.args.mode c.args.harts c.in-Ok.collection.demux
       c.in-Ok.collection.traces.items c.in-Ok.collection.pieces.items c.in-Ok.ensures.demux c.in-Ok.ensures.traces
       c.in-Ok.ensures.pieces
 
 pub returns-in-Err-take_all-clause-stops : goal.returns-in-Err-take_all-clause-stops
 returns-in-Err-take_all-clause-stops g c =
     let call = (goal.at.returns-in-Err-take_all-clause-stops g c).After-take_all in
-    c.in-Err-take_all.ensures.stops c.args.harts c.in-Ok.ensures.demux (tells g call)
+    c.in-Err-take_all.ensures.stops c.args.harts c.in-Ok.ensures.demux (every_hart g call)
 
-pub returns-in-Ok-end_all-clause-told : goal.returns-in-Ok-end_all-clause-told
-returns-in-Ok-end_all-clause-told g c =
-    let call = (goal.at.returns-in-Ok-end_all-clause-told g c).After-take_all in
+pub returns-in-Ok-end_all-clause-described : goal.returns-in-Ok-end_all-clause-described
+returns-in-Ok-end_all-clause-described g c =
+    let call = (goal.at.returns-in-Ok-end_all-clause-described g c).After-take_all in
     let few = sym (c.take_all.ensures.pieces_count ∙ c.in-Ok.ensures.pieces_count) in
-    told_last (words_of c.args.program.now) c.args.mode c.args.messages.now c.take_all.new.collection.demux
+    described_last (words_of c.args.program.now) c.args.mode c.args.messages.now c.take_all.new.collection.demux
     c.take_all.new.collection.traces.items c.take_all.new.collection.pieces.items c.end_all.new.pieces.items
-    (c.in-Ok-take_all.ensures.tells (tells g call))
+    (c.in-Ok-take_all.ensures.follows (every_hart g call))
     (c.take_all.ensures.traces_count ∙ c.in-Ok.ensures.traces_count ∙ few)
     (c.take_all.ensures.harts_count ∙ ap length c.in-Ok.ensures.demux ∙ length-replicate c.args.harts newcomer ∙ few)
     c.in-Ok-end_all.ensures

@@ -14,5 +14,5 @@ loop-preserved g c =
       ap length items ∙ length_push before _ ∙ ap (λ n. n + 1) c.loop.invariant.0,
       omega (arith, room, kept),
       subst (All IsNewTrace) (sym items) (All-push IsNewTrace before _ c.loop.invariant.2
-          (record { stands = c.new.ensures.stands; untold = c.new.ensures.untold; empty = c.new.ensures.stretch })),
+          (record { stands = c.new.ensures.stands; no_mode = c.new.ensures.no_mode; empty = c.new.ensures.stretch })),
     )

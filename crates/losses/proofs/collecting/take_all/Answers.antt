@@ -6,11 +6,11 @@ use Rattle.rvclass.specs.Fetch.{words_of}
 use Rattle.message.specs.Accepted.{newcomers}
 use Rattle.message.specs.Lossy.{accepting_lossy, harts_after_lossy}
 use Rattle.std.specs.Prelude.{IsOk}
-use Rattle.losses.specs.Taken.{AreTaken, expected_lossy}
+use Rattle.losses.specs.Stops.{AreAcceptedLossy, expected_lossy}
 use Rattle.losses.specs.steps.Collecting.{FollowsAll}
-use Rattle.losses.specs.steps.Telling.{TellsAll}
+use Rattle.losses.specs.steps.FollowingRuns.{FollowsEveryHart}
 use Rattle.message.specs.Harts.{newcomer}
-use Rattle.losses.proofs.AllRuns.{tell_some}
+use Rattle.losses.proofs.AllRuns.{each_hart_describes}
 use Rattle.losses.proofs.InTurn.{expected-push, length-harts_after, split_at, stops_at, taken-push}
 use Rattle.losses.proofs.collecting.take_all.Goals as goal
 
@@ -30,10 +30,11 @@ returns-in-Err-clause-stops g c = λ harts is first.
     c.index-messages-place.result c.loop-place.collection.demux
     c.loop-place-test.true c.index-messages-place.is (c.loop-place.invariant.expected harts is)
     (c.loop-place.invariant.taken harts is) c.in-Err.fault c.in-Err.ensures.fault
-    (c.in-Err.ensures.untold (take c.loop-place.place c.args.messages.now) (c.loop-place.invariant.tells first))
-    (tell_some (words_of c.args.program.now) c.args.mode harts (take c.loop-place.place c.args.messages.now)
+    (c.in-Err.ensures.message_fault (take c.loop-place.place c.args.messages.now)
+    (c.loop-place.invariant.every_hart first))
+    (each_hart_describes (words_of c.args.program.now) c.args.mode harts (take c.loop-place.place c.args.messages.now)
     c.loop-place.collection.demux c.loop-place.collection.traces.items c.loop-place.collection.pieces.items
-    (c.loop-place.invariant.tells first) (c.loop-place.invariant.demux ∙ count harts is)
+    (c.loop-place.invariant.every_hart first) (c.loop-place.invariant.demux ∙ count harts is)
     (c.loop-place.invariant.traces ∙ c.requires.traces ∙ count harts is)
     (c.loop-place.invariant.pieces ∙ c.requires.pieces ∙ count harts is))
   where
@@ -58,15 +59,16 @@ loop-place-preserved g c =
           (subst (λ l. FollowsAll c.args.program.now period c.args.mode own logs messages l demux
           c.loop-place.collection.traces.items c.loop-place.collection.pieces.items) next (inv.follows period own logs
           f));
-      taken = λ harts is. subst (AreTaken (newcomers harts)) (sym more)
+      taken = λ harts is. subst (AreAcceptedLossy (newcomers harts)) (sym more)
           (taken-push (newcomers harts) (take place messages) message (inv.taken harts is)
           (subst (λ hs. IsOk (accepting_lossy hs message)) (inv.expected harts is) c.in-Ok.ensures.accepted));
       expected = λ harts is. c.take.ensures.expected ∙ ap (λ hs. harts_after_lossy hs message) (inv.expected harts is)
           ∙ sym (expected-push (newcomers harts) (take place messages) message)
           ∙ ap (expected_lossy (newcomers harts)) (sym more);
-      tells = λ first. subst (λ ms. TellsAll (words_of c.args.program.now) c.args.mode ms c.take.new.self.demux
+      every_hart = λ first. subst (λ ms. FollowsEveryHart (words_of c.args.program.now) c.args.mode ms
+          c.take.new.self.demux
           c.take.new.self.traces.items c.take.new.self.pieces.items) (sym more)
-          (c.in-Ok.ensures.tells (take place messages) (inv.tells first));
+          (c.in-Ok.ensures.follows (take place messages) (inv.every_hart first));
     }
 
 pub returns-clause-taken : goal.returns-clause-taken
@@ -78,8 +80,8 @@ returns-clause-taken g c = λ period own logs f.
     c.loop-place.collection.demux c.loop-place.collection.traces.items c.loop-place.collection.pieces.items) none
     (c.loop-place.invariant.follows period own logs f)
 
-pub returns-clause-tells : goal.returns-clause-tells
-returns-clause-tells g c = λ first.
+pub returns-clause-follows : goal.returns-clause-follows
+returns-clause-follows g c = λ first.
     let over = c.loop-place-test.false in
     let place = c.loop-place.place in
     let messages = c.args.messages.now in
@@ -87,5 +89,6 @@ returns-clause-tells g c = λ first.
     let all : take place messages ≡ messages =
     sym (append-nil (take place messages)) ∙ ap (λ l. take place messages ++ l) (sym none)
     ∙ take-append-drop place messages in
-    subst (λ ms. TellsAll (words_of c.args.program.now) c.args.mode ms c.loop-place.collection.demux
-    c.loop-place.collection.traces.items c.loop-place.collection.pieces.items) all (c.loop-place.invariant.tells first)
+    subst (λ ms. FollowsEveryHart (words_of c.args.program.now) c.args.mode ms c.loop-place.collection.demux
+    c.loop-place.collection.traces.items c.loop-place.collection.pieces.items) all
+    (c.loop-place.invariant.every_hart first)

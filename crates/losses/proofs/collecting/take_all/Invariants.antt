@@ -4,9 +4,9 @@ use Rattle.rvclass.specs.Fetch.{words_of}
 use Rattle.legalpath.specs.ProgramLog.{ProgramLog}
 use Rattle.payload.specs.declared.mode.Mode.{Mode}
 use Rattle.message.specs.Accepted.{newcomers}
-use Rattle.losses.specs.Taken.{AreTaken, expected_lossy}
+use Rattle.losses.specs.Stops.{AreAcceptedLossy, expected_lossy}
 use Rattle.losses.specs.steps.Collecting.{FollowsAll}
-use Rattle.losses.specs.steps.Telling.{TellsAll}
+use Rattle.losses.specs.steps.FollowingRuns.{FollowsEveryHart}
 use Rattle.losses.proofs.collecting.take_all.Given as goal
 
 abbrev pub invariant-loop-place : goal.invariant-loop-place
@@ -20,11 +20,12 @@ invariant-loop-place g l = record {
       → FollowsAll l.program period l.mode own logs l.messages (drop l.place l.messages) l.collection.demux
       l.collection.traces.items l.collection.pieces.items;
   taken : (harts : ℕ) → l.fn.collection.demux ≡ newcomers harts
-      → AreTaken (newcomers harts) (take l.place l.messages);
+      → AreAcceptedLossy (newcomers harts) (take l.place l.messages);
   expected : (harts : ℕ) → l.fn.collection.demux ≡ newcomers harts
       → l.collection.demux ≡ expected_lossy (newcomers harts) (take l.place l.messages);
-  tells : TellsAll (words_of l.program) l.mode [] l.fn.collection.demux l.fn.collection.traces.items
+  every_hart : FollowsEveryHart (words_of l.program) l.mode [] l.fn.collection.demux l.fn.collection.traces.items
       l.fn.collection.pieces.items
-      → TellsAll (words_of l.program) l.mode (take l.place l.messages) l.collection.demux l.collection.traces.items
+      → FollowsEveryHart (words_of l.program) l.mode (take l.place l.messages) l.collection.demux
+      l.collection.traces.items
       l.collection.pieces.items;
 }

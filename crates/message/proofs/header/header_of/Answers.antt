@@ -1,6 +1,6 @@
 -- That the settings are the bytes that were read: by a lemma on lists of five.
-use Rattle.std.proofs.Common.{◌≡◌, ℕ, slice_index, rules, arith}
-use Rattle.message.specs.Header.{IsHeader, mode_byte, setting_bytes}
+use Rattle.std.proofs.Common.{◌≡◌, slice_index, rules, arith}
+use Rattle.message.specs.Header.{mode_byte}
 use Rattle.message.specs.steps.Filling.{AreBytes}
 use Rattle.message.proofs.SettingsRead.{settings_read}
 use Rattle.message.proofs.header.header_of.Goals.{in-0, in-1}

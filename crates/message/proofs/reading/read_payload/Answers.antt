@@ -13,11 +13,11 @@ returns-then-branch-length-clause-short g c =
     let filled = c.in_ok-fill.ensures.filled in
     let room : length c.fill.new.room ≡ c.in-Ok.length = search rules in
     let bytes : AreBytes c.args.head.now = λ i. omega (arith, c.type_inv.head i) in
-    let told = c.in-Ok.ensures.length in
+    let counted = c.in-Ok.ensures.length in
     λ _. Consumes-whole _ _ _ (λ rest. IsCut (c.args.head.now ++ rest)) filled.consumed
     (filled.ended (omega (arith, room, c.if-branch-length.true)))
-    (IsCut-payload c.args.head.now c.fill.new.room c.in_ok-fill.field-0 c.requires bytes filled.bytes (room ∙ told.0)
-    (omega (arith, room, told.1)) (omega (arith, room, told.2)) (omega (arith, room, c.if-branch-length.true)))
+    (IsCut-payload c.args.head.now c.fill.new.room c.in_ok-fill.field-0 c.requires bytes filled.bytes (room ∙ counted.0)
+    (omega (arith, room, counted.1)) (omega (arith, room, counted.2)) (omega (arith, room, c.if-branch-length.true)))
 
 pub returns-clause-head : goal.returns-clause-head
 returns-clause-head g c =

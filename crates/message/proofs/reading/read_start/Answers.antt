@@ -1,5 +1,5 @@
 -- That what the input begins with is read follows from all clauses of the reading together, by lemmas.
-use Rattle.std.proofs.Common.{◌≡◌, Some, subst}
+use Rattle.std.proofs.Common.{subst}
 use Rattle.message.proofs.StartsRead.{Known, header_reads_back, message_reads_back}
 use Rattle.message.proofs.reading.read_start.Goals as goal
 

@@ -1,4 +1,4 @@
--- The digits are told from their sum by hand.
+-- The digits are shown from their sum by hand.
 use Rattle.std.proofs.Common.{arith, rules}
 use Rattle.retire.proofs.EightDigitsLemmas.{eight-digits}
 use Rattle.retire.proofs.eight_digits.eight_digits.Goals as goal

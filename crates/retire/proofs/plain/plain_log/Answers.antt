@@ -5,14 +5,14 @@ use Rattle.retire.proofs.PlainLogLemmas.{header-ends, header-front, reads-log}
 use Rattle.retire.proofs.PlainRowLemmas.{plain-header}
 use Rattle.retire.proofs.plain.plain_log.Goals as goal
 
-pub returns-clause-told : goal.returns-clause-told
-returns-clause-told g c =
+pub returns-clause-holds : goal.returns-clause-holds
+returns-clause-holds g c =
     let found = c.in-Some.ensures.cases in
     let log =
     plain-header c.args.text.now c.as_slice.result.now c.in-Some.end.now c.in-Some-line_end.rows.now found.0 found.1
     c.as_slice.ensures c.in-Some-line_end.ensures.ends in
     subst (λ t. IfOk c.plain_rows.result (λ all. all ≡ true → t ≡ Ok c.plain_rows.new.events.items)) (sym log)
-    c.plain_rows.ensures.told
+    c.plain_rows.ensures.holds
 
 pub returns-in_default-clause-reads : goal.returns-in_default-clause-reads
 returns-in_default-clause-reads g c =

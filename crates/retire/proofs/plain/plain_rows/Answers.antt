@@ -6,9 +6,9 @@ use Rattle.retire.proofs.PlainLogLemmas.{not_empty, plain-all, plain-next}
 use Rattle.retire.proofs.PlainRowLemmas.{plain-end, plain-more}
 use Rattle.retire.proofs.plain.plain_rows.Goals as goal
 
-pub returns-then-is_empty-clause-told : goal.returns-then-is_empty-clause-told
-returns-then-is_empty-clause-told g c =
-    λ _. plain-end _ c.loop-row.row c.loop-row.events.items c.loop-row.rest.now c.loop-row.invariant.told
+pub returns-then-is_empty-clause-holds : goal.returns-then-is_empty-clause-holds
+returns-then-is_empty-clause-holds g c =
+    λ _. plain-end _ c.loop-row.row c.loop-row.events.items c.loop-row.rest.now c.loop-row.invariant.so_far
     (search (rules, arith))
 
 pub returns-in_default-clause-reads : goal.returns-in_default-clause-reads
@@ -25,10 +25,10 @@ loop-row-preserved g c =
     let len = rw good at c.push.ensures.len in
     record {
       count = rw (len, c.loop-row.invariant.count) refl;
-      told =
+      so_far =
           rw items
           (plain-more _ c.loop-row.row c.loop-row.events.items c.in-Some.plain.event c.loop-row.rest.now
-          c.in-Some.plain.rest.now c.loop-row.invariant.told (omega arith) c.in-Some.ensures.row);
+          c.in-Some.plain.rest.now c.loop-row.invariant.so_far (omega arith) c.in-Some.ensures.row);
       plain = λ plain.
           let some = not_empty c.loop-row.rest.now c.is_empty.result c.is_empty.ensures c.if-is_empty.false in
           let (within, (rest, row, more)) =
@@ -36,9 +36,9 @@ loop-row-preserved g c =
           subst (λ t. ArePlainRows (c.loop-row.row + 1) t) (sym (c.in-Some.ensures.reads rest row)) more;
     }
 
-pub returns-clause-told : goal.returns-clause-told
-returns-clause-told g c =
-    λ all. plain-end _ c.loop-row.row c.loop-row.events.items c.loop-row.rest.now c.loop-row.invariant.told
+pub returns-clause-holds : goal.returns-clause-holds
+returns-clause-holds g c =
+    λ all. plain-end _ c.loop-row.row c.loop-row.events.items c.loop-row.rest.now c.loop-row.invariant.so_far
     (search (rules, arith))
 
 pub returns-clause-reads : goal.returns-clause-reads

@@ -1,4 +1,4 @@
--- A shift of 1 is a power of 2, and a mask of ones is a remainder: the prover is told where to use which.
+-- A shift of 1 is a power of 2, and a mask of ones is a remainder: the answer says where to use which.
 use Rattle.std.proofs.Common.{◌+◌, ◌-◌, ◌<◌, arith}
 use Rattle.std.proofs.lemmas.Nat.{one_shl, and_mask, mod_below, pow_pos}
 use Rattle.rvclass.proofs.bits.bits_of.Goals as goal

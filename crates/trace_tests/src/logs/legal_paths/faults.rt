@@ -1,4 +1,4 @@
-//! What `check` tells of logs.
+//! What `check` returns for logs.
 
 use crate::fixtures::Step::{self, Retires, Traps};
 use crate::fixtures::{
@@ -10,17 +10,17 @@ use retire::Event;
 use rvclass::Program;
 use std::process::Abort;
 
-/// `check` tells this of a log, as the program prints it.
-fn tells<R: Abort + AllocGlobal>(rt: &R, program: &Program, log: &[Event], want: &str) {
+/// What `check` returns for a log, as the program prints it, is this.
+fn prints<R: Abort + AllocGlobal>(rt: &R, program: &Program, log: &[Event], want: &str) {
     assert!(rt; log.len() <= 100, "a log is too long");
-    let told = match check(program, log) {
+    let printed = match check(program, log) {
         Ok(()) => format!(in rt.alloc(); "legal, {} events", log.len()),
         Err(fault) => format!(in rt.alloc(); "{fault}"),
     };
-    same_at(rt, log, told.expect(rt, "memory").as_str(), want);
+    same_at(rt, log, printed.expect(rt, "memory").as_str(), want);
 }
 
-/// The words of a program, a log, and what is told of it.
+/// The words of a program, a log, and what is printed of it.
 const LOGS: [(&[u32], &[Step], &str); 10] = [
     (&[], &[], "legal, 0 events"),
     (
@@ -58,21 +58,21 @@ const LOGS: [(&[u32], &[Step], &str); 10] = [
     ),
 ];
 
-/// `check` tells this of a log of the program of these words.
-fn tells_of_steps<R: Abort + AllocGlobal>(rt: &R, words: &[u32], steps: &[Step], want: &str) {
+/// What `check` returns for a log of the program of these words is this.
+fn prints_of_steps<R: Abort + AllocGlobal>(rt: &R, words: &[u32], steps: &[Step], want: &str) {
     let program = program_of(rt, words);
     let log = log_of(rt, steps);
-    tells(rt, &program, log.as_slice(), want);
+    prints(rt, &program, log.as_slice(), want);
 }
 
 #[test]
 fn first_fault_of_each_log(rt: HostRuntime) {
     for (words, steps, want) in &LOGS {
-        tells_of_steps(&rt, words, steps, want);
+        prints_of_steps(&rt, words, steps, want);
     }
 }
 
-/// The second of three events, and what is told of them.
+/// The second of three events, and what is printed of them.
 const ROWS: [(Step, &str); 15] = [
     (Retires(0x100, 3, 2), "row 2: OffProgram"),
     (Retires(1, 3, 2), "row 2: OffProgram"),
@@ -96,6 +96,6 @@ fn lowest_reason_of_a_row(rt: HostRuntime) {
     let program = program_of(&rt, &[JAL, NOP, NOP, ECALL]);
     for (step, want) in &ROWS {
         let log = [retired(0, 0, 3), event_of(*step), retired(0x200, 0, 3)];
-        tells(&rt, &program, &log, want);
+        prints(&rt, &program, &log, want);
     }
 }

@@ -7,7 +7,7 @@ use linked_list_allocator::LocalHeap;
 use retire::{Event, LogFault, WriteFault, read_log, read_log_from_slice, write_log};
 use std::process::Abort;
 
-/// How many events are read of a text, so many bytes a call, by a reader that fails after so many calls.
+/// How many events are read of a text by a reader that gives at most `most` bytes a call and fails after `calls` calls.
 fn read_failing<R: Abort + AllocGlobal>(
     rt: &R,
     rest: &[u8],
@@ -21,8 +21,8 @@ fn read_failing<R: Abort + AllocGlobal>(
     }
 }
 
-/// A text of two rows, so many bytes a call, is not read by readers that fail after fewer calls than are needed, and is
-/// read by others.
+/// Readers that fail after fewer calls than are needed do not read a text of two rows, at most `most` bytes a call; the
+/// others do.
 fn is_read<R: Abort + AllocGlobal>(rt: &R, text: &[u8], most: usize) {
     let mut failed = 0usize;
     for calls in 0..200 {
@@ -47,8 +47,8 @@ fn reader_fails_at_each_call(rt: HostRuntime) {
     }
 }
 
-/// Whether a log is written whole, at most so many bytes a call, to a writer that fails after so many calls. The writer
-/// holds the text; or a beginning of it, and then the call returned that fault.
+/// Whether a log is written whole to a writer that takes at most `most` bytes a call and fails after `calls` calls. The
+/// writer holds the text; or it holds a beginning of it, and then the call returned Write.
 fn is_written<R: Abort + AllocGlobal>(
     rt: &R,
     events: &[Event],
@@ -70,7 +70,7 @@ fn is_written<R: Abort + AllocGlobal>(
     !fails
 }
 
-/// A log of so many rows is not written to writers that fail after fewer calls than are needed, and is written to others.
+/// Writers that fail after fewer calls than are needed do not take a log of `count` rows whole; the others do.
 fn fail_first<R: Abort + AllocGlobal>(rt: &R, count: usize, most: usize, limit: usize) {
     let events = vec![in rt.alloc(); RETIRED; count].expect(rt, "memory");
     let whole = text_of_rows(rt, ROW, count);
@@ -85,7 +85,7 @@ fn fail_first<R: Abort + AllocGlobal>(rt: &R, count: usize, most: usize, limit: 
     assert!(rt; enough, "{failed} calls of {most} bytes");
 }
 
-/// A byte a call; and more text than is held at a time.
+/// A byte a call; and more text than `write_log` holds at a time.
 #[test]
 fn writer_fails_at_each_call(rt: HostRuntime) {
     for (count, most, limit) in [(3, 1, 80), (10_000, 10_007, 20), (10_000, 1_000_000, 20)] {

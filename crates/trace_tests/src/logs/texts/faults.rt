@@ -1,4 +1,4 @@
-//! What the faults are told as.
+//! The texts of the faults.
 
 use crate::same::same_at;
 use retire::{LogFault, WriteFault};
@@ -31,16 +31,16 @@ const WRITE_FAULTS: [(WriteFault, &'static str); 2] = [
     (WriteFault::Memory, "out of memory"),
 ];
 
-/// Each fault is told as its row says.
-fn are_told<R: Abort + AllocGlobal, F: Display>(rt: &R, table: &[(F, &'static str)]) {
+/// Each fault has the text of its row.
+fn are_printed<R: Abort + AllocGlobal, F: Display>(rt: &R, table: &[(F, &'static str)]) {
     for (i, (fault, want)) in table.iter().enumerate() {
-        let told = format!(in rt.alloc(); "{fault}").expect(rt, "memory");
-        same_at(rt, i, told.as_str(), *want);
+        let printed = format!(in rt.alloc(); "{fault}").expect(rt, "memory");
+        same_at(rt, i, printed.as_str(), *want);
     }
 }
 
 #[test]
 fn texts_of_faults(rt: HostRuntime) {
-    are_told(&rt, &LOG_FAULTS);
-    are_told(&rt, &WRITE_FAULTS);
+    are_printed(&rt, &LOG_FAULTS);
+    are_printed(&rt, &WRITE_FAULTS);
 }

@@ -33,11 +33,11 @@ const EXCEPTION: Event = Event::Trap {
     tval: 0xff,
 };
 
-/// How many events are read of a text, and the first of them.
-pub(super) type Told = Result<(usize, Option<Event>), LogFault>;
+/// How many events are read of a text, and the first of them; or the fault.
+pub(super) type Found = Result<(usize, Option<Event>), LogFault>;
 
-/// What is told of what was read.
-fn told(read: Result<Vec<Event>, LogFault>) -> Told {
+/// How many events were read, and the first of them; or the fault.
+fn found(read: Result<Vec<Event>, LogFault>) -> Found {
     match read {
         Ok(events) => Ok((events.len(), events.first().copied())),
         Err(fault) => Err(fault),
@@ -45,13 +45,13 @@ fn told(read: Result<Vec<Event>, LogFault>) -> Told {
 }
 
 /// This is read of a text, from a reader and from memory.
-pub(super) fn is_read<R: Abort + AllocGlobal>(rt: &R, place: &str, text: &[u8], want: Told) {
+pub(super) fn is_read<R: Abort + AllocGlobal>(rt: &R, place: &str, text: &[u8], want: Found) {
     let alloc = rt.alloc();
-    same_at(rt, place, told(read_log(alloc, alloc, text)), want);
+    same_at(rt, place, found(read_log(alloc, alloc, text)), want);
     same_at(
         rt,
         (place, "in memory"),
-        told(read_log_from_slice(alloc, alloc, text)),
+        found(read_log_from_slice(alloc, alloc, text)),
         want,
     );
 }
@@ -120,10 +120,10 @@ fn one_row(rt: HostRuntime) {
 }
 
 /// No event is read.
-const NONE: Told = Ok((0, None));
+const NONE: Found = Ok((0, None));
 
-/// Two events are read, of which this is the first.
-const TWO: Told = Ok((
+/// Two events are read, and this is the first.
+const TWO: Found = Ok((
     2,
     Some(Event::Retire {
         addr: 0,
@@ -133,7 +133,7 @@ const TWO: Told = Ok((
 ));
 
 /// A text, and what is read of it.
-const TEXTS: [(&str, Told); 20] = [
+const TEXTS: [(&str, Found); 20] = [
     ("", Err(LogFault::Header)),
     ("\n\n", Err(LogFault::Header)),
     ("80000000,0,3,,\n", Err(LogFault::Header)),

@@ -5,7 +5,7 @@ use crate::same::same_at;
 use retire::{Event, read_log, write_log};
 use std::process::Abort;
 
-/// Events are written as the header and these rows, so many times, and are read back from that.
+/// Events are written as the header and these rows, the rows this many times, and are read back from that.
 pub(super) fn is_written<R: Abort + AllocGlobal>(
     rt: &R,
     events: &[Event],

@@ -1,8 +1,8 @@
--- The prover does not join what is carried out with the status that is told: each way there is gone by hand.
+-- The prover does not join what is carried out with the exit status: each way there is gone by hand.
 use Rattle.std.proofs.Common.{inl, inr, ap, ◌∙◌, sym, subst, map, string_bytes, Err}
 use Rattle.commands.specs.Status.{code_of}
 use Rattle.commands.specs.declared.fault.Fault.TheVariants as fault
-use Rattle.tracebench.specs.Words.{Tells}
+use Rattle.tracebench.specs.Words.{ReportsFault}
 use Rattle.tracebench.proofs.CarriedOut.{carried_out}
 use Rattle.tracebench.proofs.command.command.Goals as goal
 use Rattle.tracebench.proofs.command.command.Goals.{in-Ok+in-Check-1, in-Ok+in-Encode-1, in-Ok+in-Dump-1}
@@ -13,48 +13,48 @@ pub returns-clause-printed : goal.returns-clause-printed
 returns-clause-printed g c =
     let content = g.F.Files.content c.args.files.now in
     let words = map string_bytes c.args.words.now in
-    let told = g.E.Write.contents in
+    let err_contents = g.E.Write.contents in
     let contents = g.O.Write.contents in elim c.match-asked.branch [
       | in-Ok+in-Check-1 w ↦ inr
-          (inr (carried_out contents told content words w.in-Ok.asked w.run-status.result c.match-asked.status
+          (inr (carried_out contents err_contents content words w.in-Ok.asked w.run-status.result c.match-asked.status
           c.code.result c.args.out.now w.run-status.new.out c.match-asked.out c.args.err.now w.run-status.new.err
           c.match-asked.err
           w.in-Ok.ensures.found w.status-is c.code.ensures w.out-is w.err-is w.run-status.ensures.done))
       | in-Ok+in-Encode-1 w ↦ inr
-          (inr (carried_out contents told content words w.in-Ok.asked w.run-status.result c.match-asked.status
+          (inr (carried_out contents err_contents content words w.in-Ok.asked w.run-status.result c.match-asked.status
           c.code.result c.args.out.now w.run-status.new.out c.match-asked.out c.args.err.now w.run-status.new.err
           c.match-asked.err
           w.in-Ok.ensures.found w.status-is c.code.ensures w.out-is w.err-is w.run-status.ensures.done))
       | in-Ok+in-Dump-1 w ↦ inr
-          (inr (carried_out contents told content words w.in-Ok.asked w.run-status.result c.match-asked.status
+          (inr (carried_out contents err_contents content words w.in-Ok.asked w.run-status.result c.match-asked.status
           c.code.result c.args.out.now w.run-status.new.out c.match-asked.out c.args.err.now w.run-status.new.err
           c.match-asked.err
           w.in-Ok.ensures.found w.status-is c.code.ensures w.out-is w.err-is w.run-status.ensures.done))
       | in-Ok+in-Replay-1 w ↦ inr
-          (inr (carried_out contents told content words w.in-Ok.asked w.run-status.result c.match-asked.status
+          (inr (carried_out contents err_contents content words w.in-Ok.asked w.run-status.result c.match-asked.status
           c.code.result c.args.out.now w.run-status.new.out c.match-asked.out c.args.err.now w.run-status.new.err
           c.match-asked.err
           w.in-Ok.ensures.found w.status-is c.code.ensures w.out-is w.err-is w.run-status.ensures.done))
       | in-Ok+in-Bench-1 w ↦ inr
-          (inr (carried_out contents told content words w.in-Ok.asked w.run-status.result c.match-asked.status
+          (inr (carried_out contents err_contents content words w.in-Ok.asked w.run-status.result c.match-asked.status
           c.code.result c.args.out.now w.run-status.new.out c.match-asked.out c.args.err.now w.run-status.new.err
           c.match-asked.err
           w.in-Ok.ensures.found w.status-is c.code.ensures w.out-is w.err-is w.run-status.ensures.done))
       | in-Err+in-Some-1 w ↦ elim w.in-Err.ensures.fault [
         | inl memory ↦ inr (inl (
-          c.code.ensures ∙ ap code_of (w.status-is ∙ w.tell_words-status.ensures.memory memory),
+          c.code.ensures ∙ ap code_of (w.status-is ∙ w.report_words_error-status.ensures.memory memory),
           w.out-is,
-          subst (λ e. Tells told (Err fault.Memory) c.args.err.now e) (sym w.err-is)
-              (w.tell_words-status.ensures.line memory),
+          subst (λ e. ReportsFault err_contents (Err fault.Memory) c.args.err.now e) (sym w.err-is)
+              (w.report_words_error-status.ensures.line memory),
         ))
         | inr refused ↦ inl refused
       ]
       | in-Err+in-None-1 w ↦ elim w.in-Err.ensures.fault [
         | inl memory ↦ inr (inl (
-          c.code.ensures ∙ ap code_of (w.status-is ∙ w.tell_words-status.ensures.memory memory),
+          c.code.ensures ∙ ap code_of (w.status-is ∙ w.report_words_error-status.ensures.memory memory),
           w.out-is,
-          subst (λ e. Tells told (Err fault.Memory) c.args.err.now e) (sym w.err-is)
-              (w.tell_words-status.ensures.line memory),
+          subst (λ e. ReportsFault err_contents (Err fault.Memory) c.args.err.now e) (sym w.err-is)
+              (w.report_words_error-status.ensures.line memory),
         ))
         | inr refused ↦ inl refused
       ]

@@ -6,14 +6,14 @@ use Rattle.rvclass.specs.Fetch.{words_of}
 use Rattle.std.proofs.lemmas.List.{append_cancel_left}
 use Rattle.decoder.proofs.BeginsAnew.{passing_right, begins_stretch, begins_longer, begins_only}
 use Rattle.decoder.proofs.BothWritten.{both_counted, both_added, room_second, cut_back}
-use Rattle.decoder.proofs.NotOpenedTold.{named_not_opened}
+use Rattle.decoder.proofs.NotOpenedReturned.{named_not_opened}
 use Rattle.decoder.proofs.StandsForOneMore.{stands_right, stands_more, stands_longer, stands_only}
 use Rattle.decoder.proofs.StretchEnds.{stretch_count-gives}
 use Rattle.decoder.proofs.UniqueLemmas.{one_log}
 use Rattle.decoder.specs.steps.Planning.{admitted, decoder_after, IsNamed}
-use Rattle.decoder.specs.Order.{opening}
+use Rattle.decoder.specs.Order.{open_packet}
 use Rattle.decoder.specs.steps.Stretches.{left_of, stretch_count, AddsStretch}
-use Rattle.decoder.specs.Stands.{Stands}
+use Rattle.decoder.specs.DecoderStands.{DecoderStands}
 use Rattle.decoder.proofs.decoding.Decoder.feed.Goals as goal
 
 pub returns-in-Err-clause-none : goal.returns-in-Err-clause-none
@@ -29,7 +29,7 @@ returns-in-Err-clause-not_opened g c = λ packets s.
     let named = subst (λ x. IsNamed (admitted x c.args.packet.now) c.in-Err.fault) s.phase
     c.in-Err.ensures.none.named in
     let one = named_not_opened packets c.args.packet.now c.in-Err.fault named in
-    (λ is. one.0 cc, λ is. let told = one.1 is in cc)
+    (λ is. one.0 cc, λ is. let is_not = one.1 is in cc)
 
 -- What the room lacked that was asked for, it lacks for all of the events.
 no_room : {cap cap' n' len' left left' a a' : ℕ} → (n both : ℕ) → cap' < len' + (left + left')
@@ -66,10 +66,10 @@ returns-then-is_err-clause-memory g c = λ packets s is.
     let found = c.in_default.ensures.found in
     let can = found.can (stands_right w packets log.items c.args.self.now s) in
     let full = where_err c.reserve.result c.if-is_err.ensures.value c.reserve.ensures.full in
-    let all = both_counted w first second found.settled found.own found.gives_settled found.gives_own log.items
-    c.plan.new.log.items c.in_default.ensures.written in
-    stands_longer w packets log.items c.args.self.now c.args.packet.now first second found.settled found.own
-    (vec_capacity log) s found.gives_settled found.gives_own can
+    let all = both_counted w first second found.settled found.of_packet found.gives_settled found.gives_of_packet
+    log.items c.plan.new.log.items c.in_default.ensures.written in
+    stands_longer w packets log.items c.args.self.now c.args.packet.now first second found.settled found.of_packet
+    (vec_capacity log) s found.gives_settled found.gives_of_packet can
     (no_room _ _ full all c.plan.ensures.room c.plan.new.log.ok.0 c.left.ensures c.left-2.ensures)
 
 pub returns-clause-stands : goal.returns-clause-stands
@@ -82,15 +82,15 @@ returns-clause-stands g c = λ packets s.
     let second = c.plan.new.second in
     let found = c.in_default.ensures.found in
     let can = found.can (stands_right w packets log d s) in
-    let new = stands_more w packets log d p first second found.settled found.own s found.gives_settled found.gives_own
-    can in
+    let new = stands_more w packets log d p first second found.settled found.of_packet s found.gives_settled
+    found.gives_of_packet can in
     let adds = subst (λ l. AddsStretch w (left_of first) l c.write.new.log.items) c.reserve.ensures.items
     c.write.ensures.adds in
-    let all = both_added w first second found.settled found.own found.gives_settled found.gives_own log
+    let all = both_added w first second found.settled found.of_packet found.gives_settled found.gives_of_packet log
     c.plan.new.log.items c.in_default.ensures.written c.write.new.log.items adds c.write-2.new.log.items
     c.write-2.ensures.adds in
-    let logs = subst (λ l. Stands w (packets ++ p ∷ []) l (decoder_after d p first second)) (sym all) new in
-    subst (λ x. Stands w (packets ++ p ∷ []) c.write-2.new.log.items x) (sym c.after.ensures) logs
+    let logs = subst (λ l. DecoderStands w (packets ++ p ∷ []) l (decoder_after d p first second)) (sym all) new in
+    subst (λ x. DecoderStands w (packets ++ p ∷ []) c.write-2.new.log.items x) (sym c.after.ensures) logs
 
 pub returns-clause-only : goal.returns-clause-only
 returns-clause-only g c = λ packets s other all.
@@ -114,8 +114,8 @@ write-requires-2-clause-room g c =
     let adds = subst (λ l. AddsStretch w (left_of first) l c.write.new.log.items) c.reserve.ensures.items
     c.write.ensures.adds in
     let fits = where_ok c.reserve.result c.if-is_err.ensures.value c.reserve.ensures.ok in
-    room_second w first second found.settled found.own found.gives_settled found.gives_own c.args.log.now.items
-    c.plan.new.log.items c.in_default.ensures.written c.write.new.log.items adds _ _
+    room_second w first second found.settled found.of_packet found.gives_settled found.gives_of_packet
+    c.args.log.now.items c.plan.new.log.items c.in_default.ensures.written c.write.new.log.items adds _ _
     c.write.new.log.ok.0
     (has_room fits c.reserve.ensures.len c.plan.new.log.ok.0 c.write.ensures.room c.left.ensures c.left-2.ensures)
 
@@ -124,10 +124,10 @@ returns-clause-goes_on g c =
     let found = c.in_default.ensures.found in
     let adds = subst (λ l. AddsStretch (words_of c.args.program.now) (left_of c.plan.new.first) l
     c.write.new.log.items) c.reserve.ensures.items c.write.ensures.adds in (
-      found.settled ++ found.own,
-      both_added (words_of c.args.program.now) c.plan.new.first c.plan.new.second found.settled found.own
-          found.gives_settled found.gives_own c.args.log.now.items c.plan.new.log.items c.in_default.ensures.written
-          c.write.new.log.items adds c.write-2.new.log.items c.write-2.ensures.adds,
+      found.settled ++ found.of_packet,
+      both_added (words_of c.args.program.now) c.plan.new.first c.plan.new.second found.settled found.of_packet
+          found.gives_settled found.gives_of_packet c.args.log.now.items c.plan.new.log.items
+          c.in_default.ensures.written c.write.new.log.items adds c.write-2.new.log.items c.write-2.ensures.adds,
     )
 
 pub returns-clause-short : goal.returns-clause-short
@@ -137,9 +137,9 @@ returns-clause-short g c =
     let log = c.args.log.now in
     let found = c.in_default.ensures.found in
     let one = stretch_count-gives w c.plan.new.first found.settled found.gives_settled in
-    let two = stretch_count-gives w c.plan.new.second found.own found.gives_own in
-    let all = ap length (returns-clause-goes_on g c).1 ∙ length-append log.items (found.settled ++ found.own) in
-    let both = length-append found.settled found.own in
+    let two = stretch_count-gives w c.plan.new.second found.of_packet found.gives_of_packet in
+    let all = ap length (returns-clause-goes_on g c).1 ∙ length-append log.items (found.settled ++ found.of_packet) in
+    let both = length-append found.settled found.of_packet in
     at_most _ one two all both c.in_default.ensures.short log.ok.0 c.write-2.new.log.ok.0
 
 pub returns-then-is_err-clause-begins_memory : goal.returns-then-is_err-clause-begins_memory
@@ -151,10 +151,10 @@ returns-then-is_err-clause-begins_memory g c = λ mode over sync is.
     let found = c.in_default.ensures.found in
     let can = found.can (passing_right w mode c.args.self.now over) in
     let full = where_err c.reserve.result c.if-is_err.ensures.value c.reserve.ensures.full in
-    let all = both_counted w first second found.settled found.own found.gives_settled found.gives_own log.items
-    c.plan.new.log.items c.in_default.ensures.written in
-    begins_longer w mode c.args.self.now over c.args.packet.now first second found.settled found.own (vec_len log)
-    (vec_capacity log) sync found.gives_settled found.gives_own can
+    let all = both_counted w first second found.settled found.of_packet found.gives_settled found.gives_of_packet
+    log.items c.plan.new.log.items c.in_default.ensures.written in
+    begins_longer w mode c.args.self.now over c.args.packet.now first second found.settled found.of_packet (vec_len log)
+    (vec_capacity log) sync found.gives_settled found.gives_of_packet can
     (subst (λ n. vec_capacity log < n + (stretch_count first + stretch_count second)) (sym log.ok.0)
     (no_room _ _ full all c.plan.ensures.room c.plan.new.log.ok.0 c.left.ensures c.left-2.ensures))
 
@@ -174,13 +174,13 @@ returns-clause-begins g c = λ mode over sync stretch is.
     let second = c.plan.new.second in
     let found = c.in_default.ensures.found in
     let can = found.can (passing_right w mode d over) in
-    let new = begins_stretch w mode d over p first second found.settled found.own sync found.gives_settled
-    found.gives_own can in
+    let new = begins_stretch w mode d over p first second found.settled found.of_packet sync found.gives_settled
+    found.gives_of_packet can in
     let adds = subst (λ l. AddsStretch w (left_of first) l c.write.new.log.items) c.reserve.ensures.items
     c.write.ensures.adds in
-    let all = both_added w first second found.settled found.own found.gives_settled found.gives_own log
+    let all = both_added w first second found.settled found.of_packet found.gives_settled found.gives_of_packet log
     c.plan.new.log.items c.in_default.ensures.written c.write.new.log.items adds c.write-2.new.log.items
     c.write-2.ensures.adds in
-    let same = append_cancel_left log (found.settled ++ found.own) stretch (sym all ∙ is) in
-    let logs = subst (λ l. Stands w (opening mode ∷ p ∷ []) l (decoder_after d p first second)) same new in
-    subst (λ x. Stands w (opening mode ∷ p ∷ []) stretch x) (sym c.after.ensures) logs
+    let same = append_cancel_left log (found.settled ++ found.of_packet) stretch (sym all ∙ is) in
+    let logs = subst (λ l. DecoderStands w (open_packet mode ∷ p ∷ []) l (decoder_after d p first second)) same new in
+    subst (λ x. DecoderStands w (open_packet mode ∷ p ∷ []) stretch x) (sym c.after.ensures) logs

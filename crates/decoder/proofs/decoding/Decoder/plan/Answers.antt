@@ -14,15 +14,16 @@ returns-clause-found g c =
     let d = c.args.self.now in
     let p = c.args.packet.now in
     let first = c.settled.new.stretch in
-    let second = c.own.new.stretch in
-    let own = subst (λ l. OnOk c.own.result (Suits w l (Fits w d.mode l c.place-reported.result p None) second))
-    c.last-last.ensures c.own.ensures.found in
-    let own' = subst (λ r. OnOk c.own.result
+    let second = c.events_of_packet.new.stretch in
+    let of_packet = subst (λ l. OnOk c.events_of_packet.result
+    (Suits w l (Fits w d.mode l c.place-reported.result p None) second))
+    c.last-last.ensures c.events_of_packet.ensures.found in
+    let of_packet' = subst (λ r. OnOk c.events_of_packet.result
     (Suits w (stretch_last d.last first) (Fits w d.mode (stretch_last d.last first) r p None) second))
-    c.place-reported.ensures own in
+    c.place-reported.ensures of_packet in
     let admits : admitted d.phase p ≡ Ok tt = sym c.in_default.ensures in
-    plans w d p first second c.own.result admits (c.if-not-may_come.ensures.0 cc) c.in_default-settled.ensures.found
-    own'
+    plans w d p first second c.events_of_packet.result admits (c.if-not-may_come.ensures.0 cc)
+    c.in_default-settled.ensures.found of_packet'
 
 pub returns-clause-none : goal.returns-clause-none
 returns-clause-none g c =
@@ -30,10 +31,12 @@ returns-clause-none g c =
     let d = c.args.self.now in
     let p = c.args.packet.now in
     let first = c.settled.new.stretch in
-    let none = subst (λ l. IfErr c.own.result (SuitsNone w l (Fits w d.mode l c.place-reported.result p None)))
-    c.last-last.ensures c.own.ensures.none in
-    let none' = subst (λ r. IfErr c.own.result
+    let none = subst (λ l. IfErr c.events_of_packet.result
+    (SuitsNone w l (Fits w d.mode l c.place-reported.result p None)))
+    c.last-last.ensures c.events_of_packet.ensures.none in
+    let none' = subst (λ r. IfErr c.events_of_packet.result
     (SuitsNone w (stretch_last d.last first) (Fits w d.mode (stretch_last d.last first) r p None)))
     c.place-reported.ensures none in
     let admits : admitted d.phase p ≡ Ok tt = sym c.in_default.ensures in
-    plans_none w d p c.longest-longest.ensures.words first c.own.result admits c.in_default-settled.ensures.found none'
+    plans_none w d p c.longest-longest.ensures.words first c.events_of_packet.result admits
+    c.in_default-settled.ensures.found none'

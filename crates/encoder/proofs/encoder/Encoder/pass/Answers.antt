@@ -4,7 +4,7 @@ use Rattle.std.proofs.lemmas.List.{take_more, append-nil}
 use Rattle.std.specs.List.{last_or}
 use Rattle.retire.specs.declared.event.Event.TheVariants.{Retire}
 use Rattle.rvclass.specs.Fetch.{words_of}
-use Rattle.encoder.specs.Stands.{Stands}
+use Rattle.encoder.specs.EncoderStands.{EncoderStands}
 use Rattle.encoder.specs.declared.due.Due.TheVariants as due
 use Rattle.encoder.specs.declared.encoder.Encoder.{Encoder}
 use Rattle.encoder.proofs.EventsPassed.{last_of_first, passed, after_passed, given_passed}
@@ -27,7 +27,7 @@ loop-at-init c =
     ap (λ h. record e { held = h; due = due.Nothing }) (sym c.requires.stands.held)
     ∙ ap (λ d. record e { due = d }) (sym asked) in (
       refl,
-      subst (Stands words (e.between + 1) e.mode (take c.args.taken c.args.events.now)) (sym is)
+      subst (EncoderStands words (e.between + 1) e.mode (take c.args.taken c.args.events.now)) (sym is)
           c.requires.stands,
       refl,
     )
@@ -65,7 +65,7 @@ loop-at-preserved c =
     ap (λ h. record (passed e next) { held = h }) (sym there)
     ∙ ap (λ p. record grown { pending = p }) (sym c.add_outcome.ensures) in (
       refl,
-      subst (Stands words period mode (take (at + 1) events)) same step.stands,
+      subst (EncoderStands words period mode (take (at + 1) events)) same step.stands,
       step.more ∙ append-nil _
           ∙ c.loop-at.invariant.2,
     )
@@ -93,6 +93,6 @@ returns-clause-stands c =
     { held = held } =
     ap (λ h. record passed_on { held = h; due = due.Nothing }) last
     ∙ ap (λ d. record passed_on { held = held; due = d }) (sym asked) in
-    subst (λ n. Stands words (e.between + 1) e.mode (take n events)
+    subst (λ n. EncoderStands words (e.between + 1) e.mode (take n events)
     (record passed_on { held = Some (get_or events (n - 1) (Retire 0 0 0)) })) (sym c.loop-at.invariant.0)
-    (subst (Stands words (e.between + 1) e.mode (take at events)) same c.loop-at.invariant.1)
+    (subst (EncoderStands words (e.between + 1) e.mode (take at events)) same c.loop-at.invariant.1)

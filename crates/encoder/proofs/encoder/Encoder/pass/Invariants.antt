@@ -2,7 +2,7 @@ use Rattle.std.proofs.Common.{◌≡◌, ◌+◌, take, None}
 use Rattle.std.specs.List.{last_or}
 use Rattle.rvclass.specs.Fetch.{words_of}
 use Rattle.encoder.specs.PacketsSoFar.{packets_so_far}
-use Rattle.encoder.specs.Stands.{Stands}
+use Rattle.encoder.specs.EncoderStands.{EncoderStands}
 use Rattle.encoder.specs.declared.due.Due.TheVariants as due
 use Rattle.encoder.proofs.encoder.Encoder.pass.Given as goal
 
@@ -13,7 +13,7 @@ invariant-loop-at l =
     let period = l.fn.self.between + 1 in
     let mode = l.fn.self.mode in
     (l.next ≡ l.at)
-    × Stands words period mode (take l.at l.events) (record l.self {
+    × EncoderStands words period mode (take l.at l.events) (record l.self {
       left = l.left;
       held = last_or None (take l.at l.events);
       due = due.Nothing;

@@ -3,7 +3,7 @@ use Rattle.std.proofs.Common.{◌∷◌, [], ◌++◌, ap, sym, subst, ◌∙◌
 use Rattle.rvclass.proofs.WordsLemmas.{words_stand}
 use Rattle.rvclass.specs.Fetch.{words_of}
 use Rattle.encoder.specs.PacketsSoFar.{packets_so_far}
-use Rattle.encoder.specs.Stands.{Stands}
+use Rattle.encoder.specs.EncoderStands.{EncoderStands}
 use Rattle.encoder.proofs.ProfileLemmas.{so_far_in_profile, profile_behind}
 use Rattle.encoder.proofs.StandsOn.{pushes_any, stands_after}
 use Rattle.encoder.proofs.encoder.Encoder.push.Goals as goal
@@ -12,7 +12,7 @@ pub returns-clause-stands : goal.returns-clause-stands
 returns-clause-stands c = λ period mode log stands legal.
     let words = words_of c.args.program.now in
     let pushed = pushes_any words period mode log c.args.self.now c.args.event stands legal in
-    subst (λ x. Stands words period mode (log ++ c.args.event ∷ []) x) (sym c.step.ensures.after)
+    subst (λ x. EncoderStands words period mode (log ++ c.args.event ∷ []) x) (sym c.step.ensures.after)
     (stands_after words period mode log c.args.self.now c.args.event c.step.ensures.numbers stands pushed)
 
 pub returns-clause-packets : goal.returns-clause-packets

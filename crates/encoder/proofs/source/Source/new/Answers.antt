@@ -3,7 +3,7 @@ use Rattle.std.proofs.Common.{ℕ, [], refl, sym, ap, subst, ◌∙◌}
 use Rattle.rvclass.specs.Fetch.{words_of}
 use Rattle.payload.specs.declared.mode.Mode.{Mode}
 use Rattle.encoder.specs.SourceAt.{SourceAt}
-use Rattle.encoder.specs.Stands.{Stands}
+use Rattle.encoder.specs.EncoderStands.{EncoderStands}
 use Rattle.encoder.proofs.source.Source.new.Goals as goal
 
 pub invariant_of-result : goal.invariant_of-result
@@ -13,8 +13,8 @@ invariant_of-result g c =
     record {
       within = refl;
       stands =
-          subst (λ period. Stands words period c.new.result.mode [] c.new.result) (sym stands.between)
-          (subst (λ mode. Stands words c.args.period mode [] c.new.result) (sym stands.in_mode) stands);
+          subst (λ period. EncoderStands words period c.new.result.mode [] c.new.result) (sym stands.between)
+          (subst (λ mode. EncoderStands words c.args.period mode [] c.new.result) (sym stands.in_mode) stands);
     }
 
 pub returns : goal.returns

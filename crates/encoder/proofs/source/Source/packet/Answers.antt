@@ -5,7 +5,7 @@ use Rattle.std.specs.List.{slice_get}
 use Rattle.std.specs.Option.{option_to_list}
 use Rattle.payload.specs.declared.packet.Packet.TheVariants as packet
 use Rattle.encoder.specs.SourceAt.{SourceAt}
-use Rattle.encoder.specs.steps.SourceFields.{packets_of_log, stands_at, AreTaken}
+use Rattle.encoder.specs.steps.SourceFields.{packets_of_log, stands_at, AreTakenAtStage}
 use Rattle.encoder.specs.declared.source.Stage.TheVariants as stage
 use Rattle.encoder.proofs.PacketsInTurn.{Ran, ran_by, given_running, profile_running, end_some, end_none, given_closing}
 use Rattle.encoder.proofs.PacketsInTurn.{further}
@@ -94,7 +94,7 @@ returns-in-Closing-clause-given g c =
     (given_closing c.self.inside.log.now.program (c.self.inside.encoder.between + 1) c.self.inside.encoder.mode
     c.self.inside.log.now.events
     c.self.inside.encoder c.self.inside.taken c.closing-in-Closing.result c.self.invariant.stands
-    (subst (λ stage. AreTaken stage c.self.inside.taken (length c.self.inside.log.now.events)) c.in-Closing.is
+    (subst (λ stage. AreTakenAtStage stage c.self.inside.taken (length c.self.inside.log.now.events)) c.in-Closing.is
     c.self.invariant.within) c.closing-in-Closing.ensures)
 
 pub returns-in-Ended-clause-given : goal.returns-in-Ended-clause-given

@@ -4,7 +4,7 @@ use Rattle.message.specs.OfHart.{of_hart}
 use Rattle.message.proofs.OfHartLemmas.{of_hart-next}
 use Rattle.funnel.specs.Ends.{OutletView}
 use Rattle.funnel.specs.Order.{AreInOrder}
-use Rattle.funnel.specs.steps.Passes.{taken_of}
+use Rattle.funnel.specs.steps.Passes.{taken_by_outlet}
 use Rattle.funnel.proofs.PassSteps.{took, took_in_order}
 use Rattle.funnel.proofs.outlet.Outlet.take.Goals as goal
 
@@ -24,4 +24,4 @@ pub returns-in-Err-clause-in_order : goal.returns-in-Err-clause-in_order
 returns-in-Err-clause-in_order g c hart =
     let is = c.in-Err.ensures.ended in
     let before = took_in_order _ _ c.self.invariant.1 is.1 hart in
-    subst (λ v. AreInOrder hart (of_hart hart (taken_of v))) (sym is.0) before
+    subst (λ v. AreInOrder hart (of_hart hart (taken_by_outlet v))) (sym is.0) before

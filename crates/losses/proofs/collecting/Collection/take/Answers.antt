@@ -7,9 +7,9 @@ use Rattle.rvclass.specs.Fetch.{words_of}
 use Rattle.message.specs.Lossy.{harts_after_lossy}
 use Rattle.message.specs.declared.message.Message.{Message}
 use Rattle.losses.specs.steps.Collecting.{FollowsAll}
-use Rattle.losses.specs.steps.Telling.{TellsAll}
+use Rattle.losses.specs.steps.FollowingRuns.{FollowsEveryHart}
 use Rattle.losses.proofs.AllHarts.{follows_next, memory_alone, taken_next}
-use Rattle.losses.proofs.AllRuns.{tells_next, untold_next, within_of}
+use Rattle.losses.proofs.AllRuns.{every_hart_next, every_hart_fault, within_of}
 use Rattle.losses.proofs.collecting.Collection.take.Goals.{After-take_packet}
 use Rattle.losses.proofs.collecting.Collection.take.Goals as goal
 
@@ -31,9 +31,9 @@ module _ (g : _) (c : After-take_packet g) where
       subst (λ h. slice_get xs h ≡ Some x) from
       (slice_get_read xs (length xs) c.from-hart.result x refl (omega (arith, from, count, is, few)) read)
 
-pub returns-clause-tells : goal.returns-clause-tells
-returns-clause-tells g c = λ messages f.
-    let call = (goal.at.returns-clause-tells g c).After-take_packet in
+pub returns-clause-follows : goal.returns-clause-follows
+returns-clause-follows g c = λ messages f.
+    let call = (goal.at.returns-clause-follows g c).After-take_packet in
     let words = words_of c.args.program.now in
     let message = c.args.message.now in
     let demux = c.args.self.now.demux in
@@ -42,24 +42,25 @@ returns-clause-tells g c = λ messages f.
     let from = c.from-hart.ensures in
     let value = sym c.in-Ok.ensures.value in
     let few = within_of demux message c.in-Ok.taken.0 c.in-Ok.taken.1 value in
-    subst (λ hs. OnOk c.take_packet.result (TellsAll words c.args.mode (messages ++ message ∷ []) hs
+    subst (λ hs. OnOk c.take_packet.result (FollowsEveryHart words c.args.mode (messages ++ message ∷ []) hs
     (set traces c.from-hart.result c.take_packet.new.trace) (set pieces c.from-hart.result c.take_packet.new.pieces)))
     (sym c.accept_lossy.ensures.state)
-    (subst (λ h. OnOk c.take_packet.result (TellsAll words c.args.mode (messages ++ message ∷ [])
+    (subst (λ h. OnOk c.take_packet.result (FollowsEveryHart words c.args.mode (messages ++ message ∷ [])
     (harts_after_lossy demux message) (set traces h c.take_packet.new.trace) (set pieces h c.take_packet.new.pieces)))
     (sym from)
-    (tells_next words c.args.mode messages message demux traces pieces f c.index_mut.result.now c.take_packet.new.trace
+    (every_hart_next words c.args.mode messages message demux traces pieces f c.index_mut.result.now
+    c.take_packet.new.trace
     c.index_mut-2.result.now c.take_packet.new.pieces
     (found g call traces c.index_mut.result.now (length demux) from c.requires.traces refl few
     c.index_mut.ensures.value)
     (found g call pieces c.index_mut-2.result.now (length demux) from c.requires.pieces refl few
     c.index_mut-2.ensures.value)
-    c.in-Ok.taken.0 c.in-Ok.taken.1 value c.take_packet.result c.take_packet.ensures.tells
+    c.in-Ok.taken.0 c.in-Ok.taken.1 value c.take_packet.result c.take_packet.ensures.follows
     c.take_packet.ensures.closed))
 
-pub returns-clause-untold : goal.returns-clause-untold
-returns-clause-untold g c = λ messages f.
-    let call = (goal.at.returns-clause-untold g c).After-take_packet in
+pub returns-clause-message_fault : goal.returns-clause-message_fault
+returns-clause-message_fault g c = λ messages f.
+    let call = (goal.at.returns-clause-message_fault g c).After-take_packet in
     let words = words_of c.args.program.now in
     let message = c.args.message.now in
     let demux = c.args.self.now.demux in
@@ -68,13 +69,14 @@ returns-clause-untold g c = λ messages f.
     let from = c.from-hart.ensures in
     let value = sym c.in-Ok.ensures.value in
     let few = within_of demux message c.in-Ok.taken.0 c.in-Ok.taken.1 value in
-    untold_next words c.args.mode messages message demux traces pieces f c.index_mut.result.now c.take_packet.new.trace
+    every_hart_fault words c.args.mode messages message demux traces pieces f c.index_mut.result.now
+    c.take_packet.new.trace
     c.index_mut-2.result.now c.take_packet.new.pieces
     (found g call traces c.index_mut.result.now (length demux) from c.requires.traces refl few
     c.index_mut.ensures.value)
     (found g call pieces c.index_mut-2.result.now (length demux) from c.requires.pieces refl few
     c.index_mut-2.ensures.value)
-    c.in-Ok.taken.0 c.in-Ok.taken.1 value c.args.place c.take_packet.result c.take_packet.ensures.untold
+    c.in-Ok.taken.0 c.in-Ok.taken.1 value c.args.place c.take_packet.result c.take_packet.ensures.packet_fault
     c.take_packet.ensures.fault
 
 pub returns-clause-taken : goal.returns-clause-taken

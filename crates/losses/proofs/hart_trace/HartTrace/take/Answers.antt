@@ -5,7 +5,7 @@ use Rattle.payload.specs.declared.packet.Packet.{Packet}
 use Rattle.losses.specs.PartsIn.{parts_in}
 use Rattle.losses.specs.Runs.{Run, missing_behind, over_before, packets_behind, run_of}
 use Rattle.losses.specs.steps.DecoderSteps.{Feeds}
-use Rattle.losses.specs.steps.Telling.{FollowsRuns, Refuses}
+use Rattle.losses.specs.steps.FollowingRuns.{FollowsRuns, Refuses}
 use Rattle.losses.proofs.RunSteps.{FedRuns, refused_or_memory, runs_fed, runs_missed}
 use Rattle.losses.proofs.TraceSteps.{fed_or_memory, follows_packet, state_laws}
 use Rattle.losses.proofs.hart_trace.HartTrace.take.Goals.{After-feed}
@@ -17,7 +17,7 @@ module _ (g : _) (c : After-feed g) where
   feeds = record {
     stands = c.feed.ensures.stands;
     none = c.feed.ensures.none;
-    told = c.feed.ensures.told;
+    announced = c.feed.ensures.announced;
     mode_kept = c.feed.ensures.mode_kept;
     passed_over = c.feed.ensures.passed_over;
     closes = c.feed.ensures.closes;
@@ -50,18 +50,18 @@ module _ (g : _) (c : After-feed g) where
       f
       feeds refuses
 
-pub returns-clause-tells : goal.returns-clause-tells
-returns-clause-tells g c = λ done missing next packets f.
-    let call = (goal.at.returns-clause-tells g c).After-feed in
+pub returns-clause-follows : goal.returns-clause-follows
+returns-clause-follows g c = λ done missing next packets f.
+    let call = (goal.at.returns-clause-follows g c).After-feed in
     (fed g call done missing next packets (runs_missed (words_of c.args.program.now) c.args.mode done missing next
     packets
     c.args.self.now.decoder c.go_on.new.self.decoder (parts_in c.args.parts.now.items) c.args.self.now.stretch.items f
     c.args.missed (parts_in c.go_on.new.parts.items) c.go_on.new.self.stretch.items
     c.in-Ok.ensures.same c.in-Ok.ensures.lost c.in-Ok.ensures.empty c.in-Ok.ensures.resumes)).follows
 
-pub returns-clause-untold : goal.returns-clause-untold
-returns-clause-untold g c = λ done missing next packets f.
-    let call = (goal.at.returns-clause-untold g c).After-feed in
+pub returns-clause-not_decoded : goal.returns-clause-not_decoded
+returns-clause-not_decoded g c = λ done missing next packets f.
+    let call = (goal.at.returns-clause-not_decoded g c).After-feed in
     refused_or_memory (words_of c.args.program.now) c.args.mode
     (done ++ over_before c.args.missed (run_of missing packets)) (missing_behind c.args.missed missing)
     (packets_behind c.args.missed packets) (next + c.args.missed) c.args.packet.now c.feed.new.self

@@ -1,4 +1,4 @@
--- Each answer is told by a lemma on the cases of the demultiplexer, which no search cuts.
+-- Each answer is given by a lemma on the cases of the demultiplexer, which no search cuts.
 use Rattle.std.proofs.Common.{Ok, Err, slice_get}
 use Rattle.message.proofs.Answering.{answer-after_close, answer-gap, answer-repeat, answer-stranger, answer-unpacked}
 use Rattle.message.proofs.Moving.{harts_after-ok, harts_after-err}

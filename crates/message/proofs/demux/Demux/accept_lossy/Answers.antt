@@ -1,4 +1,4 @@
--- Each answer is told by a lemma on the cases of the demultiplexer, which no search cuts.
+-- Each answer is given by a lemma on the cases of the demultiplexer, which no search cuts.
 use Rattle.std.proofs.Common.{slice_get}
 use Rattle.message.proofs.AnsweringLossy.{answer_lossy-after_close, answer_lossy-gap, answer_lossy-repeat}
 use Rattle.message.proofs.AnsweringLossy.{answer_lossy-stranger, answer_lossy-taken, answer_lossy-bad}
@@ -7,8 +7,8 @@ use Rattle.message.proofs.demux.Demux.accept_lossy.Goals as goal
 
 pub returns-clause-accepted : goal.returns-clause-accepted
 returns-clause-accepted g c =
-    λ packet missed. rw c.accept_lossy_by_hart.ensures.value
-    (answer_lossy-taken (slice_get c.args.self.now c.args.message.now.hart) c.args.message.now packet missed)
+    λ packet missing. rw c.accept_lossy_by_hart.ensures.value
+    (answer_lossy-taken (slice_get c.args.self.now c.args.message.now.hart) c.args.message.now packet missing)
 
 pub returns-clause-stranger : goal.returns-clause-stranger
 returns-clause-stranger g c =

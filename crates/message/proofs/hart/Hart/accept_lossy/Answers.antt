@@ -1,5 +1,5 @@
 -- What is answered to a message that is taken is that of the payload's reading: an equation put together by hand.
-use Rattle.std.proofs.Common.{◌≡◌, ◌-◌, ◌≤◌, refl, Ok, ap, sym, ◌∙◌, arith, rules}
+use Rattle.std.proofs.Common.{◌≡◌, ◌-◌, refl, Ok, ap, sym, ◌∙◌, arith, rules}
 use Rattle.payload.specs.Reading.{reading}
 use Rattle.message.specs.Lossy.{answer_lossy}
 use Rattle.message.proofs.AnsweringLossy.{answer_lossy-next}
@@ -15,8 +15,8 @@ answered c =
 
 pub returns-in-Ok-clause-result : goal.returns-in-Ok-clause-result
 returns-in-Ok-clause-result c =
-    let missed : c.args.message.now.number - c.args.self.now.expected ≡ c.in-Some.missed = search rules in
-    sym (answered c ∙ ap (λ n. Ok (c.in-Ok.packet, n)) missed)
+    let missing : c.args.message.now.number - c.args.self.now.expected ≡ c.in-Some.missing = search rules in
+    sym (answered c ∙ ap (λ n. Ok (c.in-Ok.packet, n)) missing)
 
 pub returns-in-Ok-clause-state : goal.returns-in-Ok-clause-state
 returns-in-Ok-clause-state c = rw (answered c, c.is_closing-self.ensures) refl

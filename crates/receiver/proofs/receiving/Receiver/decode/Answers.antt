@@ -6,7 +6,7 @@ use Rattle.std.proofs.lemmas.List.{set-get_or}
 use Rattle.retire.specs.declared.event.Event.{Event}
 use Rattle.rvclass.specs.Fetch.{words_of}
 use Rattle.payload.specs.declared.packet.Packet.{Packet}
-use Rattle.decoder.specs.Stands.{Stands}
+use Rattle.decoder.specs.DecoderStands.{DecoderStands}
 use Rattle.decoder.specs.declared.decoding.Decoder.{Decoder}
 use Rattle.receiver.proofs.HoldLemmas.{count_after, decoded_more, holds_after, longer_here, others_after, same_hart}
 use Rattle.receiver.proofs.HoldLemmas.{stands_here, written_same}
@@ -18,7 +18,7 @@ use Rattle.receiver.proofs.receiving.Receiver.decode.Goals as goal
 module _ (g : _) (c : After-feed g) where
   -- The decoder and the list at the hart's place stand for what is held of the hart.
   stand : (packets : List Packet) → HoldsHart (words_of c.args.program.now) c.args.hart packets c.args.self.now
-      → Stands (words_of c.args.program.now) packets c.index_mut-2.result.now.items c.index_mut.result.now
+      → DecoderStands (words_of c.args.program.now) packets c.index_mut-2.result.now.items c.index_mut.result.now
   stand packets given =
       stands_here c.self.inside.demux c.self.inside.decoders.items c.self.inside.lists.items c.self.inside.closed.items
       c.args.hart c.from-hart.result c.from-hart.ensures (words_of c.args.program.now) packets c.index_mut.result.now
@@ -49,9 +49,9 @@ returns-in-Err-clause-not_opened g c = λ packets given.
     let fed = (goal.at.returns-in-Err-clause-not_opened g c).After-feed in
     c.in-Err.ensures.not_opened packets (stand g fed packets given)
 
-pub returns-in-Err-clause-ended : goal.returns-in-Err-clause-ended
-returns-in-Err-clause-ended g c = λ packets given.
-    let fed = (goal.at.returns-in-Err-clause-ended g c).After-feed in
+pub returns-in-Err-clause-after_close : goal.returns-in-Err-clause-after_close
+returns-in-Err-clause-after_close g c = λ packets given.
+    let fed = (goal.at.returns-in-Err-clause-after_close g c).After-feed in
     c.in-Err.ensures.closed packets (stand g fed packets given)
 
 pub returns-in-Err-clause-refused : goal.returns-in-Err-clause-refused
@@ -90,9 +90,9 @@ returns-clause-not_opened g c = λ packets given.
     let fed = (goal.at.returns-clause-not_opened g c).After-feed in
     c.in-Ok.ensures.not_opened packets (stand g fed packets given)
 
-pub returns-clause-ended : goal.returns-clause-ended
-returns-clause-ended g c = λ packets given.
-    let fed = (goal.at.returns-clause-ended g c).After-feed in
+pub returns-clause-after_close : goal.returns-clause-after_close
+returns-clause-after_close g c = λ packets given.
+    let fed = (goal.at.returns-clause-after_close g c).After-feed in
     c.in-Ok.ensures.closed packets (stand g fed packets given)
 
 pub returns-clause-hart : goal.returns-clause-hart

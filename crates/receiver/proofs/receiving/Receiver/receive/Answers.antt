@@ -7,7 +7,7 @@ use Rattle.receiver.proofs.AcceptLemmas.{accepted_answer, accepts_kept, agrees_b
 use Rattle.receiver.proofs.AcceptLemmas.{same_packet}
 use Rattle.receiver.proofs.HoldLemmas.{holds_kept, list_of, same_hart_twice}
 use Rattle.receiver.specs.Holds.{Holds, HoldsHart}
-use Rattle.receiver.specs.Refused.{IsNotDecoded}
+use Rattle.receiver.specs.NotReceived.{IsNotDecoded}
 use Rattle.receiver.proofs.receiving.Receiver.receive.Goals as goal
 
 pub returns-in-Ok-decode-clause-received : goal.returns-in-Ok-decode-clause-received
@@ -50,14 +50,14 @@ returns-in-Err-decode-clause-undecoded g c = λ programs harts messages packet w
     (subst (IsNotDecoded words packets c.in-Ok.packet) (same_fault c.in-Err-decode.fault why is)
     (not_decoded words packets c.in-Ok.packet c.in-Err-decode.fault
     (c.in-Err-decode.ensures.not_opened packets holds)
-    (c.in-Err-decode.ensures.ended packets holds)
+    (c.in-Err-decode.ensures.after_close packets holds)
     (c.in-Err-decode.ensures.none packets holds)
     (λ is.
     let found = c.in-Err-decode.ensures.memory packets list.0 holds list.1 is in
     (list.0, found.0, subst (λ words. Describes words packets list.0) program list.2, found.1, found.2))))
 
-pub returns-in-Err-decode-clause-refused : goal.returns-in-Err-decode-clause-refused
-returns-in-Err-decode-clause-refused g c = λ programs harts messages program given.
+pub returns-in-Err-decode-clause-not_received : goal.returns-in-Err-decode-clause-not_received
+returns-in-Err-decode-clause-not_received g c = λ programs harts messages program given.
     let message = c.args.message.now in
     let packet = c.in-Ok.packet in
     let own = sym c.accept.ensures.value ∙ c.in-Ok.is in
@@ -65,13 +65,13 @@ returns-in-Err-decode-clause-refused g c = λ programs harts messages program gi
       record {
         packet = packet;
         accepted = answer;
-        not_ended = going harts messages message packet given.accepts.accepted answer;
+        not_closed = going harts messages message packet given.accepts.accepted answer;
         not_decoded =
             returns-in-Err-decode-clause-undecoded g c programs harts messages packet c.in-Err-decode.fault program
             given.holds
             own refl;
       },
-      agrees_by c.args.told message packet c.in-Ok.ensures.packet
+      agrees_by c.args.announced message packet c.in-Ok.ensures.packet
           (sym c.opens_another.ensures ∙ c.if-opens_another.false),
     )
 

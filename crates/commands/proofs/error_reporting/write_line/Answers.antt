@@ -6,7 +6,7 @@ use Rattle.std.specs.Io.KnownBytes.{Appends}
 use Rattle.output.specs.Begun.{AppendsBeginning}
 use Rattle.output.proofs.Beginnings.{begun_behind, begun_in_front}
 use Rattle.commands.proofs.ErrorLines.{error_line_parted}
-use Rattle.commands.proofs.telling.write_line.Goals as goal
+use Rattle.commands.proofs.error_reporting.write_line.Goals as goal
 
 pub returns-in_err-write_bytes-clause-begun : goal.returns-in_err-write_bytes-clause-begun
 returns-in_err-write_bytes-clause-begun g c =

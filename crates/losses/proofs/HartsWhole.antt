@@ -1,4 +1,4 @@
--- What is collected of harts is held, and stands apart.
+-- The stretches that are collected of harts are whole, and stand apart.
 use Rattle.std.proofs.Common.{◌≡◌, inl, inr, ℕ, ◌+◌, List, [], ◌∷◌, Some, map, slice_get, sym, ap, subst, arith}
 use Rattle.std.proofs.lemmas.List.Elements.{All-get_or}
 use Rattle.std.proofs.lemmas.Option.{get_or_from_slice_get, slice_get_within}
@@ -15,12 +15,12 @@ use Rattle.message.specs.OfHart.{of_hart}
 use Rattle.message.specs.declared.message.Message.{Message}
 use Rattle.losses.specs.Apart.{AreRising, StandApart}
 use Rattle.losses.specs.Collected.{AreCollected}
-use Rattle.losses.specs.Held.{AreHeld}
+use Rattle.losses.specs.WholeStretches.{AreWholeStretches}
 use Rattle.losses.specs.Losses.{AreOfLogs, AreSomeOf, numbers_of}
 use Rattle.losses.specs.PartsIn.{parts_in}
 use Rattle.losses.specs.declared.part.HartPieces.{HartPieces}
 use Rattle.losses.proofs.StretchesApart.{parts_stand_apart}
-use Rattle.losses.proofs.StretchesHeld.{parts_held}
+use Rattle.losses.proofs.StretchesWhole.{parts_whole}
 
 abbrev number_of : Message → ℕ
 number_of message = message.number
@@ -65,12 +65,13 @@ module _ {A : Type 0} (program : Image) (period : ℕ) (handed : Mode) (own : �
   rising : AreRising 0 (numbers_of hart messages)
   rising = rising_of_some hart 0 (payloads period (own hart) log) (of_hart hart messages) (of_logs.some hart log at_log)
 
-  pub hart_held : AreHeld (words_of program) period (own hart) log.events (numbers_of hart messages) 0
+  pub hart_whole : AreWholeStretches (words_of program) period (own hart) log.events (numbers_of hart messages) 0
       (parts_in pieces.parts.items)
-  hart_held = subst
-      (AreHeld (words_of program) period (own hart) log.events (numbers_of hart messages) 0)
+  hart_whole = subst
+      (AreWholeStretches (words_of program) period (own hart) log.events (numbers_of hart messages) 0)
       (sym (collected.parts hart log pieces at_log at_pieces))
-      (parts_held (words_of program) is_program period (own hart) log.events is_legal (numbers_of hart messages) rising)
+      (parts_whole (words_of program) is_program period (own hart) log.events is_legal
+      (numbers_of hart messages) rising)
 
   pub hart_apart : StandApart (parts_in pieces.parts.items) log.events
   hart_apart = subst (λ left. StandApart left log.events) (sym (collected.parts hart log pieces at_log at_pieces))

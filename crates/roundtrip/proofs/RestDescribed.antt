@@ -1,4 +1,4 @@
--- What the pieces of a log tell, from any event of it on.
+-- What the pieces of a log describe, from any event of it on.
 use Rattle.std.proofs.Common.{◌≡◌, ℕ, ◌^◌, ◌<◌, Bool, true, false, List, [], ◌∷◌, ◌++◌, Option, Some, None, refl, sym}
 use Rattle.std.proofs.Common.{ap, subst, ◌∙◌, append_assoc}
 use Rattle.std.specs.List.{last_or, AllByRecursion}
@@ -27,9 +27,9 @@ use Rattle.roundtrip.proofs.QuietLemmas.{all-snoc, NoneEarly}
 use Rattle.roundtrip.proofs.PacketOrder.{last_packets, head_packet, first_is_head, precedes, reported_after-packet_by}
 
 -- The last pieces of a log, the first of which may have begun with these events: their packets fit their
--- stretches after this event, the stretches are the rest of the log, and this tells whether the first of
+-- stretches after this event, the stretches are the rest of the log, and this says whether the first of
 -- the packets makes a plain address packet before it explicit.
-pub record Told (words : Words) (mode : Mode) (since : Option Event) (reported : ℕ) (by_last : Rule)
+pub record RestDescribed (words : Words) (mode : Mode) (since : Option Event) (reported : ℕ) (by_last : Rule)
     (front events : List Event) (explicit : Bool) (pieces : List Piece) : Type 0 where
   pub fit : Pieces words mode since reported (last_packets mode reported by_last pieces) None (stretches_of pieces)
   pub whole : join (stretches_of pieces) ≡ front ++ events
@@ -101,23 +101,24 @@ explicit_in {period = period} {before = before} {number = number} {events = even
 explicit_in by_last (InStretch quiet known on) = false
 explicit_in by_last (AfterTrap handles) = true
 
--- What the events after one tell, in each state that it may leave.
-abbrev pub TellsOn : Words → ℕ → Mode → Option Event → Event → ℕ → List Event → (List Event → List Piece) → Type 0
-TellsOn words period mode before event number events rest =
+-- What the events after one describe, in each state that it may leave.
+abbrev pub RestDescribedAfter : Words → ℕ → Mode → Option Event → Event → ℕ → List Event → (List Event → List Piece)
+    → Type 0
+RestDescribedAfter words period mode before event number events rest =
     (since : Option Event) (front : List Event) (reported : ℕ) (by_last : Rule) →
     (state : State words period since front before (Some event) number events reported) →
-    Told words mode since reported by_last front events (explicit_in by_last state) (rest front)
+    RestDescribed words mode since reported by_last front events (explicit_in by_last state) (rest front)
 
 -- An event ends a piece, whose packet fits it.
 pub cut : (words : Words) (mode : Mode) (since : Option Event) (reported : ℕ) (by_last : Rule) (front : List Event)
     (last : Event) (rule : Rule) (events : List Event) (explicit : Bool) (pieces : List Piece) →
     Fits words mode since reported (packet_by mode reported front last rule)
     (Some (head_packet mode (reported_by rule reported last) rule pieces)) (front ++ last ∷ []) →
-    Told words mode (Some last) (reported_by rule reported last) rule [] events explicit pieces →
-    Told words mode since reported by_last front (last ∷ events)
+    RestDescribed words mode (Some last) (reported_by rule reported last) rule [] events explicit pieces →
+    RestDescribed words mode since reported by_last front (last ∷ events)
     (makes_explicit (packet_by mode reported front last rule)) (record { front = front; last = last; by = rule } ∷
     pieces)
-cut words mode since reported by_last front last rule events explicit pieces fits told =
+cut words mode since reported by_last front last rule events explicit pieces fits described =
     let after = reported_by rule reported last in
     let reporting = packet_by mode reported front last rule in
     let head = first_is_head mode after rule pieces in
@@ -126,12 +127,12 @@ cut words mode since reported by_last front last rule events explicit pieces fit
     let fit = subst (λ next. Fits words mode since reported reporting next (front ++ last ∷ [])) (sym head) fits in
     let ends : last_or since (front ++ last ∷ []) ≡ Some last = last_or-append since front (last ∷ []) in
     let by_address = subst (λ address. Pieces words mode (Some last) address (last_packets mode after rule pieces) None
-    (stretches_of pieces)) (sym (reported_after-packet_by mode reported front last rule)) told.fit in
+    (stretches_of pieces)) (sym (reported_after-packet_by mode reported front last rule)) described.fit in
     let rest = subst (λ before. Pieces words mode before (reported_after reporting reported (front ++ last ∷ []))
     (last_packets mode after rule pieces) None (stretches_of pieces)) (sym ends) by_address in
     record {
       fit = (order, fit, rest);
-      whole = ap (λ l. (front ++ last ∷ []) ++ l) told.whole ∙ append_assoc front (last ∷ []) events;
+      whole = ap (λ l. (front ++ last ∷ []) ++ l) described.whole ∙ append_assoc front (last ∷ []) events;
       head = refl;
     }
 

@@ -15,10 +15,10 @@ use Rattle.decoder.proofs.OnePacketMore.{join-append}
 use Rattle.decoder.specs.Order.{IsOpen}
 use Rattle.decoder.specs.Resuming.{IsSync}
 use Rattle.decoder.specs.SettledPieces.{settled_pieces}
-use Rattle.roundtrip.specs.Reach.{stretches, told}
+use Rattle.roundtrip.specs.Reach.{stretches, settled_events}
 use Rattle.losses.specs.Apart.{AreRising}
 use Rattle.losses.specs.Blocks.{Block, blocks_from}
-use Rattle.losses.specs.Held.{AreHeld, BeginsAt, Came, IsHeld, NoSyncCame}
+use Rattle.losses.specs.WholeStretches.{AreWholeStretches, BeginsAt, NumberCame, IsWholeStretch, NoSyncCame}
 use Rattle.losses.specs.Parts.{LogPart, Events, Missing, gap, parts, parts_of_blocks, stretch, stretch_of_block}
 use Rattle.losses.proofs.BlockDescribed.{Rest, rest_drop, rest_of_log}
 use Rattle.losses.proofs.RisingBlocks.{IsBlockOf, AreBlocksOf, blocks_of_rising}
@@ -42,26 +42,27 @@ module _ (words : Words) (program : IsProgram words) (period : ℕ) (mode : Mode
   none_through from place below first second = λ number p least most came at.
       by_place number p least most came at (cases_lt number place)
     where
-      by_place : (number : ℕ) (p : Packet) → from ≤ number → number < below → Came number numbers
+      by_place : (number : ℕ) (p : Packet) → from ≤ number → number < below → NumberCame number numbers
           → slice_get ps number ≡ Some p → (number < place) ⊎ (place ≤ number) → ¬ IsSync p
       by_place number p least most came at (inl before) = first number p least before came at
       by_place number p least most came at (inr over) = second number p over most came at
 
-  -- Where no synchronisation packet came before a place, the parts are held from earlier on.
+  -- Where no synchronisation packet came before a place, the stretches are whole from earlier on.
   widened : (from place : ℕ) (left : List LogPart) → from ≤ place → NoSyncCame ps numbers from place
-      → AreHeld words period mode log numbers place left → AreHeld words period mode log numbers from left
-  widened from place [] below none held = none_through from place (length ps) none held
-  widened from place (Missing count ∷ left) below none held = widened from place left below none held
+      → AreWholeStretches words period mode log numbers place left
+      → AreWholeStretches words period mode log numbers from left
+  widened from place [] below none whole = none_through from place (length ps) none whole
+  widened from place (Missing count ∷ left) below none whole = widened from place left below none whole
   widened from place (Events events ∷ left) below none (first, end, above, between, is, later) =
       (first, end, omega (arith, below, above), none_through from place first none between, is, later)
 
-  gap_held : (missing from : ℕ) (left : List LogPart) → AreHeld words period mode log numbers from left
-      → AreHeld words period mode log numbers from (gap missing ++ left)
-  gap_held zero from left held = held
-  gap_held (suc missing) from left held = held
+  gap_whole : (missing from : ℕ) (left : List LogPart) → AreWholeStretches words period mode log numbers from left
+      → AreWholeStretches words period mode log numbers from (gap missing ++ left)
+  gap_whole zero from left whole = whole
+  gap_whole (suc missing) from left whole = whole
 
   module _ (from : ℕ) (block : Block) (b : IsBlockOf numbers from block) (left : List LogPart)
-      (later : AreHeld words period mode log numbers (block.first + block.count) left) where
+      (later : AreWholeStretches words period mode log numbers (block.first + block.count) left) where
     abbrev own : List Packet
     own = take block.count (drop block.first ps)
 
@@ -87,7 +88,7 @@ module _ (words : Words) (program : IsProgram words) (period : ℕ) (mode : Mode
     none_up_to skip few none = λ number p least most came at.
         by_place number p least most came at (cases_lt number block.first)
       where
-        by_place : (number : ℕ) (p : Packet) → from ≤ number → number < block.first + skip → Came number numbers
+        by_place : (number : ℕ) (p : Packet) → from ≤ number → number < block.first + skip → NumberCame number numbers
             → slice_get ps number ≡ Some p → (number < block.first) ⊎ (block.first ≤ number) → ¬ IsSync p
         by_place number p least most came at (inl before) = absurd (b.skipped number least before came)
         by_place number p least most came at (inr over) =
@@ -95,7 +96,7 @@ module _ (words : Words) (program : IsProgram words) (period : ℕ) (mode : Mode
             none (number - block.first) p (omega (arith, most, over))
             (at_own (number - block.first) (omega (arith, most, over, few)) ∙ ap (slice_get ps) there ∙ at)
 
-    without : NoSync own → AreHeld words period mode log numbers from left
+    without : NoSync own → AreWholeStretches words period mode log numbers from left
     without none =
         let above = b.above in
         widened from end left (omega (arith, above))
@@ -144,7 +145,7 @@ module _ (words : Words) (program : IsProgram words) (period : ℕ) (mode : Mode
               let first = open_is_first words mode r.before r.reported ps pieces r.each place s.packet at_place opens in
               ap (λ n. join (take n pieces)) first
 
-      holds : told words period mode log end ≡ join (take place pieces) ++ stretch_of_block ps pieces block
+      holds : settled_events words period mode log end ≡ join (take place pieces) ++ stretch_of_block ps pieces block
       holds =
           let inside : place < end = omega (arith, within) in
           let at = slice_get-take end ps place inside ∙ at_place in
@@ -153,8 +154,8 @@ module _ (words : Words) (program : IsProgram words) (period : ℕ) (mode : Mode
           ∙ ap (λ l. join (take place pieces) ++ join (settled_pieces l (drop place pieces))) same_packets
           ∙ ap (λ l. join (take place pieces) ++ l) (sym settled)
 
-      held : IsHeld words period mode log numbers place end (stretch_of_block ps pieces block)
-      held = record {
+      whole : IsWholeStretch words period mode log numbers place end (stretch_of_block ps pieces block)
+      whole = record {
         some = omega (arith, within);
         came = λ number least most. b.came number (omega (arith, least)) most;
         lost = b.lost;
@@ -197,11 +198,13 @@ module _ (words : Words) (program : IsProgram words) (period : ℕ) (mode : Mode
                   none_behind (i - s.skip) p
                   (slice_get-drop s.skip own (i - s.skip) ∙ ap (slice_get own) there ∙ at) sync
 
-      with_start : AreHeld words period mode log numbers from (stretch (stretch_of_block ps pieces block) ++ left)
-      with_start = by_events (stretch_of_block ps pieces block) held none_there
+      with_start : AreWholeStretches words period mode log numbers from
+          (stretch (stretch_of_block ps pieces block) ++ left)
+      with_start = by_events (stretch_of_block ps pieces block) whole none_there
         where
-          by_events : (events : List Event) → IsHeld words period mode log numbers place end events
-              → (events ≡ [] → NoSync own) → AreHeld words period mode log numbers from (stretch events ++ left)
+          by_events : (events : List Event) → IsWholeStretch words period mode log numbers place end events
+              → (events ≡ [] → NoSync own) → AreWholeStretches words period mode log numbers from
+              (stretch events ++ left)
           by_events [] is none = without (none refl)
           by_events (event ∷ events) is none =
               let above = b.above in (
@@ -213,24 +216,26 @@ module _ (words : Words) (program : IsProgram words) (period : ℕ) (mode : Mode
                 later,
               )
 
-    block_held : AreHeld words period mode log numbers from
+    block_whole : AreWholeStretches words period mode log numbers from
         (gap block.missing ++ (stretch (stretch_of_block ps pieces block) ++ left))
-    block_held =
-        gap_held block.missing from _
+    block_whole =
+        gap_whole block.missing from _
         (by_start (starts words mode own (drop block.count (drop block.first ps)) here rest))
       where
         by_start : Starts own here
-            → AreHeld words period mode log numbers from (stretch (stretch_of_block ps pieces block) ++ left)
+            → AreWholeStretches words period mode log numbers from (stretch (stretch_of_block ps pieces block) ++ left)
         by_start (inl (empty, none)) =
-            subst (λ e. AreHeld words period mode log numbers from (stretch e ++ left)) (sym empty) (without none)
+            subst (λ e. AreWholeStretches words period mode log numbers from (stretch e ++ left)) (sym empty)
+            (without none)
         by_start (inr s) = with_start s
 
-  blocks_held : (from : ℕ) (blocks : List Block) → AreBlocksOf numbers from blocks
-      → AreHeld words period mode log numbers from (parts_of_blocks ps pieces blocks)
-  blocks_held from [] none = λ number p least most came at. absurd (none number least came)
-  blocks_held from (block ∷ blocks) (b, later) =
-      block_held from block b (parts_of_blocks ps pieces blocks)
-      (blocks_held (block.first + block.count) blocks later)
+  blocks_whole : (from : ℕ) (blocks : List Block) → AreBlocksOf numbers from blocks
+      → AreWholeStretches words period mode log numbers from (parts_of_blocks ps pieces blocks)
+  blocks_whole from [] none = λ number p least most came at. absurd (none number least came)
+  blocks_whole from (block ∷ blocks) (b, later) =
+      block_whole from block b (parts_of_blocks ps pieces blocks)
+      (blocks_whole (block.first + block.count) blocks later)
 
-  pub parts_held : AreRising 0 numbers → AreHeld words period mode log numbers 0 (parts words period mode log numbers)
-  parts_held rising = blocks_held 0 (blocks_from 0 numbers) (blocks_of_rising 0 numbers rising)
+  pub parts_whole : AreRising 0 numbers → AreWholeStretches words period mode log numbers 0
+      (parts words period mode log numbers)
+  parts_whole rising = blocks_whole 0 (blocks_from 0 numbers) (blocks_of_rising 0 numbers rising)

@@ -1,4 +1,4 @@
--- Messages that a demultiplexer takes where some are lost.
+-- Where and why collecting stops.
 use Rattle.std.specs.Prelude.{ℕ, ◌≡◌, ◌≢◌, ◌↔◌, ◌++◌, List, [], ◌∷◌, IsOk, Ok, Err, length}
 use Rattle.retire.specs.declared.event.Event.{Event}
 use Rattle.rvclass.specs.Words.{Words}
@@ -16,23 +16,23 @@ use Rattle.message.specs.OfHart.{of_hart}
 use Rattle.message.specs.declared.fault.DemuxFault.{DemuxFault}
 use Rattle.message.specs.declared.message.Message.{Message}
 use Rattle.losses.specs.Runs.{last_trace}
-use Rattle.losses.specs.Told.{TellSome}
+use Rattle.losses.specs.DescribedParts.{EachHartDescribes}
 use Rattle.losses.specs.declared.fault.LossyFault.{LossyFault}
 use Rattle.losses.specs.declared.fault.LossyFault.TheVariants as fault
 
--- What is expected after messages, each taken in its turn.
+-- What is expected of each hart after messages, each taken in its turn, where messages may be lost.
 abbrev pub expected_lossy : Harts → List Message → Harts
 expected_lossy expected [] = expected
 expected_lossy expected (message ∷ messages) = expected_lossy (harts_after_lossy expected message) messages
 
--- Each of the messages is taken in its turn.
-abbrev pub AreTaken : Harts → List Message → Type 0
-AreTaken expected [] = Unit {0}
-AreTaken expected (message ∷ messages) =
-    IsOk (accepting_lossy expected message) × AreTaken (harts_after_lossy expected message) messages
+-- Each of the messages is accepted in its turn, where messages may be lost.
+abbrev pub AreAcceptedLossy : Harts → List Message → Type 0
+AreAcceptedLossy expected [] = Unit {0}
+AreAcceptedLossy expected (message ∷ messages) =
+    IsOk (accepting_lossy expected message) × AreAcceptedLossy (harts_after_lossy expected message) messages
 
--- The messages before this place are taken by a demultiplexer of so many harts and tell their parts, and the one there
--- is refused so.
+-- A demultiplexer of so many harts accepts the messages before this place, and they describe some parts of each hart.
+-- It refuses the message at this place, for this reason.
 pub record IsRefusedAt (words : Words) (mode : Mode) (harts : ℕ) (messages : List Message) (place : ℕ)
     (why : DemuxFault) : Type 0 where
   pub front : List Message
@@ -40,24 +40,26 @@ pub record IsRefusedAt (words : Words) (mode : Mode) (harts : ℕ) (messages : L
   pub later : List Message
   pub whole : messages ≡ front ++ message ∷ later
   pub here : place ≡ length front
-  pub taken : AreTaken (newcomers harts) front
-  pub told : TellSome words mode harts front
+  pub taken : AreAcceptedLossy (newcomers harts) front
+  pub described : EachHartDescribes words mode harts front
   pub refused : accepting_lossy (expected_lossy (newcomers harts) front) message ≡ Err why
 
--- The packet of a message is not decoded after these messages: it is its hart's number 0 and opens no trace, which
--- alone is told as such; or no log is described by the trace that it would be the last packet of. A trace that was
--- closed is none of the reasons, nor is want of memory.
-pub record IsNotDecoded (words : Words) (mode : Mode) (messages : List Message) (message : Message) (why : DecodeFault)
+-- The packet of a message is not decoded after these messages, for this reason: no log is described by the trace whose
+-- last packet it would be. The reason is NotOpened exactly where the message is its hart's number 0 and its packet
+-- opens no trace. It is never AfterClose.
+pub record IsNotDecodedLossy (words : Words) (mode : Mode) (messages : List Message) (message : Message)
+    (why : DecodeFault)
     : Type 0 where
   pub packet : Packet
   pub read : reading message.payload ≡ Ok packet
   pub not_opened : (why ≡ NotOpened) ↔ ((message.number ≡ 0) × ¬ IsOpen packet)
-  pub not_ended : why ≢ AfterClose
+  pub not_after_close : why ≢ AfterClose
   pub not_described : (log : List Event)
       → ¬ Describes words (last_trace mode (of_hart message.hart (messages ++ message ∷ []))) log
 
--- The messages up to this place are taken by a demultiplexer of so many harts, those before it tell their parts, and
--- the packet of the one there is not decoded, which is not for want of memory.
+-- A demultiplexer of so many harts accepts the messages up to the one at this place, and those before it describe some
+-- parts of each hart. The packet of the message at this place is not decoded, for this reason. The reason is not that
+-- memory was refused.
 pub record IsUndecodedAt (words : Words) (mode : Mode) (harts : ℕ) (messages : List Message) (place : ℕ)
     (why : DecodeFault) : Type 0 where
   pub front : List Message
@@ -65,13 +67,14 @@ pub record IsUndecodedAt (words : Words) (mode : Mode) (harts : ℕ) (messages :
   pub later : List Message
   pub whole : messages ≡ front ++ message ∷ later
   pub here : place ≡ length front
-  pub taken : AreTaken (newcomers harts) (front ++ message ∷ [])
-  pub told : TellSome words mode harts front
+  pub taken : AreAcceptedLossy (newcomers harts) (front ++ message ∷ [])
+  pub described : EachHartDescribes words mode harts front
   pub not_memory : why ≢ Memory
-  pub not_decoded : IsNotDecoded words mode front message why
+  pub not_decoded : IsNotDecodedLossy words mode front message why
 
--- Where and why collecting stops, by this program and where this mode was handed in.
-abbrev pub StopsBy : Words → Mode → ℕ → List Message → LossyFault → Type 0
-StopsBy words mode harts messages (fault.Demux place why) = IsRefusedAt words mode harts messages place why
-StopsBy words mode harts messages (fault.Decode place why) = IsUndecodedAt words mode harts messages place why
-StopsBy words mode harts messages fault.Memory = Unit {0}
+-- Collecting stops by this fault, with this program and where this mode is handed in. It names the place of the message
+-- that is refused or whose packet is not decoded. Of a stop because memory was refused nothing more is known.
+abbrev pub CollectingStopsBy : Words → Mode → ℕ → List Message → LossyFault → Type 0
+CollectingStopsBy words mode harts messages (fault.Demux place why) = IsRefusedAt words mode harts messages place why
+CollectingStopsBy words mode harts messages (fault.Decode place why) = IsUndecodedAt words mode harts messages place why
+CollectingStopsBy words mode harts messages fault.Memory = Unit {0}

@@ -15,7 +15,7 @@ use Rattle.decoder.specs.declared.decoding.Phase.{Phase}
 use Rattle.decoder.specs.declared.decoding.Phase.TheVariants.{Unopened, Running, Closed}
 use Rattle.decoder.specs.declared.settling.Waiting.{Waiting}
 
--- A trace is closed where this says so, and else it runs.
+-- A trace is closed where this is true, and else it runs.
 abbrev pub running_or_closed : Bool → Phase
 running_or_closed true = Closed
 running_or_closed false = Running
@@ -25,14 +25,14 @@ abbrev pub phase_after : Option Packet → Phase
 phase_after None = Unopened
 phase_after (Some packet) = running_or_closed (is_closing_packet packet)
 
--- What waits after the last packet: an address packet with plain bits.
+-- What waits after the last packet: an address packet with plain bits, and else nothing.
 abbrev pub waiting_after : Option Packet → Option Waiting
 waiting_after (Some (packet.Address taken delta report.Plain)) = Some (record { outcomes = taken; delta = delta })
 waiting_after other = None
 
--- A decoder stands for packets and a log: the packets describe the log, and the decoder's fields are
--- those of both.
-pub record Stands (words : Words) (packets : List Packet) (log : List Event) (decoder : Decoder) : Type 0 where
+-- A decoder stands for packets and a log. The packets describe the log, and what the decoder remembers follows from
+-- both, but for the announced mode, which `HasMode` is about.
+pub record DecoderStands (words : Words) (packets : List Packet) (log : List Event) (decoder : Decoder) : Type 0 where
   pub described : Describes words packets log
   pub phase : decoder.phase ≡ phase_after (last_or None packets)
   pub waiting : decoder.waiting ≡ waiting_after (last_or None packets)

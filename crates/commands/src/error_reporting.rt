@@ -1,4 +1,4 @@
-//! What is told on standard error.
+//! The line that a fault has on standard error.
 
 ghost use Rattle.std.specs.Prelude.{◌≡◌, OnOk};
 ghost use Rattle.std.specs.Io.KnownBytes.{Appends};
@@ -12,8 +12,9 @@ use output::write_bytes;
 use std::io;
 use std::io::Write;
 
-/// Tells a fault on one line, and answers how the command ends. Where a write fails, the rest of the line stays untold.
-pub fn tell<E: Write>(err: &mut E, fault: &Fault<'_>) -> Status
+/// Writes the line of a fault, and returns how the command ends. Where a write fails, the rest of the line is not
+/// written.
+pub fn report_error<E: Write>(err: &mut E, fault: &Fault<'_>) -> Status
     ensures status { result ≡ status_of fault.now }
     // What is written is the line, or a beginning of it.
     ensures line { AppendsBeginning (error_line fault.now) (E.contents err.old) (E.contents err.new) }
@@ -22,7 +23,7 @@ pub fn tell<E: Write>(err: &mut E, fault: &Fault<'_>) -> Status
     fault.status()
 }
 
-/// Writes the line of a fault, with no memory taken.
+/// Writes the line of a fault, and takes no memory.
 fn write_line<E: Write>(err: &mut E, fault: &Fault<'_>) -> io::Result<()>
     ensures whole { OnOk result (Appends (E.contents err.old) (E.contents err.new) (error_line fault.now)) }
     ensures begun { AppendsBeginning (error_line fault.now) (E.contents err.old) (E.contents err.new) }

@@ -1,4 +1,4 @@
--- The fault that is told of a packet before the trace was opened.
+-- The fault of a packet before the trace was opened.
 use Rattle.std.proofs.Common.{◌≡◌, ◌↔◌, ◌⊎◌, inl, inr, Bool, true, false, List, [], Some, None, sym, ap, subst, ◌∙◌}
 use Rattle.std.specs.List.{last_or}
 use Rattle.std.specs.Prelude.{Ok}
@@ -10,7 +10,7 @@ use Rattle.decoder.proofs.StretchEnds.{last_or-last}
 use Rattle.decoder.proofs.NextPacket.{Ending, ending}
 use Rattle.decoder.specs.Order.{IsOpen}
 use Rattle.decoder.specs.steps.Planning.{admitted, admitted_first, IsNamed}
-use Rattle.decoder.specs.Stands.{phase_after, running_or_closed}
+use Rattle.decoder.specs.DecoderStands.{phase_after, running_or_closed}
 use Rattle.decoder.specs.declared.fault.DecodeFault.{DecodeFault}
 use Rattle.decoder.specs.declared.fault.DecodeFault.TheVariants.{NotOpened}
 
@@ -31,7 +31,7 @@ named_later : (closing : Bool) (p : Packet) (fault : DecodeFault) → IsNamed (a
 named_later true p fault named is = cc
 named_later false p fault named is = subst (IsNamed (Ok tt)) is named
 
--- NotOpened is told exactly where there are no packets yet and this one opens no trace.
+-- The fault is NotOpened exactly where there are no packets yet and this one opens no trace.
 pub named_not_opened : (packets : List Packet) (p : Packet) (fault : DecodeFault) →
     IsNamed (admitted (phase_after (last_or None packets)) p) fault → (fault ≡ NotOpened) ↔
     ((packets ≡ []) × ¬ IsOpen p)

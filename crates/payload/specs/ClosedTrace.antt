@@ -1,4 +1,4 @@
--- Which traces have ended.
+-- Which traces are closed.
 use Rattle.std.specs.Prelude.{Bool, false, List, Option, Some, None}
 use Rattle.std.specs.List.{last_or}
 use Rattle.payload.specs.Closing.{is_closing_packet}
@@ -10,5 +10,5 @@ closes None = false
 closes (Some packet) = is_closing_packet packet
 
 -- The last of the packets closes the trace.
-abbrev pub has_ended : List Packet → Bool
-has_ended packets = closes (last_or None packets)
+abbrev pub last_is_closing : List Packet → Bool
+last_is_closing packets = closes (last_or None packets)

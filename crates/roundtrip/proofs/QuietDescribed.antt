@@ -1,4 +1,4 @@
--- What a retirement tells that comes in a quiet stretch.
+-- What is described by a retirement that comes in a quiet stretch.
 use Rattle.std.proofs.Common.{◌≡◌, ℕ, ◌+◌, ◌^◌, ◌<◌, Bool, true, false, ◌||◌, List, [], ◌∷◌, ◌++◌, Option, Some, None}
 use Rattle.std.proofs.Common.{refl, sym, ap, subst, ◌∙◌, append_assoc}
 use Rattle.std.proofs.Math.Bool.{or-false}
@@ -26,9 +26,10 @@ use Rattle.decoder.specs.Fits.{FitsAddress}
 use Rattle.decoder.specs.Settling.{makes_explicit, explicit_or_target, settled_by}
 use Rattle.decoder.specs.Walk.{AtBranch, AtAddress, AtTarget, EndsAt, RetiresAt, IsWalk, IsWalkFrom}
 use Rattle.roundtrip.proofs.QuietLemmas.{all-snoc, none_early-none, none_early-last, none_early-snoc}
-use Rattle.roundtrip.proofs.RuleFacts.{TellsOf}
-use Rattle.roundtrip.proofs.Telling.{Told, Quiet, GoesOn, AtCut, InStretch, explicit_before, TellsOn, cut, quiet_walks}
-use Rattle.roundtrip.proofs.Telling.{not_handled}
+use Rattle.roundtrip.proofs.RuleFacts.{AnswersOf}
+use Rattle.roundtrip.proofs.RestDescribed.{RestDescribed, Quiet, GoesOn, AtCut, InStretch, explicit_before}
+use Rattle.roundtrip.proofs.RestDescribed.{RestDescribedAfter, cut, quiet_walks}
+use Rattle.roundtrip.proofs.RestDescribed.{not_handled}
 
 -- A plain address packet before one that does not make it explicit has a walk to a target.
 as_target : (words : Words) (before : Option Event) (taken : List Bool) (addr : ℕ) (next : Packet) (walk : List Event)
@@ -101,80 +102,86 @@ module _ (words : Words) (period : ℕ) (mode : Mode) where
       -- A retirement that no packet reports fills the branch map, or the stretch goes on.
       unreported : Quiet words since front before → reported < 2 ^ 64
           → RetiresAt (privilege since) (Retire addr itype priv) →
-          TellsOf words period number before_that (Some before) (Retire addr itype priv) (first_event events None)
-          by.FullMap →
-          TellsOn words period mode (Some before) (Retire addr itype priv) (number + 1) events rest →
-          Told words mode (Some since) reported by_last front (Retire addr itype priv ∷ events) false
-          (next_piece front (Retire addr itype priv) by.FullMap rest)
-      unreported quiet known here tells on = by_count (is_cut front (Retire addr itype priv) by.FullMap) refl
+          AnswersOf words period number before_that (Some before) (Retire addr itype priv) (first_event events None)
+          by.MapOrNothing →
+          RestDescribedAfter words period mode (Some before) (Retire addr itype priv) (number + 1) events rest →
+          RestDescribed words mode (Some since) reported by_last front (Retire addr itype priv ∷ events) false
+          (next_piece front (Retire addr itype priv) by.MapOrNothing rest)
+      unreported quiet known here answers on = by_count (is_cut front (Retire addr itype priv) by.MapOrNothing) refl
         where
-          by_count : (full : Bool) → is_cut front (Retire addr itype priv) by.FullMap ≡ full
-              → Told words mode (Some since) reported by_last front (Retire addr itype priv ∷ events) false
-              (cut_or_go_on full (record { front = front; last = Retire addr itype priv; by = by.FullMap }) rest)
+          by_count : (full : Bool) → is_cut front (Retire addr itype priv) by.MapOrNothing ≡ full
+              → RestDescribed words mode (Some since) reported by_last front (Retire addr itype priv ∷ events) false
+              (cut_or_go_on full (record { front = front; last = Retire addr itype priv; by = by.MapOrNothing }) rest)
           by_count true full =
               let last = Retire addr itype priv in
-              let told = on (Some last) [] reported by.FullMap
+              let described = on (Some last) [] reported by.MapOrNothing
               (AtCut (not_handled words (Some before) addr itype priv events) known) in
               let ends : EndsAt words AtBranch since front last = (
                 none_early-none (is_discontinuity words) since front
-                    before quiet.early quiet.ends tells.1,
+                    before quiet.early quiet.ends answers.1,
                 (and_parts _ _ full).0,
               ) in
-              cut words mode (Some since) reported by_last front last by.FullMap events _ (rest [])
-              (quiet_walks words since front before last AtBranch quiet here ends) told
+              cut words mode (Some since) reported by_last front last by.MapOrNothing events _ (rest [])
+              (quiet_walks words since front before last AtBranch quiet here ends) described
           by_count false full =
               let last = Retire addr itype priv in
-              let none = none_early-none (is_discontinuity words) since front before quiet.early quiet.ends tells.1 in
+              let none = none_early-none (is_discontinuity words) since front before quiet.early quiet.ends answers.1 in
               let longer : Quiet words since (front ++ last ∷ []) last = record {
                 before = quiet.before;
                 all = all-snoc (RetiresAt (privilege since)) front last quiet.all here;
                 now = here;
-                forward = all-snoc (λ e. is_backward words e ≡ false) front last quiet.forward tells.3;
+                forward = all-snoc (λ e. is_backward words e ≡ false) front last quiet.forward answers.3;
                 early = none_early-snoc (is_discontinuity words) since front last none;
                 ends = last_or-append (Some since) front (last ∷ []);
               } in
-              let told = on (Some since) (front ++ last ∷ []) reported by_last
-              (InStretch longer known (goes_on number last events tells.2)) in
-              record { fit = told.fit; whole = told.whole ∙ append_assoc front (last ∷ []) events; head = told.head }
+              let described = on (Some since) (front ++ last ∷ []) reported by_last
+              (InStretch longer known (goes_on number last events answers.2)) in
+              record {
+                fit = described.fit;
+                whole = described.whole
+                    ∙ append_assoc front (last ∷ []) events;
+                head = described.head;
+              }
 
-      -- A retirement after a retirement that is no handler and no new start tells by its rule.
-      pub quiet_retirement_told : Quiet words since front before → reported < 2 ^ 64
+      -- A retirement after a retirement that is no handler and no new start is described by its rule.
+      pub quiet_retirement_described : Quiet words since front before → reported < 2 ^ 64
           → RetiresAt (privilege since) (Retire addr itype priv) → addr < 2 ^ 64 →
           is_handler words before_that (Some before) (Retire addr itype priv) ≡ false
           → is_start period number (Some before) priv ≡ false →
-          (rule : Rule) → TellsOf words period number before_that (Some before) (Retire addr itype priv)
+          (rule : Rule) → AnswersOf words period number before_that (Some before) (Retire addr itype priv)
           (first_event events None) rule →
-          TellsOn words period mode (Some before) (Retire addr itype priv) (number + 1) events rest →
-          Told words mode (Some since) reported by_last front (Retire addr itype priv ∷ events) false
+          RestDescribedAfter words period mode (Some before) (Retire addr itype priv) (number + 1) events rest →
+          RestDescribed words mode (Some since) reported by_last front (Retire addr itype priv ∷ events) false
           (next_piece front (Retire addr itype priv) rule rest)
-      quiet_retirement_told quiet known here fits handler start (by.Trap with) tells on = absurd tells
-      quiet_retirement_told quiet known here fits handler start by.Handler tells on = cc
-      quiet_retirement_told quiet known here fits handler start by.Sync tells on = cc
-      quiet_retirement_told quiet known here fits handler start (by.Target true) tells on =
+      quiet_retirement_described quiet known here fits handler start (by.Trap with) answers on = absurd answers
+      quiet_retirement_described quiet known here fits handler start by.Handler answers on = cc
+      quiet_retirement_described quiet known here fits handler start by.Sync answers on = cc
+      quiet_retirement_described quiet known here fits handler start (by.Target true) answers on =
           let last = Retire addr itype priv in
-          let told = on (Some last) [] addr (by.Target true)
+          let described = on (Some last) [] addr (by.Target true)
           (AtCut (not_handled words (Some before) addr itype priv events) fits) in
           cut words mode (Some since) reported by_last front last (by.Target true) events _ (rest [])
-          (walk_to_target quiet known here fits tells.1) told
-      quiet_retirement_told quiet known here fits handler start (by.Target false) tells on =
+          (walk_to_target quiet known here fits answers.1) described
+      quiet_retirement_described quiet known here fits handler start (by.Target false) answers on =
           let last = Retire addr itype priv in
-          let told = on (Some last) [] addr (by.Target false)
+          let described = on (Some last) [] addr (by.Target false)
           (AtCut (not_handled words (Some before) addr itype priv events) fits) in
-          let head = told.head ∙ target_before number last (by.Target false) events refl tells.2 in
+          let head = described.head ∙ target_before number last (by.Target false) events refl answers.2 in
           cut words mode (Some since) reported by_last front last (by.Target false) events _ (rest [])
-          (as_target words (Some since) _ _ _ _ head (walk_to_target quiet known here fits tells.1)) told
-      quiet_retirement_told quiet known here fits handler start by.Explicit tells on =
+          (as_target words (Some since) _ _ _ _ head (walk_to_target quiet known here fits answers.1)) described
+      quiet_retirement_described quiet known here fits handler start by.Explicit answers on =
           let last = Retire addr itype priv in
-          let told = on (Some last) [] addr by.Explicit
+          let described = on (Some last) [] addr by.Explicit
           (AtCut (not_handled words (Some before) addr itype priv events) fits) in
-          let head = told.head ∙ explicit_after number last by.Explicit events refl tells.2 in
+          let head = described.head ∙ explicit_after number last by.Explicit events refl answers.2 in
           cut words mode (Some since) reported by_last front last by.Explicit events _ (rest [])
-          (as_explicit words (Some since) _ _ _ _ head (walk_to_address quiet known here fits tells.1)) told
-      quiet_retirement_told quiet known here fits handler start by.Notify tells on =
+          (as_explicit words (Some since) _ _ _ _ head (walk_to_address quiet known here fits answers.1)) described
+      quiet_retirement_described quiet known here fits handler start by.Notify answers on =
           let last = Retire addr itype priv in
-          let told = on (Some last) [] addr by.Notify (AtCut (not_handled words (Some before) addr itype priv events)
+          let described = on (Some last) [] addr by.Notify (AtCut
+          (not_handled words (Some before) addr itype priv events)
           fits) in
           cut words mode (Some since) reported by_last front last by.Notify events _ (rest [])
-          (walk_to_address quiet known here fits tells.1) told
-      quiet_retirement_told quiet known here fits handler start by.FullMap tells on =
-          unreported quiet known here tells on
+          (walk_to_address quiet known here fits answers.1) described
+      quiet_retirement_described quiet known here fits handler start by.MapOrNothing answers on =
+          unreported quiet known here answers on

@@ -1,6 +1,6 @@
 -- The law is a recursion over the events of the log, which no search makes.
 use Rattle.roundtrip.proofs.FirstPackets.{packets_describe, first_packets_describe}
-use Rattle.roundtrip.proofs.laws.first_packets_tell_the_first_events.Goals as goal
+use Rattle.roundtrip.proofs.laws.first_packets_settle_the_first_events.Goals as goal
 
 pub returns-clause-first : goal.returns-clause-first
 returns-clause-first c =
