@@ -9,8 +9,6 @@
 #![tactic(auto)]
 
 #[cfg(test)]
-mod failing_writer;
-#[cfg(test)]
 mod fixtures;
 #[cfg(test)]
 mod funnels;

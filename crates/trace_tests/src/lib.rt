@@ -6,8 +6,6 @@
 #[cfg(test)]
 mod decoding;
 #[cfg(test)]
-mod devices;
-#[cfg(test)]
 mod fixtures;
 #[cfg(test)]
 mod logs;

@@ -1,14 +1,13 @@
 //! Readers and writers that fail, or move one byte a call.
 
-use crate::failing_writer::FailingWriter;
 use crate::fixtures::message;
 use crate::same::same_at;
 use message::{
     Header, Message, MessageFault, Start, read_message, read_start, write_header, write_message,
 };
 use payload::Mode;
-use std::io;
-use std::io::{ErrorKind, Read};
+use refusing::{FailingReader, FailingWriter};
+use std::io::ErrorKind;
 use std::process::Abort;
 
 /// The bytes of a message.
@@ -26,28 +25,18 @@ const SETTINGS: Header = Header {
 };
 
 /// A reader of some bytes, one a call, that fails with an error of this kind at one call, after this many.
-#[derive(Drop)]
-struct FailingReader<'a> {
-    rest: &'a [u8],
-    calls: usize,
-    kind: ErrorKind,
-}
-
-impl Read for FailingReader<'_> {
-    fn read(&mut self, buf: &mut [u8]) -> io::Result<usize> {
-        if self.calls == 0 {
-            self.calls = usize::MAX;
-            return Err(io::Error::from(self.kind));
-        }
-        self.calls -= 1;
-        let most = buf.len().min(1);
-        (&mut self.rest).read(&mut buf[..most])
+fn reader_of(rest: &[u8], calls: usize, kind: ErrorKind) -> FailingReader<'_> {
+    FailingReader {
+        rest,
+        most: 1,
+        calls,
+        kind,
     }
 }
 
 /// What is read of bytes, one a call, as the start of a capture.
 fn start_of(rest: &[u8], calls: usize, kind: ErrorKind) -> Result<Start, MessageFault> {
-    read_start(&mut FailingReader { rest, calls, kind })
+    read_start(&mut reader_of(rest, calls, kind))
 }
 
 /// Ends the test unless reading this many bytes of the message, and of the header, returns this fault.
@@ -59,11 +48,7 @@ pub(crate) fn are_refused(
     fault: MessageFault,
 ) {
     let length = length.min(16);
-    let mut reader = FailingReader {
-        rest: &WHOLE[..length],
-        calls,
-        kind,
-    };
+    let mut reader = reader_of(&WHOLE[..length], calls, kind);
     let place = (kind, length, calls);
     same_at(rt, place, read_message(&mut reader), Err(fault));
     let start = start_of(&HEADER[..length], calls, kind);
@@ -78,11 +63,7 @@ pub(crate) fn are_read(
     kind: ErrorKind,
     behind: Result<Option<Message>, MessageFault>,
 ) {
-    let mut reader = FailingReader {
-        rest: WHOLE.as_slice(),
-        calls,
-        kind,
-    };
+    let mut reader = reader_of(&WHOLE, calls, kind);
     let sent = message(rt, 7, 9, &[0x73, 0, 0, 0, 0x20]);
     same_at(rt, (kind, calls), read_message(&mut reader), Ok(Some(sent)));
     same_at(rt, (kind, calls), read_message(&mut reader), behind);
@@ -116,12 +97,14 @@ pub(crate) fn are_written<R: Abort + AllocGlobal>(
     let sent = message(rt, 7, 9, &[0x73, 0, 0, 0, 0x20]);
     let mut writer = FailingWriter {
         held: Vec::new(rt.alloc()),
+        most: 1,
         calls,
     };
     same_at(rt, calls, write_message(&mut writer, &sent), end);
     same_at(rt, calls, writer.held.as_slice(), &WHOLE[..length]);
     let mut writer = FailingWriter {
         held: Vec::new(rt.alloc()),
+        most: 1,
         calls,
     };
     same_at(rt, calls, write_header(&mut writer, &SETTINGS), end);

@@ -1,10 +1,10 @@
 //! The text of reports.
 
 use super::made::{branches, came_back, logs, program, reports_at, retired, returns, text_of};
-use crate::failing_writer::FailingWriter;
 use crate::same::same_at;
 use bench::{HartOutcome, Outcome, Stop, report};
 use legalpath::LegalLog;
+use refusing::FailingWriter;
 use retire::{Event, WriteFault};
 use std::process::Abort;
 
@@ -156,6 +156,7 @@ pub(crate) fn cut_at<R: Abort + AllocGlobal>(
 ) {
     let mut sink = FailingWriter {
         held: Vec::new(rt.alloc()),
+        most: 1,
         calls,
     };
     assert!(rt;

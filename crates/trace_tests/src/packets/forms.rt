@@ -86,8 +86,8 @@ pub(crate) fn packet_of(form: Form) -> Packet {
     }
 }
 
-/// The payload of a packet, which has to be of the profile. All tests call this, so that the contract of [`pack`] is met
-/// at one place.
+/// The payload of a packet, which has to be of the profile. All tests call this, so that the contract of [`pack`] is
+/// met at one place.
 pub(crate) fn payload_of<R: Abort>(rt: &R, packet: &Packet) -> Payload {
     assert!(rt; packet.in_profile(), "{packet:?} is not of the profile");
     pack(packet)

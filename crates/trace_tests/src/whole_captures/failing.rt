@@ -2,12 +2,12 @@
 
 use super::copies::copies_of;
 use super::{capture_by_hand, write_capture};
-use crate::devices::FailingWriter;
 use crate::fixtures::Step::Retires;
 use crate::fixtures::{NOP, log_of, program_of};
 use crate::same::same_at;
 use legalpath::LegalLog;
 use message::{MessageFault, Version};
+use refusing::FailingWriter;
 use std::process::Abort;
 
 /// The payloads of two words.

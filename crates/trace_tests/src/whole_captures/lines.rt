@@ -1,7 +1,6 @@
 //! Lines of hexadecimal.
 
 use super::copies::copies_of;
-use crate::devices::FailingWriter;
 use crate::fixtures::Step::Retires;
 use crate::fixtures::{NOP, log_of, program_of};
 use crate::packets::sourced;
@@ -9,6 +8,7 @@ use crate::same::same_at;
 use captures::{encode_hex, hex_lines};
 use legalpath::LegalLog;
 use payload::{Mode, Payload};
+use refusing::FailingWriter;
 use retire::WriteFault;
 use std::process::Abort;
 

@@ -1,10 +1,11 @@
 //! Devices that fail, and memory that is refused.
 
 use super::{RETIRED, ROW, text_of_rows};
-use crate::devices::{FailingReader, FailingWriter};
 use crate::same::same_at;
 use linked_list_allocator::LocalHeap;
+use refusing::{FailingReader, FailingWriter};
 use retire::{Event, LogFault, WriteFault, read_log, read_log_from_slice, write_log};
+use std::io::ErrorKind;
 use std::process::Abort;
 
 /// How many events are read of a text by a reader that gives at most `most` bytes a call and fails after `calls` calls.
@@ -14,7 +15,12 @@ fn read_failing<R: Abort + AllocGlobal>(
     most: usize,
     calls: usize,
 ) -> Result<usize, LogFault> {
-    let source = FailingReader { rest, most, calls };
+    let source = FailingReader {
+        rest,
+        most,
+        calls,
+        kind: ErrorKind::TimedOut,
+    };
     match read_log(rt.alloc(), rt.alloc(), source) {
         Ok(events) => Ok(events.len()),
         Err(fault) => Err(fault),
