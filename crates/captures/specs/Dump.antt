@@ -86,7 +86,7 @@ pub record AppendsDump (IsText : Bool → Option (ℕ × MessageFault) → List 
   pub dumped : IsText bad fault text
   pub appended : Appends old new text
 
--- A beginning of a dump by this relation was appended.
+-- A beginning of a text was appended that is a dump by the relation `IsText`.
 pub record BeginsDump (IsText : Bool → Option (ℕ × MessageFault) → List ℕ → Type 0) (old new : Option (List ℕ))
     : Type 0 where
   pub text : List ℕ

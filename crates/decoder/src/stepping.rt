@@ -80,7 +80,8 @@ pub enum Step {
     Fails(DecodeFault),
 }
 
-/// A step from a retirement, where `used` outcomes are used, to the next one.
+/// Takes a step of a walk: from the retirement in `here` to the next one, which is then in `here`. `used` counts the
+/// outcomes that the walk used so far. Returns whether the walk goes on or ends there, or why there is no such walk.
 #[inline(always)]
 #[tactic(auto, unfolding(crate::specs::steps::WalkSteps::advance))]
 pub fn step_from(program: &Program, here: &mut Here, used: &mut usize, course: &Course) -> Step

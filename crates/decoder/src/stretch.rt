@@ -68,7 +68,7 @@ impl Stretch {
         }
     }
 
-    /// The last event after them, where this was the last before.
+    /// The last of these events, or `before` where there are none.
     #[inline]
     pub fn last(&self, before: &Option<Event>) -> Option<Event>
         ensures { result ≡ stretch_last before.now self.now }
@@ -80,7 +80,7 @@ impl Stretch {
         }
     }
 
-    /// The place of the last of them, or this one where there is none.
+    /// The place of the last of these events, or `at` where there are none.
     #[inline]
     pub fn place(&self, at: u64) -> u64
         ensures { result ≡ stretch_place at self.now }

@@ -41,8 +41,9 @@ pub struct Walked {
     pub progress: Progress,
 }
 
-/// Writes the walk from a retirement as it is found. A fault is the first thing on the way that no walk has, and what
-/// was written up to it stays. Where the room is too small, the call returns no walk, and the list is as it was.
+/// Writes the walk from a retirement as it is found. Where there is no such walk, the fault is the first on the way,
+/// and what was written up to it stays. Where the room is too small, the call returns no walk, and the list is as it
+/// was.
 #[inline(always)]
 pub fn write_found<A: Allocator>(
     program: &Program,
@@ -68,7 +69,8 @@ pub fn write_found<A: Allocator>(
     write_found_within(program, longest, from, &course, log)
 }
 
-/// The walk from a retirement, measured. A fault is the first thing on the way that no walk has.
+/// Measures the walk from a retirement: how many retirements it has, and the last of them. Where there is no such walk,
+/// the fault is the first on the way.
 #[inline(never)]
 pub fn measure(
     program: &Program,

@@ -16,7 +16,8 @@ pub record ProgramLog : Type 0 where
 abbrev pub program_log : Image → List Event → ProgramLog
 program_log program events = record { program = program; events = events }
 
--- The log is legal for the program and has at most 2^24 events, its numbers have 64 bits, and the program is an image.
+-- The log is legal for its program and has at most 2^24 events. Its numbers have 64 bits, and its image keeps what the
+-- image of every program keeps.
 pub record IsLegalLog (log : ProgramLog) : Type 0 where
   pub legal : Legal (words_of log.program) log.events
   pub short : length log.events ≤ most_rows

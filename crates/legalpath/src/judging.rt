@@ -38,7 +38,8 @@ pub fn left_at_start() -> Left
     }
 }
 
-/// What an event leaves, after what was left to it, or the first reason why it is illegal.
+/// Judges an event by `left`, which the event before left to it. Returns what it leaves to the next one, or the first
+/// reason why it is illegal.
 #[inline]
 pub fn judge(program: &Program, left: Left, event: &Event) -> Result<Left, Why>
     requires { left.greatest ≤ 3 }

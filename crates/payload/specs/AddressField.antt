@@ -1,4 +1,4 @@
--- What the address field of an address packet holds, and the address that it names.
+-- What the address field of an address packet holds, and the address that it reports.
 use Rattle.std.specs.Prelude.{ℕ, ◌+◌, ◌-◌, ◌%◌, ◌^◌}
 use Rattle.payload.specs.declared.mode.Mode.{Mode}
 use Rattle.payload.specs.declared.mode.Mode.TheVariants.{Differential, Full}
@@ -13,7 +13,7 @@ abbrev pub delta : Mode → ℕ → ℕ → ℕ
 delta Differential reported address = difference reported address
 delta Full reported address = address
 
--- The address that the field names after the last reported one: the sum of both, modulo 2^64, or in full-address mode
+-- The address that the field reports after the last reported one: the sum of both, modulo 2^64, or in full-address mode
 -- what the field holds.
 abbrev pub aim : Mode → ℕ → ℕ → ℕ
 aim Differential reported field = (reported + field) % 2 ^ 64

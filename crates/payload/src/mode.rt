@@ -13,7 +13,7 @@ pub enum Mode {
 }
 
 impl Mode {
-    /// What the field holds for an address after this last reported one.
+    /// What the address field of a packet holds for an address, where `reported` is the last reported one.
     #[inline]
     pub fn delta(self, reported: u64, address: u64) -> u64
         ensures { result ≡ delta self reported address }
@@ -24,7 +24,7 @@ impl Mode {
         }
     }
 
-    /// The address that the field names after this last reported one.
+    /// The address that such a field reports, where `reported` is the last reported one.
     #[inline]
     pub fn aim(self, reported: u64, delta: u64) -> u64
         ensures { result ≡ aim self reported delta }

@@ -41,7 +41,7 @@ fn tail_of(text: &[u8]) -> Option<Tail<'_>>
     }
 }
 
-/// The row of this number at the front of a text, if it is such a row and has no fault.
+/// The row of this number at the front of a text, if it is a retirement at an address of eight digits and has no fault.
 #[inline(always)]
 pub fn short_row(row: u32, text: &[u8]) -> Option<PlainRow<'_>>
     ensures row { IfSome result (λ r. HasRow row text.now r.event r.rest.now) }

@@ -17,7 +17,7 @@ taken_of_outcome hart = record {
   refused = hart.refused;
 }
 
--- The same of each hart.
+-- What came of each hart, without its events and whether it is closed, by the harts' outcomes.
 abbrev pub taken_in : {A : Type 0} → List (HartOutcome A) → List Taken
 taken_in harts = map taken_of_outcome harts
 

@@ -147,7 +147,7 @@ abbrev pub summary : Event → Option (List Event) → Option (ℕ × Option Eve
 summary from None = None
 summary from (Some walk) = Some (length walk, last_or (Some from) walk)
 
--- The length and the last event that the code returns.
+-- The length and the last event of the walk that the code found; none where it returned a fault.
 abbrev pub summary_of : Result Walked DecodeFault → Option (ℕ × Option Event)
 summary_of (Ok walked) = Some (walked.count, Some walked.last)
 summary_of (Err fault) = None

@@ -114,8 +114,8 @@ abbrev pub is_map_or_nothing : Rule → Bool
 is_map_or_nothing by.MapOrNothing = true
 is_map_or_nothing other = false
 
--- There is a held event, and the next event, for which this is due, gives no packet for it. No other rule reports the
--- held event, and the outcomes do not fill a branch map.
+-- There is a held event, and it gives no packet once the next event is known, for which `after` is due. Its rule is
+-- `MapOrNothing`, and the pending outcomes do not fill a branch map.
 abbrev pub is_quiet : Words → Encoder → Option Event → Event → Due → Bool
 is_quiet words e None next after = false
 is_quiet words e (Some held) next after =

@@ -58,7 +58,8 @@ abbrev pub is_never : Class → Bool
 is_never NeverRetires = true
 is_never _ = false
 
--- What a retirement of this word, if there is one, leaves after what was left to it, or why it is illegal.
+-- What a retirement on this word, if there is one, leaves to the next event, or the first reason why it is illegal. The
+-- event before left `left` to it.
 abbrev pub judge_retirement : Left → ℕ → ℕ → ℕ → Option Word → Result Left Why
 judge_retirement left addr itype priv None = Err OffProgram
 judge_retirement left addr itype priv (Some word) =
@@ -68,7 +69,7 @@ judge_retirement left addr itype priv (Some word) =
     if not (may_retire_at word.0 priv && was_left left priv) then Err WrongPrivilege else
     Ok (left_by_retirement addr itype priv word)
 
--- What a trap leaves after what was left to it, or why it is illegal.
+-- What a trap leaves to the next event, or the first reason why it is illegal. The event before left `left` to it.
 abbrev pub judge_trap : Left → ℕ → ℕ → Bool → ℕ → ℕ → Result Left Why
 judge_trap left epc priv interrupt cause tval =
     if not (nat_lt cause 64 && (not interrupt || (tval == 0))) then Err WrongType else
@@ -76,7 +77,7 @@ judge_trap left epc priv interrupt cause tval =
     if not ((epc % 2 == 0) && may_stand_at left.next epc) then Err WrongEpc else
     Ok (left_by_trap priv)
 
--- What an event leaves after what was left to it, or why it is illegal.
+-- What an event leaves to the next one, or the first reason why it is illegal. The event before left `left` to it.
 abbrev pub judge : Words → Left → Event → Result Left Why
 judge words left (Retire addr itype priv) = judge_retirement left addr itype priv (words addr)
 judge words left (Trap priv interrupt cause epc tval) =
@@ -91,7 +92,7 @@ abbrev pub answer_after : ℕ → Result Left Why → (Left → Answer) → Answ
 answer_after row (Err why) follows = Err (record { row = row; why = why })
 answer_after row (Ok left) follows = follows left
 
--- The first fault of events, the first of them at this row and after what was left to it.
+-- The result for events, the first of them at this row. The event before left `left` to it.
 abbrev pub judge_all : Words → Left → ℕ → List Event → Answer
 judge_all words left row [] = Ok tt
 judge_all words left row (event ∷ events) =

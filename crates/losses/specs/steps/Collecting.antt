@@ -90,7 +90,8 @@ IsNotCollected harts message place (fault.Decode at why) =
     (at ≡ place) × IsOk (accepting_lossy harts message) × (why ≢ Memory)
 IsNotCollected harts message place fault.Memory = Unit {0}
 
--- The stretch of a hart that was under way became the last of its parts, where it has an event.
+-- The stretch that was under way for a hart became the last of the hart's parts, if it has an event. Whether the hart
+-- is closed did not change.
 pub record IsEnded {A : Type 0} (trace : HartTrace A) (before after : HartPieces A) : Type 0 where
   pub parts : parts_in after.parts.items ≡ parts_in before.parts.items ++ stretch trace.stretch.items
   pub closed : after.closed ≡ before.closed

@@ -120,7 +120,8 @@ reading_with_no_place n =
     if field_at n layout.format_at == 1 then map_reading n else
     Err Unsupported
 
--- What bits unpack to whose address field begins at this place, or that have none.
+-- What bits unpack to, by the outcomes and the bit at which the address field begins, or by `None` where they have no
+-- address field of format 1 or 2.
 abbrev pub reading_at_place : ℕ → Option (List Bool × ℕ) → Result Packet PackFault
 reading_at_place n (Some place) = address_reading n place.0 place.1
 reading_at_place n None = reading_with_no_place n
