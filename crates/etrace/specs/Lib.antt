@@ -1,0 +1,5 @@
+pub mod capture
+pub mod logs
+pub mod lossy
+pub mod packets
+pub mod runs

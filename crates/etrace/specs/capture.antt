@@ -1,0 +1,29 @@
+-- What the contracts of messages and captures cite.
+pub use Rattle.message.specs.OfHart
+pub use Rattle.message.specs.Numbered
+pub use Rattle.message.specs.Capacity
+pub use Rattle.message.specs.Capture
+pub use Rattle.message.specs.Cut
+pub use Rattle.message.specs.Header
+pub use Rattle.message.specs.Version
+pub use Rattle.message.specs.Started
+pub use Rattle.message.specs.Harts
+pub use Rattle.message.specs.Accepting
+pub use Rattle.message.specs.Accepted
+pub use Rattle.message.specs.Lossy
+pub use Rattle.message.specs.FaultText as MessageFaultText
+pub use Rattle.receiver.specs.Received
+pub use Rattle.receiver.specs.Holds
+pub use Rattle.receiver.specs.Agreeing
+pub use Rattle.receiver.specs.NotReceived
+pub use Rattle.captures.specs.HexLines
+pub use Rattle.captures.specs.Messages
+pub use Rattle.captures.specs.Versions
+pub use Rattle.captures.specs.NoMessage
+pub use Rattle.captures.specs.Whole
+pub use Rattle.captures.specs.Decoded
+pub use Rattle.captures.specs.Returned
+pub use Rattle.captures.specs.FaultText as CaptureFaultText
+pub use Rattle.captures.specs.PacketText
+pub use Rattle.captures.specs.Dump
+pub use Rattle.output.specs.Begun

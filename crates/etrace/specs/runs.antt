@@ -1,0 +1,23 @@
+-- What the contracts of the funnel, of replays and of runs cite.
+pub use Rattle.funnel.specs.Order
+pub use Rattle.funnel.specs.Limits
+pub use Rattle.funnel.specs.Held
+pub use Rattle.funnel.specs.Machine
+pub use Rattle.funnel.specs.Lawful
+pub use Rattle.funnel.specs.Payloads
+pub use Rattle.funnel.specs.Rule
+pub use Rattle.funnel.specs.Live
+pub use Rattle.funnel.specs.Ends
+pub use Rattle.funnel.specs.Refusals
+pub use Rattle.schedule.specs.Schedule
+pub use Rattle.schedule.specs.FaultText as ScheduleFaultText
+pub use Rattle.bench.specs.Verdict
+pub use Rattle.bench.specs.Got
+pub use Rattle.bench.specs.Report
+pub use Rattle.bench.specs.Replayed
+pub use Rattle.bench.specs.Collected
+pub use Rattle.bench.specs.Beginnings
+pub use Rattle.bench.specs.Setting
+pub use Rattle.bench.specs.Working
+pub use Rattle.bench.specs.Stopping
+pub use Rattle.bench.specs.SetupText

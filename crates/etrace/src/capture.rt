@@ -1,0 +1,11 @@
+//! Messages of several harts and the captures that hold them: writing, reading, dumping, decoding.
+
+pub use captures::{
+    CaptureFault, CaptureOutcome, Dumped, ReadFault, WholeCapture, decode_capture, dump_capture,
+    encode_capture, encode_hex, hex_lines, read_messages,
+};
+pub use message::{
+    Demux, DemuxFault, Header, MOST_HARTS, Message, MessageFault, Messages, Start, Version,
+    read_message, read_start, write_header, write_message,
+};
+pub use receiver::{ReceiveFault, Receiver};

@@ -1,0 +1,17 @@
+//! The laws: functions with empty bodies, whose contracts are theorems about the definitions that the other contracts
+//! cite.
+
+pub use bench::turns_let_beginnings_through;
+pub use decoder::{
+    closed_where_last_closes, first_packets_describe_a_beginning,
+    more_packets_describe_a_longer_log, one_log_is_described, passing_over_stands_for_nothing,
+    walks_are_short,
+};
+pub use encoder::{logs_have_few_packets, packets_are_in_profile};
+pub use funnel::{every_state_is_lawful, live_channel_is_the_machine};
+pub use legalpath::{
+    logs_split_and_join, reasons_name_illegal_rows, retirements_lead_to_one_place,
+};
+pub use losses::{stretches_are_whole, stretches_stand_apart};
+pub use retire::{plain_is_parted, read_is_in_range, written_is_plain, written_is_read_back};
+pub use roundtrip::first_packets_settle_the_first_events;

@@ -1,0 +1,12 @@
+//! Programs, the logs of what harts retired of them, and which logs are legal.
+
+pub use isa::is_privilege;
+pub use legalpath::{
+    LegalLog, Next, PathFault, Why, check, greatest_after, leads, may_retire_at, may_stand_at,
+    successor,
+};
+pub use retire::{
+    Event, ITYPE_NOT_TAKEN, ITYPE_OTHER, ITYPE_TAKEN, ITYPE_TRAP_RETURN, ITYPE_UNINFERABLE,
+    LogFault, MOST_ROWS, WriteFault, number, read_log, read_log_from_slice, write_log,
+};
+pub use rvclass::{Class, Program, ProgramFault, Return};

@@ -1,0 +1,8 @@
+//! Packets and their payloads, the encoder that makes a log's packets, and the decoder that gives the log back.
+
+pub use decoder::{DecodeFault, Decoder};
+pub use encoder::{Burst, Encoder, Source};
+pub use payload::{
+    MOST_BYTES, MOST_OUTCOMES, Mode, Outcomes, PackFault, Packet, Payload, Report, Support, pack,
+    unpack,
+};

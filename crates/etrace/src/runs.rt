@@ -1,0 +1,11 @@
+//! The funnel between harts and decoder, replays by a schedule and runs over threads through it, and their report.
+
+pub use bench::{
+    CollectFault, Collector, Config, Gate, HartOutcome, Open, Outcome, Setup, Stop, Verdict,
+    compare, is_whole, replay, report, run, run_on,
+};
+pub use funnel::{
+    Core, Ended, MOST_PORTS, OpenFault, Outlet, Port, Receipt, SendFault, Settled, Turn, open,
+};
+pub use message::MOST_CAPACITY;
+pub use schedule::{ScheduleFault, read_schedule};
