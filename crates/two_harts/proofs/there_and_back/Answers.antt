@@ -1,0 +1,44 @@
+-- The capture that was written is one of the logs, which the prover is told.
+use Rattle.std.proofs.Common.{◌≡◌, List, get_or, arith, rules}
+use Rattle.etrace.specs.capture.Header.{IsHeader}
+use Rattle.etrace.specs.capture.Versions.{capture_of, header_of}
+use Rattle.etrace.specs.declared.capture.Version.TheVariants.{Two}
+use Rattle.etrace.specs.declared.packets.Mode.TheVariants.{Differential}
+use Rattle.etrace.specs.logs.ProgramLog.{IsLegalLog, ProgramLog}
+use Rattle.two_harts.proofs.TwoLogs.{all_of_two}
+use Rattle.two_harts.proofs.there_and_back.Goals as goal
+
+pub returns : goal.returns
+returns g c =
+    let logs : List ProgramLog = c.args.logs.now in
+    let two = c.type_inv.logs in
+    let first : IsLegalLog (get_or logs 0 c.index-logs-0.result) =
+    record {
+      legal = c.events.ensures.legal;
+      short = c.events.ensures.short;
+      numbers = c.events.ensures.numbers;
+      image = c.events.ensures.image;
+    } in
+    let second : IsLegalLog (get_or logs 1 c.index-logs-1.result) =
+    record {
+      legal = c.events-2.ensures.legal;
+      short = c.events-2.ensures.short;
+      numbers = c.events-2.ensures.numbers;
+      image = c.events-2.ensures.image;
+    } in
+    let start : IsHeader (header_of 1024 Differential logs) =
+    record {
+      some_period = omega arith;
+      period = omega arith;
+      some_harts = omega (arith, two);
+      harts = omega (arith, two);
+    } in
+    let written : c.as_slice.result.now ≡ capture_of Two 1024 Differential logs = search rules in
+    let back = c.in_ok-decoded.ensures.whole Two 1024 Differential logs
+    (record {
+      legal = all_of_two IsLegalLog logs _ _ two first second;
+      same = c.requires;
+      start = start;
+      whole = written;
+    }) tt in
+    search (back, c.in-None.is, rules)
