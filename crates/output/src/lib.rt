@@ -4,7 +4,8 @@
 #![tactic(auto)]
 
 mod bytes;
+mod part;
 mod text;
 
 pub use bytes::write_bytes;
-pub use text::{LONGEST_TEXT, write_text};
+pub use text::write_text;

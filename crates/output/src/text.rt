@@ -1,20 +1,22 @@
-//! Short text that is written up to the first failure.
+//! Text that is written up to the first failure.
 
-ghost use Rattle.std.specs.Prelude.{◌≡◌, IfOk, IfSome, OnOk};
+ghost use Rattle.std.specs.Prelude.{IfSome, OnOk};
 ghost use Rattle.std.specs.Io.KnownBytes.{Appends};
 ghost use Rattle.output.specs.Begun.{AppendsBeginning};
 
 use crate::bytes::write_bytes;
-use arrayvec::ArrayString;
+use crate::part::Part;
+use arrayvec::ArrayVec;
 use std::fmt::{Display, Write as _};
 use std::io::Write;
 use std::{fmt, io};
 
-/// The most bytes that [`write_text`] writes at once.
-pub const LONGEST_TEXT: usize = 256;
+/// The most bytes of a text that are laid out at once.
+const ROOM: usize = 512;
 
-/// Writes what a value displays, up to the first failure. It is laid out first, with no memory taken, in
-/// [`LONGEST_TEXT`] bytes: longer text is refused before anything is written.
+/// Writes what a value displays, up to the first failure. The text is laid out and written in parts of 512 bytes, for
+/// each of which the value displays itself anew. No memory is taken. A value that fails to display itself is a failure
+/// too: nothing of that part is written then.
 pub fn write_text<W: Write, D: Display>(out: &mut W, text: D) -> io::Result<()>
 where
     D: Drop,
@@ -22,17 +24,16 @@ where
     ensures begun { IfSome (D.output text)
         (λ bytes. AppendsBeginning bytes (W.contents out.old) (W.contents out.new)) }
 {
-    let room = laid_out(text)?;
-    write_bytes(out, room.as_str().as_bytes())
-}
-
-/// The text of a value.
-fn laid_out<D: Display>(text: D) -> Result<ArrayString<LONGEST_TEXT>, fmt::Error>
-where
-    D: Drop,
-    ensures { IfOk result (λ room. IfSome (D.output text) (λ bytes. room.bytes ≡ bytes)) }
-{
-    let mut room = ArrayString::new();
-    room.write_fmt(text)?;
-    Ok(room)
+    for parts in 0..usize::MAX / ROOM {
+        let mut part = Part::<ROOM> {
+            passing: parts * ROOM,
+            bytes: ArrayVec::new(),
+        };
+        part.write_fmt(&text)?;
+        write_bytes(out, part.bytes.as_slice())?;
+        if part.bytes.len() < ROOM {
+            return Ok(());
+        }
+    }
+    Err(io::Error::from(fmt::Error))
 }
