@@ -1,4 +1,5 @@
-//! Tests of logs, of their packets, of their captures and of what is decoded of them, also after losses.
+//! Tests of logs, of their packets, of their captures and of what is decoded of them, also after losses; and of long
+//! texts.
 //!
 //! They stand in a crate of their own: the gate proves a crate that has tests once more with them.
 #![tactic(auto)]
@@ -9,6 +10,8 @@ mod decoding;
 mod fixtures;
 #[cfg(test)]
 mod logs;
+#[cfg(test)]
+mod long_texts;
 #[cfg(test)]
 mod lossy;
 #[cfg(test)]
