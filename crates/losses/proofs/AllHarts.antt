@@ -2,12 +2,11 @@
 use Rattle.std.proofs.Common.{◌≡◌, ◌≢◌, ◌⊎◌, inl, inr, ℕ, zero, suc, ◌+◌, ◌-◌, ◌<◌, ◌^◌, false, List, [], ◌∷◌}
 use Rattle.std.proofs.Common.{drop, map, length, set, Some, Ok, get_or, slice_get, refl, sym, ap, subst, ◌∙◌}
 use Rattle.std.proofs.Common.{arith}
-use Rattle.std.specs.Prelude.{⊤, Result, Err, OnOk, IfErr, slice_set}
+use Rattle.std.specs.Prelude.{⊤, Result, Err, slice_set}
 use Rattle.std.proofs.lemmas.Bool.{lt-ltb}
 use Rattle.std.proofs.lemmas.List.{drop-drop, length-set}
 use Rattle.std.proofs.lemmas.List.Elements.{All-head, All-tail, All-get_or}
 use Rattle.std.proofs.lemmas.Option.{slice_get-get_or, same_Some}
-use Rattle.retire.specs.declared.event.Event.{Event}
 use Rattle.rvclass.proofs.WordsLemmas.{words_of-IsProgram}
 use Rattle.rvclass.specs.Fetch.{words_of}
 use Rattle.rvclass.specs.Image.{Image}
@@ -20,6 +19,8 @@ use Rattle.payload.specs.Spelling.{payload_of}
 use Rattle.payload.specs.declared.mode.Mode.{Mode}
 use Rattle.payload.specs.declared.packet.Packet.{Packet}
 use Rattle.encoder.specs.Packets.{packets}
+use Rattle.decoder.specs.declared.fault.DecodeFault.{DecodeFault}
+use Rattle.decoder.specs.declared.fault.DecodeFault.TheVariants.{Memory}
 use Rattle.message.proofs.AcceptedLemmas.{slice_get-set}
 use Rattle.message.proofs.AnsweringLossy.{answer_lossy-next}
 use Rattle.message.proofs.Elements.{slice_get-some}
@@ -39,8 +40,7 @@ use Rattle.losses.specs.Losses.{AreSomeOf, numbers_of}
 use Rattle.losses.specs.PartsIn.{parts_in}
 use Rattle.losses.specs.steps.Collecting.{FollowsAll, FollowsHart, closed_by}
 use Rattle.losses.specs.steps.Following.{FollowsTrace}
-use Rattle.losses.specs.declared.fault.LossyFault.{LossyFault}
-use Rattle.losses.specs.declared.fault.LossyFault.TheVariants as fault
+use Rattle.losses.specs.steps.Taking.{HoldsUnless, TakesPacket}
 use Rattle.losses.specs.declared.hart_trace.HartTrace.{HartTrace}
 use Rattle.losses.specs.declared.part.HartPieces.{HartPieces}
 use Rattle.losses.proofs.BlockDescribed.{Rest, rest_of_log, rest_drop}
@@ -295,7 +295,7 @@ module _ {A : Type 0} (program : Image) (period : ℕ) (handed : Mode) (own_mode
             p.1,
       )
 
-  module _ (result : Result ⊤ LossyFault) (trace new_trace : HartTrace A) (collected new_pieces : HartPieces A)
+  module _ (trace new_trace : HartTrace A) (collected new_pieces : HartPieces A)
       (at_trace : slice_get traces message.hart ≡ Some trace)
       (at_pieces : slice_get pieces message.hart ≡ Some collected) (packet : Packet) (missed : ℕ)
       (value : accepting_lossy harts message ≡ Ok (packet, missed)) where
@@ -337,67 +337,39 @@ module _ {A : Type 0} (program : Image) (period : ℕ) (handed : Mode) (own_mode
         ∙ ap (λ p. p ∷ n.later) (sym same_packet)
 
     -- What a hart's trace promises of its next packet.
-    module _ (taken : (own : Mode) (log : List Event) (numbers later_numbers : List ℕ) (next number : ℕ) (later : List
-        Packet)
-        → IsProgram (words_of program) → Legal (words_of program) log → number ≡ next + missed
-        → drop number (packets (words_of program) period own log) ≡ packet ∷ later
-        → FollowsTrace (words_of program) period handed own log numbers next (number ∷ later_numbers) trace.decoder
-        (parts_in collected.parts.items) trace.stretch.items
-        → OnOk result (FollowsTrace (words_of program) period handed own log numbers (number + 1) later_numbers
-        new_trace.decoder (parts_in new_pieces.parts.items) new_trace.stretch.items))
-        (closed : OnOk result (new_pieces.closed ≡ is_closing_packet packet)) where
-      pub follows_next : OnOk result (FollowsAll program period handed own_mode logs messages left (harts_after_lossy
-          harts
-          message)
-          (set traces message.hart new_trace) (set pieces message.hart new_pieces))
-      follows_next = by_result result
-          (taken mode_here hart_log.events (numbers_of message.hart messages) (numbers_of message.hart left) expected
-          message.number
-          n.later
-          (is_program program period handed own_mode logs messages left message harts traces pieces trace collected f
-          at_trace
-          at_pieces)
-          (is_legal program period handed own_mode logs messages left message harts traces pieces trace collected f
-          at_trace
-          at_pieces)
-          number_is here_is
-          (trace_left program period handed own_mode logs messages left message harts traces pieces trace collected f
-          at_trace
-          at_pieces))
-          closed
-        where
-          by_result : (result : Result ⊤ LossyFault)
-              → OnOk result (FollowsTrace (words_of program) period handed mode_here hart_log.events
-              (numbers_of message.hart messages) (message.number + 1) (numbers_of message.hart left) new_trace.decoder
-              (parts_in new_pieces.parts.items) new_trace.stretch.items)
-              → OnOk result (new_pieces.closed ≡ is_closing_packet packet)
-              → OnOk result (FollowsAll program period handed own_mode logs messages left (harts_after_lossy harts
-              message)
-              (set traces message.hart new_trace) (set pieces message.hart new_pieces))
-          by_result (Err fault) on closed = tt
-          by_result (Ok done) on closed =
-              collected_more program period handed own_mode logs messages left message harts traces pieces trace
-              collected f
-              at_trace at_pieces new_trace new_pieces on (closed ∙ ap is_closing_packet same_packet)
+    own_trace : (result : Result ⊤ DecodeFault)
+        → TakesPacket (words_of program) handed packet missed trace new_trace collected.parts.items
+        new_pieces.parts.items result
+        → HoldsUnless result Memory (λ taken. FollowsTrace (words_of program) period handed mode_here hart_log.events
+        (numbers_of message.hart messages) (message.number + 1) (numbers_of message.hart left) new_trace.decoder
+        (parts_in new_pieces.parts.items) new_trace.stretch.items)
+    own_trace result takes =
+        takes.of_log period mode_here hart_log.events (numbers_of message.hart messages) (numbers_of message.hart left)
+        expected message.number number_is
+        (record {
+          program = is_program program period handed own_mode logs messages left message harts traces pieces trace
+              collected f at_trace at_pieces;
+          legal = is_legal program period handed own_mode logs messages left message harts traces pieces trace collected
+              f at_trace at_pieces;
+          later = n.later;
+          here = here_is;
+        })
+        (trace_left program period handed own_mode logs messages left message harts traces pieces trace collected f
+        at_trace at_pieces)
 
-    module _ (memory : (own : Mode) (log : List Event) (numbers later_numbers : List ℕ) (next number : ℕ) (later : List
-        Packet)
-        → IsProgram (words_of program) → Legal (words_of program) log → number ≡ next + missed
-        → drop number (packets (words_of program) period own log) ≡ packet ∷ later
-        → FollowsTrace (words_of program) period handed own log numbers next (number ∷ later_numbers) trace.decoder
-        (parts_in collected.parts.items) trace.stretch.items
-        → IfErr result (λ why. why ≡ fault.Memory)) where
-      pub memory_alone : IfErr result (λ why. why ≡ fault.Memory)
-      memory_alone =
-          memory mode_here hart_log.events (numbers_of message.hart messages) (numbers_of message.hart left) expected
-          message.number n.later
-          (is_program program period handed own_mode logs messages left message harts traces pieces trace collected f
-          at_trace
-          at_pieces)
-          (is_legal program period handed own_mode logs messages left message harts traces pieces trace collected f
-          at_trace
-          at_pieces)
-          number_is here_is
-          (trace_left program period handed own_mode logs messages left message harts traces pieces trace collected f
-          at_trace
-          at_pieces)
+    -- The message is collected, where its packet is taken.
+    pub follows_next : TakesPacket (words_of program) handed packet missed trace new_trace collected.parts.items
+        new_pieces.parts.items (Ok tt)
+        → new_pieces.closed ≡ is_closing_packet packet
+        → FollowsAll program period handed own_mode logs messages left (harts_after_lossy harts message)
+        (set traces message.hart new_trace) (set pieces message.hart new_pieces)
+    follows_next takes closed =
+        collected_more program period handed own_mode logs messages left message harts traces pieces trace collected f
+        at_trace at_pieces new_trace new_pieces (own_trace (Ok tt) takes) (closed ∙ ap is_closing_packet same_packet)
+
+    -- Its packet is refused for want of memory alone.
+    pub memory_alone : (why : DecodeFault)
+        → TakesPacket (words_of program) handed packet missed trace new_trace collected.parts.items
+        new_pieces.parts.items (Err why)
+        → why ≡ Memory
+    memory_alone why takes = own_trace (Err why) takes

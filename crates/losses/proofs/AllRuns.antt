@@ -1,7 +1,7 @@
 -- What any messages of all harts describe, from one message to the next.
 use Rattle.std.proofs.Common.{◌≡◌, ◌≢◌, ◌⊎◌, inl, inr, ℕ, ◌+◌, ◌<◌, All, false, List, [], ◌∷◌, ◌++◌, Ok, Some}
 use Rattle.std.proofs.Common.{None, length, set, slice_get, refl, sym, ap, subst, ◌∙◌, arith}
-use Rattle.std.specs.Prelude.{⊤, Result, Err, OnOk, IfErr}
+use Rattle.std.specs.Prelude.{Err}
 use Rattle.std.proofs.lemmas.List.{get_or-replicate, length-replicate}
 use Rattle.std.proofs.lemmas.List.Elements.{All-get_or}
 use Rattle.std.proofs.lemmas.Option.{get_or_from_slice_get, slice_get_within}
@@ -11,6 +11,8 @@ use Rattle.payload.specs.ClosedTrace.{last_is_closing}
 use Rattle.payload.specs.declared.mode.Mode.{Mode}
 use Rattle.payload.specs.declared.packet.Packet.{Packet}
 use Rattle.decoder.specs.Resuming.{IsClosed}
+use Rattle.decoder.specs.declared.fault.DecodeFault.{DecodeFault}
+use Rattle.decoder.specs.declared.fault.DecodeFault.TheVariants.{Memory}
 use Rattle.message.proofs.AcceptedLemmas.{slice_get-set}
 use Rattle.message.proofs.Elements.{slice_get-some}
 use Rattle.message.proofs.HartMessages.{last_is_closing-next, packets_of-next, packets_of-other}
@@ -23,11 +25,13 @@ use Rattle.message.specs.OfHart.{of_hart, packets_of}
 use Rattle.message.specs.declared.hart.Hart.{Hart}
 use Rattle.message.specs.declared.message.Message.{Message}
 use Rattle.losses.specs.PartsIn.{parts_in}
-use Rattle.losses.specs.Runs.{Run, missing_behind, mode_in, over_before, packets_behind, run_of}
+use Rattle.losses.specs.Runs.{missing_behind, mode_in, over_before, packets_behind, run_of}
+use Rattle.losses.specs.Stops.{IsNotDecodedLossy}
 use Rattle.losses.specs.DescribedParts.{AreDescribed, EachHartDescribes, MessagesDescribe}
 use Rattle.losses.specs.steps.Collecting.{AreEnded, IsEnded, IsNewPieces, IsNewTrace, IsNotTaken}
-use Rattle.losses.specs.steps.FollowingRuns.{FollowsMessages, FollowsRuns, IsMessageFault, IsPacketFault}
-use Rattle.losses.specs.steps.FollowingRuns.{FollowsEveryHart}
+use Rattle.losses.specs.steps.FollowingRuns.{FollowsEveryHart, FollowsMessages, FollowsRuns, IsMessageFault}
+use Rattle.losses.specs.steps.FollowingRuns.{IsNotDecodedInRun}
+use Rattle.losses.specs.steps.Taking.{TakesPacket}
 use Rattle.losses.specs.declared.fault.LossyFault.{LossyFault}
 use Rattle.losses.specs.declared.fault.LossyFault.TheVariants as fault
 use Rattle.losses.specs.declared.hart_trace.HartTrace.{HartTrace}
@@ -51,25 +55,6 @@ module _ {A : Type 0} (words : Words) (mode : Mode) (messages : List Message) (m
   follows = subst (λ closed. FollowsMessages words mode (of_hart message.hart messages) taken.expects.expected closed
       trace.decoder (parts_in collected.parts.items) trace.stretch.items) taken.goes
       (f.each message.hart taken.expects trace collected taken.at at_trace at_pieces)
-
-  -- What a hart's trace promises of its next packet.
-  abbrev TraceFollows : Result ⊤ LossyFault → Type 0
-  TraceFollows result =
-      (done : List Run) (missing next : ℕ) (packets : List Packet)
-      → FollowsRuns words mode done missing packets next false trace.decoder (parts_in collected.parts.items)
-      trace.stretch.items
-      → OnOk result (FollowsRuns words mode (done ++ over_before missed (run_of missing packets))
-      (missing_behind missed missing) (packets_behind missed packets ++ packet ∷ []) (next + missed + 1)
-      (is_closing_packet packet) new_trace.decoder (parts_in new_pieces.parts.items) new_trace.stretch.items)
-
-  abbrev TraceFault : Result ⊤ LossyFault → Type 0
-  TraceFault result =
-      (done : List Run) (missing next : ℕ) (packets : List Packet)
-      → FollowsRuns words mode done missing packets next false trace.decoder (parts_in collected.parts.items)
-      trace.stretch.items
-      → IfErr result (λ why. IsPacketFault words (mode_in mode ((done ++ over_before missed (run_of missing packets))
-      ++ run_of (missing_behind missed missing) (packets_behind missed packets ++ packet ∷ []) ∷ []))
-      (missing_behind missed missing) (packets_behind missed packets) packet why)
 
   module _ (closed : new_pieces.closed ≡ is_closing_packet packet)
       (on : FollowsRuns words mode (follows.done ++ over_before missed (run_of follows.missing follows.packets))
@@ -143,34 +128,46 @@ module _ {A : Type 0} (words : Words) (mode : Mode) (messages : List Message) (m
         (set pieces message.hart new_pieces)) (sym taken.after) (record { each = each_hart; closed = ends })
 
   -- The message is collected, where its packet is taken.
-  pub every_hart_next : (result : Result ⊤ LossyFault) → TraceFollows result
-      → OnOk result (new_pieces.closed ≡ is_closing_packet packet)
-      → OnOk result (FollowsEveryHart words mode (messages ++ message ∷ []) (harts_after_lossy harts message)
-      (set traces message.hart new_trace) (set pieces message.hart new_pieces))
-  every_hart_next (Err why) goes_on closed = tt
-  every_hart_next (Ok fine) goes_on closed =
-      every_hart_more closed (goes_on follows.done follows.missing taken.expects.expected follows.packets follows.runs)
+  pub every_hart_next : TakesPacket words mode packet missed trace new_trace collected.parts.items new_pieces.parts.items
+      (Ok tt)
+      → new_pieces.closed ≡ is_closing_packet packet
+      → FollowsEveryHart words mode (messages ++ message ∷ []) (harts_after_lossy harts message)
+      (set traces message.hart new_trace) (set pieces message.hart new_pieces)
+  every_hart_next takes closed =
+      every_hart_more closed
+      (takes.of_runs follows.done follows.missing taken.expects.expected follows.packets follows.runs).follows
 
   -- Or the fault says why it is not.
-  pub every_hart_fault : (place : ℕ) (result : Result ⊤ LossyFault) → TraceFault result
-      → IfErr result (λ why. IsNotTaken place why)
-      → IfErr result (λ why. IsMessageFault words mode messages message why)
-  every_hart_fault place (Ok fine) refused not = tt
-  every_hart_fault place (Err fault.Memory) refused not = tt
-  every_hart_fault place (Err (fault.Demux at why)) refused not = tt
-  every_hart_fault place (Err (fault.Decode at why)) refused not =
-      let is = refused follows.done follows.missing taken.expects.expected follows.packets follows.runs in
-      let found = message_not_decoded words mode (of_hart message.hart messages) message taken.expects.expected missed
-      packet
-      taken.number taken.read trace.decoder (parts_in collected.parts.items) trace.stretch.items follows why not.1 is
-      (of_hart message.hart (messages ++ message ∷ [])) (of_hart-next messages message) in
-      record {
-        packet = found.0;
-        read = found.1;
-        not_opened = found.2;
-        not_after_close = is.stays_open;
-        not_described = found.3;
-      }
+  pub every_hart_fault : (why : DecodeFault) (place : ℕ) (answer : LossyFault)
+      → TakesPacket words mode packet missed trace new_trace collected.parts.items new_pieces.parts.items (Err why)
+      → IsNotTaken place answer → (answer ≡ fault.Memory) ⊎ (answer ≡ fault.Decode place why)
+      → IsMessageFault words mode messages message answer
+  every_hart_fault why place fault.Memory takes not either = tt
+  every_hart_fault why place (fault.Demux at other) takes not either = tt
+  every_hart_fault why place (fault.Decode at other) takes not (inl memory) = cc
+  every_hart_fault why place (fault.Decode at other) takes not (inr same) =
+      let is : other ≡ why = cc in
+      by_reason (takes.of_runs follows.done follows.missing taken.expects.expected follows.packets follows.runs).refused is
+    where
+      by_reason : (why ≡ Memory) ⊎ IsNotDecodedInRun words
+          (mode_in mode ((follows.done ++ over_before missed (run_of follows.missing follows.packets))
+          ++ run_of (missing_behind missed follows.missing) (packets_behind missed follows.packets ++ packet ∷ []) ∷ []))
+          (missing_behind missed follows.missing) (packets_behind missed follows.packets) packet why
+          → other ≡ why → IsNotDecodedLossy words mode messages message other
+      by_reason (inl memory) is = absurd (not.1 (is ∙ memory))
+      by_reason (inr in_run) is =
+          let found = message_not_decoded words mode (of_hart message.hart messages) message taken.expects.expected
+          missed packet taken.number taken.read trace.decoder (parts_in collected.parts.items) trace.stretch.items
+          follows why (λ memory. not.1 (is ∙ memory)) in_run (of_hart message.hart (messages ++ message ∷ []))
+          (of_hart-next messages message) in
+          subst (IsNotDecodedLossy words mode messages message) (sym is)
+          (record {
+            packet = found.0;
+            read = found.1;
+            not_opened = found.2;
+            not_after_close = in_run.stays_open;
+            not_described = found.3;
+          })
 
 -- The hart of a message that is taken is known.
 pub within_of : (harts : Harts) (message : Message) (packet : Packet) (missed : ℕ)

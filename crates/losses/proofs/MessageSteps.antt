@@ -26,10 +26,7 @@ use Rattle.losses.specs.Parts.{LogPart, stretch}
 use Rattle.losses.specs.Runs.{Run, first_run, last_trace, longer, missing_behind, mode_in, over_before, packets_behind}
 use Rattle.losses.specs.Runs.{run_behind, run_of, runs, runs_on, trace_of_last, trace_of_run}
 use Rattle.losses.specs.DescribedParts.{RunsDescribe, MessagesDescribe}
-use Rattle.losses.specs.steps.Collecting.{IsNotTaken}
-use Rattle.losses.specs.steps.FollowingRuns.{FollowsMessages, FollowsRuns, IsNotDecodedInRun, IsPacketFault}
-use Rattle.losses.specs.declared.fault.LossyFault.{LossyFault}
-use Rattle.losses.specs.declared.fault.LossyFault.TheVariants as fault
+use Rattle.losses.specs.steps.FollowingRuns.{FollowsMessages, FollowsRuns, IsNotDecodedInRun}
 use Rattle.losses.proofs.RunLemmas.{describe_push}
 
 -- What is known of a message that the demultiplexer takes.
@@ -173,18 +170,3 @@ messages_describe words mode messages next closed decoder seen events f =
     let described = subst (λ l. RunsDescribe words reads (f.done ++ run ∷ []) (l ++ stretch events)) (sym f.runs.so_far)
     (describe_push words reads f.done run f.runs.front events f.runs.before f.runs.follows.described) in
     subst (λ rs. RunsDescribe words (mode_in mode rs) rs (seen ++ stretch events)) all described
-
--- A decoder's fault as one of collecting.
-pub packet_fault_by : (words : Words) (reads : Mode) (missing : ℕ) (before : List Packet) (packet : Packet) (place : ℕ)
-    (why : DecodeFault) (answer : LossyFault) → IsNotTaken place answer
-    → (answer ≡ fault.Memory) ⊎ (answer ≡ fault.Decode place why)
-    → (why ≡ Memory) ⊎ IsNotDecodedInRun words reads missing before packet why
-    → IsPacketFault words reads missing before packet answer
-packet_fault_by words reads missing before packet place why (fault.Demux at other) taken is not_decoded = absurd taken
-packet_fault_by words reads missing before packet place why fault.Memory taken is not_decoded = tt
-packet_fault_by words reads missing before packet place why (fault.Decode at other) taken (inl is) not_decoded = cc
-packet_fault_by words reads missing before packet place why (fault.Decode at other) taken (inr is) (inl memory) =
-    let same : other ≡ why = cc in absurd (taken.1 (same ∙ memory))
-packet_fault_by words reads missing before packet place why (fault.Decode at other) taken (inr is) (inr not_decoded) =
-    let same : other ≡ why = cc in subst (λ w. IsNotDecodedInRun words reads missing before packet w)
-    (sym same) not_decoded

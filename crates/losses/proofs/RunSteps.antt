@@ -1,36 +1,23 @@
 -- The runs of a hart's messages, from one of them to the next.
-use Rattle.std.proofs.Common.{◌≡◌, ◌⊎◌, inr, ◌<◌, ◌+◌, ℕ, zero, suc, false, List, [], ◌∷◌, ◌++◌, refl, sym}
+use Rattle.std.proofs.Common.{◌≡◌, inr, ◌<◌, ◌+◌, ℕ, zero, suc, false, List, [], ◌∷◌, ◌++◌, refl, sym}
 use Rattle.std.proofs.Common.{subst, arith}
 use Rattle.std.proofs.lemmas.List.{append-nil, length_push}
-use Rattle.std.specs.Prelude.{⊤, Result, Ok, Err, OnOk, IfErr}
+use Rattle.std.specs.Prelude.{⊤, Result, Ok, Err}
 use Rattle.retire.specs.declared.event.Event.{Event}
 use Rattle.rvclass.specs.Words.{Words}
-use Rattle.payload.specs.Closing.{is_closing_packet}
 use Rattle.payload.specs.declared.mode.Mode.{Mode}
 use Rattle.payload.specs.declared.packet.Packet.{Packet}
 use Rattle.decoder.specs.Resuming.{PassesOver}
 use Rattle.decoder.specs.declared.decoding.Decoder.{Decoder}
 use Rattle.decoder.specs.declared.fault.DecodeFault.{DecodeFault}
-use Rattle.decoder.specs.declared.fault.DecodeFault.TheVariants.{Memory}
 use Rattle.losses.specs.Parts.{LogPart, Missing, stretch}
 use Rattle.losses.specs.Runs.{Run, missing_behind, mode_in, over_before, packets_behind, run_of}
 use Rattle.losses.specs.DescribedParts.{RunsDescribe}
 use Rattle.losses.specs.steps.DecoderSteps.{Feeds, Resumes}
-use Rattle.losses.specs.steps.FollowingRuns.{FollowsRun, FollowsRuns, IsNotDecodedInRun, Refuses}
+use Rattle.losses.specs.steps.FollowingRuns.{FedRuns, FollowsRun, FollowsRuns, Refuses}
 use Rattle.losses.proofs.RunLemmas.{describes_nothing, mode_behind, mode_later, describe_push}
 use Rattle.losses.proofs.RunFeeding.{FedRun, feeds_first, feeds_later}
 use Rattle.losses.proofs.TraceSteps.{state_laws}
-
--- What is known of the runs after a packet.
-pub record FedRuns (words : Words) (mode : Mode) (done : List Run) (missing : ℕ) (packets : List Packet) (next : ℕ)
-    (p : Packet) (new : Decoder) (seen : List LogPart) (after : List Event) (result : Result ⊤ DecodeFault)
-    : Type 0 where
-  pub follows : OnOk result (FollowsRuns words mode done missing (packets ++ p ∷ []) (next + 1) (is_closing_packet p)
-      new
-      seen after)
-  pub refused : IfErr result (λ why. IsNotDecodedInRun words
-      (mode_in mode (done ++ run_of missing (packets ++ p ∷ []) ∷ []))
-      missing packets p why)
 
 module _ (words : Words) (mode : Mode) (p : Packet) (old new : Decoder) (before after : List Event)
     (seen : List LogPart) (packets : List Packet) (next : ℕ) where
@@ -41,7 +28,7 @@ module _ (words : Words) (mode : Mode) (p : Packet) (old new : Decoder) (before 
       → FedRun words mode (mode_in mode (done ++ run_of missing (packets ++ p ∷ []) ∷ [])) missing packets p new after
       result
       → FedRuns words mode done missing packets next p new seen after result
-  runs_on_by done missing (Err why) f described fed = record { follows = tt; refused = fed.refused }
+  runs_on_by done missing (Err why) f described fed = record { follows = tt; refused = inr fed.refused }
   runs_on_by done missing (Ok fine) f described fed =
       let more = length_push packets p in
       let beyond = f.beyond in
@@ -78,15 +65,6 @@ module _ (words : Words) (mode : Mode) (p : Packet) (old new : Decoder) (before 
       missing packets f.follows result feeds refuses in
       runs_on_by done (suc missing) result f (subst (λ m. RunsDescribe words m done f.front) same f.before)
       (subst (λ m. FedRun words mode m (suc missing) packets p new after result) same fed)
-
--- The packet is not decoded for this reason, or memory was refused.
-pub refused_or_memory : (words : Words) (mode : Mode) (done : List Run) (missing : ℕ) (packets : List Packet) (next : ℕ)
-    (p : Packet) (new : Decoder) (seen : List LogPart) (after : List Event) (result : Result ⊤ DecodeFault)
-    → FedRuns words mode done missing packets next p new seen after result
-    → IfErr result (λ why. (why ≡ Memory)
-    ⊎ IsNotDecodedInRun words (mode_in mode (done ++ run_of missing (packets ++ p ∷ []) ∷ [])) missing packets p why)
-refused_or_memory words mode done missing packets next p new seen after (Ok fine) fed = tt
-refused_or_memory words mode done missing packets next p new seen after (Err why) fed = inr fed.refused
 
 module _ (words : Words) (mode : Mode) (done : List Run) (missing next : ℕ) (packets : List Packet)
     (old new : Decoder) (seen : List LogPart) (events : List Event)

@@ -4,7 +4,7 @@ use Rattle.std.proofs.Common.{◌++◌, drop, take}
 use Rattle.std.proofs.Common.{Option, Some, None, refl, sym}
 use Rattle.std.proofs.Common.{ap, subst, ◌∙◌, arith, append_assoc}
 use Rattle.std.proofs.lemmas.List.{drop-drop}
-use Rattle.std.specs.Prelude.{⊤, Result, Ok, Err, OnOk, IfErr}
+use Rattle.std.specs.Prelude.{⊤, Result, Ok, Err}
 use Rattle.std.specs.List.{last_or}
 use Rattle.retire.specs.declared.event.Event.{Event}
 use Rattle.rvclass.specs.Words.{Words, IsProgram}
@@ -29,6 +29,7 @@ use Rattle.losses.specs.Losses.{BeginAtZero}
 use Rattle.losses.specs.Parts.{LogPart, Missing, gap, parts, parts_of_blocks, stretch, stretch_of_block}
 use Rattle.losses.specs.steps.DecoderSteps.{Feeds, Resumes}
 use Rattle.losses.specs.steps.Following.{FollowsTrace}
+use Rattle.losses.specs.steps.Taking.{HoldsUnless}
 use Rattle.losses.specs.steps.Traces.{from_start, DescribesFrom, StandsFrom, FollowsBlock}
 use Rattle.losses.proofs.BlockDescribed.{Rest, rest_of_log, rest_drop, block_described}
 use Rattle.losses.proofs.BlockLemmas.{block_of, blocks_on, blocks_behind, blocks_at_first, parts_of_last}
@@ -159,26 +160,34 @@ module _ (words : Words) (program : IsProgram words) (period : ℕ) (handed mode
           ∙ ap (drop missed) same ∙ drop-none missed in
           cc
 
-  -- Where room for the gap was not refused.
-  pub follows_missed : {E : Type 0} (result : Result ⊤ E) (numbers : List ℕ) (next number missed : ℕ) (left : List ℕ)
-      (old new : Decoder) (seen after : List LogPart) (events rest : List Event) (p : Packet) (later : List Packet)
-      → 0 < missed → number ≡ next + missed → drop number ps ≡ p ∷ later
+  -- So many are missing, or none is.
+  pub follows_missed : (numbers : List ℕ) (next number missed : ℕ) (left : List ℕ) (old new : Decoder)
+      (seen after : List LogPart) (events rest : List Event) (p : Packet) (later : List Packet)
+      → number ≡ next + missed → drop number ps ≡ p ∷ later
+      → (missed ≡ 0 → (new ≡ old) × (after ≡ seen) × (rest ≡ events))
+      → (0 < missed → after ≡ (seen ++ stretch events) ++ Missing missed ∷ [])
+      → (0 < missed → rest ≡ []) → (0 < missed → Resumes handed old new)
       → FollowsTrace words period handed mode log numbers next (number ∷ left) old seen events
-      → OnOk result (Resumes handed old new) → OnOk result (after ≡ (seen ++ stretch events) ++ Missing missed ∷ [])
-      → OnOk result (rest ≡ [])
-      → OnOk result (FollowsTrace words period handed mode log numbers number (number ∷ left) new after rest)
-  follows_missed (Err fault) numbers next number missed left old new seen after events rest p later some is here f
-      resumes lost none =
-      tt
-  follows_missed (Ok done) numbers next number zero left old new seen after events rest p later some is here f
-      resumes lost none =
-      let none : ⊥ = omega (arith, some) in absurd none
-  follows_missed (Ok done) numbers next number (suc missing) left old new seen after events rest p later some is here f
-      resumes lost none =
+      → FollowsTrace words period handed mode log numbers number (number ∷ left) new after rest
+  follows_missed numbers next number zero left old new seen after events rest p later is here same lost none resumes f =
+      let as_it_was = same refl in
+      let at : next ≡ number = omega (arith, is) in
+      let by_next = subst (λ n. FollowsTrace words period handed mode log numbers n (number ∷ left) old seen events) at f
+      in
+      let by_new = subst (λ d. FollowsTrace words period handed mode log numbers number (number ∷ left) d seen events)
+      (sym as_it_was.0) by_next in
+      let by_parts = subst (λ l. FollowsTrace words period handed mode log numbers number (number ∷ left) new l events)
+      (sym as_it_was.1) by_new in
+      subst (λ l. FollowsTrace words period handed mode log numbers number (number ∷ left) new after l)
+      (sym as_it_was.2) by_parts
+  follows_missed numbers next number (suc missing) left old new seen after events rest p later is here same lost none
+      resumes f =
+      let some : 0 < suc missing = omega arith in
       let more = some_left next number (suc missing) p later is here in
-      subst (λ e. FollowsTrace words period handed mode log numbers number (number ∷ left) new after e) (sym none)
-      (subst (λ l. FollowsTrace words period handed mode log numbers number (number ∷ left) new l []) (sym lost)
-      (follows_gap numbers next number missing left old new seen events f is more.0 more.1 more.2 resumes
+      subst (λ e. FollowsTrace words period handed mode log numbers number (number ∷ left) new after e)
+      (sym (none some))
+      (subst (λ l. FollowsTrace words period handed mode log numbers number (number ∷ left) new l []) (sym (lost some))
+      (follows_gap numbers next number missing left old new seen events f is more.0 more.1 more.2 (resumes some)
       (λ m passes. laws.passing m new passes)))
 
   -- The next one comes.
@@ -239,13 +248,9 @@ module _ (words : Words) (program : IsProgram words) (period : ℕ) (handed mode
           (stretch_of_block ps pieces longer) result feeds described (f.decodes p later here)
           (place_of first count f.place)
 
-      -- It is refused for want of memory alone.
-      pub fed_or_memory : IfErr result (λ fault. fault ≡ Memory)
-      fed_or_memory = fed.memory
-
-      -- Else the stretch is longer by the events that it settles.
-      pub follows_packet : OnOk result (FollowsTrace words period handed mode log numbers (number + 1) left new seen
-          after)
+      -- The stretch is longer by the events that it settles, unless memory was refused.
+      pub follows_packet : HoldsUnless result Memory (λ taken. FollowsTrace words period handed mode log numbers
+          (number + 1) left new seen after)
       follows_packet = by_result result fed
         where
           by_result : (result : Result ⊤ DecodeFault)
@@ -253,8 +258,9 @@ module _ (words : Words) (program : IsProgram words) (period : ℕ) (handed mode
               (is_closing_packet
               p)
               (stretch_of_block ps pieces longer) new after result
-              → OnOk result (FollowsTrace words period handed mode log numbers (number + 1) left new seen after)
-          by_result (Err fault) fed = tt
+              → HoldsUnless result Memory (λ taken. FollowsTrace words period handed mode log numbers (number + 1) left
+              new seen after)
+          by_result (Err fault) fed = fed.memory
           by_result (Ok done) fed =
               let first = f.block.first in
               let count = f.block.count in

@@ -3,3 +3,4 @@ pub mod Following
 pub mod DecoderSteps
 pub mod Collecting
 pub mod FollowingRuns
+pub mod Taking

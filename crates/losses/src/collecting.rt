@@ -1,30 +1,19 @@
 //! From the messages of several harts to what is left of each hart's log.
 
-ghost use Rattle.std.specs.Prelude.{ℕ, ◌≡◌, ◌≢◌, ◌⊎◌, ◌+◌, ◌++◌, All, false, List, [], ◌∷◌, Ok, IsOk, IfErr, IfOk};
-ghost use Rattle.std.specs.Prelude.{OnOk, drop, length};
-ghost use Rattle.std.specs.Prelude.{replicate};
-ghost use Rattle.retire.specs.declared.event.Event.{Event as AnyEvent};
+ghost use Rattle.std.specs.Prelude.{ℕ, ◌≡◌, ◌⊎◌, All, List, [], IsOk, IfErr, IfOk, OnOk, length};
 ghost use Rattle.rvclass.specs.Fetch.{words_of};
-ghost use Rattle.rvclass.specs.Words.{IsProgram};
-ghost use Rattle.legalpath.specs.Legal.{Legal};
 ghost use Rattle.legalpath.specs.ProgramLog.{ProgramLog};
 ghost use Rattle.payload.specs.Closing.{is_closing_packet};
 ghost use Rattle.payload.specs.declared.mode.Mode.{Mode as AnyMode};
-ghost use Rattle.payload.specs.declared.packet.Packet.{Packet as AnyPacket};
-ghost use Rattle.encoder.specs.Packets.{packets};
 ghost use Rattle.message.specs.Accepted.{newcomers};
 ghost use Rattle.message.specs.Lossy.{accepting_lossy, harts_after_lossy};
-ghost use Rattle.message.specs.declared.message.Message.{Message as AnyMessage};
 ghost use Rattle.losses.specs.Collected.{AreCollected};
 ghost use Rattle.losses.specs.Losses.{AreOfLogs};
-ghost use Rattle.losses.specs.PartsIn.{parts_in};
-ghost use Rattle.losses.specs.Runs.{Run, missing_behind, mode_in, over_before, packets_behind, run_of};
 ghost use Rattle.losses.specs.Stops.{AreAcceptedLossy, CollectingStopsBy};
 ghost use Rattle.losses.specs.DescribedParts.{AreDescribed};
-ghost use Rattle.losses.specs.steps.Collecting.{AreEnded, FollowsAll, IsNewPieces, IsNewTrace, IsNotCollected};
-ghost use Rattle.losses.specs.steps.Collecting.{IsNotTaken};
-ghost use Rattle.losses.specs.steps.Following.{FollowsTrace};
-ghost use Rattle.losses.specs.steps.FollowingRuns.{FollowsRuns, IsMessageFault, IsPacketFault, FollowsEveryHart};
+ghost use Rattle.losses.specs.steps.Collecting.{AreEnded, IsNewPieces, IsNewTrace, IsNotCollected, IsNotTaken};
+ghost use Rattle.losses.specs.steps.Taking.{Collects, CollectsLogs, HasEachHart, HoldsUnless, IsNewCollection};
+ghost use Rattle.losses.specs.steps.Taking.{TakesMessage, TakesPacket};
 
 use crate::fault::LossyFault;
 use crate::hart_trace::HartTrace;
@@ -80,51 +69,21 @@ fn fault_at(place: usize, fault: DecodeFault) -> LossyFault
     }
 }
 
-/// Takes a hart's next packet, before which this many numbers are missing. Its message stands at this place.
+/// Takes a hart's next packet, before which this many numbers are missing.
 fn take_packet<A: Allocator + Copy>(
     alloc: A,
     program: &Program,
     mode: Mode,
-    place: usize,
     packet: &Packet,
     missed: u64,
     trace: &mut HartTrace<A>,
     pieces: &mut HartPieces<A>,
-) -> Result<(), LossyFault>
-    ensures taken { (period : ℕ) (own : AnyMode) (log : List AnyEvent) (numbers left : List ℕ) (next number : ℕ)
-        (later : List AnyPacket) → IsProgram (words_of program.now) → Legal (words_of program.now) log
-        → number ≡ next + missed → drop number (packets (words_of program.now) period own log) ≡ packet.now ∷ later
-        → FollowsTrace (words_of program.now) period mode own log numbers next (number ∷ left) trace.old.decoder
-        (parts_in pieces.old.parts.items) trace.old.stretch.items
-        → OnOk result (FollowsTrace (words_of program.now) period mode own log numbers (number + 1) left
-        trace.new.decoder
-        (parts_in pieces.new.parts.items) trace.new.stretch.items) }
-    ensures memory { (period : ℕ) (own : AnyMode) (log : List AnyEvent) (numbers left : List ℕ) (next number : ℕ)
-        (later : List AnyPacket) → IsProgram (words_of program.now) → Legal (words_of program.now) log
-        → number ≡ next + missed → drop number (packets (words_of program.now) period own log) ≡ packet.now ∷ later
-        → FollowsTrace (words_of program.now) period mode own log numbers next (number ∷ left) trace.old.decoder
-        (parts_in pieces.old.parts.items) trace.old.stretch.items
-        → IfErr result (λ fault. fault ≡ LossyFault.Memory) }
+) -> Result<(), DecodeFault>
+    ensures takes { TakesPacket (words_of program.now) mode packet.now missed trace.old trace.new
+        pieces.old.parts.items pieces.new.parts.items result }
     ensures closed { OnOk result (pieces.new.closed ≡ is_closing_packet packet.now) }
-    ensures fault { IfErr result (λ fault. IsNotTaken place fault) }
-    ensures follows { (done : List Run) (missing next : ℕ) (packets : List AnyPacket)
-        → FollowsRuns (words_of program.now) mode done missing packets next false trace.old.decoder
-        (parts_in pieces.old.parts.items) trace.old.stretch.items
-        → OnOk result (FollowsRuns (words_of program.now) mode (done ++ over_before missed (run_of missing packets))
-        (missing_behind missed missing) (packets_behind missed packets ++ packet.now ∷ []) (next + missed + 1)
-        (is_closing_packet packet.now) trace.new.decoder (parts_in pieces.new.parts.items) trace.new.stretch.items) }
-    ensures packet_fault { (done : List Run) (missing next : ℕ) (packets : List AnyPacket)
-        → FollowsRuns (words_of program.now) mode done missing packets next false trace.old.decoder
-        (parts_in pieces.old.parts.items) trace.old.stretch.items
-        → IfErr result (λ fault. IsPacketFault (words_of program.now)
-        (mode_in mode ((done ++ over_before missed (run_of missing packets)) ++ run_of (missing_behind missed missing)
-        (packets_behind missed packets ++ packet.now ∷ []) ∷ [])) (missing_behind missed missing)
-        (packets_behind missed packets) packet.now fault) }
 {
-    match trace.take(alloc, program, mode, packet, missed, &mut pieces.parts) {
-        Ok(()) => {}
-        Err(fault) => return Err(fault_at(place, fault)),
-    }
+    trace.take(alloc, program, mode, packet, missed, &mut pieces.parts)?;
     pieces.closed = packet.is_closing();
     Ok(())
 }
@@ -142,11 +101,7 @@ struct Collection<A: Allocator> {
 impl<A: Allocator + Copy> Collection<A> {
     /// Nothing is collected of the harts below `harts`.
     fn new(alloc: A, harts: u16) -> Result<Collection<A>, AllocError>
-        ensures demux { IfOk result (λ collection. collection.demux ≡ newcomers harts) }
-        ensures traces_count { IfOk result (λ collection. length collection.traces.items ≡ harts) }
-        ensures pieces_count { IfOk result (λ collection. length collection.pieces.items ≡ harts) }
-        ensures traces { IfOk result (λ collection. All IsNewTrace collection.traces.items) }
-        ensures pieces { IfOk result (λ collection. All IsNewPieces collection.pieces.items) }
+        ensures { IfOk result (IsNewCollection harts) }
     {
         let count = usize::from(harts);
         Ok(Collection {
@@ -165,93 +120,56 @@ impl<A: Allocator + Copy> Collection<A> {
         place: usize,
         message: &Message,
     ) -> Result<(), LossyFault>
-        requires traces { length self.old.traces.items ≡ length self.old.demux }
-        requires pieces { length self.old.pieces.items ≡ length self.old.demux }
-        ensures traces_count { length self.new.traces.items ≡ length self.old.traces.items }
-        ensures pieces_count { length self.new.pieces.items ≡ length self.old.pieces.items }
+        requires { HasEachHart self.old }
+        ensures each_hart { HasEachHart self.new }
         ensures expected { self.new.demux ≡ harts_after_lossy self.old.demux message.now }
         ensures accepted { OnOk result (IsOk (accepting_lossy self.old.demux message.now)) }
         ensures fault { IfErr result (λ fault. IsNotCollected self.old.demux message.now place fault) }
-        ensures taken { (period : ℕ) (own : ℕ → AnyMode) (logs : List ProgramLog) (messages left : List AnyMessage)
-            → FollowsAll program.now period mode own logs messages (message.now ∷ left) self.old.demux
-            self.old.traces.items
-            self.old.pieces.items
-            → OnOk result (FollowsAll program.now period mode own logs messages left self.new.demux
-            self.new.traces.items
-            self.new.pieces.items) }
-        ensures memory { (period : ℕ) (own : ℕ → AnyMode) (logs : List ProgramLog) (messages left : List AnyMessage)
-            → FollowsAll program.now period mode own logs messages (message.now ∷ left) self.old.demux
-            self.old.traces.items
-            self.old.pieces.items
-            → IfErr result (λ fault. fault ≡ LossyFault.Memory) }
-        ensures follows { (messages : List AnyMessage)
-            → FollowsEveryHart (words_of program.now) mode messages self.old.demux self.old.traces.items
-            self.old.pieces.items
-            → OnOk result (FollowsEveryHart (words_of program.now) mode (messages ++ message.now ∷ []) self.new.demux
-            self.new.traces.items self.new.pieces.items) }
-        ensures message_fault { (messages : List AnyMessage)
-            → FollowsEveryHart (words_of program.now) mode messages self.old.demux self.old.traces.items
-            self.old.pieces.items
-            → IfErr result (λ fault. IsMessageFault (words_of program.now) mode messages message.now fault) }
+        ensures takes { TakesMessage program.now mode message.now self.old self.new result }
     {
         let (packet, missed) = match self.demux.accept_lossy(message) {
             Ok(taken) => taken,
             Err(why) => return Err(LossyFault::Demux(place, why)),
         };
         let hart = usize::from(message.hart);
-        take_packet(
+        match take_packet(
             alloc,
             program,
             mode,
-            place,
             &packet,
             missed,
             &mut self.traces[hart],
             &mut self.pieces[hart],
-        )
+        ) {
+            Ok(()) => Ok(()),
+            Err(fault) => Err(fault_at(place, fault)),
+        }
     }
 }
 
-/// Takes the messages in turn, up to the first fault.
+/// Collects the messages of the harts below `harts` in turn, up to the first fault. The stretches under way are not
+/// ended.
 fn take_all<A: Allocator + Copy>(
     alloc: A,
     program: &Program,
+    harts: u16,
     mode: Mode,
     messages: &[Message],
-    collection: &mut Collection<A>,
-) -> Result<(), LossyFault>
-    requires traces { length collection.old.traces.items ≡ length collection.old.demux }
-    requires pieces { length collection.old.pieces.items ≡ length collection.old.demux }
-    ensures traces_count { length collection.new.traces.items ≡ length collection.old.traces.items }
-    ensures pieces_count { length collection.new.pieces.items ≡ length collection.old.pieces.items }
-    ensures taken { (period : ℕ) (own : ℕ → AnyMode) (logs : List ProgramLog)
-        → FollowsAll program.now period mode own logs messages.now messages.now collection.old.demux
-        collection.old.traces.items collection.old.pieces.items
-        → OnOk result (FollowsAll program.now period mode own logs messages.now [] collection.new.demux
-        collection.new.traces.items collection.new.pieces.items) }
-    ensures memory { (period : ℕ) (own : ℕ → AnyMode) (logs : List ProgramLog)
-        → FollowsAll program.now period mode own logs messages.now messages.now collection.old.demux
-        collection.old.traces.items collection.old.pieces.items
-        → IfErr result (λ fault. fault ≡ LossyFault.Memory) }
-    ensures accepted { (harts : ℕ) → collection.old.demux ≡ newcomers harts
-        → OnOk result (AreAcceptedLossy (newcomers harts) messages.now) }
-    ensures stops { (harts : ℕ) → collection.old.demux ≡ newcomers harts
-        → FollowsEveryHart (words_of program.now) mode [] collection.old.demux collection.old.traces.items
-        collection.old.pieces.items
-        → IfErr result (λ fault. CollectingStopsBy (words_of program.now) mode harts messages.now fault) }
-    ensures follows { FollowsEveryHart (words_of program.now) mode [] collection.old.demux collection.old.traces.items
-        collection.old.pieces.items
-        → OnOk result (FollowsEveryHart (words_of program.now) mode messages.now collection.new.demux
-        collection.new.traces.items collection.new.pieces.items) }
-    ensures harts_count { length collection.new.demux ≡ length collection.old.demux }
+) -> Result<Collection<A>, LossyFault>
+    ensures of_logs { (period : ℕ) (own : ℕ → AnyMode) (logs : List ProgramLog)
+        → AreOfLogs program.now period mode own logs messages.now → length logs ≡ harts
+        → HoldsUnless result LossyFault.Memory (CollectsLogs program.now period mode own logs messages.now []) }
+    ensures of_any { IfOk result (Collects program.now mode messages.now) }
+    ensures each_hart { IfOk result HasEachHart }
+    ensures count { IfOk result (λ collection. length collection.demux ≡ harts) }
+    ensures accepted { OnOk result (AreAcceptedLossy (newcomers harts) messages.now) }
+    ensures stops { IfErr result (λ fault. CollectingStopsBy (words_of program.now) mode harts messages.now fault) }
 {
+    let mut collection = Collection::new(alloc, harts)?;
     for (place, message) in messages.iter().enumerate() {
-        match collection.take(alloc, program, mode, place, message) {
-            Ok(()) => {}
-            Err(fault) => return Err(fault),
-        }
+        collection.take(alloc, program, mode, place, message)?;
     }
-    Ok(())
+    Ok(collection)
 }
 
 /// Ends the stretch of each hart.
@@ -264,10 +182,7 @@ fn end_all<A: Allocator + Copy>(
     ensures { OnOk result (AreEnded traces.old.items pieces.old.items pieces.new.items) }
 {
     for hart in 0..pieces.len() {
-        match traces[hart].end_stretch(alloc, &mut pieces[hart].parts) {
-            Ok(()) => {}
-            Err(fault) => return Err(fault),
-        }
+        traces[hart].end_stretch(alloc, &mut pieces[hart].parts)?;
     }
     Ok(())
 }
@@ -305,18 +220,9 @@ pub fn collect_lossy<A: Allocator + Copy>(
     ensures described { IfOk result (λ pieces. AreDescribed (words_of program.now) mode messages.now pieces.items) }
     ensures stops { IfErr result (λ fault. CollectingStopsBy (words_of program.now) mode harts messages.now fault) }
 {
-    let mut collection = match Collection::new(alloc, harts) {
-        Ok(collection) => collection,
-        Err(_) => return Err(LossyFault::Memory),
-    };
-    match take_all(alloc, program, mode, messages, &mut collection) {
-        Ok(()) => {}
-        Err(fault) => return Err(fault),
-    }
+    let collection = take_all(alloc, program, harts, mode, messages)?;
     let mut traces = collection.traces;
     let mut pieces = collection.pieces;
-    match end_all(alloc, &mut traces, &mut pieces) {
-        Ok(()) => Ok(pieces),
-        Err(_) => Err(LossyFault::Memory),
-    }
+    end_all(alloc, &mut traces, &mut pieces)?;
+    Ok(pieces)
 }

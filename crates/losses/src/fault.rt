@@ -1,10 +1,12 @@
 //! Why messages are not collected.
 
-ghost use Rattle.std.specs.Prelude.{Some};
+ghost use Rattle.std.specs.Prelude.{◌≡◌, Some};
 ghost use Rattle.losses.specs.FaultText.{lossy_fault_text};
+ghost use Rattle.losses.specs.declared.fault.LossyFault.TheVariants.{Memory};
 
 use decoder::DecodeFault;
 use message::DemuxFault;
+use std::alloc::AllocError;
 use std::error::Error;
 use std::fmt;
 
@@ -32,3 +34,11 @@ impl fmt::Display for LossyFault {
 }
 
 impl Error for LossyFault {}
+
+impl From<AllocError> for LossyFault {
+    ghost from_gives = { λ _ fault. fault ≡ Memory };
+
+    fn from(_error: AllocError) -> LossyFault {
+        LossyFault::Memory
+    }
+}

@@ -1,22 +1,14 @@
 //! What is under way of one hart.
 
-ghost use Rattle.std.specs.Prelude.{ℕ, ◌≡◌, ◌⊎◌, ◌<◌, ◌+◌, ◌++◌, false, List, [], ◌∷◌, None, IfErr, OnOk, drop};
-ghost use Rattle.retire.specs.declared.event.Event.{Event as AnyEvent};
+ghost use Rattle.std.specs.Prelude.{◌≡◌, ◌<◌, ◌++◌, [], ◌∷◌, None, OnOk};
 ghost use Rattle.rvclass.specs.Fetch.{words_of};
-ghost use Rattle.rvclass.specs.Words.{Words, IsProgram};
-ghost use Rattle.legalpath.specs.Legal.{Legal};
-ghost use Rattle.payload.specs.Closing.{is_closing_packet};
-ghost use Rattle.payload.specs.declared.mode.Mode.{Mode as AnyMode};
-ghost use Rattle.payload.specs.declared.packet.Packet.{Packet as AnyPacket};
-ghost use Rattle.encoder.specs.Packets.{packets};
+ghost use Rattle.rvclass.specs.Words.{Words};
 ghost use Rattle.decoder.specs.Resuming.{HasMode};
 ghost use Rattle.decoder.specs.DecoderStands.{DecoderStands};
 ghost use Rattle.losses.specs.Parts.{Missing, stretch};
 ghost use Rattle.losses.specs.PartsIn.{parts_in};
-ghost use Rattle.losses.specs.Runs.{Run, missing_behind, mode_in, over_before, packets_behind, run_of};
 ghost use Rattle.losses.specs.steps.DecoderSteps.{Resumes};
-ghost use Rattle.losses.specs.steps.Following.{FollowsTrace};
-ghost use Rattle.losses.specs.steps.FollowingRuns.{FollowsRuns, IsNotDecodedInRun};
+ghost use Rattle.losses.specs.steps.Taking.{TakesPacket};
 
 use crate::part::{HartPieces, Part};
 use decoder::{DecodeFault, Decoder};
@@ -56,9 +48,7 @@ impl<A: Allocator + Copy> HartTrace<A> {
         if self.stretch.is_empty() {
             return Ok(());
         }
-        if parts.reserve(1).is_err() {
-            return Err(AllocError);
-        }
+        parts.reserve(1)?;
         let events = mem::replace(&mut self.stretch, Vec::new(alloc));
         parts.push_reserved(Part::Stretch(events));
         Ok(())
@@ -78,9 +68,8 @@ impl<A: Allocator + Copy> HartTrace<A> {
         ensures empty { OnOk result (self.new.stretch.items ≡ []) }
         ensures resumes { OnOk result (Resumes mode self.old.decoder self.new.decoder) }
     {
-        if self.end_stretch(alloc, parts).is_err() || parts.reserve(1).is_err() {
-            return Err(AllocError);
-        }
+        self.end_stretch(alloc, parts)?;
+        parts.reserve(1)?;
         parts.push_reserved(Part::Gap(missed));
         self.decoder.resume(mode);
         Ok(())
@@ -94,14 +83,6 @@ impl<A: Allocator + Copy> HartTrace<A> {
         missed: u64,
         parts: &mut Vec<Part<A>, A>,
     ) -> Result<(), AllocError>
-        ensures follows { (words : Words) (period : ℕ) (own : AnyMode) (log : List AnyEvent) (numbers left : List ℕ)
-            (next number : ℕ)
-            (packet : AnyPacket) (later : List AnyPacket) → IsProgram words → Legal words log → number ≡ next + missed
-            → drop number (packets words period own log) ≡ packet ∷ later
-            → FollowsTrace words period mode own log numbers next (number ∷ left) self.old.decoder
-            (parts_in parts.old.items) self.old.stretch.items
-            → OnOk result (FollowsTrace words period mode own log numbers number (number ∷ left) self.new.decoder
-            (parts_in parts.new.items) self.new.stretch.items) }
         ensures same { missed ≡ 0 → OnOk result ((self.new.decoder ≡ self.old.decoder)
             × (parts_in parts.new.items ≡ parts_in parts.old.items)
             × (self.new.stretch.items ≡ self.old.stretch.items)) }
@@ -126,34 +107,8 @@ impl<A: Allocator + Copy> HartTrace<A> {
         missed: u64,
         parts: &mut Vec<Part<A>, A>,
     ) -> Result<(), DecodeFault>
-        ensures taken { (period : ℕ) (own : AnyMode) (log : List AnyEvent) (numbers left : List ℕ) (next number : ℕ)
-            (later : List AnyPacket) → IsProgram (words_of program.now) → Legal (words_of program.now) log
-            → number ≡ next + missed → drop number (packets (words_of program.now) period own log) ≡ packet.now ∷ later
-            → FollowsTrace (words_of program.now) period mode own log numbers next (number ∷ left) self.old.decoder
-            (parts_in parts.old.items) self.old.stretch.items
-            → OnOk result (FollowsTrace (words_of program.now) period mode own log numbers (number + 1) left
-            self.new.decoder
-            (parts_in parts.new.items) self.new.stretch.items) }
-        ensures memory { (period : ℕ) (own : AnyMode) (log : List AnyEvent) (numbers left : List ℕ) (next number : ℕ)
-            (later : List AnyPacket) → IsProgram (words_of program.now) → Legal (words_of program.now) log
-            → number ≡ next + missed → drop number (packets (words_of program.now) period own log) ≡ packet.now ∷ later
-            → FollowsTrace (words_of program.now) period mode own log numbers next (number ∷ left) self.old.decoder
-            (parts_in parts.old.items) self.old.stretch.items
-            → IfErr result (λ fault. fault ≡ DecodeFault.Memory) }
-        ensures follows { (done : List Run) (missing next : ℕ) (packets : List AnyPacket)
-            → FollowsRuns (words_of program.now) mode done missing packets next false self.old.decoder
-            (parts_in parts.old.items) self.old.stretch.items
-            → OnOk result (FollowsRuns (words_of program.now) mode (done ++ over_before missed (run_of missing packets))
-            (missing_behind missed missing) (packets_behind missed packets ++ packet.now ∷ []) (next + missed + 1)
-            (is_closing_packet packet.now) self.new.decoder (parts_in parts.new.items) self.new.stretch.items) }
-        ensures not_decoded { (done : List Run) (missing next : ℕ) (packets : List AnyPacket)
-            → FollowsRuns (words_of program.now) mode done missing packets next false self.old.decoder
-            (parts_in parts.old.items) self.old.stretch.items
-            → IfErr result (λ fault. (fault ≡ DecodeFault.Memory) ⊎ IsNotDecodedInRun (words_of program.now)
-            (mode_in mode ((done ++ over_before missed (run_of missing packets)) ++ run_of (missing_behind missed
-            missing)
-            (packets_behind missed packets ++ packet.now ∷ []) ∷ [])) (missing_behind missed missing)
-            (packets_behind missed packets) packet.now fault) }
+        ensures { TakesPacket (words_of program.now) mode packet.now missed self.old self.new parts.old.items
+            parts.new.items result }
     {
         match self.go_on(alloc, mode, missed, parts) {
             Ok(()) => {}

@@ -1,7 +1,8 @@
 -- How far a hart's messages are collected, whatever they are.
 use Rattle.std.specs.Prelude.{◌≡◌, ◌≢◌, ◌⊎◌, ◌↔◌, ◌≤◌, ◌+◌, ℕ, zero, suc, Bool, false, List, [], ◌∷◌, ◌++◌, Option}
 use Rattle.std.specs.Prelude.{Some}
-use Rattle.std.specs.Prelude.{⊤, Result, Err, length, slice_get}
+use Rattle.std.specs.Prelude.{⊤, Result, Err, OnOk, IfErr, length, slice_get}
+use Rattle.payload.specs.Closing.{is_closing_packet}
 use Rattle.std.specs.Option.{unwrap_or}
 use Rattle.retire.specs.declared.event.Event.{Event}
 use Rattle.rvclass.specs.Words.{Words}
@@ -93,12 +94,15 @@ pub record IsNotDecodedInRun (words : Words) (reads : Mode) (missing : ℕ) (bef
   pub reason : (why ≡ Memory)
       ⊎ ((log : List Event) → ¬ Describes words (trace_after missing reads (before ++ packet ∷ [])) log)
 
--- The fault for a packet that is not decoded after these packets of a run; where memory was refused, it says no more.
-abbrev pub IsPacketFault : Words → Mode → ℕ → List Packet → Packet → LossyFault → Type 0
-IsPacketFault words reads missing before packet (fault.Demux place why) = ⊥
-IsPacketFault words reads missing before packet (fault.Decode place why) =
-    IsNotDecodedInRun words reads missing before packet why
-IsPacketFault words reads missing before packet fault.Memory = Unit {0}
+-- A packet was fed behind these packets of the run under way. It is collected; or memory was refused, or the fault says
+-- why it is not decoded.
+pub record FedRuns (words : Words) (mode : Mode) (done : List Run) (missing : ℕ) (packets : List Packet) (next : ℕ)
+    (packet : Packet) (new : Decoder) (seen : List LogPart) (after : List Event) (result : Result ⊤ DecodeFault)
+    : Type 0 where
+  pub follows : OnOk result (FollowsRuns words mode done missing (packets ++ packet ∷ []) (next + 1)
+      (is_closing_packet packet) new seen after)
+  pub refused : IfErr result (λ why. (why ≡ Memory) ⊎ IsNotDecodedInRun words
+      (mode_in mode (done ++ run_of missing (packets ++ packet ∷ []) ∷ [])) missing packets packet why)
 
 -- The fault for a message that is not collected after these messages. Of a packet that is not decoded it says why.
 abbrev pub IsMessageFault : Words → Mode → List Message → Message → LossyFault → Type 0

@@ -31,7 +31,7 @@ loop-hart-preserved g c =
       traces_left = left_behind c.args.traces.now.items traces i c.end_stretch.new.self inv.traces_left;
       pieces_left = left_behind c.args.pieces.now.items pieces i new inv.pieces_left;
       ended = ended_more c.args.traces.now.items c.args.pieces.now.items pieces i trace old new at_trace at_old
-          (record { parts = c.in-Ok.ensures.parts; closed = refl }) inv.ended;
+          (record { parts = c.in_ok-end_stretch.ensures.parts; closed = refl }) inv.ended;
     }
 
 pub returns : goal.returns

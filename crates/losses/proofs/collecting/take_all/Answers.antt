@@ -1,45 +1,60 @@
 -- Each message is taken behind those before it: by lemmas on lists, which no tactic finds.
-use Rattle.std.proofs.Common.{◌≡◌, ℕ, ◌+◌, [], ◌∷◌, ◌++◌, drop, take, length, sym, ap, subst, ◌∙◌, arith}
+use Rattle.std.proofs.Common.{◌≡◌, ◌+◌, [], ◌∷◌, ◌++◌, drop, take, length, sym, ap, subst, ◌∙◌, arith}
 use Rattle.std.proofs.Math.ListN.{drop_of_length-le}
-use Rattle.std.proofs.lemmas.List.{append-nil, length-replicate, take-append-drop, take_more}
+use Rattle.std.proofs.lemmas.List.{length-replicate, take_more}
+use Rattle.std.proofs.lemmas.Result.{err_from_is_err_and}
+use Rattle.std.specs.Prelude.{IsOk}
 use Rattle.rvclass.specs.Fetch.{words_of}
 use Rattle.message.specs.Accepted.{newcomers}
-use Rattle.message.specs.Lossy.{accepting_lossy, harts_after_lossy}
-use Rattle.std.specs.Prelude.{IsOk}
-use Rattle.losses.specs.Stops.{AreAcceptedLossy, expected_lossy}
-use Rattle.losses.specs.steps.Collecting.{FollowsAll}
-use Rattle.losses.specs.steps.FollowingRuns.{FollowsEveryHart}
 use Rattle.message.specs.Harts.{newcomer}
-use Rattle.losses.proofs.AllRuns.{each_hart_describes}
+use Rattle.message.specs.Lossy.{accepting_lossy, harts_after_lossy}
+use Rattle.losses.specs.Stops.{AreAcceptedLossy, expected_lossy}
+use Rattle.losses.specs.steps.Taking.{Collects, CollectsLogs}
+use Rattle.losses.proofs.AllRuns.{each_hart_describes, every_hart_first}
+use Rattle.losses.proofs.Collected.{follows_first}
 use Rattle.losses.proofs.InTurn.{expected-push, length-harts_after, split_at, stops_at, taken-push}
 use Rattle.losses.proofs.collecting.take_all.Goals as goal
 
-pub returns-in-Err-clause-memory : goal.returns-in-Err-clause-memory
-returns-in-Err-clause-memory g c = λ period own logs f.
+pub loop-place-init : goal.loop-place-init
+loop-place-init g c =
+    let made = c.in_ok-collection.collection in
+    let new = c.in_ok-collection.ensures in
+    let count = ap length new.demux ∙ length-replicate c.args.harts newcomer in
+    record {
+      each_hart = record { traces = new.traces_count ∙ sym count; pieces = new.pieces_count ∙ sym count };
+      count = count;
+      of_logs = λ period own logs of_logs many.
+          follows_first c.args.program.now period c.args.mode own logs c.args.messages.now c.args.harts made.demux
+          made.traces.items made.pieces.items of_logs many new.demux new.traces new.pieces;
+      of_any = every_hart_first (words_of c.args.program.now) c.args.mode c.args.harts made.demux made.traces.items
+          made.pieces.items new.demux new.traces new.pieces;
+      accepted = tt;
+      expected = new.demux;
+    }
+
+pub returns-in_err-take-clause-of_logs : goal.returns-in_err-take-clause-of_logs
+returns-in_err-take-clause-of_logs g c = λ period own logs of_logs many.
     let messages = c.args.messages.now in
     let place = c.loop-place.place in
     let next = split_at messages place c.index-messages-place.result c.loop-place-test.true c.index-messages-place.is in
-    let here = c.loop-place.invariant.follows period own logs f in
-    c.in-Err.ensures.memory period own logs messages (drop (place + 1) messages)
-    (subst (λ l. FollowsAll c.args.program.now period c.args.mode own logs messages l c.loop-place.collection.demux
-    c.loop-place.collection.traces.items c.loop-place.collection.pieces.items) next here)
+    let made = err_from_is_err_and c.from_residual-in_err-take.result c.from_residual-in_err-take.ensures.1 in
+    rw (made.1, made.2) (c.in_err-take.ensures.takes.of_logs period own logs messages (drop (place + 1) messages)
+    (subst (λ l. CollectsLogs c.args.program.now period c.args.mode own logs messages l c.loop-place.collection) next
+    (c.loop-place.invariant.of_logs period own logs of_logs many)))
 
-pub returns-in-Err-clause-stops : goal.returns-in-Err-clause-stops
-returns-in-Err-clause-stops g c = λ harts is first.
-    stops_at (words_of c.args.program.now) c.args.mode harts c.args.messages.now c.loop-place.place
-    c.index-messages-place.result c.loop-place.collection.demux
-    c.loop-place-test.true c.index-messages-place.is (c.loop-place.invariant.expected harts is)
-    (c.loop-place.invariant.taken harts is) c.in-Err.fault c.in-Err.ensures.fault
-    (c.in-Err.ensures.message_fault (take c.loop-place.place c.args.messages.now)
-    (c.loop-place.invariant.every_hart first))
-    (each_hart_describes (words_of c.args.program.now) c.args.mode harts (take c.loop-place.place c.args.messages.now)
-    c.loop-place.collection.demux c.loop-place.collection.traces.items c.loop-place.collection.pieces.items
-    (c.loop-place.invariant.every_hart first) (c.loop-place.invariant.demux ∙ count harts is)
-    (c.loop-place.invariant.traces ∙ c.requires.traces ∙ count harts is)
-    (c.loop-place.invariant.pieces ∙ c.requires.pieces ∙ count harts is))
-  where
-    count : (n : ℕ) → c.args.collection.now.demux ≡ newcomers n → length c.args.collection.now.demux ≡ n
-    count n same = ap length same ∙ length-replicate n newcomer
+pub returns-in_err-take-clause-stops : goal.returns-in_err-take-clause-stops
+returns-in_err-take-clause-stops g c =
+    let words = words_of c.args.program.now in
+    let front = take c.loop-place.place c.args.messages.now in
+    let before = c.loop-place.collection in
+    let inv = c.loop-place.invariant in
+    let made = err_from_is_err_and c.from_residual-in_err-take.result c.from_residual-in_err-take.ensures.1 in
+    rw (made.1, made.2) (stops_at words c.args.mode c.args.harts c.args.messages.now c.loop-place.place
+    c.index-messages-place.result before.demux c.loop-place-test.true c.index-messages-place.is inv.expected
+    inv.accepted c.in_err-take.field-0.0 c.in_err-take.ensures.fault
+    (c.in_err-take.ensures.takes.of_any front inv.of_any)
+    (each_hart_describes words c.args.mode c.args.harts front before.demux before.traces.items before.pieces.items
+    inv.of_any inv.count (inv.each_hart.traces ∙ inv.count) (inv.each_hart.pieces ∙ inv.count)))
 
 pub loop-place-preserved : goal.loop-place-preserved
 loop-place-preserved g c =
@@ -47,48 +62,30 @@ loop-place-preserved g c =
     let place = c.loop-place.place in
     let message = c.index-messages-place.result in
     let inv = c.loop-place.invariant in
+    let harts = newcomers c.args.harts in
+    let front = take place messages in
     let next = split_at messages place message c.loop-place-test.true c.index-messages-place.is in
     let more = take_more messages place message c.loop-place-test.true
-    ∙ ap (λ m. take place messages ++ m ∷ []) (sym c.index-messages-place.is) in
-    let demux = c.loop-place.collection.demux in
+    ∙ ap (λ m. front ++ m ∷ []) (sym c.index-messages-place.is) in
+    let took = c.in_ok-take.ensures in
     record {
-      traces = c.take.ensures.traces_count ∙ inv.traces;
-      pieces = c.take.ensures.pieces_count ∙ inv.pieces;
-      demux = ap length c.take.ensures.expected ∙ length-harts_after demux message ∙ inv.demux;
-      follows = λ period own logs f. c.in-Ok.ensures.taken period own logs messages (drop (place + 1) messages)
-          (subst (λ l. FollowsAll c.args.program.now period c.args.mode own logs messages l demux
-          c.loop-place.collection.traces.items c.loop-place.collection.pieces.items) next (inv.follows period own logs
-          f));
-      taken = λ harts is. subst (AreAcceptedLossy (newcomers harts)) (sym more)
-          (taken-push (newcomers harts) (take place messages) message (inv.taken harts is)
-          (subst (λ hs. IsOk (accepting_lossy hs message)) (inv.expected harts is) c.in-Ok.ensures.accepted));
-      expected = λ harts is. c.take.ensures.expected ∙ ap (λ hs. harts_after_lossy hs message) (inv.expected harts is)
-          ∙ sym (expected-push (newcomers harts) (take place messages) message)
-          ∙ ap (expected_lossy (newcomers harts)) (sym more);
-      every_hart = λ first. subst (λ ms. FollowsEveryHart (words_of c.args.program.now) c.args.mode ms
-          c.take.new.self.demux
-          c.take.new.self.traces.items c.take.new.self.pieces.items) (sym more)
-          (c.in-Ok.ensures.follows (take place messages) (inv.every_hart first));
+      each_hart = took.each_hart;
+      count = ap length took.expected ∙ length-harts_after c.loop-place.collection.demux message ∙ inv.count;
+      of_logs = λ period own logs of_logs many. took.takes.of_logs period own logs messages (drop (place + 1) messages)
+          (subst (λ l. CollectsLogs c.args.program.now period c.args.mode own logs messages l c.loop-place.collection)
+          next (inv.of_logs period own logs of_logs many));
+      of_any = subst (λ ms. Collects c.args.program.now c.args.mode ms c.take.new.self) (sym more)
+          (took.takes.of_any front inv.of_any);
+      accepted = subst (AreAcceptedLossy harts) (sym more) (taken-push harts front message inv.accepted
+          (subst (λ hs. IsOk (accepting_lossy hs message)) inv.expected took.accepted));
+      expected = took.expected ∙ ap (λ hs. harts_after_lossy hs message) inv.expected
+          ∙ sym (expected-push harts front message) ∙ ap (expected_lossy harts) (sym more);
     }
 
-pub returns-clause-taken : goal.returns-clause-taken
-returns-clause-taken g c = λ period own logs f.
+pub returns-clause-of_logs : goal.returns-clause-of_logs
+returns-clause-of_logs g c = λ period own logs of_logs many.
     let over = c.loop-place-test.false in
     let none : drop c.loop-place.place c.args.messages.now ≡ [] =
     drop_of_length-le c.args.messages.now (omega (arith, over)) in
-    subst (λ l. FollowsAll c.args.program.now period c.args.mode own logs c.args.messages.now l
-    c.loop-place.collection.demux c.loop-place.collection.traces.items c.loop-place.collection.pieces.items) none
-    (c.loop-place.invariant.follows period own logs f)
-
-pub returns-clause-follows : goal.returns-clause-follows
-returns-clause-follows g c = λ first.
-    let over = c.loop-place-test.false in
-    let place = c.loop-place.place in
-    let messages = c.args.messages.now in
-    let none : drop place messages ≡ [] = drop_of_length-le messages (omega (arith, over)) in
-    let all : take place messages ≡ messages =
-    sym (append-nil (take place messages)) ∙ ap (λ l. take place messages ++ l) (sym none)
-    ∙ take-append-drop place messages in
-    subst (λ ms. FollowsEveryHart (words_of c.args.program.now) c.args.mode ms c.loop-place.collection.demux
-    c.loop-place.collection.traces.items c.loop-place.collection.pieces.items) all
-    (c.loop-place.invariant.every_hart first)
+    subst (λ l. CollectsLogs c.args.program.now period c.args.mode own logs c.args.messages.now l
+    c.loop-place.collection) none (c.loop-place.invariant.of_logs period own logs of_logs many)
