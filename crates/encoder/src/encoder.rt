@@ -121,11 +121,12 @@ impl Encoder {
         ensures numbers { Is64Bit event.now }
     {
         let due = due_behind(&self.held, self.due, self.left, event);
-        if self.is_quiet(program, event, due) {
+        let rule = self.rule_of_held(program, event, due);
+        if self.is_quiet(rule) {
             self.hold(*event, due);
             return None;
         }
-        self.report(program, event, due)
+        self.report(rule, event, due)
     }
 
     /// Takes events from `taken` on, as long as they follow a retirement for which nothing is due and give no packet.
@@ -196,39 +197,41 @@ impl Encoder {
         }
     }
 
-    /// Whether there is a held event, and the next event, for which `due` is due, gives no packet for it.
+    /// The rule of the held event, if there is one, before the next event, for which `due` is due.
     #[inline]
-    fn is_quiet(&self, program: &Program, next: &Event, due: Due) -> bool
-        ensures { result ≡ stepping.is_quiet (words_of program.now) self.now self.now.held next.now due }
+    fn rule_of_held(&self, program: &Program, next: &Event, due: Due) -> Option<Rule>
+        ensures { result ≡ stepping.rule_of_held (words_of program.now) self.now.held self.now.due next.now due }
     {
         match &self.held {
-            Some(held) => {
-                matches!(
-                    rule_before(program, held, self.due, next, due),
-                    Rule::MapOrNothing
-                ) && self.pending.len() < MOST_OUTCOMES
-            }
-            None => false,
+            Some(held) => Some(rule_before(program, held, self.due, next, due)),
+            None => None,
         }
     }
 
-    /// Returns the packet that the next event makes due, and holds the event, for which `due` is due.
+    /// Whether there is a held event, whose rule this is, and it gives no packet.
+    #[inline]
+    fn is_quiet(&self, rule: Option<Rule>) -> bool
+        ensures { result ≡ stepping.gives_nothing rule self.now.pending }
+    {
+        matches!(rule, Some(Rule::MapOrNothing)) && self.pending.len() < MOST_OUTCOMES
+    }
+
+    /// Returns the packet that the next event makes due, by the rule of the held event, and holds the next event, for
+    /// which `due` is due.
     #[inline(never)]
-    fn report(&mut self, program: &Program, event: &Event, due: Due) -> Option<Packet>
+    fn report(&mut self, rule: Option<Rule>, event: &Event, due: Due) -> Option<Packet>
         ensures after { self.new
-            ≡ stepping.hold self.old []
-            (stepping.reported_before (words_of program.now) self.old self.old.held event.now due) event.now due }
-        ensures given { option_to_list result
-            ≡ stepping.packets_before (words_of program.now) self.old self.old.held event.now due }
+            ≡ stepping.hold self.old [] (stepping.reported_with self.old self.old.held rule event.now due) event.now
+            due }
+        ensures given { option_to_list result ≡ stepping.packets_with self.old self.old.held rule event.now due }
         ensures numbers { Is64Bit event.now }
     {
         let mut packet = None;
-        if let Some(held) = self.held {
+        if let (Some(held), Some(rule)) = (self.held, rule) {
             if due.is_handler() {
                 packet = Some(handler_packet(&held, event));
                 self.reported = event.place();
             } else {
-                let rule = rule_before(program, &held, self.due, event, due);
                 packet = packet_by(rule, &held, &self.pending, self.mode, self.reported);
                 self.reported = reported_by(rule, self.reported, &held);
             }

@@ -114,26 +114,42 @@ abbrev pub is_map_or_nothing : Rule → Bool
 is_map_or_nothing by.MapOrNothing = true
 is_map_or_nothing other = false
 
--- There is a held event, and it gives no packet once the next event is known, for which `after` is due. Its rule is
--- `MapOrNothing`, and the pending outcomes do not fill a branch map.
+-- The rule of the held event, if there is one, before the next event. `due` is due for the held event and `after` for
+-- the next one.
+abbrev pub rule_of_held : Words → Option Event → Due → Event → Due → Option Rule
+rule_of_held words None due next after = None
+rule_of_held words (Some held) due next after = Some (rule_before words held due next after)
+
+-- There is a held event, and it gives no packet: no other rule than `MapOrNothing` reports it, and the outcomes do not
+-- fill a branch map.
+abbrev pub gives_nothing : Option Rule → List Bool → Bool
+gives_nothing None pending = false
+gives_nothing (Some rule) pending = is_map_or_nothing rule && nat_lt (length pending) most_outcomes
+
+-- The held event gives no packet once the next event is known, for which `after` is due.
 abbrev pub is_quiet : Words → Encoder → Option Event → Event → Due → Bool
-is_quiet words e None next after = false
-is_quiet words e (Some held) next after =
-    is_map_or_nothing (rule_before words held e.due next after) && nat_lt (length e.pending) most_outcomes
+is_quiet words e held next after = gives_nothing (rule_of_held words held e.due next after) e.pending
 
--- The packets that the next event, for which this is due, gives where it is not quiet.
-abbrev pub packets_before : Words → Encoder → Option Event → Event → Due → List Packet
-packets_before words e None next after = []
-packets_before words e (Some held) next after =
+-- The packets that the next event, for which this is due, gives where it is not quiet, by the rule of the held event.
+abbrev pub packets_with : Encoder → Option Event → Option Rule → Event → Due → List Packet
+packets_with e (Some held) (Some rule) next after =
     if is_handler_due after then handler_packet held next ∷ [] else
-    packets_by (rule_before words held e.due next after) held e.pending e.mode e.reported
+    packets_by rule held e.pending e.mode e.reported
+packets_with e held rule next after = []
 
--- The last reported address after these packets.
+-- The same, where the rule is the one that the two events have.
+abbrev pub packets_before : Words → Encoder → Option Event → Event → Due → List Packet
+packets_before words e held next after = packets_with e held (rule_of_held words held e.due next after) next after
+
+-- The last reported address after these packets, by the rule of the held event.
+abbrev pub reported_with : Encoder → Option Event → Option Rule → Event → Due → ℕ
+reported_with e (Some held) (Some rule) next after =
+    if is_handler_due after then place next else reported_by rule e.reported held
+reported_with e held rule next after = e.reported
+
+-- The same, where the rule is the one that the two events have.
 abbrev pub reported_before : Words → Encoder → Option Event → Event → Due → ℕ
-reported_before words e None next after = e.reported
-reported_before words e (Some held) next after =
-    if is_handler_due after then place next else
-    reported_by (rule_before words held e.due next after) e.reported held
+reported_before words e held next after = reported_with e held (rule_of_held words held e.due next after) next after
 
 -- How many retirements come before the next periodic sync after this event, where this many came before it.
 abbrev pub left_after : ℕ → ℕ → Event → ℕ
