@@ -221,9 +221,9 @@ impl Encoder {
     #[inline(never)]
     fn report(&mut self, rule: Option<Rule>, event: &Event, due: Due) -> Option<Packet>
         ensures after { self.new
-            ≡ stepping.hold self.old [] (stepping.reported_with self.old self.old.held rule event.now due) event.now
+            ≡ stepping.hold self.old [] (stepping.reported_for_rule self.old self.old.held rule event.now due) event.now
             due }
-        ensures given { option_to_list result ≡ stepping.packets_with self.old self.old.held rule event.now due }
+        ensures given { option_to_list result ≡ stepping.packets_for_rule self.old self.old.held rule event.now due }
         ensures numbers { Is64Bit event.now }
     {
         let mut packet = None;

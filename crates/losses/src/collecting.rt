@@ -13,7 +13,7 @@ ghost use Rattle.losses.specs.Stops.{AreAcceptedLossy, CollectingStopsBy};
 ghost use Rattle.losses.specs.DescribedParts.{AreDescribed};
 ghost use Rattle.losses.specs.steps.Collecting.{AreEnded, IsNewPieces, IsNewTrace, IsNotCollected, IsNotTaken};
 ghost use Rattle.losses.specs.steps.Taking.{Collects, CollectsLogs, HasEachHart, HoldsUnless, IsNewCollection};
-ghost use Rattle.losses.specs.steps.Taking.{TakesMessage, TakesPacket};
+ghost use Rattle.losses.specs.steps.Taking.{CollectsMessage, TakesPacket};
 
 use crate::fault::LossyFault;
 use crate::hart_trace::HartTrace;
@@ -125,7 +125,7 @@ impl<A: Allocator + Copy> Collection<A> {
         ensures expected { self.new.demux ≡ harts_after_lossy self.old.demux message.now }
         ensures accepted { OnOk result (IsOk (accepting_lossy self.old.demux message.now)) }
         ensures fault { IfErr result (λ fault. IsNotCollected self.old.demux message.now place fault) }
-        ensures takes { TakesMessage program.now mode message.now self.old self.new result }
+        ensures takes { CollectsMessage program.now mode message.now self.old self.new result }
     {
         let (packet, missed) = match self.demux.accept_lossy(message) {
             Ok(taken) => taken,

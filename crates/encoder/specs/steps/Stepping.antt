@@ -131,25 +131,25 @@ abbrev pub is_quiet : Words → Encoder → Option Event → Event → Due → B
 is_quiet words e held next after = gives_nothing (rule_of_held words held e.due next after) e.pending
 
 -- The packets that the next event, for which this is due, gives where it is not quiet, by the rule of the held event.
-abbrev pub packets_with : Encoder → Option Event → Option Rule → Event → Due → List Packet
-packets_with e (Some held) (Some rule) next after =
+abbrev pub packets_for_rule : Encoder → Option Event → Option Rule → Event → Due → List Packet
+packets_for_rule e (Some held) (Some rule) next after =
     if is_handler_due after then handler_packet held next ∷ [] else
     packets_by rule held e.pending e.mode e.reported
-packets_with e held rule next after = []
+packets_for_rule e held rule next after = []
 
 -- The same, where the rule is the one that the two events have.
 abbrev pub packets_before : Words → Encoder → Option Event → Event → Due → List Packet
-packets_before words e held next after = packets_with e held (rule_of_held words held e.due next after) next after
+packets_before words e held next after = packets_for_rule e held (rule_of_held words held e.due next after) next after
 
 -- The last reported address after these packets, by the rule of the held event.
-abbrev pub reported_with : Encoder → Option Event → Option Rule → Event → Due → ℕ
-reported_with e (Some held) (Some rule) next after =
+abbrev pub reported_for_rule : Encoder → Option Event → Option Rule → Event → Due → ℕ
+reported_for_rule e (Some held) (Some rule) next after =
     if is_handler_due after then place next else reported_by rule e.reported held
-reported_with e held rule next after = e.reported
+reported_for_rule e held rule next after = e.reported
 
 -- The same, where the rule is the one that the two events have.
 abbrev pub reported_before : Words → Encoder → Option Event → Event → Due → ℕ
-reported_before words e held next after = reported_with e held (rule_of_held words held e.due next after) next after
+reported_before words e held next after = reported_for_rule e held (rule_of_held words held e.due next after) next after
 
 -- How many retirements come before the next periodic sync after this event, where this many came before it.
 abbrev pub left_after : ℕ → ℕ → Event → ℕ

@@ -80,7 +80,7 @@ Collects program mode messages collection =
 
 -- A message was taken or refused. Where it is the next one of legal logs, it is collected, unless memory was refused.
 -- Where it comes behind any messages, it is collected, or the fault says why not.
-pub record TakesMessage {A : Type 0} (program : Image) (mode : Mode) (message : Message) (old new : Collection A)
+pub record CollectsMessage {A : Type 0} (program : Image) (mode : Mode) (message : Message) (old new : Collection A)
     (result : Result ⊤ LossyFault) : Type 0 where
   pub of_logs : (period : ℕ) (own : ℕ → Mode) (logs : List ProgramLog) (messages left : List Message)
       → CollectsLogs program period mode own logs messages (message ∷ left) old

@@ -1,7 +1,7 @@
 -- The search does not rewrite under the test by which an event is quiet.
 use Rattle.std.proofs.Common.{◌≡◌, [], sym, ap, ◌∙◌}
 use Rattle.rvclass.specs.Fetch.{words_of}
-use Rattle.encoder.specs.steps.Stepping.{gives_nothing, hold, is_quiet, packets_with, reported_with}
+use Rattle.encoder.specs.steps.Stepping.{gives_nothing, hold, is_quiet, packets_for_rule, reported_for_rule}
 use Rattle.encoder.proofs.EventsTaken.{after_quiet, given_quiet, after_loud, given_loud}
 use Rattle.encoder.proofs.encoder.Encoder.step.Goals.{After-is_quiet}
 use Rattle.encoder.proofs.encoder.Encoder.step.Goals as goal
@@ -33,7 +33,7 @@ returns-clause-after c =
     let event = c.args.event.now in
     let due = c.due_behind-due.result in
     c.report.ensures.after
-    ∙ ap (λ rule. hold self [] (reported_with self self.held rule event due) event due) c.rule_of_held-rule.ensures
+    ∙ ap (λ rule. hold self [] (reported_for_rule self self.held rule event due) event due) c.rule_of_held-rule.ensures
     ∙ after_loud (words_of c.args.program.now) self event due c.due_behind-due.ensures
     (test call ∙ c.if-is_quiet.false)
 
@@ -44,6 +44,6 @@ returns-clause-given c =
     let event = c.args.event.now in
     let due = c.due_behind-due.result in
     c.report.ensures.given
-    ∙ ap (λ rule. packets_with self self.held rule event due) c.rule_of_held-rule.ensures
+    ∙ ap (λ rule. packets_for_rule self self.held rule event due) c.rule_of_held-rule.ensures
     ∙ given_loud (words_of c.args.program.now) self event due c.due_behind-due.ensures
     (test call ∙ c.if-is_quiet.false)
