@@ -1,8 +1,8 @@
 //! Two harts of one program: their logs to a capture in memory and back, and then through a funnel by a schedule.
 //!
-//! `two_harts IMAGE LOG LOG SCHEDULE` prints how long the capture is, the logs that it decodes to, and the report of the
-//! replay. The status is 0, 1 where a log does not come back whole from the replay, or 2 at a fault, which has a line on
-//! standard error.
+//! `two_harts IMAGE LOG LOG SCHEDULE` prints how long the capture is, the logs that it decodes to, and the report of
+//! the replay. The status is 0, or 1 where a log does not come back whole from the replay. At a fault it is 2, and the
+//! fault has a line on standard error.
 #![tactic(auto)]
 
 mod fault;
