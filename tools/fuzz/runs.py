@@ -1,10 +1,13 @@
-"""Runs the built program `tracebench` over the cases of `fuzz`, and compares each run with what `reading` says."""
+"""Runs the built program `tracebench` over the cases of `fuzz`, and compares each run with what the readings say."""
 
 import collections
 import subprocess
 import tempfile
 
+import audits
 import cases
+import lists
+import measures
 import reading
 
 Run = collections.namedtuple("Run", "words status out error")
@@ -57,15 +60,62 @@ def encoded(maker, events):
     random = maker.random
     period, mode = random.choice((1, 3, 8, 1024, 0xFFFF)), random.choice(reading.MODES)
     harts, flags = random.choice((1, 1, 2, 3)), random.choice(([], [], ["--v1"], ["--hex"], ["--hex", "--v1"]))
-    payloads = [cases.payload_of(packet) for packet in cases.packets(maker.program, events, period, mode)]
-    messages = [(hart, number, payload) for hart in range(harts) for number, payload in enumerate(payloads)]
+    payloads = [payloads_of(maker, events, period, mode)] * harts
     if "--hex" in flags:
-        out = "".join(f"{hart} {number} {payload.hex()}\n" for hart, number, payload in messages).encode()
+        out = hex_lines(payloads).encode()
     else:
         out = b"" if flags else cases.header(mode, period, harts)
-        out += b"".join(cases.message(*it) for it in messages)
-    options = ["--base", f"{maker.program.base:x}", "--period", str(period)] + ["--full"] * (mode == reading.FULL)
-    return Run(["encode", *flags, *options, "image"] + ["case"] * harts, 0, out, None)
+        out += b"".join(cases.message(hart, *it) for hart, own in enumerate(payloads) for it in enumerate(own))
+    return Run(["encode", *flags, *options_of(maker, period, mode), "image"] + ["case"] * harts, 0, out, None)
+
+
+def payloads_of(maker, events, period, mode):
+    return [cases.payload_of(packet) for packet in cases.packets(maker.program, events, period, mode)]
+
+
+def hex_lines(payloads):
+    """The lines of `encode --hex`, of the payloads of each hart."""
+    return "".join(f"{hart} {number} {it.hex()}\n" for hart, own in enumerate(payloads) for number, it in enumerate(own))
+
+
+def options_of(maker, period, mode):
+    return ["--base", f"{maker.program.base:x}", "--period", str(period)] + ["--full"] * (mode == reading.FULL)
+
+
+def of_pair(_, __, pair):
+    """What an audit of a pair of captures prints."""
+    status, text, error = audits.audit(*pair)
+    yield Run(["audit", audits.SENT, audits.RECEIVED], status, text.encode(), error)
+
+
+def of_listed(maker, harts, listed):
+    """What `list` prints of a capture, by symbols where there are some."""
+    capture, symbols = listed
+    status, text, error = lists.listing(maker.program, harts, capture, lists.symbols_of(symbols or b""))
+    options = ["--base", f"{maker.program.base:x}", "--harts", str(harts)]
+    options += ["--symbols", "symbols"] if symbols is not None else []
+    yield Run(["list", *options, "image", "case"], status, text, error)
+
+
+def of_measured(maker, _, logs):
+    """The lines of some legal logs, and what `measure` prints of them."""
+    random = maker.random
+    period, mode = random.choice((1, 2, 3, 8, 1024, 0xFFFF)), random.choice(reading.MODES)
+    payloads = [payloads_of(maker, events, period, mode) for events in logs]
+    words = [*options_of(maker, period, mode), "image", *files_of("measures", logs)]
+    yield Run(["encode", "--hex", *words], 0, hex_lines(payloads).encode(), None)
+    yield Run(["measure", *words], 0, measures.text(logs, payloads).encode(), None)
+
+
+def files_of(kind, case):
+    """The files that the runs over a case read, but for the image."""
+    if kind == "audits":
+        return {audits.SENT: case[0], audits.RECEIVED: case[1]}
+    if kind == "lists":
+        return {"case": case[0], "symbols": case[1] or b""}
+    if kind == "measures":
+        return {f"case{hart}": reading.log_text(events).encode() for hart, events in enumerate(case)}
+    return {"case": case}
 
 
 def answer(binary, folder, words):
@@ -73,17 +123,21 @@ def answer(binary, folder, words):
     return done.returncode, done.stdout, done.stderr
 
 
+OF_CASE = {"captures": of_capture, "logs": of_log, "audits": of_pair, "lists": of_listed, "measures": of_measured}
+
+
 def compared(binary, kind, maker, harts, made):
     """Runs the program over cases. Returns how many runs there were, and for the first that is answered otherwise the
     place of its case, what was wanted and the answer."""
-    of_case, count = {"captures": of_capture, "logs": of_log}[kind], 0
+    count = 0
     with tempfile.TemporaryDirectory() as folder:
         with open(f"{folder}/image", "wb") as file:
             file.write(maker.program.image)
         for place, case in enumerate(made):
-            with open(f"{folder}/case", "wb") as file:
-                file.write(case)
-            for run in of_case(maker, harts, case):
+            for name, content in files_of(kind, case).items():
+                with open(f"{folder}/{name}", "wb") as file:
+                    file.write(content)
+            for run in OF_CASE[kind](maker, harts, case):
                 error = f"tracebench: {run.error}\n".encode() if run.error else b""
                 found = answer(binary, folder, run.words)
                 if found != (run.status, run.out, error):
