@@ -13,7 +13,6 @@ ghost use Rattle.payload.specs.declared.packet.Packet.{Packet};
 ghost use Rattle.decoder.specs.Describes.{Describes};
 ghost use Rattle.decoder.specs.Order.{IsOpen, open_packet};
 ghost use Rattle.decoder.specs.Resuming.{IsSync, PassesOver, IsClosed, HasMode};
-ghost use Rattle.decoder.specs.steps.Longest.{IsLongest};
 ghost use Rattle.decoder.specs.steps.Stretches.{stretch_count, Suits, SuitsNone, AddsSoFar, AddsBoth};
 ghost use Rattle.decoder.specs.steps.Planning.{MayCome, FitsWaiting, Plans, PlansNone, admitted, decoder_after};
 ghost use Rattle.decoder.specs.steps.Planning.{passed_over};
@@ -21,10 +20,11 @@ ghost use Rattle.decoder.specs.DecoderStands.{DecoderStands};
 ghost use Rattle.decoder.specs.declared.fault.DecodeFault.TheVariants.{NotOpened, AfterClose, Memory};
 
 use crate::fault::DecodeFault;
+use crate::paths::Paths;
 use crate::remembering::{announced_past, mode_past, phase_after, reported_past, waiting_after};
 use crate::settling::{Waiting, events_of_packet, settle};
 use crate::stretch::Stretch;
-use crate::walking::{Progress, longest};
+use crate::walking::Progress;
 use payload::{Mode, Packet, Support};
 use retire::Event;
 use rvclass::Program;
@@ -242,11 +242,11 @@ impl Decoder {
         ensures words { IsProgram (words_of program.now) }
         ensures small { length program.now.bytes ≤ 2 ^ 24 }
     {
-        let longest = longest(program);
+        let paths = Paths::of(program);
         if let Err(fault) = self.admit(packet) {
             return Err(fault);
         }
-        if let Err(fault) = self.settled(program, longest, packet, first, log) {
+        if let Err(fault) = self.settled(paths, packet, first, log) {
             return Err(fault);
         }
         if !self.may_come(packet) {
@@ -255,8 +255,7 @@ impl Decoder {
         let last = first.last(&self.last);
         let reported = first.place(self.reported);
         events_of_packet(
-            program,
-            longest,
+            paths,
             self.mode,
             &last,
             reported,
@@ -302,24 +301,22 @@ impl Decoder {
     #[inline]
     fn settled<A: Allocator>(
         &self,
-        program: &Program,
-        longest: usize,
+        paths: Paths,
         packet: &Packet,
         stretch: &mut Stretch,
         log: &mut Vec<Event, A>,
     ) -> Result<(), DecodeFault>
-        requires { IsLongest program.now longest }
-        ensures found { OnOk result (Suits (words_of program.now) self.now.last
-            (FitsWaiting (words_of program.now) self.now.mode self.now.last self.now.reported self.now.waiting
-            packet.now)
+        ensures found { OnOk result (Suits (words_of paths.entry.program.now) self.now.last
+            (FitsWaiting (words_of paths.entry.program.now) self.now.mode self.now.last self.now.reported
+            self.now.waiting packet.now)
             stretch.new) }
-        ensures none { IfErr result (λ fault. SuitsNone (words_of program.now) self.now.last
-            (FitsWaiting (words_of program.now) self.now.mode self.now.last self.now.reported self.now.waiting
-            packet.now)
+        ensures none { IfErr result (λ fault. SuitsNone (words_of paths.entry.program.now) self.now.last
+            (FitsWaiting (words_of paths.entry.program.now) self.now.mode self.now.last self.now.reported
+            self.now.waiting packet.now)
             fault) }
-        ensures short { OnOk result (stretch_count stretch.new ≤ 32 * (length program.now.bytes / 2)) }
-        ensures written { OnOk result (AddsSoFar (words_of program.now) Progress.Written stretch.new log.old.items
-            log.new.items) }
+        ensures short { OnOk result (stretch_count stretch.new ≤ 32 * (length paths.entry.program.now.bytes / 2)) }
+        ensures written { OnOk result (AddsSoFar (words_of paths.entry.program.now) Progress.Written stretch.new
+            log.old.items log.new.items) }
         ensures behind { (rest : List Event) × (log.new.items ≡ log.old.items ++ rest) }
         ensures room { vec_capacity log.new ≡ vec_capacity log.old }
     {
@@ -327,8 +324,7 @@ impl Decoder {
             Some(waiting) => {
                 let addr = self.mode.aim(self.reported, waiting.delta);
                 settle(
-                    program,
-                    longest,
+                    paths,
                     &self.last,
                     &waiting.outcomes,
                     addr,

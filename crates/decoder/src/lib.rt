@@ -5,6 +5,7 @@
 mod decoding;
 mod fault;
 mod laws;
+mod paths;
 mod remembering;
 mod reporting;
 mod retracing;

@@ -4,16 +4,16 @@ ghost use Rattle.std.specs.Prelude.{◌≡◌, ◌+◌, ◌*◌, ◌/◌, ◌≤
 ghost use Rattle.retire.specs.declared.event.Event.{Event as AnyEvent};
 ghost use Rattle.rvclass.specs.Fetch.{words_of};
 ghost use Rattle.decoder.specs.Fits.{Fits, FitsAddress, FitsSync};
-ghost use Rattle.decoder.specs.steps.Longest.{IsLongest};
 ghost use Rattle.decoder.specs.steps.Stretches.{AddsSoFar, Suits, SuitsNone, stretch_count, stretch_progress};
 ghost use Rattle.decoder.specs.Settling.{makes_explicit, settled, settled_by};
 ghost use Rattle.decoder.specs.Walk.{IsWalkFrom};
 ghost use Rattle.decoder.specs.steps.Walks.{goal_end};
 
 use crate::fault::DecodeFault;
+use crate::paths::Paths;
 use crate::reporting::{Cause, Reported, reported_retirement, start, trap};
 use crate::stepping::Goal;
-use crate::stretch::{FoundWalk, Stretch};
+use crate::stretch::Stretch;
 use crate::walking::{Progress, measure, write_found};
 use payload::{Mode, Outcomes, Packet, Report, Support};
 use retire::Event;
@@ -32,8 +32,7 @@ pub struct Waiting {
 /// The walk of these outcomes to this goal, after the event before.
 #[inline(never)]
 fn walk<A: Allocator>(
-    program: &Program,
-    longest: usize,
+    paths: Paths,
     before: &Option<Event>,
     outcomes: &Outcomes,
     goal: Goal,
@@ -41,29 +40,24 @@ fn walk<A: Allocator>(
     stretch: &mut Stretch,
     log: &mut Vec<Event, A>,
 ) -> Result<(), DecodeFault>
-    requires { IsLongest program.now longest }
-    ensures found { OnOk result (Suits (words_of program.now) before.now
-        (IsWalkFrom (words_of program.now) before.now outcomes.now (goal_end goal)) stretch.new) }
-    ensures none { IfErr result (λ fault. SuitsNone (words_of program.now) before.now
-        (IsWalkFrom (words_of program.now) before.now outcomes.now (goal_end goal)) fault) }
-    ensures short { OnOk result (stretch_count stretch.new ≤ 32 * (length program.now.bytes / 2)) }
-    ensures written { OnOk result (AddsSoFar (words_of program.now) ahead stretch.new log.old.items log.new.items) }
+    ensures found { OnOk result (Suits (words_of paths.entry.program.now) before.now
+        (IsWalkFrom (words_of paths.entry.program.now) before.now outcomes.now (goal_end goal)) stretch.new) }
+    ensures none { IfErr result (λ fault. SuitsNone (words_of paths.entry.program.now) before.now
+        (IsWalkFrom (words_of paths.entry.program.now) before.now outcomes.now (goal_end goal)) fault) }
+    ensures short { OnOk result (stretch_count stretch.new ≤ 32 * (length paths.entry.program.now.bytes / 2)) }
+    ensures written { OnOk result (AddsSoFar (words_of paths.entry.program.now) ahead stretch.new log.old.items
+        log.new.items) }
     ensures behind { (rest : List AnyEvent) × (log.new.items ≡ log.old.items ++ rest) }
     ensures room { vec_capacity log.new ≡ vec_capacity log.old }
 {
-    let from = match start(program, before) {
+    let from = match start(paths.program, before) {
         Ok(from) => from,
         Err(fault) => return Err(fault),
     };
     match ahead {
-        Progress::Written => match write_found(program, longest, from, outcomes, goal, log) {
+        Progress::Written => match write_found(paths, from, outcomes, goal, log) {
             Ok(Some(walked)) => {
-                *stretch = Stretch::Walk(FoundWalk {
-                    from,
-                    outcomes: *outcomes,
-                    goal,
-                    walked,
-                });
+                *stretch = Stretch::walk(from, outcomes, goal, walked);
                 return Ok(());
             }
             Ok(None) => {}
@@ -71,14 +65,9 @@ fn walk<A: Allocator>(
         },
         Progress::Pending => {}
     }
-    match measure(program, longest, from, outcomes, goal) {
+    match measure(paths, from, outcomes, goal) {
         Ok(walked) => {
-            *stretch = Stretch::Walk(FoundWalk {
-                from,
-                outcomes: *outcomes,
-                goal,
-                walked,
-            });
+            *stretch = Stretch::walk(from, outcomes, goal, walked);
             Ok(())
         }
         Err(fault) => Err(fault),
@@ -98,8 +87,7 @@ fn makes_explicit(packet: &Packet) -> bool
 /// The events of a packet that waits, with these outcomes and this address. The packet that follows settles it.
 #[inline(always)]
 pub fn settle<A: Allocator>(
-    program: &Program,
-    longest: usize,
+    paths: Paths,
     before: &Option<Event>,
     outcomes: &Outcomes,
     addr: u64,
@@ -107,15 +95,15 @@ pub fn settle<A: Allocator>(
     stretch: &mut Stretch,
     log: &mut Vec<Event, A>,
 ) -> Result<(), DecodeFault>
-    requires { IsLongest program.now longest }
-    ensures found { OnOk result (Suits (words_of program.now) before.now
-        (FitsAddress (words_of program.now) before.now outcomes.now addr (settled_by (Some packet.now)))
+    ensures found { OnOk result (Suits (words_of paths.entry.program.now) before.now
+        (FitsAddress (words_of paths.entry.program.now) before.now outcomes.now addr (settled_by (Some packet.now)))
         stretch.new) }
-    ensures none { IfErr result (λ fault. SuitsNone (words_of program.now) before.now
-        (FitsAddress (words_of program.now) before.now outcomes.now addr (settled_by (Some packet.now))) fault) }
-    ensures short { OnOk result (stretch_count stretch.new ≤ 32 * (length program.now.bytes / 2)) }
-    ensures written { OnOk result (AddsSoFar (words_of program.now) Progress.Written stretch.new log.old.items
-        log.new.items) }
+    ensures none { IfErr result (λ fault. SuitsNone (words_of paths.entry.program.now) before.now
+        (FitsAddress (words_of paths.entry.program.now) before.now outcomes.now addr (settled_by (Some packet.now)))
+        fault) }
+    ensures short { OnOk result (stretch_count stretch.new ≤ 32 * (length paths.entry.program.now.bytes / 2)) }
+    ensures written { OnOk result (AddsSoFar (words_of paths.entry.program.now) Progress.Written stretch.new
+        log.old.items log.new.items) }
     ensures behind { (rest : List AnyEvent) × (log.new.items ≡ log.old.items ++ rest) }
     ensures room { vec_capacity log.new ≡ vec_capacity log.old }
 {
@@ -125,8 +113,7 @@ pub fn settle<A: Allocator>(
         Goal::Target(addr)
     };
     walk(
-        program,
-        longest,
+        paths,
         before,
         outcomes,
         goal,
@@ -139,8 +126,7 @@ pub fn settle<A: Allocator>(
 /// The events of an address packet at its address, as long as no packet follows.
 #[inline]
 fn address<A: Allocator>(
-    program: &Program,
-    longest: usize,
+    paths: Paths,
     before: &Option<Event>,
     outcomes: &Outcomes,
     addr: u64,
@@ -149,13 +135,14 @@ fn address<A: Allocator>(
     stretch: &mut Stretch,
     log: &mut Vec<Event, A>,
 ) -> Result<(), DecodeFault>
-    requires { IsLongest program.now longest }
-    ensures found { OnOk result (Suits (words_of program.now) before.now
-        (FitsAddress (words_of program.now) before.now outcomes.now addr (settled report None)) stretch.new) }
-    ensures none { IfErr result (λ fault. SuitsNone (words_of program.now) before.now
-        (FitsAddress (words_of program.now) before.now outcomes.now addr (settled report None)) fault) }
-    ensures short { OnOk result (stretch_count stretch.new ≤ 32 * (length program.now.bytes / 2)) }
-    ensures written { OnOk result (AddsSoFar (words_of program.now) ahead stretch.new log.old.items log.new.items) }
+    ensures found { OnOk result (Suits (words_of paths.entry.program.now) before.now
+        (FitsAddress (words_of paths.entry.program.now) before.now outcomes.now addr (settled report None))
+        stretch.new) }
+    ensures none { IfErr result (λ fault. SuitsNone (words_of paths.entry.program.now) before.now
+        (FitsAddress (words_of paths.entry.program.now) before.now outcomes.now addr (settled report None)) fault) }
+    ensures short { OnOk result (stretch_count stretch.new ≤ 32 * (length paths.entry.program.now.bytes / 2)) }
+    ensures written { OnOk result (AddsSoFar (words_of paths.entry.program.now) ahead stretch.new log.old.items
+        log.new.items) }
     ensures behind { (rest : List AnyEvent) × (log.new.items ≡ log.old.items ++ rest) }
     ensures room { vec_capacity log.new ≡ vec_capacity log.old }
 {
@@ -168,8 +155,7 @@ fn address<A: Allocator>(
             _ => Err(DecodeFault::WrongPlace),
         },
         Report::Updiscon => walk(
-            program,
-            longest,
+            paths,
             before,
             outcomes,
             Goal::Target(addr),
@@ -178,8 +164,7 @@ fn address<A: Allocator>(
             log,
         ),
         Report::Notify => walk(
-            program,
-            longest,
+            paths,
             before,
             outcomes,
             Goal::Address(addr),
@@ -216,8 +201,7 @@ fn sync(
 /// The events of a packet itself in a trace of this mode, as long as no packet follows.
 #[inline(always)]
 pub fn events_of_packet<A: Allocator>(
-    program: &Program,
-    longest: usize,
+    paths: Paths,
     mode: Mode,
     before: &Option<Event>,
     last_reported: u64,
@@ -226,13 +210,13 @@ pub fn events_of_packet<A: Allocator>(
     stretch: &mut Stretch,
     log: &mut Vec<Event, A>,
 ) -> Result<(), DecodeFault>
-    requires { IsLongest program.now longest }
-    ensures found { OnOk result (Suits (words_of program.now) before.now
-        (Fits (words_of program.now) mode before.now last_reported packet.now None) stretch.new) }
-    ensures none { IfErr result (λ fault. SuitsNone (words_of program.now) before.now
-        (Fits (words_of program.now) mode before.now last_reported packet.now None) fault) }
-    ensures short { OnOk result (stretch_count stretch.new ≤ 32 * (length program.now.bytes / 2) + 2) }
-    ensures written { OnOk result (AddsSoFar (words_of program.now) ahead stretch.new log.old.items log.new.items) }
+    ensures found { OnOk result (Suits (words_of paths.entry.program.now) before.now
+        (Fits (words_of paths.entry.program.now) mode before.now last_reported packet.now None) stretch.new) }
+    ensures none { IfErr result (λ fault. SuitsNone (words_of paths.entry.program.now) before.now
+        (Fits (words_of paths.entry.program.now) mode before.now last_reported packet.now None) fault) }
+    ensures short { OnOk result (stretch_count stretch.new ≤ 32 * (length paths.entry.program.now.bytes / 2) + 2) }
+    ensures written { OnOk result (AddsSoFar (words_of paths.entry.program.now) ahead stretch.new log.old.items
+        log.new.items) }
     ensures behind { (rest : List AnyEvent) × (log.new.items ≡ log.old.items ++ rest) }
     ensures room { vec_capacity log.new ≡ vec_capacity log.old }
 {
@@ -242,7 +226,7 @@ pub fn events_of_packet<A: Allocator>(
             privilege,
             address,
         } => sync(
-            program,
+            paths.program,
             before,
             Reported::new(*taken, *privilege, *address),
             stretch,
@@ -258,7 +242,7 @@ pub fn events_of_packet<A: Allocator>(
         } => {
             let reported = Reported::new(*taken, *privilege, *address);
             let cause = Cause::new(*interrupt, *cause, *tval);
-            trap(program, before, reported, cause, *handler, stretch)
+            trap(paths.program, before, reported, cause, *handler, stretch)
         }
         Packet::Support(_) => {
             *stretch = Stretch::Nothing;
@@ -270,19 +254,8 @@ pub fn events_of_packet<A: Allocator>(
             report,
         } => {
             let addr = mode.aim(last_reported, *delta);
-            address(
-                program, longest, before, outcomes, addr, *report, ahead, stretch, log,
-            )
+            address(paths, before, outcomes, addr, *report, ahead, stretch, log)
         }
-        Packet::Map(outcomes) => walk(
-            program,
-            longest,
-            before,
-            outcomes,
-            Goal::Branch,
-            ahead,
-            stretch,
-            log,
-        ),
+        Packet::Map(outcomes) => walk(paths, before, outcomes, Goal::Branch, ahead, stretch, log),
     }
 }

@@ -5,6 +5,7 @@ ghost use Rattle.rvclass.specs.Fetch.{words_of};
 ghost use Rattle.rvclass.specs.Words.{IsProgram};
 ghost use Rattle.decoder.specs.steps.Stretches.{left_of, stretch_count, stretch_last, stretch_place, stretch_progress};
 ghost use Rattle.decoder.specs.steps.Stretches.{HasRoomFor, AddsStretch};
+ghost use Rattle.decoder.specs.declared.stretch.Stretch.TheVariants.{Walk};
 
 use crate::stepping::{Goal, Here};
 use crate::walking::{Progress, Walked, write};
@@ -40,6 +41,19 @@ pub enum Stretch {
 }
 
 impl Stretch {
+    /// The retirements of a walk that was found.
+    #[inline(always)]
+    pub fn walk(from: Here, outcomes: &Outcomes, goal: Goal, walked: Walked) -> Stretch
+        ensures { result ≡ Walk (record { from = from; outcomes = outcomes.now; goal = goal; walked = walked }) }
+    {
+        Stretch::Walk(FoundWalk {
+            from,
+            outcomes: *outcomes,
+            goal,
+            walked,
+        })
+    }
+
     /// Whether they are in the list.
     #[inline]
     pub fn progress(&self) -> Progress

@@ -6,7 +6,6 @@ ghost use Rattle.retire.specs.declared.event.Event.{Event as AnyEvent};
 ghost use Rattle.rvclass.specs.Fetch.{words_of};
 ghost use Rattle.rvclass.specs.Words.{IsProgram};
 ghost use Rattle.decoder.specs.steps.Faults.{IsOnTheWay};
-ghost use Rattle.decoder.specs.steps.Longest.{IsLongest};
 ghost use Rattle.decoder.specs.steps.Retracing.{HasRoomWithin, AddsWithin};
 ghost use Rattle.decoder.specs.steps.WalkSteps as steps;
 ghost use Rattle.decoder.specs.steps.WritingAsFound.{AddsReturned, FindsReturned, KeptWithoutRoom, NoneAtFault};
@@ -14,6 +13,7 @@ ghost use Rattle.decoder.specs.steps.WritingAsFound.{ReturnsSummary, ShortReturn
 ghost use Rattle.decoder.specs.steps.Walks.{event_of, goal_end, Carries, IsHere, Finds, FindsNone, HasRoom, Adds};
 
 use crate::fault::DecodeFault;
+use crate::paths::Paths;
 use crate::retracing::retrace;
 use crate::stepping::{Course, Goal, Here, Step, step_from};
 use payload::Outcomes;
@@ -46,50 +46,51 @@ pub struct Walked {
 /// was.
 #[inline(always)]
 pub fn write_found<A: Allocator>(
-    program: &Program,
-    longest: usize,
+    paths: Paths,
     from: Here,
     outcomes: &Outcomes,
     goal: Goal,
     log: &mut Vec<Event, A>,
 ) -> Result<Option<Walked>, DecodeFault>
-    requires longest { IsLongest program.now longest }
-    requires from { IsHere (words_of program.now) from }
-    ensures found { FindsReturned (words_of program.now) from outcomes.now (goal_end goal) result }
+    requires { IsHere (words_of paths.program.now) from }
+    ensures found { FindsReturned (words_of paths.entry.program.now) from outcomes.now (goal_end goal) result }
     ensures adds { AddsReturned
-        (Adds (words_of program.now) from outcomes.now (goal_end goal) log.old.items log.new.items) result }
+        (Adds (words_of paths.entry.program.now) from outcomes.now (goal_end goal) log.old.items log.new.items) result }
     ensures kept { KeptWithoutRoom log.old.items log.new.items result }
-    ensures short { ShortReturned (32 * (length program.now.bytes / 2)) result }
-    ensures none { NoneAtFault (words_of program.now) from outcomes.now (goal_end goal) result }
+    ensures short { ShortReturned (32 * (length paths.entry.program.now.bytes / 2)) result }
+    ensures none { NoneAtFault (words_of paths.entry.program.now) from outcomes.now (goal_end goal) result }
     ensures named { IfErr result IsOnTheWay }
     ensures behind { (rest : List AnyEvent) × (log.new.items ≡ log.old.items ++ rest) }
     ensures room { vec_capacity log.new ≡ vec_capacity log.old }
 {
     let course = Course::new(outcomes, goal);
-    write_found_within(program, longest, from, &course, log)
+    write_found_within(paths.program, paths.longest, from, &course, log)
 }
 
 /// Measures the walk from a retirement: how many retirements it has, and the last of them. Where there is no such walk,
 /// the fault is the first on the way.
 #[inline(never)]
 pub fn measure(
-    program: &Program,
-    longest: usize,
+    paths: Paths,
     from: Here,
     outcomes: &Outcomes,
     goal: Goal,
 ) -> Result<Walked, DecodeFault>
-    requires longest { IsLongest program.now longest }
-    requires from { IsHere (words_of program.now) from }
+    requires { IsHere (words_of paths.program.now) from }
     ensures found { IfOk result
-        (λ walked. Finds (words_of program.now) from outcomes.now (goal_end goal) walked) }
-    ensures short { IfOk result (λ walked. walked.count ≤ 32 * (length program.now.bytes / 2)) }
+        (λ walked. Finds (words_of paths.entry.program.now) from outcomes.now (goal_end goal) walked) }
+    ensures short { IfOk result (λ walked. walked.count ≤ 32 * (length paths.entry.program.now.bytes / 2)) }
     ensures pending { IfOk result (λ walked. walked.progress ≡ Progress.Pending) }
     ensures none { IfErr result
-        (λ fault. FindsNone (words_of program.now) from outcomes.now (goal_end goal)) }
+        (λ fault. FindsNone (words_of paths.entry.program.now) from outcomes.now (goal_end goal)) }
     ensures named { IfErr result IsOnTheWay }
 {
-    measure_within(program, longest, from, &Course::new(outcomes, goal))
+    measure_within(
+        paths.program,
+        paths.longest,
+        from,
+        &Course::new(outcomes, goal),
+    )
 }
 
 /// Writes a walk of `count` retirements, which was measured, into room that was reserved.
@@ -110,14 +111,6 @@ pub fn write<A: Allocator>(
     ensures room { vec_capacity log.new ≡ vec_capacity log.old }
 {
     write_within(program, count, from, &Course::new(outcomes, goal), log);
-}
-
-/// How many retirements a walk has at most.
-#[inline]
-pub fn longest(program: &Program) -> usize
-    ensures { IsLongest program.now result }
-{
-    32 * (program.byte_count() / 2)
 }
 
 /// Measures a walk of at most `limit` steps.

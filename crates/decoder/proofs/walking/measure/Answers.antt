@@ -9,24 +9,24 @@ use Rattle.decoder.proofs.walking.measure.Goals as goal
 pub returns-clause-found : goal.returns-clause-found
 returns-clause-found c =
     let summed = c.measure_within.ensures.summary ∙ ap (summary (event_of c.args.from))
-    (same_walk (words_of c.args.program.now) (event_of c.args.from) _ _ _ _ _ _ c.requires.longest.value
+    (same_walk (words_of c.args.paths.program.now) (event_of c.args.from) _ _ _ _ _ _ c.args.paths.bound.value
     c.new.ensures.outcomes c.new.ensures.goal) in
-    measure_finds (words_of c.args.program.now) c.requires.longest.words c.args.from c.requires.from c.args.outcomes.now
+    measure_finds (words_of c.args.paths.program.now) c.args.paths.bound.words c.args.from c.requires c.args.outcomes.now
     (goal_end c.args.goal) _ _ summed
 
 pub returns-clause-short : goal.returns-clause-short
 returns-clause-short c =
     let few = subst (λ l. length l ≤ 31) c.new.ensures.outcomes
     (subst (λ n. n ≤ 31) c.new.ensures.course.0 c.new.ensures.course.1) in
-    measure_short (words_of c.args.program.now) c.requires.longest.words c.args.from c.requires.from c.args.outcomes.now
-    (goal_end c.args.goal) _ _ c.requires.longest.within few _ (returns-clause-found c)
+    measure_short (words_of c.args.paths.program.now) c.args.paths.bound.words c.args.from c.requires c.args.outcomes.now
+    (goal_end c.args.goal) _ _ c.args.paths.bound.within few _ (returns-clause-found c)
 
 pub returns-clause-none : goal.returns-clause-none
 returns-clause-none c =
     let few = subst (λ l. length l ≤ 31) c.new.ensures.outcomes
     (subst (λ n. n ≤ 31) c.new.ensures.course.0 c.new.ensures.course.1) in
     let summed = c.measure_within.ensures.summary ∙ ap (summary (event_of c.args.from))
-    (same_walk (words_of c.args.program.now) (event_of c.args.from) _ _ _ _ _ _ c.requires.longest.value
+    (same_walk (words_of c.args.paths.program.now) (event_of c.args.from) _ _ _ _ _ _ c.args.paths.bound.value
     c.new.ensures.outcomes c.new.ensures.goal) in
-    measure_none (words_of c.args.program.now) c.requires.longest.words c.args.from c.requires.from c.args.outcomes.now
-    (goal_end c.args.goal) _ _ c.requires.longest.within few _ summed
+    measure_none (words_of c.args.paths.program.now) c.args.paths.bound.words c.args.from c.requires c.args.outcomes.now
+    (goal_end c.args.goal) _ _ c.args.paths.bound.within few _ summed

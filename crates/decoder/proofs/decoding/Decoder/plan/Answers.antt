@@ -38,5 +38,5 @@ returns-clause-none g c =
     (SuitsNone w (stretch_last d.last first) (Fits w d.mode (stretch_last d.last first) r p None)))
     c.place-reported.ensures none in
     let admits : admitted d.phase p ≡ Ok tt = sym c.in_default.ensures in
-    plans_none w d p c.longest-longest.ensures.words first c.events_of_packet.result admits
+    plans_none w d p c.of-paths.result.bound.words first c.events_of_packet.result admits
     c.in_default-settled.ensures.found none'
