@@ -9,4 +9,3 @@ pub mod RuleSteps
 pub mod LiveSteps
 pub mod PassSteps
 pub mod NewPorts
-pub mod FirstByte

@@ -3,7 +3,6 @@ ghost use Rattle.std.specs.Prelude.{◌≡◌, ◌+◌, ◌++◌, ◌∷◌, ◌
 ghost use Rattle.crossbeam_channel.specs.Claims.{IsSeatAt};
 ghost use Rattle.crossbeam_channel.specs.Ends.{sends_on};
 ghost use Rattle.crossbeam_channel.specs.Err.{try_send_message};
-ghost use Rattle.payload.specs.Closing.{is_closing};
 ghost use Rattle.funnel.specs.declared.rule.View.TheVariants as V;
 ghost use Rattle.funnel.specs.Ends.{PortView, has_closing, is_finished, after_sending};
 ghost use Rattle.funnel.specs.steps.Passes.{id_of, knows, sent_of, IsPort};
@@ -62,7 +61,7 @@ impl<A: Allocator> Port<A> {
         if self.closed || self.count >= MOST_MESSAGES {
             return Err(SendFault::Closed(payload));
         }
-        let closing = closes(&payload);
+        let closing = payload.is_closing();
         let message = Message {
             hart: self.hart,
             number: self.count,
@@ -104,13 +103,6 @@ impl<A: Allocator> Port<A> {
             count,
         }
     }
-}
-
-/// Whether a payload is closing. For most payloads one test of the first byte shows that they are not.
-fn closes(payload: &Payload) -> bool
-    ensures { result ≡ is_closing payload.now }
-{
-    payload.bytes()[0] % 16 == 15 && payload.is_closing()
 }
 
 /// Sends a message by a pass that knows all that its hart sent. `closing` says whether its payload is closing. The call

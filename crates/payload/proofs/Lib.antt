@@ -20,3 +20,4 @@ pub mod SupportBits
 pub mod SyncBits
 pub mod TrapBits
 pub mod WideNumbers
+pub mod FirstByte

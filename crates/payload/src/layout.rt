@@ -25,6 +25,9 @@ pub(crate) const TRAP: u8 = 1;
 /// The `subformat` of a support packet.
 pub(crate) const SUPPORT: u8 = 3;
 
+/// The four bits with which a support packet begins: format 3 and its `subformat`.
+pub(crate) const SUPPORT_BEGINNING: u8 = 3 + (SUPPORT << SUBFORMAT.from);
+
 /// `branch` of a sync or trap packet.
 pub(crate) const BRANCH: Place = Place { from: 4, width: 1 };
 

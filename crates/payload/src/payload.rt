@@ -3,6 +3,7 @@ ghost use Rattle.std.specs.Prelude.{◌≡◌, ◌+◌, ◌*◌, ◌^◌, ◌<�
 ghost use Rattle.payload.specs.Bytes.{low_bytes};
 ghost use Rattle.payload.specs.Limits.{most_bytes};
 
+use crate::layout::SUPPORT_BEGINNING;
 use crate::{PackFault, unpack};
 use arrayvec::ArrayVec;
 use std::marker::Model;
@@ -54,8 +55,18 @@ impl Payload {
         self.bytes.as_slice()
     }
 
-    /// Whether the bytes unpack to a packet that closes a trace, EndedRep or EndedNtr.
+    /// Whether the bytes unpack to a packet that closes a trace, EndedRep or EndedNtr. For most payloads the first byte
+    /// shows that they do not.
+    #[inline(always)]
     pub fn is_closing(&self) -> bool
+        ensures { result ≡ is_closing self.now }
+    {
+        self.bytes()[0] % 16 == SUPPORT_BEGINNING && self.unpacks_to_closing()
+    }
+
+    /// The same, by what all bytes unpack to.
+    #[inline(never)]
+    fn unpacks_to_closing(&self) -> bool
         ensures { result ≡ is_closing self.now }
     {
         match unpack(self.bytes()) {

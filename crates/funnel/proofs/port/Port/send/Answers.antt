@@ -11,7 +11,7 @@ pass_on-requires g c =
     let sent = sent_of (knows c.self.inside.pass) in
     let few : length sent < most_messages = omega (arith, before.2) in
     record {
-      closing_is = c.closes-closing.ensures;
+      closing_is = c.is_closing-closing.ensures;
       seat = before.0;
       port = before.1;
       number = before.2;
@@ -25,5 +25,5 @@ invariant_of-self g c =
       c.in-Ok.ensures.seat,
       now.0,
       count_next _ _ _ _ now.1 before.2,
-      closed_next _ _ _ _ now.1 (sym before.3 ∙ c.if-self.false) c.closes-closing.ensures,
+      closed_next _ _ _ _ now.1 (sym before.3 ∙ c.if-self.false) c.is_closing-closing.ensures,
     )
