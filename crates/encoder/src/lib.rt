@@ -1,9 +1,9 @@
 //! The packets of a log: which events of a hart are reported, by which rule, and as which packets.
 //!
 //! [`Encoder`] takes the events of a legal log one at a time, and holds the last one back until it
-//! is known what follows. [`Source`] gives the payloads of a legal log one at a time. The rules are
-//! those of the E-Trace specification's instruction trace algorithm, with what this project's
-//! profile adds to them. No call takes memory.
+//! is known what follows. [`Source`] gives the payloads of a legal log one at a time, or its packets.
+//! The rules are those of the E-Trace specification's instruction trace algorithm, with what this
+//! project's profile adds to them. No call takes memory.
 #![tactic(auto)]
 
 mod due;

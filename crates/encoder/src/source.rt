@@ -1,12 +1,13 @@
 //! The payloads of a log, one at a time.
 
-ghost use Rattle.std.specs.Prelude.{◌≡◌, ◌+◌, ◌≤◌, ℕ, All, ◌++◌, length, take, slice_get};
+ghost use Rattle.std.specs.Prelude.{◌≡◌, ◌+◌, ◌≤◌, ℕ, All, IfSome, ◌++◌, length, take, slice_get};
 ghost use Rattle.std.specs.Option.{option_to_list};
 ghost use Rattle.rvclass.specs.Fetch.{words_of};
 ghost use Rattle.legalpath.specs.Legal.{Legal};
 ghost use Rattle.legalpath.specs.ProgramLog.{ProgramLog};
 ghost use Rattle.payload.specs.Profile.{InProfile};
 ghost use Rattle.payload.specs.declared.mode.Mode.{Mode};
+ghost use Rattle.encoder.specs.Packets.{packets};
 ghost use Rattle.encoder.specs.PacketsSoFar.{packets_so_far};
 ghost use Rattle.encoder.specs.Payloads.{payloads};
 ghost use Rattle.encoder.specs.SourceAt.{SourceAt, IsAt, number_behind};
@@ -34,8 +35,8 @@ pub(crate) enum Stage {
     Ended,
 }
 
-/// Gives the payloads of a legal log, one at a time and in order: the shortest payload of each of its packets. No call
-/// takes memory.
+/// Gives the payloads of a legal log, one at a time and in order: the shortest payload of each of its packets, or the
+/// packet itself. No call takes memory.
 #[derive(Drop)]
 pub struct Source<'l, 'p, A: Allocator = Global> {
     log: &'l LegalLog<'p, A>,
@@ -82,6 +83,19 @@ impl<'l, 'p, A: Allocator> Source<'l, 'p, A> {
             Some(packet) => Some(pack(&packet)),
             None => None,
         }
+    }
+
+    /// The packet that comes next, in place of its payload; `None` behind the closing one, and from then on.
+    pub fn next_packet(&mut self) -> Option<Packet>
+        ensures given { (period number : ℕ) (mode : Mode) (log : ProgramLog) →
+            IsAt period mode log number self.old →
+            result ≡ slice_get (packets (words_of log.program) period mode log.events) number }
+        ensures goes_on { (period number : ℕ) (mode : Mode) (log : ProgramLog) →
+            IsAt period mode log number self.old →
+            IsAt period mode log (number_behind number result) self.new }
+        ensures profile { IfSome result InProfile }
+    {
+        self.packet()
     }
 
     /// The packet that comes next.
