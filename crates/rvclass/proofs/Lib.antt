@@ -1,1 +1,2 @@
 pub mod WordsLemmas
+pub mod InstructionLemmas

@@ -5,5 +5,6 @@ pub mod Word16
 pub mod Words
 pub mod Image
 pub mod Fetch
+pub mod Instruction
 pub mod Program
 pub mod FaultText

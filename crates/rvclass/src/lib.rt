@@ -6,6 +6,7 @@
 mod bits;
 mod class;
 mod fault;
+mod instruction;
 mod offset;
 mod program;
 mod word16;
@@ -13,4 +14,5 @@ mod word32;
 
 pub use class::{Class, Return};
 pub use fault::ProgramFault;
+pub use instruction::Instruction;
 pub use program::Program;

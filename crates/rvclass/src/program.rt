@@ -3,12 +3,14 @@
 ghost use Rattle.std.specs.Prelude.{◌≡◌, ◌↔◌, ◌+◌, ◌-◌, ◌*◌, ◌%◌, ◌^◌, ◌<◌, ◌≤◌, length, vec_len, IsOk, IfOk, Err};
 ghost use Rattle.rvclass.specs.Fetch.{half_at, word_at, words_of};
 ghost use Rattle.rvclass.specs.Image.{Image, IsImage, image_at};
+ghost use Rattle.rvclass.specs.Instruction.{instruction_of};
 ghost use Rattle.rvclass.specs.Program.{program_of};
 ghost use Rattle.rvclass.specs.Words.{IsProgram, LiesIn};
 
 use crate::bits::bits_of;
 use crate::class::Class;
 use crate::fault::ProgramFault;
+use crate::instruction::Instruction;
 use crate::word16::class_of_word16;
 use crate::word32::class_of_word32;
 use std::marker::Model;
@@ -62,6 +64,15 @@ impl Program {
         })
     }
 
+    /// The address of the image's first byte.
+    #[inline]
+    pub fn base(&self) -> u64
+        ensures base { result ≡ self.now.base }
+        ensures kept { IsImage self.now }
+    {
+        self.base
+    }
+
     /// The number of bytes of the image.
     #[inline]
     pub fn byte_count(&self) -> usize
@@ -81,6 +92,25 @@ impl Program {
         ensures within { LiesIn (words_of self.now) self.now.base (length self.now.bytes) }
     {
         word_of(self.base, &self.bytes, self.windows, addr)
+    }
+
+    /// The word at an address with its bits. There is one where [`at`](Program::at) finds a word, with the same class
+    /// and length.
+    pub fn instruction(&self, addr: u64) -> Option<Instruction>
+        ensures { result ≡ instruction_of self.now addr }
+    {
+        let (class, length) = word_of(self.base, &self.bytes, self.windows, addr)?;
+        let place = (addr - self.base) as usize;
+        let code = if length == 2 {
+            half_of(&self.bytes, place)
+        } else {
+            word_at(&self.bytes, place)
+        };
+        Some(Instruction {
+            code,
+            length,
+            class,
+        })
     }
 }
 
