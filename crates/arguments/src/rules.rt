@@ -126,7 +126,7 @@ pub fn lossy<'a>(alloc: Global) -> Arg<'a>
     flag(
         alloc,
         "lossy",
-        "Go on where messages are missing, and tell how many are",
+        "Go on where messages are missing, and print how many are",
     )
 }
 

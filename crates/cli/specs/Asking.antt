@@ -112,6 +112,6 @@ WordsAsk words = AsksFound (subcommand_of program_app words)
 abbrev pub AskNoCheck : List Text → Type 0
 AskNoCheck words = (asked : Asked) → WordsAsk words asked → ¬ IsCheck asked
 
--- `clap` finds a fault in the words; a call for help is one.
+-- `clap` finds a fault in the words; a call for help or for the version is one.
 abbrev pub AreRefused : List Text → Type 0
 AreRefused words = fault_of program_app words ≢ []

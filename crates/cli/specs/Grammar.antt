@@ -36,10 +36,10 @@ abbrev pub bench_app : App
 bench_app = with_rule (with_rule (with_rule (with_rule (with_rule (with_rule (new_app (codes "bench")) base_rule)
     period_rule) full_rule) capacity_rule) image_rule) logs_rule
 
--- The program without its subcommands, one of which has to be there.
+-- The program without its subcommands, one of which has to be there. It has a version.
 abbrev pub bare_program : App
-bare_program =
-    on_top (λ s. record s { subcommand_required = true }) (new_app (codes "tracebench"))
+bare_program = on_top (λ s. record s { has_version = true; subcommand_required = true })
+    (new_app (codes "tracebench"))
 
 -- The program with its subcommands.
 abbrev pub program_app : App

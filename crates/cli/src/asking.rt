@@ -203,8 +203,8 @@ fn asked_of<'a>(alloc: Global, name: &str, given: &ArgMatches<'a>) -> Result<Ask
 /// to 65535, a count of harts one from 1 to 1024, and a capacity one from 1 to 65536. Where the words give no such
 /// number, it is 1024, 1 or 16. A capture is of version 1 with `--v1`, and else of version 2.
 ///
-/// An error is `clap`'s own. A call for help is one. Its `Display` is the text for the user, and its kind is
-/// `ErrorKind::OutOfMemory` where memory was refused.
+/// An error is `clap`'s own. A call for help or for the version is one. Its `Display` is the text for the user, and its
+/// kind is `ErrorKind::OutOfMemory` where memory was refused.
 pub fn asked<'a>(alloc: Global, words: &'a [String]) -> Result<Asked<'a>, Error>
     ensures found { IfOk result (WordsAsk (map string_bytes words.now)) }
     ensures limits { IfOk result IsWithinLimits }

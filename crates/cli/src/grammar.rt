@@ -7,23 +7,31 @@ ghost use Rattle.clap.specs.Words.{Rule, new_app, with_rule};
 ghost use Rattle.cli.specs.Grammar.{HasGrammar, bench_app, check_app, decode_app, dump_app, encode_app, program_app};
 ghost use Rattle.cli.specs.Grammar.{replay_app};
 
+use crate::help::{
+    BENCH_EXAMPLE, CHECK_EXAMPLE, DECODE_EXAMPLE, DUMP_EXAMPLE, ENCODE_EXAMPLE, EXIT_STATUSES,
+    REPLAY_EXAMPLE, VERSION,
+};
 use arguments::{
     base, capacity, capture, full, harts, hex, image, logs, lossy, period, schedule, version_one,
 };
 use clap::{Arg, Command};
 use std::alloc::{AllocError, Global};
 
-/// A subcommand of this name with these arguments, in this order.
+/// A subcommand of this name with these arguments, in this order. Its help ends with this example.
 fn subcommand<'a>(
     alloc: Global,
     name: &'a str,
     about: &'a str,
+    example: &'a str,
     args: Vec<Arg<'a>>,
 ) -> Result<Command<'a>, AllocError>
     ensures { IfOk result (λ command. (rules : List Rule) → AllZip IsReadBy rules args.entry.items
         → HasGrammar (fold with_rule (new_app name.entry.now) rules) command) }
 {
-    Command::new(alloc, name).about(about).args(args)
+    Command::new(alloc, name)
+        .about(about)
+        .after_help(example)
+        .args(args)
 }
 
 /// The words that `check` takes.
@@ -31,7 +39,13 @@ fn check<'a>(alloc: Global) -> Result<Command<'a>, AllocError>
     ensures { IfOk result (HasGrammar check_app) }
 {
     let args = vec![in alloc; base(alloc), image(alloc), logs(alloc)]?;
-    subcommand(alloc, "check", "Tell whether logs are legal", args)
+    subcommand(
+        alloc,
+        "check",
+        "Check whether logs are legal",
+        CHECK_EXAMPLE,
+        args,
+    )
 }
 
 /// The words that `encode` takes.
@@ -47,7 +61,13 @@ fn encode<'a>(alloc: Global) -> Result<Command<'a>, AllocError>
         image(alloc),
         logs(alloc),
     ]?;
-    subcommand(alloc, "encode", "Write the trace messages of logs", args)
+    subcommand(
+        alloc,
+        "encode",
+        "Write the trace messages of logs",
+        ENCODE_EXAMPLE,
+        args,
+    )
 }
 
 /// The words that `dump` takes.
@@ -59,6 +79,7 @@ fn dump<'a>(alloc: Global) -> Result<Command<'a>, AllocError>
         alloc,
         "dump",
         "Write the messages of a capture as text",
+        DUMP_EXAMPLE,
         args,
     )
 }
@@ -78,6 +99,7 @@ fn decode<'a>(alloc: Global) -> Result<Command<'a>, AllocError>
         alloc,
         "decode",
         "Write the logs that the messages of a capture describe",
+        DECODE_EXAMPLE,
         args,
     )
 }
@@ -99,6 +121,7 @@ fn replay<'a>(alloc: Global) -> Result<Command<'a>, AllocError>
         alloc,
         "replay",
         "Send logs through the funnel as a schedule says, and report what comes of them",
+        REPLAY_EXAMPLE,
         args,
     )
 }
@@ -119,6 +142,7 @@ fn bench<'a>(alloc: Global) -> Result<Command<'a>, AllocError>
         alloc,
         "bench",
         "Send logs through the funnel, each from a thread of its own, and report what comes of them",
+        BENCH_EXAMPLE,
         args,
     )
 }
@@ -129,6 +153,8 @@ pub(crate) fn program<'a>(alloc: Global) -> Result<Command<'a>, AllocError>
 {
     let command = Command::new(alloc, "tracebench")
         .about("A bench for RISC-V instruction trace (E-Trace)")
+        .version(VERSION)
+        .after_help(EXIT_STATUSES)
         .subcommand_required(true)
         .subcommand(check(alloc)?)?
         .subcommand(encode(alloc)?)?

@@ -4,6 +4,7 @@
 
 mod asking;
 mod grammar;
+mod help;
 
 pub use asking::asked;
 pub use clap::Error;

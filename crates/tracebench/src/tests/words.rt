@@ -78,22 +78,6 @@ pub(crate) const TEXT: &str = r#"
 ! Usage: tracebench encode --base <B> <IMAGE> <LOG>...
 !
 ! For more information, try '--help'.
-% tracebench encode --help
-! Write the trace messages of logs
-!
-! Usage: tracebench encode [OPTIONS] --base <B> <IMAGE> <LOG>...
-!
-! Arguments:
-!   <IMAGE>   File of the program's bytes
-!   <LOG>...  Logs, each of one hart, as CSV
-!
-! Options:
-!       --base <B>    Address of the image's first byte, in hexadecimal
-!       --period <N>  Retirements from one periodic synchronisation to the next, 1 to 65535 [default: 1024]
-!       --full        Name addresses in full, not by differences
-!       --v1          Write a capture of version 1, which has no header, of at most 64 logs
-!       --hex         Write a line of hexadecimal for each message
-!   -h, --help        Print help
 
 # `dump`.
 % tracebench dump run.capture
@@ -158,20 +142,6 @@ pub(crate) const TEXT: &str = r#"
 ! Usage: tracebench decode --base <B> <IMAGE> <CAPTURE>
 !
 ! For more information, try '--help'.
-% tracebench decode --help
-! Write the logs that the messages of a capture describe
-!
-! Usage: tracebench decode [OPTIONS] --base <B> <IMAGE> <CAPTURE>
-!
-! Arguments:
-!   <IMAGE>    File of the program's bytes
-!   <CAPTURE>  File of trace messages
-!
-! Options:
-!       --base <B>   Address of the image's first byte, in hexadecimal
-!       --harts <N>  How many harts a capture of version 1 may have, 1 to 1024 [default: 1]
-!       --lossy      Go on where messages are missing, and tell how many are
-!   -h, --help       Print help
 
 # `replay`: its capacity.
 % tracebench replay --base 0 --v1 image.bin turns.txt log.csv

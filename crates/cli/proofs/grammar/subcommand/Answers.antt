@@ -8,9 +8,8 @@ use Rattle.cli.proofs.grammar.subcommand.Goals as goal
 
 pub returns : goal.returns
 returns c =
-    let bare : HasGrammar (new_app c.args.name.now) c.about.result = (
-      ap app_of_fields c.about.ensures ∙ c.new.ensures.app,
-      ap (λ f. f.has_globals) c.about.ensures
-          ∙ c.new.ensures.local,
+    let bare : HasGrammar (new_app c.args.name.now) c.after_help.result = (
+      ap app_of_fields c.after_help.ensures ∙ (ap app_of_fields c.about.ensures ∙ c.new.ensures.app),
+      ap (λ f. f.has_globals) c.after_help.ensures ∙ (ap (λ f. f.has_globals) c.about.ensures ∙ c.new.ensures.local),
     ) in
-    adds_all c.args-2.result c.about.result (new_app c.args.name.now) c.args.args.items bare c.args-2.ensures
+    adds_all c.args-2.result c.after_help.result (new_app c.args.name.now) c.args.args.items bare c.args-2.ensures

@@ -1,0 +1,46 @@
+//! What help ends with, and what `--version` prints. The files of the examples are those of the repository.
+
+/// The program's version, and the toolchain that it is proved with, as `rt version` prints that.
+pub(crate) const VERSION: &str = "1.0.0\nrattle-kit-13f logic dac8208d650f15bf";
+
+/// What the help of the program ends with.
+pub(crate) const EXIT_STATUSES: &str = "\
+The help of a subcommand ends with an example, over files in the repository's folder `examples`.
+
+Exit statuses:
+  0  All is written, and all is good
+  1  A capture is not good, or a log does not come back whole
+  2  The words, the image, a log or the schedule is refused, or a log is illegal
+  3  A file is not read, the output is not written, memory is refused, or a run stops early";
+
+/// What the help of `check` ends with.
+pub(crate) const CHECK_EXAMPLE: &str = "\
+Example:
+  tracebench check --base 80000000 examples/loop/image.bin examples/loop/log.csv";
+
+/// What the help of `encode` ends with.
+pub(crate) const ENCODE_EXAMPLE: &str = "\
+Example:
+  tracebench encode --base 80000000 examples/loop/image.bin examples/loop/log.csv >log.capture";
+
+/// What the help of `dump` ends with.
+pub(crate) const DUMP_EXAMPLE: &str = "\
+Example:
+  tracebench dump examples/loop/log.capture";
+
+/// What the help of `decode` ends with.
+pub(crate) const DECODE_EXAMPLE: &str = "\
+Example:
+  tracebench decode --base 80000000 examples/loop/image.bin examples/loop/log.capture";
+
+/// What the help of `replay` ends with.
+pub(crate) const REPLAY_EXAMPLE: &str = "\
+Example:
+  tracebench replay --base 80000000 examples/two_harts/image.bin examples/two_harts/turns.txt \\
+    examples/two_harts/hart00.csv examples/two_harts/hart01.csv";
+
+/// What the help of `bench` ends with.
+pub(crate) const BENCH_EXAMPLE: &str = "\
+Example:
+  tracebench bench --base 80000000 examples/two_harts/image.bin \\
+    examples/two_harts/hart00.csv examples/two_harts/hart01.csv";

@@ -1,0 +1,162 @@
+//! What is reported of calls for help and for the version.
+
+/// Each call with `clap`'s text.
+pub(crate) const TEXT: &str = r#"
+# The program's help ends with the exit statuses.
+$ tracebench --help
+! A bench for RISC-V instruction trace (E-Trace)
+!
+! Usage: tracebench <COMMAND>
+!
+! Commands:
+!   check   Check whether logs are legal
+!   encode  Write the trace messages of logs
+!   dump    Write the messages of a capture as text
+!   decode  Write the logs that the messages of a capture describe
+!   replay  Send logs through the funnel as a schedule says, and report what comes of them
+!   bench   Send logs through the funnel, each from a thread of its own, and report what comes of them
+!   help    Print this message or the help of the given subcommand(s)
+!
+! Options:
+!   -h, --help     Print help
+!   -V, --version  Print version
+!
+! The help of a subcommand ends with an example, over files in the repository's folder `examples`.
+!
+! Exit statuses:
+!   0  All is written, and all is good
+!   1  A capture is not good, or a log does not come back whole
+!   2  The words, the image, a log or the schedule is refused, or a log is illegal
+!   3  A file is not read, the output is not written, memory is refused, or a run stops early
+? 2
+
+# The version has the toolchain's line. A subcommand has none.
+$ tracebench --version
+! tracebench 1.0.0
+! rattle-kit-13f logic dac8208d650f15bf
+? 2
+$ tracebench -V
+! tracebench 1.0.0
+! rattle-kit-13f logic dac8208d650f15bf
+? 2
+$ tracebench dump --version
+! error: unexpected argument '--version' found
+!
+!   tip: to pass '--version' as a value, use '-- --version'
+!
+! Usage: tracebench dump <CAPTURE>
+!
+! For more information, try '--help'.
+? 2
+
+# The help of each subcommand ends with an example.
+$ tracebench check --help
+! Check whether logs are legal
+!
+! Usage: tracebench check --base <B> <IMAGE> <LOG>...
+!
+! Arguments:
+!   <IMAGE>   File of the program's bytes
+!   <LOG>...  Logs, each of one hart, as CSV
+!
+! Options:
+!       --base <B>  Address of the image's first byte, in hexadecimal
+!   -h, --help      Print help
+!
+! Example:
+!   tracebench check --base 80000000 examples/loop/image.bin examples/loop/log.csv
+? 2
+$ tracebench encode --help
+! Write the trace messages of logs
+!
+! Usage: tracebench encode [OPTIONS] --base <B> <IMAGE> <LOG>...
+!
+! Arguments:
+!   <IMAGE>   File of the program's bytes
+!   <LOG>...  Logs, each of one hart, as CSV
+!
+! Options:
+!       --base <B>    Address of the image's first byte, in hexadecimal
+!       --period <N>  Retirements from one periodic synchronisation to the next, 1 to 65535 [default: 1024]
+!       --full        Name addresses in full, not by differences
+!       --v1          Write a capture of version 1, which has no header, of at most 64 logs
+!       --hex         Write a line of hexadecimal for each message
+!   -h, --help        Print help
+!
+! Example:
+!   tracebench encode --base 80000000 examples/loop/image.bin examples/loop/log.csv >log.capture
+? 2
+$ tracebench help dump
+! Write the messages of a capture as text
+!
+! Usage: tracebench dump <CAPTURE>
+!
+! Arguments:
+!   <CAPTURE>  File of trace messages
+!
+! Options:
+!   -h, --help  Print help
+!
+! Example:
+!   tracebench dump examples/loop/log.capture
+? 2
+$ tracebench decode -h
+! Write the logs that the messages of a capture describe
+!
+! Usage: tracebench decode [OPTIONS] --base <B> <IMAGE> <CAPTURE>
+!
+! Arguments:
+!   <IMAGE>    File of the program's bytes
+!   <CAPTURE>  File of trace messages
+!
+! Options:
+!       --base <B>   Address of the image's first byte, in hexadecimal
+!       --harts <N>  How many harts a capture of version 1 may have, 1 to 1024 [default: 1]
+!       --lossy      Go on where messages are missing, and print how many are
+!   -h, --help       Print help
+!
+! Example:
+!   tracebench decode --base 80000000 examples/loop/image.bin examples/loop/log.capture
+? 2
+$ tracebench replay --help
+! Send logs through the funnel as a schedule says, and report what comes of them
+!
+! Usage: tracebench replay [OPTIONS] --base <B> <IMAGE> <SCHEDULE> <LOG>...
+!
+! Arguments:
+!   <IMAGE>     File of the program's bytes
+!   <SCHEDULE>  File of the turns: hart numbers, and `c` for taking a message
+!   <LOG>...    Logs, each of one hart, as CSV
+!
+! Options:
+!       --base <B>      Address of the image's first byte, in hexadecimal
+!       --period <N>    Retirements from one periodic synchronisation to the next, 1 to 65535 [default: 1024]
+!       --full          Name addresses in full, not by differences
+!       --capacity <N>  How many messages the funnel holds, 1 to 65536 [default: 16]
+!   -h, --help          Print help
+!
+! Example:
+!   tracebench replay --base 80000000 examples/two_harts/image.bin examples/two_harts/turns.txt \
+!     examples/two_harts/hart00.csv examples/two_harts/hart01.csv
+? 2
+$ tracebench bench --help
+! Send logs through the funnel, each from a thread of its own, and report what comes of them
+!
+! Usage: tracebench bench [OPTIONS] --base <B> <IMAGE> <LOG>...
+!
+! Arguments:
+!   <IMAGE>   File of the program's bytes
+!   <LOG>...  Logs, each of one hart, as CSV
+!
+! Options:
+!       --base <B>      Address of the image's first byte, in hexadecimal
+!       --period <N>    Retirements from one periodic synchronisation to the next, 1 to 65535 [default: 1024]
+!       --full          Name addresses in full, not by differences
+!       --capacity <N>  How many messages the funnel holds, 1 to 65536 [default: 16]
+!   -h, --help          Print help
+!
+! Example:
+!   tracebench bench --base 80000000 examples/two_harts/image.bin \
+!     examples/two_harts/hart00.csv examples/two_harts/hart01.csv
+? 2
+"#;
