@@ -25,7 +25,6 @@ pub mod ReplayTurns
 pub mod FirstItems
 pub mod FirstHarts
 pub mod WorkLemmas
-pub mod AmongLemmas
 pub mod GatheredLemmas
 pub mod StartedLemmas
 pub mod LastPort

@@ -1,23 +1,20 @@
 -- What holds of harts whose workers were started or not, the last first, with one hart more.
 use Rattle.std.proofs.Common.{◌≡◌, ◌≢◌, ◌⊎◌, ◌≤◌, ◌<◌, ◌+◌, ◌∙◌, inl, inr, ⊎_elim, ℕ, Bool, true, false, List, [], ◌∷◌}
-use Rattle.std.proofs.Common.{◌++◌, Some, length, set, slice_get, sym, ap, subst, arith}
+use Rattle.std.proofs.Common.{◌++◌, Some, length, slice_get, sym, ap, subst, arith}
+use Rattle.std.specs.Prelude.{Contains}
 use Rattle.std.proofs.lemmas.Bool.{cases_eq}
-use Rattle.std.proofs.lemmas.Option.{same_Some, slice_get_within}
+use Rattle.std.proofs.lemmas.List.Elements.{Contains-push}
+use Rattle.std.proofs.lemmas.Option.{slice_get_within}
 use Rattle.legalpath.specs.ProgramLog.{ProgramLog}
 use Rattle.payload.specs.declared.mode.Mode.{Mode}
 use Rattle.encoder.specs.SourceAt.{IsAt, SourceAt}
 use Rattle.funnel.specs.Ends.{FunnelId, PortView, new_port}
 use Rattle.bench.specs.Collected.{Collected, HasCollected, HasOutcome, IsSameOf}
 use Rattle.bench.specs.Got.{Got, got_after, kept}
-use Rattle.bench.specs.steps.Gathering.{Among, AreGathered}
+use Rattle.bench.specs.steps.Gathering.{AreGathered, IsGathered}
 use Rattle.bench.specs.steps.Taking.{IsCutOff}
-use Rattle.bench.proofs.AmongLemmas.{among-last, among-more}
-use Rattle.bench.proofs.CollectedLemmas.{set-at}
 use Rattle.bench.proofs.CollectedSame.{collected_same, cut_off_same}
-use Rattle.bench.proofs.ListElements.{slice_get-unwritten}
-
-apart : true ≡ false → ⊥
-apart is = cc
+use Rattle.bench.proofs.ListElements.{Contains-more}
 
 -- A worker with this port, the last one, and a new source of the log of its hart.
 pub new_worker : (funnel : FunnelId) (period : ℕ) (mode : Mode) (place : ℕ) (logs : List ProgramLog)
@@ -33,108 +30,73 @@ new_worker funnel period mode place logs port its source own log same from last 
   ap (λ (s : SourceAt). s.mode) (from ∙ new),
 )
 
-module _ {W : Type 0} (hart_of : W → ℕ) (period : ℕ) (mode : Mode) (logs : List ProgramLog) where
-  -- Nothing came of any hart. Of those from this one on, each whose worker was started is some worker's, and the others
-  -- are cut off.
-  pub record AreBegun (from : ℕ) (started : List Bool) (workers : List W) (collected : Collected) : Type 0 where
+module _ (period : ℕ) (mode : Mode) (logs : List ProgramLog) where
+  -- Nothing came of the hart, and its worker was started, or its thread refused.
+  abbrev IsBegun : ProgramLog → List ℕ → ℕ → Collected → Type 0
+  IsBegun log started hart collected =
+      (Contains started hart × HasCollected period mode log 0 hart collected)
+      ⊎ IsCutOff period mode log 0 hart collected
+
+  -- Nothing came of any hart, and so much is known of those from this one on.
+  pub record AreBegun (from : ℕ) (started : List ℕ) (collected : Collected) : Type 0 where
     pub own : collected.logs ≡ logs
     pub begun : (hart : ℕ) (log : ProgramLog) → hart < from → slice_get logs hart ≡ Some log
         → HasCollected period mode log 0 hart collected
-    pub among : (hart : ℕ) → from ≤ hart → slice_get started hart ≡ Some true
-        → Among (λ w. hart_of w ≡ hart) workers
-    pub running : (hart : ℕ) (log : ProgramLog) → from ≤ hart → slice_get logs hart ≡ Some log
-        → slice_get started hart ≡ Some true → HasCollected period mode log 0 hart collected
-    pub others : (hart : ℕ) (log : ProgramLog) → from ≤ hart → slice_get logs hart ≡ Some log
-        → slice_get started hart ≡ Some false → IsCutOff period mode log 0 hart collected
+    pub each : (hart : ℕ) (log : ProgramLog) → from ≤ hart → slice_get logs hart ≡ Some log
+        → IsBegun log started hart collected
 
   -- Before the first.
-  pub none_begun : (from : ℕ) (started : List Bool) (workers : List W) (collected : Collected) → from ≡ length logs
-      → length started ≡ length logs → collected.logs ≡ logs
+  pub none_begun : (from : ℕ) (started : List ℕ) (collected : Collected) → from ≡ length logs → collected.logs ≡ logs
       → ((hart : ℕ) (log : ProgramLog) → slice_get logs hart ≡ Some log → HasCollected period mode log 0 hart collected)
-      → AreBegun from started workers collected
-  none_begun from started workers collected all flags own begun = record {
+      → AreBegun from started collected
+  none_begun from started collected all own begun = record {
     own = own;
     begun = λ hart log low at. begun hart log at;
-    among = λ hart past on.
-        let within = slice_get_within started hart true on in absurd (omega (arith, all, flags, past, within));
-    running = λ hart log past at on.
-        let within = slice_get_within logs hart log at in absurd (omega (arith, all, past, within));
-    others = λ hart log past at off.
+    each = λ hart log past at.
         let within = slice_get_within logs hart log at in absurd (omega (arith, all, past, within));
   }
 
-  module _ (from place left : ℕ) (started : List Bool) (workers : List W) (old : Collected) (next : from ≡ place + 1)
-      (same_place : place ≡ left) (before : AreBegun from started workers old) (within : place < length started) where
-    -- A flag of those from this one on is the one that was written, or was there before.
-    cases : (flag : Bool) (hart : ℕ) (value : Bool) → left ≤ hart → slice_get (set started place flag) hart ≡ Some value
-        → ((hart ≡ place) × (flag ≡ value))
-        ⊎ ((hart ≢ place) × (from ≤ hart) × (slice_get started hart ≡ Some value))
-    cases flag hart value behind at =
-        ⊎_elim
-        (λ same. inl (
-          same,
-          same_Some flag value
-              (sym (set-at started place flag within) ∙ ap (slice_get (set started place flag)) (sym same) ∙ at),
-        ))
-        (λ other. inr (
-          other,
-          omega (arith, next, same_place, behind, other),
-          sym (slice_get-unwritten started place hart flag other) ∙ at,
-        ))
-        (cases_eq hart place)
-
+  module _ (from place left : ℕ) (started : List ℕ) (old : Collected) (next : from ≡ place + 1)
+      (same_place : place ≡ left) (before : AreBegun from started old) where
     -- With a worker that was started.
-    pub begun_started : (more : List W) (worker : W) → more ≡ workers ++ worker ∷ [] → hart_of worker ≡ place
-        → AreBegun left (set started place true) more old
-    begun_started more worker is its = record {
+    pub begun_started : (more : List ℕ) → more ≡ started ++ place ∷ [] → AreBegun left more old
+    begun_started more is = record {
       own = before.own;
       begun = λ hart log low at. before.begun hart log (omega (arith, next, same_place, low)) at;
-      among = λ hart behind on.
-          subst (Among (λ w. hart_of w ≡ hart)) (sym is)
-          (⊎_elim
-          (λ here. among-last (λ w. hart_of w ≡ hart) workers worker (its ∙ sym here.0))
-          (λ later. among-more (λ w. hart_of w ≡ hart) workers worker (before.among hart later.1 later.2))
-          (cases true hart true behind on));
-      running = λ hart log behind at on.
-          ⊎_elim
-          (λ here. before.begun hart log (let same = here.0 in omega (arith, next, same)) at)
-          (λ later. before.running hart log later.1 at later.2)
-          (cases true hart true behind on);
-      others = λ hart log behind at off.
-          ⊎_elim
-          (λ here. absurd (apart here.1))
-          (λ later. before.others hart log later.1 at later.2)
-          (cases true hart false behind off);
+      each = λ hart log behind at.
+          subst (λ all. IsBegun log all hart old) (sym is)
+          (⊎_elim (λ same. its hart log at same)
+          (λ other. with_one (before.each hart log (omega (arith, next, same_place, behind, other)) at))
+          (cases_eq hart place));
     }
+      where
+        its : (hart : ℕ) (log : ProgramLog) → slice_get logs hart ≡ Some log → hart ≡ place
+            → IsBegun log (started ++ place ∷ []) hart old
+        its hart log at same = inl (
+          subst (Contains (started ++ place ∷ [])) (sym same) (Contains-push started place),
+          before.begun hart log (omega (arith, next, same)) at,
+        )
+
+        with_one : {hart : ℕ} {log : ProgramLog} → IsBegun log started hart old
+            → IsBegun log (started ++ place ∷ []) hart old
+        with_one {hart} (inl runs) = inl (Contains-more started place hart runs.0, runs.1)
+        with_one (inr cut) = inr cut
 
     -- With a hart that is refused.
     pub begun_refused : (new : Collected)
         → ((got : Got) (refused : Bool) → HasOutcome place got refused old → HasOutcome place got true new)
         → ((other : ℕ) → other ≢ place → IsSameOf other old new) → new ≡ record old { harts = new.harts }
-        → AreBegun left (set started place false) workers new
+        → AreBegun left started new
     begun_refused new refused others same = record {
       own = ap (λ (c : Collected). c.logs) same ∙ before.own;
       begun = λ hart log low at.
           stays hart log (λ is. omega (arith, same_place, low, is))
           (before.begun hart log (omega (arith, next, same_place, low)) at);
-      among = λ hart behind on.
-          ⊎_elim
-          (λ here. absurd (apart (sym here.1)))
-          (λ later. before.among hart later.1 later.2)
-          (cases false hart true behind on);
-      running = λ hart log behind at on.
-          ⊎_elim
-          (λ here. absurd (apart (sym here.1)))
-          (λ later. stays hart log later.0
-          (before.running hart log later.1 at later.2))
-          (cases false hart true behind on);
-      others = λ hart log behind at off.
-          ⊎_elim
-          (λ here. subst (λ h. IsCutOff period mode log 0 h new) (sym here.0)
-          (cut log (before.begun place log (omega (arith, next)) (ap (slice_get logs) (sym here.0) ∙ at))))
-          (λ later. cut_off_same period mode 0 hart log old new (others hart later.0) keep
-          (before.others hart log later.1 at later.2))
-          (cases false hart false behind off);
+      each = λ hart log behind at.
+          ⊎_elim (λ here. its hart log at here)
+          (λ other. as_before hart log other
+          (before.each hart log (omega (arith, next, same_place, behind, other)) at))
+          (cases_eq hart place);
     }
       where
         keep : new.keep ≡ old.keep
@@ -145,6 +107,12 @@ module _ {W : Type 0} (hart_of : W → ℕ) (period : ℕ) (mode : Mode) (logs :
         stays hart log other has =
             collected_same period mode 0 hart log old new (others hart other) (ap (λ (c : Collected). c.logs) same)
             keep has
+
+        as_before : (hart : ℕ) (log : ProgramLog) → hart ≢ place → IsBegun log started hart old
+            → IsBegun log started hart new
+        as_before hart log other (inl runs) = inl (runs.0, stays hart log other runs.1)
+        as_before hart log other (inr cut) =
+            inr (cut_off_same period mode 0 hart log old new (others hart other) keep cut)
 
         cut : (log : ProgramLog) → HasCollected period mode log 0 place old → IsCutOff period mode log 0 place new
         cut log has = record {
@@ -157,11 +125,21 @@ module _ {W : Type 0} (hart_of : W → ℕ) (period : ℕ) (mode : Mode) (logs :
               (refused (kept old.keep (got_after period mode log 0)) false has.came);
         }
 
+        its : (hart : ℕ) (log : ProgramLog) → slice_get logs hart ≡ Some log → hart ≡ place
+            → IsBegun log started hart new
+        its hart log at here =
+            inr (subst (λ h. IsCutOff period mode log 0 h new) (sym here)
+            (cut log (before.begun place log (omega (arith, next)) (ap (slice_get logs) (sym here) ∙ at))))
+
   -- All of them.
-  pub all_begun : (started : List Bool) (workers : List W) (collected : Collected)
-      → AreBegun 0 started workers collected → AreGathered period mode logs started [] collected
-  all_begun started workers collected all = record {
+  pub all_begun : (started : List ℕ) (collected : Collected) → AreBegun 0 started collected
+      → AreGathered period mode logs started [] collected
+  all_begun started collected all = record {
     own = all.own;
-    running = λ hart log at on first. inl (all.running hart log (omega arith) at on);
-    others = λ hart log at off. all.others hart log (omega arith) at off;
+    each = λ hart log at. of_one hart log (all.each hart log (omega arith) at);
   }
+    where
+      of_one : (hart : ℕ) (log : ProgramLog) → IsBegun log started hart collected
+          → IsGathered period mode log started [] hart collected
+      of_one hart log (inl runs) = inl (runs.0, λ first. inl runs.1)
+      of_one hart log (inr cut) = inr cut

@@ -1,6 +1,7 @@
 -- Messages that carry the first payloads of a log.
 use Rattle.std.proofs.Common.{◌≡◌, ◌⊎◌, ◌+◌, ℕ, Bool, true, false, List, [], ◌∷◌, ◌++◌, Some}
 use Rattle.std.proofs.Common.{length, set, take, slice_get, refl, sym, ap, subst, inl, inr, ◌∙◌, arith}
+use Rattle.std.specs.Prelude.{Contains}
 use Rattle.std.proofs.lemmas.Bool.{cases_eq}
 use Rattle.std.proofs.lemmas.List.{length-append, length-map, length-set, length_push, map-append}
 use Rattle.std.proofs.lemmas.Option.{same_Some, slice_get_within}
@@ -15,11 +16,9 @@ use Rattle.funnel.specs.Order.{next_message}
 use Rattle.funnel.specs.Payloads.{payloads_in}
 use Rattle.bench.specs.Stopping.{LacksPayloads}
 use Rattle.bench.specs.Working.{AreNotAll, CarryFirst, IsWork}
-use Rattle.bench.specs.steps.Gathering.{Among}
-use Rattle.bench.proofs.AmongLemmas.{among-fewer}
 use Rattle.bench.proofs.CollectedLemmas.{set-at, take-next}
 use Rattle.bench.proofs.FirstItems.{take-front, take-last}
-use Rattle.bench.proofs.ListElements.{slice_get-unwritten}
+use Rattle.bench.proofs.ListElements.{Contains-fewer, slice_get-unwritten}
 
 payloads_joined : (front rest : List Message) → payloads_in (front ++ rest) ≡ payloads_in front ++ payloads_in rest
 payloads_joined front rest = map-append (λ (message : Message). message.payload) front rest
@@ -161,25 +160,24 @@ lacks_noted period mode own_period own_mode logs taken flags place flag own owne
         before hart (sym (slice_get-unwritten flags place hart flag other) ∙ at) log known
 
 -- What was taken of the harts of workers carries the first payloads of their logs, with one worker more settled.
-pub carried_fewer : {W : Type 0} (hart_of : W → ℕ) (period : ℕ) (mode : Mode) (own_period : ℕ) (own_mode : Mode)
-    (logs : List ProgramLog) (taken : List Message) (workers : List W) (worker : W) (own : ProgramLog)
-    → slice_get logs (hart_of worker) ≡ Some own → own_period ≡ period → own_mode ≡ mode
-    → CarryFirst own_period own_mode own (of_hart (hart_of worker) taken) → (hart : ℕ) (log : ProgramLog)
+pub carried_fewer : (period : ℕ) (mode : Mode) (own_period : ℕ) (own_mode : Mode)
+    (logs : List ProgramLog) (taken : List Message) (harts : List ℕ) (last : ℕ) (own : ProgramLog)
+    → slice_get logs last ≡ Some own → own_period ≡ period → own_mode ≡ mode
+    → CarryFirst own_period own_mode own (of_hart last taken) → (hart : ℕ) (log : ProgramLog)
     → slice_get logs hart ≡ Some log
-    → CarryFirst period mode log (of_hart hart taken) ⊎ Among (λ w. hart_of w ≡ hart) (workers ++ worker ∷ [])
-    → CarryFirst period mode log (of_hart hart taken) ⊎ Among (λ w. hart_of w ≡ hart) workers
-carried_fewer hart_of period mode own_period own_mode logs taken workers worker own known same like first hart log at
-    (inl done) = inl done
-carried_fewer hart_of period mode own_period own_mode logs taken workers worker own known same like first hart log at
-    (inr still) =
-    by_rest (among-fewer (λ w. hart_of w ≡ hart) workers worker still)
+    → CarryFirst period mode log (of_hart hart taken) ⊎ Contains (harts ++ last ∷ []) hart
+    → CarryFirst period mode log (of_hart hart taken) ⊎ Contains harts hart
+carried_fewer period mode own_period own_mode logs taken harts last own known same like first hart log at (inl done) =
+    inl done
+carried_fewer period mode own_period own_mode logs taken harts last own known same like first hart log at (inr still) =
+    by_rest (Contains-fewer harts last hart still)
   where
-    by_rest : Among (λ w. hart_of w ≡ hart) workers ⊎ (hart_of worker ≡ hart)
-        → CarryFirst period mode log (of_hart hart taken) ⊎ Among (λ w. hart_of w ≡ hart) workers
+    by_rest : Contains harts hart ⊎ (last ≡ hart)
+        → CarryFirst period mode log (of_hart hart taken) ⊎ Contains harts hart
     by_rest (inl rest) = inr rest
     by_rest (inr here) =
         let its : own ≡ log = same_Some own log (sym known ∙ ap (slice_get logs) here ∙ at) in
         inl (subst (λ h. CarryFirst period mode log (of_hart h taken)) here
-        (subst (λ (l : ProgramLog). CarryFirst period mode l (of_hart (hart_of worker) taken)) its
-        (subst (λ m. CarryFirst period m own (of_hart (hart_of worker) taken)) like
-        (subst (λ p. CarryFirst p own_mode own (of_hart (hart_of worker) taken)) same first))))
+        (subst (λ (l : ProgramLog). CarryFirst period mode l (of_hart last taken)) its
+        (subst (λ m. CarryFirst period m own (of_hart last taken)) like
+        (subst (λ p. CarryFirst p own_mode own (of_hart last taken)) same first))))

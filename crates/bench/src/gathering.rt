@@ -1,12 +1,12 @@
 //! What workers sent, collected and settled.
 
-ghost use Rattle.std.specs.Prelude.{ℕ, ◌≡◌, ◌≤◌, All, Bool, List, length, slice_get, Some, true};
+ghost use Rattle.std.specs.Prelude.{ℕ, ◌≡◌, ◌≤◌, All, Contains, List, length, slice_get, Some, true};
 ghost use Rattle.legalpath.specs.ProgramLog.{ProgramLog};
 ghost use Rattle.payload.specs.declared.mode.Mode.{Mode as AnyMode};
 ghost use Rattle.message.specs.OfHart.{of_hart};
 ghost use Rattle.bench.specs.Stopping.{LacksPayloads};
 ghost use Rattle.bench.specs.Working.{AreNotAll, CarryFirst};
-ghost use Rattle.bench.specs.steps.Gathering.{Among, AreGathered};
+ghost use Rattle.bench.specs.steps.Gathering.{AreGathered, harts_of};
 
 use crate::collecting::Collector;
 use crate::worker::{Payloads, Work, Worker};
@@ -24,7 +24,7 @@ pub(crate) fn collect<A: Allocator + Copy, R: Wait>(
     collector: &mut Collector<'_, '_, A>,
     outlet: &mut Outlet,
 )
-    ensures gathered { (period : ℕ) (mode : AnyMode) (logs : List ProgramLog) (started : List Bool)
+    ensures gathered { (period : ℕ) (mode : AnyMode) (logs : List ProgramLog) (started : List ℕ)
         → AreGathered period mode logs started outlet.old.taken collector.old
         → AreGathered period mode logs started outlet.new.taken collector.new }
     ensures outlet { outlet.new ≡ record outlet.old { taken = outlet.new.taken } }
@@ -48,7 +48,7 @@ fn collect_one<A: Allocator + Copy, R: Wait>(
     collector: &mut Collector<'_, '_, A>,
     outlet: &mut Outlet,
 ) -> Option<bool>
-    ensures gathered { (period : ℕ) (mode : AnyMode) (logs : List ProgramLog) (started : List Bool)
+    ensures gathered { (period : ℕ) (mode : AnyMode) (logs : List ProgramLog) (started : List ℕ)
         → AreGathered period mode logs started outlet.old.taken collector.old
         → AreGathered period mode logs started outlet.new.taken collector.new }
     ensures outlet { outlet.new ≡ record outlet.old { taken = outlet.new.taken } }
@@ -80,7 +80,7 @@ pub(crate) fn settle_all<S: Payloads, A: Allocator, R: Threads>(
     requires none { (hart : ℕ) → ¬ (slice_get handed_back.old hart ≡ Some true) }
     ensures outlet { outlet.new ≡ outlet.old }
     ensures carried { (hart : ℕ) (log : ProgramLog) → slice_get logs.now hart ≡ Some log
-        → Among (λ w. w.promise.port.value.hart ≡ hart) workers.items
+        → Contains (harts_of workers.items) hart
         → CarryFirst period mode log (of_hart hart outlet.old.taken) }
     ensures count { length handed_back.new ≡ length handed_back.old }
     ensures lacks { (hart : ℕ) → slice_get handed_back.new hart ≡ Some true

@@ -156,7 +156,6 @@ fn conduct<'s, 'p, E, A: Allocator + Copy, G: Gate, R: Threads + Wait + Sync>(
 {
     let mut collector = Collector::new(alloc, logs, config.keep)?;
     let mut handed_back = Vec::from_elem(alloc, false, logs.len())?;
-    let mut started = Vec::from_elem(alloc, false, logs.len())?;
     let workers = Vec::with_capacity(alloc, logs.len())?;
     let workers = start_all(
         scope,
@@ -167,7 +166,6 @@ fn conduct<'s, 'p, E, A: Allocator + Copy, G: Gate, R: Threads + Wait + Sync>(
         config.mode,
         ports,
         workers,
-        started.as_mut_slice(),
         &mut collector,
         outlet,
     );

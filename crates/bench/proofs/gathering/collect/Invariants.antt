@@ -1,4 +1,4 @@
-use Rattle.std.proofs.Common.{◌≡◌, ℕ, Bool, List}
+use Rattle.std.proofs.Common.{◌≡◌, ℕ, List}
 use Rattle.legalpath.specs.ProgramLog.{ProgramLog}
 use Rattle.payload.specs.declared.mode.Mode.{Mode}
 use Rattle.bench.specs.steps.Gathering.{AreGathered}
@@ -6,7 +6,7 @@ use Rattle.bench.proofs.gathering.collect.Given as goal
 
 abbrev pub invariant-loop : goal.invariant-loop
 invariant-loop g l = record {
-  gathered : (period : ℕ) (mode : Mode) (logs : List ProgramLog) (started : List Bool)
+  gathered : (period : ℕ) (mode : Mode) (logs : List ProgramLog) (started : List ℕ)
       → AreGathered period mode logs started l.fn.outlet.taken l.fn.collector
       → AreGathered period mode logs started l.outlet.taken l.collector;
   outlet : l.outlet ≡ record l.fn.outlet { taken = l.outlet.taken };

@@ -1,14 +1,15 @@
 -- One worker more is settled: by a lemma on lists, which no tactic finds.
 use Rattle.std.proofs.Common.{◌≡◌, ◌⊎◌, true, IfSome, Some, slice_get, sym, ap, subst, ◌∙◌}
+use Rattle.std.specs.Prelude.{Contains}
 use Rattle.std.specs.declared.thread.PromisedHandle.{PromisedHandle}
-use Rattle.std.proofs.lemmas.List.{length-set}
+use Rattle.std.proofs.lemmas.List.{length-set, map-append}
 use Rattle.std.proofs.lemmas.List.Elements.{All-pop}
 use Rattle.message.specs.OfHart.{of_hart}
 use Rattle.funnel.specs.Ends.{OutletView}
 use Rattle.bench.specs.Working.{AreNotAll, CarryFirst}
 use Rattle.bench.specs.declared.worker.Sending.{Sending}
 use Rattle.bench.specs.declared.worker.Work.{Work}
-use Rattle.bench.specs.steps.Gathering.{Among}
+use Rattle.bench.specs.steps.Gathering.{harts_of}
 use Rattle.bench.proofs.WorkLemmas.{carried_fewer, lacks_noted}
 use Rattle.bench.proofs.gathering.settle_all.Goals as goal
 
@@ -45,10 +46,12 @@ loop-worker-preserved g c =
           own.2 own.3 lacks
           now.invariant.lacks;
       carried = λ hart log at_log among.
-          carried_fewer (λ w. w.promise.port.value.hart) c.args.period c.args.mode source.period source.mode
-          c.args.logs.now
-          c.args.outlet.now.taken c.pop.new.self.items worker source.log own.1 own.2 own.3 first hart log at_log
-          (subst (λ items. CarryFirst c.args.period c.args.mode log (of_hart hart c.args.outlet.now.taken)
-          ⊎ Among (λ w. w.promise.port.value.hart ≡ hart) items) c.in-Some.ensures.items
+          carried_fewer c.args.period c.args.mode source.period source.mode c.args.logs.now c.args.outlet.now.taken
+          (harts_of c.pop.new.self.items) worker.promise.port.value.hart source.log own.1 own.2 own.3 first hart log
+          at_log
+          (subst (λ harts. CarryFirst c.args.period c.args.mode log (of_hart hart c.args.outlet.now.taken)
+          ⊎ Contains harts hart)
+          (ap harts_of c.in-Some.ensures.items
+          ∙ map-append (λ w. w.promise.port.value.hart) c.pop.new.self.items (worker ∷ []))
           (now.invariant.carried hart log at_log among));
     }

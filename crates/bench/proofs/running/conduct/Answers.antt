@@ -1,13 +1,13 @@
 -- What came of harts, by lemmas on collectors, which no tactic finds.
-use Rattle.std.proofs.Common.{◌≡◌, ◌≤◌, ◌∙◌, Some, true, length, slice_get, sym, ap, subst, arith}
+use Rattle.std.proofs.Common.{◌≡◌, ◌≤◌, ◌∙◌, ℕ, List, Some, true, length, slice_get, sym, ap, subst, arith}
 use Rattle.std.proofs.lemmas.Grind.{common_steps}
 use Rattle.funnel.specs.Ends.{OutletView}
 use Rattle.bench.specs.Beginnings.{AreCarried, AreThoseTaken, LackSomeTaken}
 use Rattle.bench.specs.Stopping.{LacksPayloads}
-use Rattle.bench.specs.steps.Gathering.{AreGathered}
+use Rattle.bench.specs.steps.Gathering.{AreGathered, harts_of}
 use Rattle.bench.specs.steps.Taking.{CameUnlessRefused}
 use Rattle.bench.proofs.ReplayEnds.{are_beginnings, are_those_taken, lack_some_taken, none_is_closed}
-use Rattle.bench.proofs.SettledHarts.{are_carried, gathered_taken, handed_back_as}
+use Rattle.bench.proofs.SettledHarts.{gathered_taken, going_carried, handed_back_as}
 use Rattle.bench.proofs.running.conduct.Goals as goal
 
 pub start_all-workers-requires-clause-begun : goal.start_all-workers-requires-clause-begun
@@ -20,43 +20,42 @@ settle_all-requires-clause-workers g c κs within = λ k d low.
     (own.0 ∙ sym (ap (λ (outlet : OutletView). outlet.funnel) c.collect.ensures.outlet), own.1, own.2, own.3)
 
 module _ (g : _) (c : goal.After-drop-handed_back-2 g) where
+  -- The harts whose workers were started.
+  started : List ℕ
+  started = harts_of c.start_all-workers.result.items
+
   -- What was taken of the funnel is gathered.
-  gathered : AreGathered c.args.config.period c.args.config.mode c.args.logs.now c.start_all-workers.new.started
-      c.collect.new.outlet.taken
+  gathered : AreGathered c.args.config.period c.args.config.mode c.args.logs.now started c.collect.new.outlet.taken
       c.collect.new.collector
   gathered =
-      c.collect.ensures.gathered c.args.config.period c.args.config.mode c.args.logs.now c.start_all-workers.new.started
-      (subst (λ taken. AreGathered c.args.config.period c.args.config.mode c.args.logs.now
-      c.start_all-workers.new.started taken
+      c.collect.ensures.gathered c.args.config.period c.args.config.mode c.args.logs.now started
+      (subst (λ taken. AreGathered c.args.config.period c.args.config.mode c.args.logs.now started taken
       c.start_all-workers.new.collector) (sym c.requires.outlet.0) c.start_all-workers.ensures.gathered)
-
-  flags : length c.start_all-workers.new.started ≡ length c.args.logs.now
-  flags = c.start_all-workers.ensures.flags
 
   -- And taken, now that the workers are settled.
   taken : CameUnlessRefused c.args.config.period c.args.config.mode c.args.logs.now c.collect.new.outlet.taken
       c.collect.new.collector
   taken =
-      gathered_taken c.args.config.period c.args.config.mode c.args.logs.now c.start_all-workers.new.started
-      c.collect.new.outlet.taken
-      c.collect.new.collector flags gathered
-      (λ hart log at on. c.settle_all.ensures.carried hart log at (c.start_all-workers.ensures.started hart on))
+      gathered_taken c.args.config.period c.args.config.mode c.args.logs.now started c.collect.new.outlet.taken
+      c.collect.new.collector gathered c.settle_all.ensures.carried
 
   keep : c.collect.new.collector.keep ≡ c.args.config.keep
   keep = c.collect.ensures.keep ∙ c.start_all-workers.ensures.keep ∙ c.in_ok-collector.ensures.made.1
 
 pub stop_of-outcome-requires : goal.stop_of-outcome-requires
 stop_of-outcome-requires g c =
+    let config = c.args.config in
+    let started = harts_of c.start_all-workers.result.items in
     let came =
-    c.collect.ensures.gathered c.args.config.period c.args.config.mode c.args.logs.now c.start_all-workers.new.started
-    (subst (λ taken. AreGathered c.args.config.period c.args.config.mode c.args.logs.now c.start_all-workers.new.started
-    taken c.start_all-workers.new.collector) (sym c.requires.outlet.0) c.start_all-workers.ensures.gathered) in
+    c.collect.ensures.gathered config.period config.mode c.args.logs.now started
+    (subst (λ taken. AreGathered config.period config.mode c.args.logs.now started taken
+    c.start_all-workers.new.collector) (sym c.requires.outlet.0) c.start_all-workers.ensures.gathered) in
     let harts = c.as_slice.ensures.len in
     let flags = c.as_slice-2.ensures.len in
     let count = c.finish-outcome.ensures.count in
     let own = ap length came.own in
     let same = c.settle_all.ensures.count in
-    let slice = c.as_mut_slice-2.ensures.len in
+    let slice = c.as_mut_slice.ensures.len in
     let all = c.in_ok-handed_back.ensures.len in
     let few = c.requires.count in (
       omega (arith, harts, flags, count, own, same, slice, all),
@@ -93,10 +92,9 @@ returns-clause-carried g c =
     subst (λ (outlet : OutletView).
     AreCarried c.args.config c.args.logs.now outlet.taken c.finish-outcome.result.harts.items)
     (sym c.settle_all.ensures.outlet)
-    (are_carried c.args.config c.args.logs.now c.start_all-workers.new.started c.collect.new.outlet.taken
-    c.collect.new.collector c.finish-outcome.result.harts.items (flags g c) (gathered g c)
-    (record { count = ends.count; came = ends.came })
-    (λ hart log at on. c.settle_all.ensures.carried hart log at (c.start_all-workers.ensures.started hart on)))
+    (going_carried c.args.config.period c.args.config.mode c.args.logs.now (started g c) c.collect.new.outlet.taken
+    c.collect.new.collector (gathered g c) c.settle_all.ensures.carried c.finish-outcome.result.harts.items
+    (record { count = ends.count; came = ends.came }))
 
 pub returns-clause-lacks : goal.returns-clause-lacks
 returns-clause-lacks g c =

@@ -1,8 +1,9 @@
 -- The workers that were started, by lemmas on lists, which no tactic finds.
-use Rattle.std.proofs.Common.{◌≡◌, ◌∙◌, Some, length, slice_get, refl, sym, ap, subst, arith}
-use Rattle.std.proofs.lemmas.List.{length-set}
+use Rattle.std.proofs.Common.{◌≡◌, ◌∙◌, ◌++◌, [], ◌∷◌, Some, length, slice_get, refl, sym, ap, subst, arith}
+use Rattle.std.proofs.lemmas.List.{map-append}
 use Rattle.std.proofs.lemmas.Option.{slice_get_read}
-use Rattle.funnel.specs.Ends.{AreNewPorts}
+use Rattle.funnel.specs.Ends.{AreNewPorts, PortView}
+use Rattle.bench.specs.steps.Gathering.{harts_of}
 use Rattle.bench.proofs.LastPort.{last_port}
 use Rattle.bench.proofs.ListElements.{All-pushed}
 use Rattle.bench.proofs.StartedLemmas.{begun_refused, begun_started, new_worker, none_begun}
@@ -21,11 +22,10 @@ loop-port-init g c =
       few = omega (arith, count, all);
       room = omega (arith, count, all, enough, none, few);
       workers = λ k d within. absurd (omega (arith, within, none));
-      flags = c.requires.flags;
       keep = refl;
       harts =
-          none_begun (λ w. w.promise.port.value.hart) c.args.period c.args.mode c.args.logs.now _ c.args.started.now
-          c.args.workers.items c.args.collector.now (count ∙ all) c.requires.flags c.requires.own c.requires.begun;
+          none_begun c.args.period c.args.mode c.args.logs.now _ (harts_of c.args.workers.items) c.args.collector.now
+          (count ∙ all) c.requires.own c.requires.begun;
     }
 
 pub start-requires-after_bounds : goal.start-requires-after_bounds
@@ -45,7 +45,6 @@ loop-port-preserved-in-Some-start g c =
     let count = popped.2 in
     let few = now.few in
     let room = now.room in
-    let flags = now.flags in
     let grown = pushed.len in
     let same = pushed.capacity in
     let known =
@@ -62,13 +61,15 @@ loop-port-preserved-in-Some-start g c =
           × (slice_get c.args.logs.now w.promise.port.value.hart ≡ Some w.promise.source.value.log)
           × (w.promise.source.value.period ≡ c.args.period) × (w.promise.source.value.mode ≡ c.args.mode))
           c.loop-port.workers.items c.push_reserved.new.self.items worker pushed.items now.workers new;
-      flags = length-set c.loop-port.started c.len-hart.result _ ∙ now.flags;
       keep = now.keep;
       harts =
-          begun_started (λ w. w.promise.port.value.hart) c.args.period c.args.mode c.args.logs.now _ c.len-hart.result _
-          c.loop-port.started c.loop-port.workers.items c.loop-port.collector count place now.harts
-          (omega (arith, few, count, flags)) c.push_reserved.new.self.items worker pushed.items
-          (ap (λ port. port.hart) (c.in-Some-start.ensures.0 ∙ popped.1));
+          begun_started c.args.period c.args.mode c.args.logs.now _ c.len-hart.result _
+          (harts_of c.loop-port.workers.items) c.loop-port.collector count place now.harts
+          (harts_of c.push_reserved.new.self.items)
+          (ap harts_of pushed.items
+          ∙ map-append (λ w. w.promise.port.value.hart) c.loop-port.workers.items (worker ∷ [])
+          ∙ ap (λ (port : PortView). harts_of c.loop-port.workers.items ++ port.hart ∷ [])
+          (c.in-Some-start.ensures.0 ∙ popped.1));
     }
 
 pub loop-port-preserved : goal.loop-port-preserved
@@ -80,17 +81,14 @@ loop-port-preserved g c =
     let count = popped.2 in
     let few = now.few in
     let room = now.room in
-    let flags = now.flags in
     record {
       ports = subst (λ n. AreNewPorts c.args.outlet.now.funnel n c.pop.new.self.items) place popped.0;
       few = omega (arith, few, count, place);
       room = omega (arith, room, count, place);
       workers = now.workers;
-      flags = length-set c.loop-port.started c.len-hart.result _ ∙ now.flags;
       keep = ap (λ c. c.keep) c.refuse.ensures.same ∙ now.keep;
       harts =
-          begun_refused (λ w. w.promise.port.value.hart) c.args.period c.args.mode c.args.logs.now _ c.len-hart.result _
-          c.loop-port.started c.loop-port.workers.items c.loop-port.collector count place now.harts
-          (omega (arith, few, count, flags)) c.refuse.new.self c.refuse.ensures.refused c.refuse.ensures.others
-          c.refuse.ensures.same;
+          begun_refused c.args.period c.args.mode c.args.logs.now _ c.len-hart.result _
+          (harts_of c.loop-port.workers.items) c.loop-port.collector count place now.harts c.refuse.new.self
+          c.refuse.ensures.refused c.refuse.ensures.others c.refuse.ensures.same;
     }
