@@ -22,9 +22,9 @@ use crate::outcome::Outcome;
 use crate::sender::{Sender, senders_of};
 use crate::setup::Setup;
 use crate::stop::Stop;
-use funnel::{Core, Turn};
+use funnel::{Core, OpenFault, Turn, opening_fault};
 use legalpath::LegalLog;
-use message::{MOST_CAPACITY, MOST_HARTS};
+use message::MOST_HARTS;
 use std::alloc::Allocator;
 
 /// Sends the messages of logs through a funnel and decodes what is taken of it, in the order of the turns.
@@ -86,19 +86,14 @@ pub(crate) fn fault_of(most: u16, logs: usize, config: Config) -> Option<Setup>
     ensures limits { result ≡ None → limit_fault most logs config.capacity ≡ None }
     ensures period { result ≡ None → 1 ≤ config.period }
 {
-    if logs == 0 {
-        return Some(Setup::NoHarts);
+    match opening_fault(most, logs, config.capacity) {
+        Some(OpenFault::NoHarts) => Some(Setup::NoHarts),
+        Some(OpenFault::TooManyHarts) => Some(Setup::TooManyHarts),
+        Some(OpenFault::Capacity) => Some(Setup::Capacity),
+        Some(OpenFault::Memory) => Some(Setup::Memory),
+        None if config.period == 0 => Some(Setup::Period),
+        None => None,
     }
-    if logs > usize::from(most) {
-        return Some(Setup::TooManyHarts);
-    }
-    if config.capacity == 0 || config.capacity > MOST_CAPACITY {
-        return Some(Setup::Capacity);
-    }
-    if config.period == 0 {
-        return Some(Setup::Period);
-    }
-    None
 }
 
 /// The turn of a hart: it sends its next message, where it has one and the funnel has room.

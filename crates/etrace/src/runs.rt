@@ -6,6 +6,7 @@ pub use bench::{
 };
 pub use funnel::{
     Core, Ended, MOST_PORTS, OpenFault, Outlet, Port, Receipt, SendFault, Settled, Turn, open,
+    opening_fault,
 };
 pub use message::MOST_CAPACITY;
 pub use schedule::{ScheduleFault, read_schedule};

@@ -22,7 +22,7 @@ mod turn;
 
 pub use fault::{Ended, OpenFault, SendFault};
 pub use laws::{every_state_is_lawful, live_channel_is_the_machine};
-pub use limits::MOST_PORTS;
+pub use limits::{MOST_PORTS, opening_fault};
 pub use opening::open;
 pub use outlet::Outlet;
 pub use port::Port;

@@ -12,14 +12,15 @@ pub const MOST_PORTS: u16 = 64;
 /// The most messages that a hart sends.
 pub(crate) const MOST_MESSAGES: u64 = 1 << 32;
 
-/// The first fault of a count of harts, which may be `most` or fewer, and of a capacity; `None` where there is none.
-pub(crate) fn fault_of(most: u16, harts: u16, capacity: u32) -> Option<OpenFault>
+/// Why a funnel is refused for this many harts, of which there may be `most`, and this capacity: the first fault of
+/// these numbers, or `None` where there is none. No memory is taken.
+pub fn opening_fault(most: u16, harts: usize, capacity: u32) -> Option<OpenFault>
     ensures { result ≡ limit_fault most harts capacity }
 {
     if harts == 0 {
         return Some(OpenFault::NoHarts);
     }
-    if harts > most {
+    if harts > usize::from(most) {
         return Some(OpenFault::TooManyHarts);
     }
     if capacity == 0 || capacity > MOST_CAPACITY {

@@ -7,7 +7,7 @@ ghost use Rattle.funnel.specs.declared.fault.OpenFault.{OpenFault as AnyFault};
 ghost use Rattle.funnel.specs.Ends.{new_port, AreNewPorts};
 ghost use Rattle.funnel.specs.steps.Passes.{id_of, knows, taken_by_outlet, IsOutlet};
 
-use crate::limits::{MOST_PORTS, fault_of};
+use crate::limits::{MOST_PORTS, opening_fault};
 use crate::low_water::{Drain, LowWater};
 use crate::rule::{HandOut, Law, Sender, Ticket, View};
 use crate::{OpenFault, Outlet, Port};
@@ -32,7 +32,7 @@ pub fn open<A: Allocator + Clone>(
     ensures refused { (fault : AnyFault) → limit_fault most_ports harts capacity ≡ Some fault → result ≡ Err fault }
     ensures memory { limit_fault most_ports harts capacity ≡ None → IfErr result (λ fault. fault ≡ OpenFault.Memory) }
 {
-    if let Some(fault) = fault_of(MOST_PORTS, harts, capacity) {
+    if let Some(fault) = opening_fault(MOST_PORTS, usize::from(harts), capacity) {
         return Err(fault);
     }
     match opened(alloc, harts, capacity) {

@@ -12,7 +12,7 @@ ghost use Rattle.funnel.specs.Machine.{Funnel, send, take_front};
 ghost use Rattle.funnel.specs.declared.fault.OpenFault.{OpenFault as AnyFault};
 
 use crate::fault::OpenFault;
-use crate::limits::fault_of;
+use crate::limits::opening_fault;
 use message::{MOST_HARTS, Message};
 use std::alloc::{Allocator, Global};
 use std::collections::VecDeque;
@@ -45,7 +45,7 @@ impl<A: Allocator> Core<A> {
         ensures memory { limit_fault (most_harts Two) harts capacity ≡ None
             → IfErr result (λ fault. fault ≡ OpenFault.Memory) }
     {
-        if let Some(fault) = fault_of(MOST_HARTS, harts, capacity) {
+        if let Some(fault) = opening_fault(MOST_HARTS, usize::from(harts), capacity) {
             return Err(fault);
         }
         match VecDeque::with_capacity(alloc, capacity as usize) {
