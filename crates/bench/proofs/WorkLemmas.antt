@@ -2,6 +2,7 @@
 use Rattle.std.proofs.Common.{◌≡◌, ◌⊎◌, ◌+◌, ℕ, Bool, true, false, List, [], ◌∷◌, ◌++◌, Some}
 use Rattle.std.proofs.Common.{length, set, take, slice_get, refl, sym, ap, subst, inl, inr, ◌∙◌, arith}
 use Rattle.std.specs.Prelude.{Contains}
+use Rattle.std.specs.declared.thread.PromisedHandle.{PromisedHandle}
 use Rattle.std.proofs.lemmas.Bool.{cases_eq}
 use Rattle.std.proofs.lemmas.List.{length-append, length-map, length-set, length_push, map-append}
 use Rattle.std.proofs.lemmas.Option.{same_Some, slice_get_within}
@@ -11,11 +12,15 @@ use Rattle.encoder.specs.Payloads.{payloads}
 use Rattle.encoder.specs.SourceAt.{IsAt, SourceAt}
 use Rattle.message.specs.OfHart.{of_hart}
 use Rattle.message.specs.declared.message.Message.{Message}
-use Rattle.funnel.specs.Ends.{IsBeginning, PortView, after_sending}
+use Rattle.funnel.specs.Ends.{FunnelId, IsBeginning, PortView, after_sending}
 use Rattle.funnel.specs.Order.{next_message}
 use Rattle.funnel.specs.Payloads.{payloads_in}
 use Rattle.bench.specs.Stopping.{LacksPayloads}
 use Rattle.bench.specs.Working.{AreNotAll, CarryFirst, IsWork}
+use Rattle.bench.specs.declared.config.Config.{Config}
+use Rattle.bench.specs.declared.worker.Sending.{Sending}
+use Rattle.bench.specs.declared.worker.Work.{Work}
+use Rattle.bench.specs.steps.Gathering.{IsWorkerOf}
 use Rattle.bench.proofs.CollectedLemmas.{set-at, take-next}
 use Rattle.bench.proofs.FirstItems.{take-front, take-last}
 use Rattle.bench.proofs.ListElements.{Contains-fewer, slice_get-unwritten}
@@ -132,52 +137,58 @@ settled_lacks period mode log port receipt taken handed_back work begins back =
     let all = ap length begins.1 ∙ length-append (of_hart receipt.hart taken) begins.0 in
     subst (λ hart. AreNotAll period mode log (of_hart hart taken)) work.1 (omega (arith, few, all))
 
--- With one flag more each hart that is noted as one of which a payload was handed back lacks payloads.
-pub lacks_noted : (period : ℕ) (mode : Mode) (own_period : ℕ) (own_mode : Mode) (logs : List ProgramLog)
-    (taken : List Message) (flags : List Bool) (place : ℕ) (flag : Bool) (own : ProgramLog)
-    → slice_get logs place ≡ Some own → own_period ≡ period → own_mode ≡ mode
-    → (flag ≡ true → AreNotAll own_period own_mode own (of_hart place taken))
-    → ((hart : ℕ) → slice_get flags hart ≡ Some true → LacksPayloads period mode logs taken hart)
-    → (hart : ℕ) → slice_get (set flags place flag) hart ≡ Some true → LacksPayloads period mode logs taken hart
-lacks_noted period mode own_period own_mode logs taken flags place flag own owned same_period same_mode lacks before
-    hart at = λ log known.
-    by_case (cases_eq hart place) log known
-  where
-    by_case : (hart ≡ place) ⊎ (hart ≡ place → ⊥) → (log : ProgramLog) → slice_get logs hart ≡ Some log
-        → AreNotAll period mode log (of_hart hart taken)
-    by_case (inl same) log known =
-        let within = slice_get_within (set flags place flag) hart true at in
-        let size = length-set flags place flag in
-        let written = set-at flags place flag (omega (arith, within, size, same)) in
-        let on : flag ≡ true =
-        same_Some flag true (sym written ∙ ap (slice_get (set flags place flag)) (sym same) ∙ at) in
-        let its : own ≡ log = same_Some own log (sym owned ∙ ap (slice_get logs) (sym same) ∙ known) in
-        subst (λ h. AreNotAll period mode log (of_hart h taken)) (sym same)
-        (subst (λ (l : ProgramLog). AreNotAll period mode l (of_hart place taken)) its
-        (subst (λ m. AreNotAll period m own (of_hart place taken)) same_mode
-        (subst (λ p. AreNotAll p own_mode own (of_hart place taken)) same_period (lacks on))))
-    by_case (inr other) log known =
-        before hart (sym (slice_get-unwritten flags place hart flag other) ∙ at) log known
+module _ {S : Type 0} (at : S → SourceAt) (funnel : FunnelId) (config : Config) (logs : List ProgramLog)
+    (worker : PromisedHandle Work (Sending S)) (own : IsWorkerOf at funnel config logs worker)
+    (taken : List Message) where
+  abbrev source : SourceAt
+  source = at worker.promise.source.value
 
--- What was taken of the harts of workers carries the first payloads of their logs, with one worker more settled.
-pub carried_fewer : (period : ℕ) (mode : Mode) (own_period : ℕ) (own_mode : Mode)
-    (logs : List ProgramLog) (taken : List Message) (harts : List ℕ) (last : ℕ) (own : ProgramLog)
-    → slice_get logs last ≡ Some own → own_period ≡ period → own_mode ≡ mode
-    → CarryFirst own_period own_mode own (of_hart last taken) → (hart : ℕ) (log : ProgramLog)
-    → slice_get logs hart ≡ Some log
-    → CarryFirst period mode log (of_hart hart taken) ⊎ Contains (harts ++ last ∷ []) hart
-    → CarryFirst period mode log (of_hart hart taken) ⊎ Contains harts hart
-carried_fewer period mode own_period own_mode logs taken harts last own known same like first hart log at (inl done) =
-    inl done
-carried_fewer period mode own_period own_mode logs taken harts last own known same like first hart log at (inr still) =
-    by_rest (Contains-fewer harts last hart still)
-  where
-    by_rest : Contains harts hart ⊎ (last ≡ hart)
-        → CarryFirst period mode log (of_hart hart taken) ⊎ Contains harts hart
-    by_rest (inl rest) = inr rest
-    by_rest (inr here) =
-        let its : own ≡ log = same_Some own log (sym known ∙ ap (slice_get logs) here ∙ at) in
-        inl (subst (λ h. CarryFirst period mode log (of_hart h taken)) here
-        (subst (λ (l : ProgramLog). CarryFirst period mode l (of_hart last taken)) its
-        (subst (λ m. CarryFirst period m own (of_hart last taken)) like
-        (subst (λ p. CarryFirst p own_mode own (of_hart last taken)) same first))))
+  abbrev place : ℕ
+  place = worker.promise.port.value.hart
+
+  -- What holds of the worker's log holds of the log of a hart that is its own.
+  of_own : (P : ℕ → Mode → ProgramLog → List Message → Type 0) (hart : ℕ) (log : ProgramLog)
+      → slice_get logs hart ≡ Some log → place ≡ hart
+      → P source.period source.mode source.log (of_hart place taken)
+      → P config.period config.mode log (of_hart hart taken)
+  of_own P hart log known here holds =
+      let its : source.log ≡ log = same_Some source.log log (sym own.log ∙ ap (slice_get logs) here ∙ known) in
+      subst (λ h. P config.period config.mode log (of_hart h taken)) here
+      (subst (λ (l : ProgramLog). P config.period config.mode l (of_hart place taken)) its
+      (subst (λ m. P config.period m source.log (of_hart place taken)) own.mode
+      (subst (λ p. P p source.mode source.log (of_hart place taken)) own.period holds)))
+
+  -- With its flag each hart that is noted as one of which a payload was handed back lacks payloads.
+  pub lacks_noted : (flags : List Bool) (at_place : ℕ) (flag : Bool) → at_place ≡ place
+      → (flag ≡ true → AreNotAll source.period source.mode source.log (of_hart place taken))
+      → ((hart : ℕ) → slice_get flags hart ≡ Some true
+      → LacksPayloads config.period config.mode logs taken hart)
+      → (hart : ℕ) → slice_get (set flags at_place flag) hart ≡ Some true
+      → LacksPayloads config.period config.mode logs taken hart
+  lacks_noted flags at_place flag here lacks before hart noted = λ log known.
+      by_case (cases_eq hart at_place) log known
+    where
+      by_case : (hart ≡ at_place) ⊎ (hart ≡ at_place → ⊥) → (log : ProgramLog) → slice_get logs hart ≡ Some log
+          → AreNotAll config.period config.mode log (of_hart hart taken)
+      by_case (inl same) log known =
+          let within = slice_get_within (set flags at_place flag) hart true noted in
+          let size = length-set flags at_place flag in
+          let written = set-at flags at_place flag (omega (arith, within, size, same)) in
+          let on : flag ≡ true =
+          same_Some flag true (sym written ∙ ap (slice_get (set flags at_place flag)) (sym same) ∙ noted) in
+          of_own AreNotAll hart log known (sym (same ∙ here)) (lacks on)
+      by_case (inr other) log known =
+          before hart (sym (slice_get-unwritten flags at_place hart flag other) ∙ noted) log known
+
+  -- What was taken of the harts of workers carries the first payloads of their logs, with this worker settled.
+  pub carried_fewer : (harts : List ℕ) → CarryFirst source.period source.mode source.log (of_hart place taken)
+      → (hart : ℕ) (log : ProgramLog) → slice_get logs hart ≡ Some log
+      → CarryFirst config.period config.mode log (of_hart hart taken) ⊎ Contains (harts ++ place ∷ []) hart
+      → CarryFirst config.period config.mode log (of_hart hart taken) ⊎ Contains harts hart
+  carried_fewer harts first hart log known (inl done) = inl done
+  carried_fewer harts first hart log known (inr still) = by_rest (Contains-fewer harts place hart still)
+    where
+      by_rest : Contains harts hart ⊎ (place ≡ hart)
+          → CarryFirst config.period config.mode log (of_hart hart taken) ⊎ Contains harts hart
+      by_rest (inl rest) = inr rest
+      by_rest (inr here) = inl (of_own CarryFirst hart log known here first)

@@ -2,17 +2,17 @@
 
 ghost use Rattle.std.specs.Prelude.{ℕ, ◌≡◌, ◌≤◌, All, Contains, List, length, slice_get, Some, true};
 ghost use Rattle.legalpath.specs.ProgramLog.{ProgramLog};
-ghost use Rattle.payload.specs.declared.mode.Mode.{Mode as AnyMode};
 ghost use Rattle.message.specs.OfHart.{of_hart};
 ghost use Rattle.bench.specs.Stopping.{LacksPayloads};
 ghost use Rattle.bench.specs.Working.{AreNotAll, CarryFirst};
-ghost use Rattle.bench.specs.steps.Gathering.{AreGathered, harts_of};
+ghost use Rattle.bench.specs.declared.config.Config.{Config as AnyConfig};
+ghost use Rattle.bench.specs.steps.Gathering.{AreGathered, IsWorkerOf, harts_of};
 
 use crate::collecting::Collector;
+use crate::gate::Gate;
+use crate::plan::Plan;
 use crate::worker::{Payloads, Work, Worker};
 use funnel::Outlet;
-use legalpath::LegalLog;
-use payload::Mode;
 use std::alloc::Allocator;
 use std::sync::Wait;
 use std::thread::Threads;
@@ -24,9 +24,9 @@ pub(crate) fn collect<A: Allocator + Copy, R: Wait>(
     collector: &mut Collector<'_, '_, A>,
     outlet: &mut Outlet,
 )
-    ensures gathered { (period : ℕ) (mode : AnyMode) (logs : List ProgramLog) (started : List ℕ)
-        → AreGathered period mode logs started outlet.old.taken collector.old
-        → AreGathered period mode logs started outlet.new.taken collector.new }
+    ensures gathered { (config : AnyConfig) (logs : List ProgramLog) (started : List ℕ)
+        → AreGathered config logs started outlet.old.taken collector.old
+        → AreGathered config logs started outlet.new.taken collector.new }
     ensures outlet { outlet.new ≡ record outlet.old { taken = outlet.new.taken } }
     ensures keep { collector.new.keep ≡ collector.old.keep }
 {
@@ -48,9 +48,9 @@ fn collect_one<A: Allocator + Copy, R: Wait>(
     collector: &mut Collector<'_, '_, A>,
     outlet: &mut Outlet,
 ) -> Option<bool>
-    ensures gathered { (period : ℕ) (mode : AnyMode) (logs : List ProgramLog) (started : List ℕ)
-        → AreGathered period mode logs started outlet.old.taken collector.old
-        → AreGathered period mode logs started outlet.new.taken collector.new }
+    ensures gathered { (config : AnyConfig) (logs : List ProgramLog) (started : List ℕ)
+        → AreGathered config logs started outlet.old.taken collector.old
+        → AreGathered config logs started outlet.new.taken collector.new }
     ensures outlet { outlet.new ≡ record outlet.old { taken = outlet.new.taken } }
     ensures keep { collector.new.keep ≡ collector.old.keep }
 {
@@ -64,31 +64,26 @@ fn collect_one<A: Allocator + Copy, R: Wait>(
 
 /// Joins the workers and settles their receipts. Notes at each hart's place whether a payload of the hart was handed
 /// back.
-pub(crate) fn settle_all<S: Payloads, A: Allocator, R: Threads>(
-    rt: &R,
-    logs: &[LegalLog<'_>],
-    period: u16,
-    mode: Mode,
+pub(crate) fn settle_all<S: Payloads, A: Allocator, G: Gate, R: Threads>(
+    plan: &Plan<'_, '_, G, R>,
     workers: Vec<Worker<S>, A>,
     handed_back: &mut [bool],
     outlet: &mut Outlet,
 )
-    requires workers { All (λ w. (w.promise.port.value.funnel ≡ outlet.old.funnel)
-        × (slice_get logs.now w.promise.port.value.hart ≡ Some (S.at w.promise.source.value).log)
-        × ((S.at w.promise.source.value).period ≡ period) × ((S.at w.promise.source.value).mode ≡ mode)) workers.items }
-    requires count { length logs.now ≤ length handed_back.old }
+    requires workers { All (IsWorkerOf S.at outlet.old.funnel plan.now.config plan.now.logs.now) workers.items }
+    requires count { length plan.now.logs.now ≤ length handed_back.old }
     requires none { (hart : ℕ) → ¬ (slice_get handed_back.old hart ≡ Some true) }
     ensures outlet { outlet.new ≡ outlet.old }
-    ensures carried { (hart : ℕ) (log : ProgramLog) → slice_get logs.now hart ≡ Some log
+    ensures carried { (hart : ℕ) (log : ProgramLog) → slice_get plan.now.logs.now hart ≡ Some log
         → Contains (harts_of workers.items) hart
-        → CarryFirst period mode log (of_hart hart outlet.old.taken) }
+        → CarryFirst plan.now.config.period plan.now.config.mode log (of_hart hart outlet.old.taken) }
     ensures count { length handed_back.new ≡ length handed_back.old }
     ensures lacks { (hart : ℕ) → slice_get handed_back.new hart ≡ Some true
-        → LacksPayloads period mode logs.now outlet.old.taken hart }
+        → LacksPayloads plan.now.config.period plan.now.config.mode plan.now.logs.now outlet.old.taken hart }
 {
     let mut workers = workers;
     while let Some(worker) = workers.pop() {
-        let (hart, back) = settle(rt, worker, outlet);
+        let (hart, back) = settle(plan.rt, worker, outlet);
         handed_back[usize::from(hart)] = back;
     }
 }

@@ -13,6 +13,7 @@ mod gathering;
 mod hart_line;
 mod laws;
 mod outcome;
+mod plan;
 mod replaying;
 mod reporting;
 mod running;

@@ -13,6 +13,7 @@ use crate::config::Config;
 use crate::gate::Gate;
 use crate::gathering::{collect, settle_all};
 use crate::outcome::Outcome;
+use crate::plan::Plan;
 use crate::replaying::fault_of;
 use crate::setup::Setup;
 use crate::starting::start_all;
@@ -120,7 +121,13 @@ pub fn run_on<A: Allocator + Copy, G: Gate, R: Threads + Wait + Sync>(
             ensures untouched { OnErr result.0 (result.1.now ≡ outlet.entry.now) }
             ensures funnel { result.1.now ≡ record outlet.entry.now { taken = result.1.now.taken } }
         {
-            let outcome = conduct(scope, rt, alloc, logs, config, gate, ports, outlet);
+            let plan = Plan {
+                logs,
+                config,
+                gate,
+                rt,
+            };
+            let outcome = conduct(scope, &plan, alloc, ports, outlet);
             (outcome, outlet)
         },
     );
@@ -131,54 +138,32 @@ pub fn run_on<A: Allocator + Copy, G: Gate, R: Threads + Wait + Sync>(
 /// Starts the workers, collects what they send, and settles their receipts.
 fn conduct<'s, 'p, E, A: Allocator + Copy, G: Gate, R: Threads + Wait + Sync>(
     scope: &Scope<'s, E>,
-    rt: &'s R,
+    plan: &Plan<'s, 'p, G, R>,
     alloc: A,
-    logs: &'s [LegalLog<'p>],
-    config: Config,
-    gate: &'s G,
     ports: Vec<Port>,
     outlet: &mut Outlet,
 ) -> Result<Outcome<A>, AllocError>
-    requires period { 1 ≤ config.period }
-    requires ports { AreNewPorts outlet.old.funnel (length logs.now) ports.items }
-    requires outlet { (outlet.old.taken ≡ []) × (outlet.old.made ≡ length logs.now) }
-    requires count { length logs.now ≤ most_ports }
-    ensures beginnings { IfOk result (λ outcome. AreBeginnings config logs.now outcome.harts.items) }
-    ensures taken { IfOk result (λ outcome. AreThoseTaken config logs.now outlet.new.taken outcome.harts.items) }
-    ensures carried { IfOk result (λ outcome. AreCarried config logs.now outlet.new.taken outcome.harts.items) }
+    requires period { 1 ≤ plan.now.config.period }
+    requires ports { AreNewPorts outlet.old.funnel (length plan.now.logs.now) ports.items }
+    requires outlet { (outlet.old.taken ≡ []) × (outlet.old.made ≡ length plan.now.logs.now) }
+    requires count { length plan.now.logs.now ≤ most_ports }
+    ensures beginnings { IfOk result (λ outcome. AreBeginnings plan.now.config plan.now.logs.now outcome.harts.items) }
+    ensures taken { IfOk result (λ outcome. AreThoseTaken plan.now.config plan.now.logs.now outlet.new.taken outcome.harts.items) }
+    ensures carried { IfOk result (λ outcome. AreCarried plan.now.config plan.now.logs.now outlet.new.taken outcome.harts.items) }
     ensures lacks { IfOk result (λ outcome. LackSomeTaken outlet.new.taken outcome.harts.items) }
     ensures stop { IfOk result (λ outcome. NamesOpen outcome.stop outcome.harts.items) }
     ensures refused_harts { IfOk result (λ outcome. NoRefusedIsClosed outcome.harts.items) }
     ensures handed_back { IfOk result (λ outcome.
-        IfHandedBack (LacksPayloads config.period config.mode logs.now outlet.new.taken) outcome.stop) }
+        IfHandedBack (LacksPayloads plan.now.config.period plan.now.config.mode plan.now.logs.now outlet.new.taken) outcome.stop) }
     ensures untouched { OnErr result (outlet.new ≡ outlet.old) }
     ensures funnel { outlet.new ≡ record outlet.old { taken = outlet.new.taken } }
 {
-    let mut collector = Collector::new(alloc, logs, config.keep)?;
-    let mut handed_back = Vec::from_elem(alloc, false, logs.len())?;
-    let workers = Vec::with_capacity(alloc, logs.len())?;
-    let workers = start_all(
-        scope,
-        rt,
-        gate,
-        logs,
-        config.period,
-        config.mode,
-        ports,
-        workers,
-        &mut collector,
-        outlet,
-    );
-    collect(rt, workers.len(), &mut collector, outlet);
-    settle_all(
-        rt,
-        logs,
-        config.period,
-        config.mode,
-        workers,
-        handed_back.as_mut_slice(),
-        outlet,
-    );
+    let mut collector = Collector::new(alloc, plan.logs, plan.config.keep)?;
+    let mut handed_back = Vec::from_elem(alloc, false, plan.logs.len())?;
+    let workers = Vec::with_capacity(alloc, plan.logs.len())?;
+    let workers = start_all(scope, plan, ports, workers, &mut collector, outlet);
+    collect(plan.rt, workers.len(), &mut collector, outlet);
+    settle_all(plan, workers, handed_back.as_mut_slice(), outlet);
     let mut outcome = collector.finish();
     outcome.stop = stop_of(outcome.harts.as_slice(), handed_back.as_slice());
     Ok(outcome)

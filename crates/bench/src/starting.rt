@@ -5,15 +5,14 @@ ghost use Rattle.legalpath.specs.ProgramLog.{ProgramLog};
 ghost use Rattle.funnel.specs.Ends.{AreNewPorts};
 ghost use Rattle.funnel.specs.Limits.{most_ports};
 ghost use Rattle.bench.specs.Collected.{HasCollected};
-ghost use Rattle.bench.specs.steps.Gathering.{AreGathered, harts_of};
+ghost use Rattle.bench.specs.steps.Gathering.{AreGathered, IsWorkerOf, harts_of};
 
 use crate::collecting::Collector;
 use crate::gate::Gate;
+use crate::plan::Plan;
 use crate::worker::{Worker, start};
 use encoder::Source;
 use funnel::{Outlet, Port};
-use legalpath::LegalLog;
-use payload::Mode;
 use std::alloc::Allocator;
 use std::sync::Wait;
 use std::thread::Scope;
@@ -21,41 +20,37 @@ use std::thread::Scope;
 /// Starts the worker of each hart, the last first. Where the thread of a worker is refused, the collector notes it.
 pub(crate) fn start_all<'s, 'p, E, A: Allocator + Copy, G: Gate, R: Wait + Sync>(
     scope: &Scope<'s, E>,
-    rt: &'s R,
-    gate: &'s G,
-    logs: &'s [LegalLog<'p>],
-    period: u16,
-    mode: Mode,
+    plan: &Plan<'s, 'p, G, R>,
     ports: Vec<Port>,
     mut workers: Vec<Worker<Source<'s, 'p>>, A>,
     collector: &mut Collector<'_, '_, A>,
     outlet: &Outlet,
 ) -> Vec<Worker<Source<'s, 'p>>, A>
-    requires period { 1 ≤ period }
-    requires count { length logs.now ≤ most_ports }
-    requires ports { AreNewPorts outlet.now.funnel (length logs.now) ports.items }
-    requires room { (length logs.now ≤ vec_capacity workers) × (workers.items ≡ []) }
-    requires own { collector.old.logs ≡ logs.now }
-    requires begun { (hart : ℕ) (log : ProgramLog) → slice_get logs.now hart ≡ Some log
-        → HasCollected period mode log 0 hart collector.old }
-    ensures workers { All (λ w. (w.promise.port.value.funnel ≡ outlet.now.funnel)
-        × (slice_get logs.now w.promise.port.value.hart ≡ Some w.promise.source.value.log)
-        × (w.promise.source.value.period ≡ period) × (w.promise.source.value.mode ≡ mode)) result.items }
-    ensures gathered { AreGathered period mode logs.now (harts_of result.items) [] collector.new }
+    requires period { 1 ≤ plan.now.config.period }
+    requires count { length plan.now.logs.now ≤ most_ports }
+    requires ports { AreNewPorts outlet.now.funnel (length plan.now.logs.now) ports.items }
+    requires room { (length plan.now.logs.now ≤ vec_capacity workers) × (workers.items ≡ []) }
+    requires own { collector.old.logs ≡ plan.now.logs.now }
+    requires begun { (hart : ℕ) (log : ProgramLog) → slice_get plan.now.logs.now hart ≡ Some log
+        → HasCollected plan.now.config.period plan.now.config.mode log 0 hart collector.old }
+    ensures workers { All (IsWorkerOf (λ source. source) outlet.now.funnel plan.now.config plan.now.logs.now)
+        result.items }
+    ensures gathered { AreGathered plan.now.config plan.now.logs.now (harts_of result.items) [] collector.new }
     ensures keep { collector.new.keep ≡ collector.old.keep }
 {
     let mut ports = ports;
     while let Some(port) = ports.pop() {
         let hart = ports.len();
-        let log = &logs[hart];
+        let log = &plan.logs[hart];
+        let source = Source::new(log, plan.config.period, plan.config.mode);
         let most = log.events().len() + 2;
         match start(
             scope,
-            rt,
-            gate,
+            plan.rt,
+            plan.gate,
             hart as u16,
             port,
-            Source::new(log, period, mode),
+            source,
             most,
         ) {
             Some(worker) => workers.push_reserved(worker),

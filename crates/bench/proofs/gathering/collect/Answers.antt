@@ -6,9 +6,9 @@ use Rattle.bench.proofs.gathering.collect.Goals as goal
 
 pub loop-preserved : goal.loop-preserved
 loop-preserved g c = record {
-  gathered = λ period mode logs started before.
-      c.collect_one.ensures.gathered period mode logs started
-      (c.loop.invariant.gathered period mode logs started before);
+  gathered = λ config logs started before.
+      c.collect_one.ensures.gathered config logs started
+      (c.loop.invariant.gathered config logs started before);
   outlet =
       c.collect_one.ensures.outlet
       ∙ ap (λ (outlet : OutletView). record outlet { taken = c.collect_one.new.outlet.taken }) c.loop.invariant.outlet;
@@ -16,11 +16,11 @@ loop-preserved g c = record {
 }
 
 pub returns-clause-gathered : goal.returns-clause-gathered
-returns-clause-gathered g c = λ period mode logs started before.
-    let now = c.loop.invariant.gathered period mode logs started before in
+returns-clause-gathered g c = λ config logs started before.
+    let now = c.loop.invariant.gathered config logs started before in
     elim c.match-next.branch [
       | in-None w ↦ rw (w.collector-is, w.outlet-is) now
       | in-Some+then-left-eq0 w ↦ rw (w.collector-is, w.outlet-is) now
       | in-Some+else-left-eq0+in_default w ↦
-          rw (w.collector-is, w.outlet-is) (w.collect_one.ensures.gathered period mode logs started now)
+          rw (w.collector-is, w.outlet-is) (w.collect_one.ensures.gathered config logs started now)
     ]

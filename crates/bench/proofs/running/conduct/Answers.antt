@@ -7,48 +7,53 @@ use Rattle.bench.specs.Stopping.{LacksPayloads}
 use Rattle.bench.specs.steps.Gathering.{AreGathered, harts_of}
 use Rattle.bench.specs.steps.Taking.{CameUnlessRefused}
 use Rattle.bench.proofs.ReplayEnds.{are_beginnings, are_those_taken, lack_some_taken, none_is_closed}
-use Rattle.bench.proofs.SettledHarts.{gathered_taken, going_carried, handed_back_as}
+use Rattle.bench.proofs.SettledHarts.{are_carried, gathered_taken, handed_back_as}
 use Rattle.bench.proofs.running.conduct.Goals as goal
 
 pub start_all-workers-requires-clause-begun : goal.start_all-workers-requires-clause-begun
 start_all-workers-requires-clause-begun g c κs within = λ hart log at.
-    c.in_ok-collector.ensures.begun c.args.config.period c.args.config.mode hart log at
+    c.in_ok-collector.ensures.begun c.args.plan.now.config.period c.args.plan.now.config.mode hart log at
 
 pub settle_all-requires-clause-workers : goal.settle_all-requires-clause-workers
 settle_all-requires-clause-workers g c κs within = λ k d low.
     let own = c.start_all-workers.ensures.workers k d low in
-    (own.0 ∙ sym (ap (λ (outlet : OutletView). outlet.funnel) c.collect.ensures.outlet), own.1, own.2, own.3)
+    record {
+      port = own.port ∙ sym (ap (λ (outlet : OutletView). outlet.funnel) c.collect.ensures.outlet);
+      log = own.log;
+      period = own.period;
+      mode = own.mode;
+    }
 
 module _ (g : _) (c : goal.After-drop-handed_back-2 g) where
   -- The harts whose workers were started.
-  started : List ℕ
+  abbrev started : List ℕ
   started = harts_of c.start_all-workers.result.items
 
   -- What was taken of the funnel is gathered.
-  gathered : AreGathered c.args.config.period c.args.config.mode c.args.logs.now started c.collect.new.outlet.taken
+  gathered : AreGathered c.args.plan.now.config c.args.plan.now.logs.now started c.collect.new.outlet.taken
       c.collect.new.collector
   gathered =
-      c.collect.ensures.gathered c.args.config.period c.args.config.mode c.args.logs.now started
-      (subst (λ taken. AreGathered c.args.config.period c.args.config.mode c.args.logs.now started taken
+      c.collect.ensures.gathered c.args.plan.now.config c.args.plan.now.logs.now started
+      (subst (λ taken. AreGathered c.args.plan.now.config c.args.plan.now.logs.now started taken
       c.start_all-workers.new.collector) (sym c.requires.outlet.0) c.start_all-workers.ensures.gathered)
 
   -- And taken, now that the workers are settled.
-  taken : CameUnlessRefused c.args.config.period c.args.config.mode c.args.logs.now c.collect.new.outlet.taken
+  taken : CameUnlessRefused c.args.plan.now.config.period c.args.plan.now.config.mode c.args.plan.now.logs.now c.collect.new.outlet.taken
       c.collect.new.collector
   taken =
-      gathered_taken c.args.config.period c.args.config.mode c.args.logs.now started c.collect.new.outlet.taken
+      gathered_taken c.args.plan.now.config c.args.plan.now.logs.now started c.collect.new.outlet.taken
       c.collect.new.collector gathered c.settle_all.ensures.carried
 
-  keep : c.collect.new.collector.keep ≡ c.args.config.keep
+  keep : c.collect.new.collector.keep ≡ c.args.plan.now.config.keep
   keep = c.collect.ensures.keep ∙ c.start_all-workers.ensures.keep ∙ c.in_ok-collector.ensures.made.1
 
 pub stop_of-outcome-requires : goal.stop_of-outcome-requires
 stop_of-outcome-requires g c =
-    let config = c.args.config in
+    let config = c.args.plan.now.config in
     let started = harts_of c.start_all-workers.result.items in
     let came =
-    c.collect.ensures.gathered config.period config.mode c.args.logs.now started
-    (subst (λ taken. AreGathered config.period config.mode c.args.logs.now started taken
+    c.collect.ensures.gathered config c.args.plan.now.logs.now started
+    (subst (λ taken. AreGathered config c.args.plan.now.logs.now started taken
     c.start_all-workers.new.collector) (sym c.requires.outlet.0) c.start_all-workers.ensures.gathered) in
     let harts = c.as_slice.ensures.len in
     let flags = c.as_slice-2.ensures.len in
@@ -65,14 +70,14 @@ stop_of-outcome-requires g c =
 pub returns-clause-beginnings : goal.returns-clause-beginnings
 returns-clause-beginnings g c =
     let ends = c.finish-outcome.ensures in
-    are_beginnings c.args.config c.args.logs.now c.collect.new.outlet.taken c.collect.new.collector
+    are_beginnings c.args.plan.now.config c.args.plan.now.logs.now c.collect.new.outlet.taken c.collect.new.collector
     c.finish-outcome.result.harts.items c.in_ok-collector.ensures.legal (keep g c) (taken g c)
     (record { count = ends.count; came = ends.came })
 
 pub returns-clause-refused_harts : goal.returns-clause-refused_harts
 returns-clause-refused_harts g c =
     let ends = c.finish-outcome.ensures in
-    none_is_closed c.args.config c.args.logs.now c.collect.new.outlet.taken c.collect.new.collector
+    none_is_closed c.args.plan.now.config c.args.plan.now.logs.now c.collect.new.outlet.taken c.collect.new.collector
     c.finish-outcome.result.harts.items c.in_ok-collector.ensures.legal (keep g c) (taken g c)
     (record { count = ends.count; came = ends.came })
 
@@ -80,9 +85,9 @@ pub returns-clause-taken : goal.returns-clause-taken
 returns-clause-taken g c =
     let ends = c.finish-outcome.ensures in
     subst (λ (outlet : OutletView).
-    AreThoseTaken c.args.config c.args.logs.now outlet.taken c.finish-outcome.result.harts.items)
+    AreThoseTaken c.args.plan.now.config c.args.plan.now.logs.now outlet.taken c.finish-outcome.result.harts.items)
     (sym c.settle_all.ensures.outlet)
-    (are_those_taken c.args.config c.args.logs.now c.collect.new.outlet.taken c.collect.new.collector
+    (are_those_taken c.args.plan.now.config c.args.plan.now.logs.now c.collect.new.outlet.taken c.collect.new.collector
     c.finish-outcome.result.harts.items c.in_ok-collector.ensures.legal (keep g c) (taken g c)
     (record { count = ends.count; came = ends.came }))
 
@@ -90,9 +95,9 @@ pub returns-clause-carried : goal.returns-clause-carried
 returns-clause-carried g c =
     let ends = c.finish-outcome.ensures in
     subst (λ (outlet : OutletView).
-    AreCarried c.args.config c.args.logs.now outlet.taken c.finish-outcome.result.harts.items)
+    AreCarried c.args.plan.now.config c.args.plan.now.logs.now outlet.taken c.finish-outcome.result.harts.items)
     (sym c.settle_all.ensures.outlet)
-    (going_carried c.args.config.period c.args.config.mode c.args.logs.now (started g c) c.collect.new.outlet.taken
+    (are_carried c.args.plan.now.config c.args.plan.now.logs.now (started g c) c.collect.new.outlet.taken
     c.collect.new.collector (gathered g c) c.settle_all.ensures.carried c.finish-outcome.result.harts.items
     (record { count = ends.count; came = ends.came }))
 
@@ -101,17 +106,18 @@ returns-clause-lacks g c =
     let ends = c.finish-outcome.ensures in
     subst (λ (outlet : OutletView). LackSomeTaken outlet.taken c.finish-outcome.result.harts.items)
     (sym c.settle_all.ensures.outlet)
-    (lack_some_taken c.args.config c.args.logs.now c.collect.new.outlet.taken c.collect.new.collector
+    (lack_some_taken c.args.plan.now.config c.args.plan.now.logs.now c.collect.new.outlet.taken c.collect.new.collector
     c.finish-outcome.result.harts.items c.in_ok-collector.ensures.legal (keep g c) (taken g c)
     (record { count = ends.count; came = ends.came }))
 
 pub returns-clause-handed_back : goal.returns-clause-handed_back
 returns-clause-handed_back g c =
-    let logs = c.args.logs.now in
+    let config = c.args.plan.now.config in
+    let logs = c.args.plan.now.logs.now in
     let flags : c.as_slice-2.result.now ≡ c.settle_all.new.handed_back = grind (arith, common_steps) in
-    handed_back_as _ (LacksPayloads c.args.config.period c.args.config.mode logs c.settle_all.new.outlet.taken)
+    handed_back_as _ (LacksPayloads config.period config.mode logs c.settle_all.new.outlet.taken)
     c.stop_of-outcome.result
-    (λ hart at. subst (λ (outlet : OutletView). LacksPayloads c.args.config.period c.args.config.mode logs outlet.taken
-    hart) (sym c.settle_all.ensures.outlet)
+    (λ hart at. subst (λ (outlet : OutletView). LacksPayloads config.period config.mode logs outlet.taken hart)
+    (sym c.settle_all.ensures.outlet)
     (c.settle_all.ensures.lacks hart (subst (λ some. slice_get some hart ≡ Some true) flags at)))
     c.stop_of-outcome.ensures.back

@@ -2,8 +2,9 @@
 use Rattle.std.proofs.Common.{◌≡◌, ◌∙◌, ◌++◌, [], ◌∷◌, Some, length, slice_get, refl, sym, ap, subst, arith}
 use Rattle.std.proofs.lemmas.List.{map-append}
 use Rattle.std.proofs.lemmas.Option.{slice_get_read}
+use Rattle.encoder.specs.SourceAt.{SourceAt}
 use Rattle.funnel.specs.Ends.{AreNewPorts, PortView}
-use Rattle.bench.specs.steps.Gathering.{harts_of}
+use Rattle.bench.specs.steps.Gathering.{IsWorkerOf, harts_of}
 use Rattle.bench.proofs.LastPort.{last_port}
 use Rattle.bench.proofs.ListElements.{All-pushed}
 use Rattle.bench.proofs.StartedLemmas.{begun_refused, begun_started, new_worker, none_begun}
@@ -24,7 +25,7 @@ loop-port-init g c =
       workers = λ k d within. absurd (omega (arith, within, none));
       keep = refl;
       harts =
-          none_begun c.args.period c.args.mode c.args.logs.now _ (harts_of c.args.workers.items) c.args.collector.now
+          none_begun c.args.plan.now.config c.args.plan.now.logs.now _ (harts_of c.args.workers.items) c.args.collector.now
           (count ∙ all) c.requires.own c.requires.begun;
     }
 
@@ -32,7 +33,7 @@ pub start-requires-after_bounds : goal.start-requires-after_bounds
 start-requires-after_bounds g c κs within =
     let popped =
     last_port _ _ _ _ _ c.in-Some.port c.loop-port.invariant.ports c.in-Some.ensures.items c.pop.new.self.ok.0 in
-    (ap (λ at. at.number) c.new.ensures, ap (λ port. port.sent) popped.1)
+    (ap (λ at. at.number) c.new-source.ensures, ap (λ port. port.sent) popped.1)
 
 pub loop-port-preserved-in-Some-start : goal.loop-port-preserved-in-Some-start
 loop-port-preserved-in-Some-start g c =
@@ -48,22 +49,22 @@ loop-port-preserved-in-Some-start g c =
     let grown = pushed.len in
     let same = pushed.capacity in
     let known =
-    slice_get_read c.args.logs.now _ c.len-hart.result c.index-logs-hart.result refl (omega (arith, count, few))
+    slice_get_read c.args.plan.now.logs.now _ c.len-hart.result c.index-logs-hart.result refl (omega (arith, count, few))
     c.index-logs-hart.is in
+    let at : SourceAt → SourceAt = λ source. source in
     let new =
-    new_worker _ _ _ _ _ _ _ _ _ _ c.in-Some-start.ensures.0 c.in-Some-start.ensures.1 popped.1 c.new.ensures known in
+    new_worker at c.args.outlet.now.funnel c.args.plan.now.config c.args.plan.now.logs.now worker _ _ _ _
+    c.in-Some-start.ensures.0 c.in-Some-start.ensures.1 popped.1 c.new-source.ensures known in
     record {
       ports = subst (λ n. AreNewPorts c.args.outlet.now.funnel n c.pop.new.self.items) place popped.0;
       few = omega (arith, few, count, place);
       room = omega (arith, room, count, place, grown, same);
       workers =
-          All-pushed (λ w. (w.promise.port.value.funnel ≡ c.args.outlet.now.funnel)
-          × (slice_get c.args.logs.now w.promise.port.value.hart ≡ Some w.promise.source.value.log)
-          × (w.promise.source.value.period ≡ c.args.period) × (w.promise.source.value.mode ≡ c.args.mode))
+          All-pushed (IsWorkerOf at c.args.outlet.now.funnel c.args.plan.now.config c.args.plan.now.logs.now)
           c.loop-port.workers.items c.push_reserved.new.self.items worker pushed.items now.workers new;
       keep = now.keep;
       harts =
-          begun_started c.args.period c.args.mode c.args.logs.now _ c.len-hart.result _
+          begun_started c.args.plan.now.config c.args.plan.now.logs.now _ c.len-hart.result _
           (harts_of c.loop-port.workers.items) c.loop-port.collector count place now.harts
           (harts_of c.push_reserved.new.self.items)
           (ap harts_of pushed.items
@@ -88,7 +89,7 @@ loop-port-preserved g c =
       workers = now.workers;
       keep = ap (λ c. c.keep) c.refuse.ensures.same ∙ now.keep;
       harts =
-          begun_refused c.args.period c.args.mode c.args.logs.now _ c.len-hart.result _
+          begun_refused c.args.plan.now.config c.args.plan.now.logs.now _ c.len-hart.result _
           (harts_of c.loop-port.workers.items) c.loop-port.collector count place now.harts c.refuse.new.self
           c.refuse.ensures.refused c.refuse.ensures.others c.refuse.ensures.same;
     }
