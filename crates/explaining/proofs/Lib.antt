@@ -1,0 +1,2 @@
+pub mod DigitsLemmas
+mod WorkedLines

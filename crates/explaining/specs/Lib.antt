@@ -1,0 +1,4 @@
+pub mod Digits
+pub mod Standing
+pub mod Following
+pub mod Explanation

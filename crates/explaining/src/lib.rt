@@ -1,0 +1,13 @@
+//! Why a row of a log is illegal, in a line of text: what stands at the row, or at the row before, and what may stand
+//! there. The facts are those that `legalpath` judges by. No call takes memory.
+#![tactic(auto)]
+
+mod code;
+mod following;
+mod line;
+mod retirement;
+mod standing;
+mod trap;
+mod writing;
+
+pub use writing::explain;
