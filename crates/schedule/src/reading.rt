@@ -27,18 +27,14 @@ pub fn read_schedule<A: Allocator>(
     let mut word = Word::Empty;
     for byte in text {
         if is_blank(*byte) {
-            if let Err(why) = add(&mut turns, word) {
-                return Err(why);
-            }
+            add(&mut turns, word)?;
             word = Word::Empty;
         } else {
             word = word.with_byte(harts, *byte);
         }
     }
-    match add(&mut turns, word) {
-        Ok(()) => Ok(turns),
-        Err(why) => Err(why),
-    }
+    add(&mut turns, word)?;
+    Ok(turns)
 }
 
 /// Whether a byte parts words.
@@ -54,12 +50,11 @@ fn add<A: Allocator>(turns: &mut Vec<Turn, A>, word: Word) -> Result<(), Schedul
     ensures faults { IfErr result (λ why.
         (why ≡ ScheduleFault.Memory) ⊎ (turn_at (vec_len turns.old + 1) word ≡ Err why)) }
 {
-    match word.turn(turns.len() + 1) {
-        Ok(None) => Ok(()),
-        Ok(Some(turn)) => match turns.push(turn) {
+    match word.turn(turns.len() + 1)? {
+        Some(turn) => match turns.push(turn) {
             Ok(()) => Ok(()),
             Err(_) => Err(ScheduleFault::Memory),
         },
-        Err(why) => Err(why),
+        None => Ok(()),
     }
 }
