@@ -123,10 +123,7 @@ fn message_in_front(bytes: &[u8]) -> Result<Option<Message>, MessageFault>
         return Err(MessageFault::Short);
     }
     let (head, rest) = bytes.split_at(HEAD);
-    let length = match payload_length(head) {
-        Ok(length) => length,
-        Err(fault) => return Err(fault),
-    };
+    let length = payload_length(head)?;
     if rest.len() < length {
         return Err(MessageFault::Short);
     }

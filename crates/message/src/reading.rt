@@ -132,10 +132,7 @@ fn read_payload<R: Read>(r: &mut R, head: &[u8]) -> Result<Message, MessageFault
     ensures never_write { IfErr result (λ fault. fault ≢ MessageFault.Write) }
     ensures never_bad_header { IfErr result (λ fault. fault ≢ MessageFault.BadHeader) }
 {
-    let length = match payload_length(head) {
-        Ok(length) => length,
-        Err(fault) => return Err(fault),
-    };
+    let length = payload_length(head)?;
     let mut bytes = [0; MOST_BYTES];
     if fill(r, &mut bytes[..length])? < length {
         return Err(MessageFault::Short);

@@ -11,9 +11,9 @@ use Rattle.message.proofs.reading.read_payload.Goals as goal
 pub returns-then-branch-length-clause-short : goal.returns-then-branch-length-clause-short
 returns-then-branch-length-clause-short g c =
     let filled = c.in_ok-fill.ensures.filled in
-    let room : length c.fill.new.room ≡ c.in-Ok.length = search rules in
+    let room : length c.fill.new.room ≡ c.in_ok-length.length = search rules in
     let bytes : AreBytes c.args.head.now = λ i. omega (arith, c.type_inv.head i) in
-    let counted = c.in-Ok.ensures.length in
+    let counted = c.in_ok-length.ensures.length in
     λ _. Consumes-whole _ _ _ (λ rest. IsCut (c.args.head.now ++ rest)) filled.consumed
     (filled.ended (omega (arith, room, c.if-branch-length.true)))
     (IsCut-payload c.args.head.now c.fill.new.room c.in_ok-fill.field-0 c.requires bytes filled.bytes (room ∙ counted.0)
@@ -22,10 +22,10 @@ returns-then-branch-length-clause-short g c =
 pub returns-clause-head : goal.returns-clause-head
 returns-clause-head g c =
     let bytes : AreBytes c.args.head.now = λ i. omega (arith, c.type_inv.head i) in
-    let room : length c.fill.new.room ≡ c.in-Ok.length = search rules in
+    let room : length c.fill.new.room ≡ c.in_ok-length.length = search rules in
     let made = c.message_of.ensures.value in
-    let payload : length c.message_of.result.payload ≡ c.in-Ok.length =
-    ap (λ m. length m.payload) made ∙ ap length (take-append-le c.in-Ok.length c.fill.new.room _ (omega (arith, room)))
-    ∙ length-take-le c.in-Ok.length c.fill.new.room (omega (arith, room)) in
+    let payload : length c.message_of.result.payload ≡ c.in_ok-length.length =
+    ap (λ m. length m.payload) made ∙ ap length (take-append-le c.in_ok-length.length c.fill.new.room _ (omega (arith, room)))
+    ∙ length-take-le c.in_ok-length.length c.fill.new.room (omega (arith, room)) in
     head_bytes-read c.message_of.result c.args.head.now c.requires bytes (ap (λ m. m.hart) made)
-    (ap (λ m. m.number) made) (payload ∙ c.in-Ok.ensures.length.0)
+    (ap (λ m. m.number) made) (payload ∙ c.in_ok-length.ensures.length.0)
