@@ -68,10 +68,7 @@ fn read_rows<A: Allocator, R: Read + Drop>(
         if !next_record(reader, line)? {
             return Ok(events);
         }
-        let event = match event_of(row, line) {
-            Ok(event) => event,
-            Err(fault) => return Err(fault),
-        };
+        let event = event_of(row, line)?;
         if events.push(event).is_err() {
             return Err(LogFault::Memory);
         }
