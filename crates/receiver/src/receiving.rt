@@ -127,10 +127,7 @@ impl<A: Allocator + Copy> Receiver<A> {
         ensures refused { OnErr result (self.new ≡ self.old) }
     {
         let hart = usize::from(hart);
-        match self.decoders[hart].feed(program, packet, &mut self.lists[hart]) {
-            Ok(()) => {}
-            Err(fault) => return Err(fault),
-        }
+        self.decoders[hart].feed(program, packet, &mut self.lists[hart])?;
         self.closed[hart] = packet.is_closing();
         Ok(())
     }

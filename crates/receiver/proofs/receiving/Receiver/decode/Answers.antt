@@ -3,6 +3,7 @@
 use Rattle.std.proofs.Common.{◌≡◌, ◌<◌, List, length, set, refl, subst, sym, ap, ◌∙◌, slice_get}
 use Rattle.std.specs.Prelude.{Some, vec_capacity}
 use Rattle.std.proofs.lemmas.List.{set-get_or}
+use Rattle.std.proofs.lemmas.Result.{IfErr-at_err, err_from_is_err_and}
 use Rattle.retire.specs.declared.event.Event.{Event}
 use Rattle.rvclass.specs.Fetch.{words_of}
 use Rattle.payload.specs.declared.packet.Packet.{Packet}
@@ -33,38 +34,44 @@ module _ (g : _) (c : After-feed g) where
       c.args.hart c.from-hart.result c.from-hart.ensures c.index_mut-2.result.now list log c.args.self.now
       c.self.view_is c.requires.known c.index_mut-2.ensures.value
 
-pub returns-in-Err-clause-none : goal.returns-in-Err-clause-none
-returns-in-Err-clause-none g c = λ packets given.
-    let fed = (goal.at.returns-in-Err-clause-none g c).After-feed in
-    c.in-Err.ensures.none packets (stand g fed packets given)
+pub returns-in_err-feed-clause-none : goal.returns-in_err-feed-clause-none
+returns-in_err-feed-clause-none g c = λ packets given.
+    let made = err_from_is_err_and c.from_residual.result c.from_residual.ensures.1 in
+    let fed = (goal.at.returns-in_err-feed-clause-none g c).After-feed in
+    rw (made.1, made.2) (c.in_err-feed.ensures.none packets (stand g fed packets given))
 
-pub returns-in-Err-clause-memory : goal.returns-in-Err-clause-memory
-returns-in-Err-clause-memory g c = λ packets list given is_list is.
-    let fed = (goal.at.returns-in-Err-clause-memory g c).After-feed in
-    let found = c.in-Err.ensures.memory packets (stand g fed packets given) is in
-    (found.0, found.1, longer g fed list found.0 is_list found.2)
+pub returns-in_err-feed-clause-memory : goal.returns-in_err-feed-clause-memory
+returns-in_err-feed-clause-memory g c =
+    let made = err_from_is_err_and c.from_residual.result c.from_residual.ensures.1 in
+    rw (made.1, made.2) (λ packets list given is_list is.
+    let fed = (goal.at.returns-in_err-feed-clause-memory g c).After-feed in
+    let found = c.in_err-feed.ensures.memory packets (stand g fed packets given) is in
+    (found.0, found.1, longer g fed list found.0 is_list found.2))
 
-pub returns-in-Err-clause-not_opened : goal.returns-in-Err-clause-not_opened
-returns-in-Err-clause-not_opened g c = λ packets given.
-    let fed = (goal.at.returns-in-Err-clause-not_opened g c).After-feed in
-    c.in-Err.ensures.not_opened packets (stand g fed packets given)
+pub returns-in_err-feed-clause-not_opened : goal.returns-in_err-feed-clause-not_opened
+returns-in_err-feed-clause-not_opened g c = λ packets given.
+    let made = err_from_is_err_and c.from_residual.result c.from_residual.ensures.1 in
+    let fed = (goal.at.returns-in_err-feed-clause-not_opened g c).After-feed in
+    rw (made.1, made.2) (c.in_err-feed.ensures.not_opened packets (stand g fed packets given))
 
-pub returns-in-Err-clause-after_close : goal.returns-in-Err-clause-after_close
-returns-in-Err-clause-after_close g c = λ packets given.
-    let fed = (goal.at.returns-in-Err-clause-after_close g c).After-feed in
-    c.in-Err.ensures.closed packets (stand g fed packets given)
+pub returns-in_err-feed-clause-after_close : goal.returns-in_err-feed-clause-after_close
+returns-in_err-feed-clause-after_close g c = λ packets given.
+    let made = err_from_is_err_and c.from_residual.result c.from_residual.ensures.1 in
+    let fed = (goal.at.returns-in_err-feed-clause-after_close g c).After-feed in
+    rw (made.1, made.2) (c.in_err-feed.ensures.closed packets (stand g fed packets given))
 
-pub returns-in-Err-clause-refused : goal.returns-in-Err-clause-refused
-returns-in-Err-clause-refused g c =
+pub returns-in_err-feed-clause-refused : goal.returns-in_err-feed-clause-refused
+returns-in_err-feed-clause-refused g c =
+    let made = err_from_is_err_and c.from_residual.result c.from_residual.ensures.1 in
     let decoders = c.self.inside.decoders.items in
     let lists = c.self.inside.lists.items in
     let hart = c.from-hart.result in
     let one : set decoders hart c.feed.new.self ≡ decoders =
-    ap (set decoders hart) (c.in-Err.ensures.kept ∙ c.index_mut.ensures.value)
+    ap (set decoders hart) (c.in_err-feed.ensures.kept ∙ c.index_mut.ensures.value)
     ∙ set-get_or decoders hart c.index_mut.result.now in
     let two : events_in (set lists hart c.feed.new.log) ≡ events_in lists =
     written_same lists hart c.index_mut-2.result.now c.feed.new.log c.index_mut-2.ensures.value
-    c.in-Err.ensures.list_kept in
+    c.in_err-feed.ensures.list_kept in
     let held : List Decoder → List (List Event) → Received =
     λ decoders lists. record {
       expected = c.self.inside.demux;
@@ -74,33 +81,35 @@ returns-in-Err-clause-refused g c =
     } in
     let same : held (set decoders hart c.feed.new.self) (events_in (set lists hart c.feed.new.log))
     ≡ held decoders (events_in lists) = cc in
-    same ∙ c.self.view_is
+    rw made.1 (same ∙ c.self.view_is)
 
-pub returns-in-Err-clause-others : goal.returns-in-Err-clause-others
-returns-in-Err-clause-others g c = λ other apart. same_hart other _ _ (returns-in-Err-clause-refused g c)
+pub returns-in_err-feed-clause-others : goal.returns-in_err-feed-clause-others
+returns-in_err-feed-clause-others g c = λ other apart.
+    let made = err_from_is_err_and c.from_residual.result c.from_residual.ensures.1 in
+    same_hart other _ _ (IfErr-at_err _ made.1 (returns-in_err-feed-clause-refused g c))
 
 pub returns-clause-memory : goal.returns-clause-memory
 returns-clause-memory g c = λ packets list given is_list is.
     let fed = (goal.at.returns-clause-memory g c).After-feed in
-    let found = c.in-Ok.ensures.memory packets (stand g fed packets given) is in
+    let found = c.in_ok-feed.ensures.memory packets (stand g fed packets given) is in
     (found.0, found.1, longer g fed list found.0 is_list found.2)
 
 pub returns-clause-not_opened : goal.returns-clause-not_opened
 returns-clause-not_opened g c = λ packets given.
     let fed = (goal.at.returns-clause-not_opened g c).After-feed in
-    c.in-Ok.ensures.not_opened packets (stand g fed packets given)
+    c.in_ok-feed.ensures.not_opened packets (stand g fed packets given)
 
 pub returns-clause-after_close : goal.returns-clause-after_close
 returns-clause-after_close g c = λ packets given.
     let fed = (goal.at.returns-clause-after_close g c).After-feed in
-    c.in-Ok.ensures.closed packets (stand g fed packets given)
+    c.in_ok-feed.ensures.closed packets (stand g fed packets given)
 
 pub returns-clause-hart : goal.returns-clause-hart
 returns-clause-hart g c = λ packets given.
     holds_after c.self.inside.demux c.self.inside.decoders.items c.self.inside.lists.items c.self.inside.closed.items
     c.args.hart c.from-hart.result c.from-hart.ensures (words_of c.args.program.now) packets c.args.packet.now
     c.feed.new.self c.feed.new.log c.is_closing.result c.is_closing.ensures
-    (c.in-Ok.ensures.stands packets (stand g (goal.at.returns-clause-hart g c).After-feed packets given))
+    (c.in_ok-feed.ensures.stands packets (stand g (goal.at.returns-clause-hart g c).After-feed packets given))
 
 pub returns-clause-others : goal.returns-clause-others
 returns-clause-others g c =
