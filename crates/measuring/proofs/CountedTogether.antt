@@ -1,0 +1,143 @@
+-- The measures of two stretches are those of the one and of the other together.
+use Rattle.std.proofs.Common.{◌≡◌, ℕ, ◌+◌, ◌<◌, ◌≤◌, Bool, List, [], ◌∷◌, ◌++◌, Option, Some, None, length, take, get_or}
+use Rattle.std.proofs.Common.{slice_get, ◌⊎◌, inl, inr, refl, sym, ap, ◌∙◌, arith, length-append}
+use Rattle.std.specs.Prelude.{map, sum, max}
+use Rattle.std.specs.List.{filter}
+use Rattle.std.proofs.lemmas.List.{append-nil, map-append, take_all, take_more}
+use Rattle.std.proofs.lemmas.List.Elements.{filter-append}
+use Rattle.std.proofs.lemmas.List.Sums.{sum_by-append}
+use Rattle.std.proofs.lemmas.Option.{get_or_from_slice_get, slice_get_cases, slice_get_within}
+use Rattle.retire.specs.Events.{is_retirement, is_branch}
+use Rattle.retire.specs.declared.event.Event.{Event}
+use Rattle.payload.specs.Spelling.{payload_of}
+use Rattle.payload.specs.declared.packet.Packet.{Packet}
+use Rattle.measuring.specs.Kinds.{is_trap, is_support, is_sync, is_trap_packet, has_address, is_map, notifies}
+use Rattle.measuring.specs.Kinds.{has_updiscon}
+use Rattle.measuring.specs.Measures.{counted, greatest, measured, together, total}
+use Rattle.measuring.specs.declared.measures.Measures.{Measures}
+
+pub counted-append : {A : Type 0} (test : A → Bool) (xs ys : List A)
+    → counted test (xs ++ ys) ≡ counted test xs + counted test ys
+counted-append test xs ys = ap length (filter-append test xs ys) ∙ length-append (filter test xs) (filter test ys)
+
+pub greatest-append : (xs ys : List ℕ) → greatest (xs ++ ys) ≡ max (greatest xs) (greatest ys)
+greatest-append [] ys = omega arith
+greatest-append (x ∷ xs) ys = let rest = greatest-append xs ys in ap (max x) rest ∙ omega arith
+
+bytes-append : (xs ys : List (List ℕ)) → sum (map length (xs ++ ys)) ≡ sum (map length xs) + sum (map length ys)
+bytes-append xs ys =
+    ap sum (map-append length xs ys) ∙ sum_by-append (λ n. n) (map length xs) (map length ys)
+
+longest-append : (xs ys : List (List ℕ))
+    → greatest (map length (xs ++ ys)) ≡ max (greatest (map length xs)) (greatest (map length ys))
+longest-append xs ys =
+    ap greatest (map-append length xs ys) ∙ greatest-append (map length xs) (map length ys)
+
+pub measured-append : (es fs : List Event) (ps qs : List Packet) (bs cs : List (List ℕ))
+    → measured (es ++ fs) (ps ++ qs) (bs ++ cs) ≡ together (measured es ps bs) (measured fs qs cs)
+measured-append es fs ps qs bs cs =
+    rw (
+      length-append es fs,
+      counted-append is_retirement es fs,
+      counted-append is_trap es fs,
+      counted-append is_branch es fs,
+      length-append ps qs,
+      counted-append is_support ps qs,
+      counted-append is_sync ps qs,
+      counted-append is_trap_packet ps qs,
+      counted-append has_address ps qs,
+      counted-append is_map ps qs,
+      counted-append notifies ps qs,
+      counted-append has_updiscon ps qs,
+      bytes-append bs cs,
+      longest-append bs cs,
+    )
+
+-- One event more.
+pub measured-event : (es : List Event) (i : ℕ) (e : Event) → i < length es → get_or es i e ≡ e
+    → measured (take (i + 1) es) [] [] ≡ together (measured (take i es) [] []) (measured (e ∷ []) [] [])
+measured-event es i e within is =
+    ap (λ l. measured l [] []) (take_more es i e within ∙ ap (λ x. take i es ++ x ∷ []) is)
+    ∙ measured-append (take i es) (e ∷ []) [] [] [] []
+
+-- One packet more, with its payload.
+pub measured-packet : (es : List Event) (ps : List Packet) (i : ℕ) (p : Packet) → slice_get ps i ≡ Some p
+    → measured es (take (i + 1) ps) (map payload_of (take (i + 1) ps))
+    ≡ together (measured es (take i ps) (map payload_of (take i ps)))
+    (measured [] (p ∷ []) (payload_of p ∷ []))
+measured-packet es ps i p found =
+    let within = slice_get_within ps i p found in
+    let is = get_or_from_slice_get ps i p p found in
+    ap (λ l. measured es l (map payload_of l)) (take_more ps i p within ∙ ap (λ x. take i ps ++ x ∷ []) is)
+    ∙ ap (measured es (take i ps ++ p ∷ [])) (map-append payload_of (take i ps) (p ∷ []))
+    ∙ ap (λ l. measured l (take i ps ++ p ∷ []) (map payload_of (take i ps) ++ payload_of p ∷ []))
+    (sym (append-nil es))
+    ∙ measured-append es [] (take i ps) (p ∷ []) (map payload_of (take i ps)) (payload_of p ∷ [])
+
+together-assoc : (a b c : Measures) → together a (together b c) ≡ together (together a b) c
+together-assoc a b c =
+    let longest : max a.longest (max b.longest c.longest) ≡ max (max a.longest b.longest) c.longest = omega arith in
+    let events : a.events + (b.events + c.events) ≡ a.events + b.events + c.events = omega arith in
+    let retirements : a.retirements + (b.retirements + c.retirements)
+    ≡ a.retirements + b.retirements + c.retirements = omega arith in
+    let traps : a.traps + (b.traps + c.traps) ≡ a.traps + b.traps + c.traps = omega arith in
+    let branches : a.branches + (b.branches + c.branches) ≡ a.branches + b.branches + c.branches = omega arith in
+    let packets : a.packets + (b.packets + c.packets) ≡ a.packets + b.packets + c.packets = omega arith in
+    let support : a.support + (b.support + c.support) ≡ a.support + b.support + c.support = omega arith in
+    let sync : a.sync + (b.sync + c.sync) ≡ a.sync + b.sync + c.sync = omega arith in
+    let trap : a.trap + (b.trap + c.trap) ≡ a.trap + b.trap + c.trap = omega arith in
+    let address : a.address + (b.address + c.address) ≡ a.address + b.address + c.address = omega arith in
+    let map : a.map + (b.map + c.map) ≡ a.map + b.map + c.map = omega arith in
+    let notify : a.notify + (b.notify + c.notify) ≡ a.notify + b.notify + c.notify = omega arith in
+    let updiscon : a.updiscon + (b.updiscon + c.updiscon) ≡ a.updiscon + b.updiscon + c.updiscon = omega arith in
+    let bytes : a.payload_bytes + (b.payload_bytes + c.payload_bytes)
+    ≡ a.payload_bytes + b.payload_bytes + c.payload_bytes = omega arith in
+    rw (
+      events,
+      retirements,
+      traps,
+      branches,
+      packets,
+      support,
+      sync,
+      trap,
+      address,
+      map,
+      notify,
+      updiscon,
+      bytes,
+      longest,
+    )
+
+none_first : (n : ℕ) → 0 + n ≡ n
+none_first n = omega arith
+
+none_last : (n : ℕ) → n + 0 ≡ n
+none_last n = omega arith
+
+none_first_greatest : (n : ℕ) → max 0 n ≡ n
+none_first_greatest n = omega arith
+
+none_last_greatest : (n : ℕ) → max n 0 ≡ n
+none_last_greatest n = omega arith
+
+together-none : (a : Measures) → together (measured [] [] []) a ≡ a
+together-none a = simp (none_first, none_first_greatest)
+
+together-with_none : (a : Measures) → together a (measured [] [] []) ≡ a
+together-with_none a = simp (none_last, none_last_greatest)
+
+-- Where no packet has a number, those below it are all.
+pub none_there : (ps : List Packet) (i : ℕ) → slice_get ps i ≡ None → take i ps ≡ ps
+none_there ps i none = go (slice_get_cases ps i).1
+  where
+    go : ((p : Packet) × (i < length ps) × (slice_get ps i ≡ Some p) × (get_or ps i p ≡ p))
+        ⊎ ((length ps ≤ i) × (slice_get ps i ≡ None)) → take i ps ≡ ps
+    go (inl some) = let found = some.2 in cc
+    go (inr over) = take_all i ps over.0
+
+-- One hart more.
+pub total-snoc : (all : List Measures) (one : Measures) → total (all ++ one ∷ []) ≡ together (total all) one
+total-snoc [] one = together-with_none one ∙ sym (together-none one)
+total-snoc (first ∷ all) one =
+    ap (together first) (total-snoc all one) ∙ together-assoc first (total all) one

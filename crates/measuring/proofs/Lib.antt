@@ -1,0 +1,4 @@
+pub mod CountedTogether
+pub mod Within
+pub mod RowsInTurn
+pub mod WorkedRows

@@ -1,0 +1,4 @@
+pub mod Kinds
+pub mod Measures
+pub mod Table
+pub mod steps

@@ -1,0 +1,106 @@
+//! The table of measures.
+
+ghost use Rattle.std.specs.Prelude.{◌≡◌, ◌≤◌, ◌^◌, IfErr, IfOk, OnOk, length};
+ghost use Rattle.std.specs.Io.KnownBytes.{Appends};
+ghost use Rattle.output.specs.Begun.{AppendsBeginning};
+ghost use Rattle.measuring.specs.Measures.{measures_of_each, total};
+ghost use Rattle.measuring.specs.Table.{column_names, hart_rows, measure_row, measures_table, total_row};
+ghost use Rattle.measuring.specs.steps.Name.{name_text};
+
+use crate::counting::measure_log;
+use crate::measures::Measures;
+use crate::row::{Name, Row};
+use legalpath::LegalLog;
+use output::{write_bytes, write_text};
+use payload::Mode;
+use retire::WriteFault;
+use std::alloc::Allocator;
+use std::io::Write;
+
+/// The first line, which names the columns.
+const COLUMN_NAMES: &str =
+    "hart,events,retirements,traps,branches,packets,support,sync,trap,address,map,notify,\
+    updiscon,payload_bytes,longest,bits_per_retirement\n";
+
+/// Writes the measures of each hart's log as a table, hart 0 first: a line that names the columns, a row for each hart,
+/// and for several harts one for all together, whose first field is `all`. Fields are parted by commas.
+///
+/// The last column has eight times the payload bytes divided by the retirements, with three decimals, cut off and not
+/// rounded; it is empty where nothing retired. The only fault is [`WriteFault::Write`], where the writer failed; what
+/// was written then is a beginning of the table. No memory is taken, and the writer is not flushed.
+pub fn write_measures<W: Write, A: Allocator>(
+    logs: &[LegalLog<'_, A>],
+    period: u16,
+    mode: Mode,
+    sink: &mut W,
+) -> Result<(), WriteFault>
+    requires period { 1 ≤ period }
+    requires few { length logs.now ≤ 2 ^ 16 }
+    ensures table { OnOk result (Appends (W.contents sink.old) (W.contents sink.new)
+        (measures_table period mode logs.now)) }
+    ensures begun { AppendsBeginning (measures_table period mode logs.now)
+        (W.contents sink.old) (W.contents sink.new) }
+    ensures fault { IfErr result (λ fault. fault ≡ WriteFault.Write) }
+{
+    write_column_names(sink)?;
+    let all = write_harts(logs, period, mode, sink)?;
+    if logs.len() <= 1 {
+        return Ok(());
+    }
+    write_row(Name::All, &all, sink)
+}
+
+/// Writes the line that names the columns.
+fn write_column_names<W: Write>(sink: &mut W) -> Result<(), WriteFault>
+    ensures text { OnOk result (Appends (W.contents sink.old) (W.contents sink.new) column_names) }
+    ensures begun { AppendsBeginning column_names (W.contents sink.old) (W.contents sink.new) }
+    ensures fault { IfErr result (λ fault. fault ≡ WriteFault.Write) }
+{
+    match write_bytes(sink, COLUMN_NAMES.as_bytes()) {
+        Ok(()) => Ok(()),
+        Err(_) => Err(WriteFault::Write),
+    }
+}
+
+/// Writes the row of each hart, and returns the measures of all together.
+fn write_harts<W: Write, A: Allocator>(
+    logs: &[LegalLog<'_, A>],
+    period: u16,
+    mode: Mode,
+    sink: &mut W,
+) -> Result<Measures, WriteFault>
+    requires period { 1 ≤ period }
+    requires few { length logs.now ≤ 2 ^ 16 }
+    ensures all { IfOk result (λ all. all ≡ total (measures_of_each period mode logs.now)) }
+    ensures text { OnOk result (Appends (W.contents sink.old) (W.contents sink.new)
+        (hart_rows 0 (measures_of_each period mode logs.now))) }
+    ensures begun { AppendsBeginning (hart_rows 0 (measures_of_each period mode logs.now))
+        (W.contents sink.old) (W.contents sink.new) }
+    ensures fault { IfErr result (λ fault. fault ≡ WriteFault.Write) }
+{
+    let mut all = Measures::none();
+    for hart in 0..logs.len() {
+        let measures = measure_log(&logs[hart], period, mode);
+        write_row(Name::Hart(hart), &measures, sink)?;
+        all.add(&measures);
+    }
+    Ok(all)
+}
+
+/// Writes a row.
+fn write_row<W: Write>(name: Name, measures: &Measures, sink: &mut W) -> Result<(), WriteFault>
+    ensures text { OnOk result (Appends (W.contents sink.old) (W.contents sink.new)
+        (measure_row (name_text name) measures.now)) }
+    ensures begun { AppendsBeginning (measure_row (name_text name) measures.now)
+        (W.contents sink.old) (W.contents sink.new) }
+    ensures fault { IfErr result (λ fault. fault ≡ WriteFault.Write) }
+{
+    let row = Row {
+        name,
+        measures: *measures,
+    };
+    match write_text(sink, row) {
+        Ok(()) => Ok(()),
+        Err(_) => Err(WriteFault::Write),
+    }
+}
