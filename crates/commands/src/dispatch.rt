@@ -1,22 +1,16 @@
 //! Whichever subcommand is asked for.
 
 ghost use Rattle.std.specs.Prelude.{◌≡◌, Err, IfSome};
-ghost use Rattle.commands.specs.Begun.{IsBegun, IsCutOutput, WritesInParts};
-ghost use Rattle.commands.specs.CarriedOut.{IsCarriedOut};
-ghost use Rattle.commands.specs.Faults.{final_status};
-ghost use Rattle.commands.specs.Order.{early_fault};
 ghost use Rattle.subcommands.specs.Kind.{IsCheck};
 ghost use Rattle.subcommands.specs.Limits.{IsWithinLimits};
+ghost use Rattle.command_inputs.specs.Faults.{final_status};
+ghost use Rattle.commands.specs.Begun.{IsBegun, IsCutOutput, WritesInParts};
+ghost use Rattle.commands.specs.CarriedOut.{IsCarriedOut};
+ghost use Rattle.commands.specs.Order.{early_fault};
 
-use crate::benching::bench;
-use crate::checking::check;
-use crate::decoding::decode;
-use crate::dumping::dump;
-use crate::encoding::encode;
-use crate::fault::Fault;
-use crate::files::Files;
-use crate::replaying::replay;
-use crate::status::Status;
+use capture_commands::{decode, dump};
+use command_inputs::{Fault, Files, Status};
+use log_commands::{bench, check, encode, replay};
 use std::alloc::Global;
 use std::io::Write;
 use std::sync::Wait;

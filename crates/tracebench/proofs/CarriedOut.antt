@@ -1,9 +1,9 @@
 -- What words ask for, carried out.
 use Rattle.std.proofs.Common.{◌≡◌, ◌∙◌, ℕ, List, Option, sym, ap, subst}
 use Rattle.cli.specs.Asking.{WordsAsk}
-use Rattle.commands.specs.Known.{Content}
-use Rattle.commands.specs.Status.{code_of}
-use Rattle.commands.specs.declared.status.Status.{Status}
+use Rattle.command_inputs.specs.Known.{Content}
+use Rattle.command_inputs.specs.Status.{code_of}
+use Rattle.command_inputs.specs.declared.status.Status.{Status}
 use Rattle.subcommands.specs.declared.words.Asked.{Asked}
 use Rattle.tracebench.specs.Words.{AreCarriedOut, IsDone}
 

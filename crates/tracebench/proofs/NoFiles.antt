@@ -3,23 +3,23 @@ use Rattle.std.proofs.Common.{◌≡◌, ◌≢◌, ◌∙◌, ◌⊎◌, ℕ, L
 use Rattle.std.proofs.Common.{subst, sym}
 use Rattle.subcommands.specs.declared.words.Asked.{Asked}
 use Rattle.subcommands.specs.declared.words.Asked.TheVariants.{Bench, Check, Decode, Dump, Encode, Replay}
-use Rattle.commands.specs.Benching.{BenchesLogs}
+use Rattle.log_commands.specs.Benching.{BenchesLogs}
 use Rattle.commands.specs.CarriedOut.{IsCarriedOut}
-use Rattle.commands.specs.Checking.{WritesLines}
-use Rattle.commands.specs.Decoded.{WritesLogs}
-use Rattle.commands.specs.Dumping.{WritesDump}
-use Rattle.commands.specs.Encoding.{WritesMessages}
-use Rattle.commands.specs.Faults.{Path, final_status, status_of}
-use Rattle.commands.specs.Finding.{After, IsFoundFrom}
-use Rattle.commands.specs.Found.{AreAskedLogs, AreFew, AreLegalLogs, IsAskedProgram, IsBase, IsProgramAt, IsRead}
-use Rattle.commands.specs.Found.{program_at}
-use Rattle.commands.specs.Known.{Content, content_in}
-use Rattle.commands.specs.Printed.{First, GoesOn, Printed}
-use Rattle.commands.specs.Replaying.{ReplaysLogs}
-use Rattle.commands.specs.Status.{code_of}
-use Rattle.commands.specs.declared.fault.Fault.{Fault}
-use Rattle.commands.specs.declared.fault.Fault.TheVariants as fault
-use Rattle.commands.specs.declared.status.Status.{Status}
+use Rattle.log_commands.specs.Checking.{WritesLines}
+use Rattle.capture_commands.specs.Decoded.{WritesLogs}
+use Rattle.capture_commands.specs.Dumping.{WritesDump}
+use Rattle.log_commands.specs.Encoding.{WritesMessages}
+use Rattle.command_inputs.specs.Faults.{Path, final_status, status_of}
+use Rattle.command_inputs.specs.Finding.{After, IsFoundFrom}
+use Rattle.command_inputs.specs.Found.{AreAskedLogs, AreFew, AreLegalLogs, IsAskedProgram, IsBase, IsProgramAt, IsRead}
+use Rattle.command_inputs.specs.Found.{program_at}
+use Rattle.command_inputs.specs.Known.{Content, content_in}
+use Rattle.command_inputs.specs.Printed.{First, GoesOn, Printed}
+use Rattle.log_commands.specs.Replaying.{ReplaysLogs}
+use Rattle.command_inputs.specs.Status.{code_of}
+use Rattle.command_inputs.specs.declared.fault.Fault.{Fault}
+use Rattle.command_inputs.specs.declared.fault.Fault.TheVariants as fault
+use Rattle.command_inputs.specs.declared.status.Status.{Status}
 use Rattle.tracebench.specs.Words.{AreCarriedOut}
 
 -- What is known where there is no file.

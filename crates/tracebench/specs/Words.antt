@@ -4,14 +4,14 @@ use Rattle.cli.specs.Asking.{WordsAsk}
 use Rattle.output.specs.Begun.{AppendsBeginning}
 use Rattle.commands.specs.Begun.{IsBegun, IsCutOutput}
 use Rattle.commands.specs.CarriedOut.{IsCarriedOut}
-use Rattle.commands.specs.Faults.{final_status}
-use Rattle.commands.specs.FaultText.{error_line}
-use Rattle.commands.specs.Known.{Content}
+use Rattle.command_inputs.specs.Faults.{final_status}
+use Rattle.command_inputs.specs.FaultText.{error_line}
+use Rattle.command_inputs.specs.Known.{Content}
 use Rattle.commands.specs.Order.{early_fault}
-use Rattle.commands.specs.Status.{code_of}
-use Rattle.commands.specs.declared.fault.Fault.{Fault}
-use Rattle.commands.specs.declared.fault.Fault.TheVariants as fault
-use Rattle.commands.specs.declared.status.Status.{Status}
+use Rattle.command_inputs.specs.Status.{code_of}
+use Rattle.command_inputs.specs.declared.fault.Fault.{Fault}
+use Rattle.command_inputs.specs.declared.fault.Fault.TheVariants as fault
+use Rattle.command_inputs.specs.declared.status.Status.{Status}
 use Rattle.subcommands.specs.declared.words.Asked.{Asked}
 
 -- Where the run ended at a fault, the fault's line, or a beginning of it, was appended to standard error. Else standard

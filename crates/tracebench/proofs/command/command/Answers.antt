@@ -1,7 +1,7 @@
 -- The prover does not join what is carried out with the exit status: each way there is gone by hand.
 use Rattle.std.proofs.Common.{inl, inr, ap, ◌∙◌, sym, subst, map, string_bytes, Err}
-use Rattle.commands.specs.Status.{code_of}
-use Rattle.commands.specs.declared.fault.Fault.TheVariants as fault
+use Rattle.command_inputs.specs.Status.{code_of}
+use Rattle.command_inputs.specs.declared.fault.Fault.TheVariants as fault
 use Rattle.tracebench.specs.Words.{ReportsFault}
 use Rattle.tracebench.proofs.CarriedOut.{carried_out}
 use Rattle.tracebench.proofs.command.command.Goals as goal

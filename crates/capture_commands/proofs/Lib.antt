@@ -1,0 +1,4 @@
+mod DecodedRuns
+mod HartTexts
+mod PartTexts
+mod WrittenOutcomes

@@ -1,0 +1,109 @@
+-- The prover tries no chain of steps by itself: what each step found is handed to it, in order.
+use Rattle.std.proofs.Common.{◌≡◌, refl, subst, sym, arith, inl, inr, ℕ, Bool, List, Option, Ok, Err}
+use Rattle.std.proofs.lemmas.Grind.{common_steps}
+use Rattle.output.specs.Begun.{AppendsBeginning}
+use Rattle.output.proofs.Beginnings.{begun_kept, whole_begun}
+use Rattle.captures.specs.Dump.{AppendsDump, BeginsDump, IsDump}
+use Rattle.message.specs.declared.fault.MessageFault.{MessageFault}
+use Rattle.subcommands.specs.declared.words.Dump.{Dump}
+use Rattle.command_inputs.specs.Begun.{IsCutOf}
+use Rattle.command_inputs.specs.Found.{IsRead}
+use Rattle.command_inputs.specs.Known.{Content}
+use Rattle.command_inputs.specs.Printed.{PrintsUnlessDenied}
+use Rattle.command_inputs.specs.declared.fault.Fault.TheVariants as fault
+use Rattle.command_inputs.proofs.Runs.{appends-keeps, ends_silently, prints}
+use Rattle.capture_commands.specs.Dumping.{CanDump, Dumps, end_of_dump}
+use Rattle.capture_commands.proofs.dumping.dump.Goals.{After-flush}
+use Rattle.capture_commands.proofs.dumping.dump.Goals as goal
+
+pub returns-in_err-bytes-clause-printed : goal.returns-in_err-bytes-clause-printed
+returns-in_err-bytes-clause-printed g c =
+    let out = g.O.Write.contents c.args.out.now in
+    let asked = c.args.asked.now in
+    let content = g.F.Files.content c.args.files.now in
+    let run = Dumps content asked in
+    let can = CanDump content asked in
+    let why = c.in_err-bytes.field-0.0 in
+    let is : c.from_residual.result ≡ Err why = grind (arith, common_steps) in
+    subst (λ r. PrintsUnlessDenied run can r out out) (sym is)
+    (ends_silently run can (IsRead content asked.capture (Err why)) why out c.in_err-bytes.ensures.lacked
+    (λ none. (Err why, none, refl)))
+
+-- The capture was read, and a beginning of its dump was written.
+dump_cut : (content : Content) (asked : Dump) (bytes : List ℕ) (bad : Bool) (stop : Option (ℕ × MessageFault))
+    (text : List ℕ)
+    (old new : Option (List ℕ)) → IsRead content asked.capture (Ok bytes) → IsDump bytes bad stop text
+    → AppendsBeginning text old new → IsCutOf (Dumps content asked) old new
+dump_cut content asked bytes bad stop text old new read dumped begun = inr (record {
+  printed = record { text = text; ended = end_of_dump bad stop };
+  prints = (Ok bytes, read, record { bad = bad; stop = stop; dumped = dumped; ended = refl });
+  begun = begun;
+})
+
+module _ (g : _) (c : After-flush g) where
+  -- What was dumped.
+  dumped : AppendsDump (IsDump c.in_ok-bytes.bytes.items) c.in_ok-dumped.dumped.bad c.in_ok-dumped.dumped.fault
+      (g.O.Write.contents c.args.out.now) (g.O.Write.contents c.dump_capture.new.sink)
+  dumped =
+      let dumped = c.in_ok-dumped.dumped in
+      subst (λ bytes. AppendsDump (IsDump bytes) dumped.bad dumped.fault (g.O.Write.contents c.args.out.now)
+      (g.O.Write.contents c.dump_capture.new.sink)) c.as_slice.ensures.value c.in_ok-dumped.ensures.dumped
+
+  -- Whatever the flush answers, the whole dump was written.
+  cut : IsCutOf (Dumps (g.F.Files.content c.args.files.now) c.args.asked.now) (g.O.Write.contents c.args.out.now)
+      (g.O.Write.contents c.flush.new.self)
+  cut =
+      let old = g.O.Write.contents c.args.out.now in
+      let mid = g.O.Write.contents c.dump_capture.new.sink in
+      let new = g.O.Write.contents c.flush.new.self in
+      dump_cut (g.F.Files.content c.args.files.now) c.args.asked.now c.in_ok-bytes.bytes.items
+      c.in_ok-dumped.dumped.bad c.in_ok-dumped.dumped.fault dumped.text old new c.in_ok-bytes.ensures.held dumped.dumped
+      (begun_kept dumped.text old mid new (whole_begun dumped.text old mid dumped.appended) c.flush.ensures.bytes)
+
+pub returns-clause-printed : goal.returns-clause-printed
+returns-clause-printed g c =
+    let contents = g.O.Write.contents in
+    let asked = c.args.asked.now in
+    let content = g.F.Files.content c.args.files.now in
+    let is = dumped g (goal.at.returns-clause-printed g c).After-flush in
+    let old = contents c.args.out.now in
+    let new = contents c.flush.new.self in
+    prints (Dumps content asked) (CanDump content asked) c.ended.result old new (record {
+      text = is.text;
+      prints = (
+        Ok c.in_ok-bytes.bytes.items,
+        c.in_ok-bytes.ensures.held,
+        record {
+          bad = c.in_ok-dumped.dumped.bad;
+          stop = c.in_ok-dumped.dumped.fault;
+          dumped = is.dumped;
+          ended = c.ended.ensures.value;
+        },
+      );
+      appended = appends-keeps old (contents c.dump_capture.new.sink) new is.text is.appended c.flush.ensures.bytes;
+    })
+
+pub returns-in_err-dumped-clause-cut : goal.returns-in_err-dumped-clause-cut
+returns-in_err-dumped-clause-cut g c =
+    let old = g.O.Write.contents c.args.out.now in
+    let new = g.O.Write.contents c.dump_capture.new.sink in
+    let bytes = c.in_ok-bytes.bytes.items in
+    let is : BeginsDump (IsDump bytes) old new =
+    subst (λ bytes. BeginsDump (IsDump bytes) old new) c.as_slice.ensures.value c.in_err-dumped.ensures.begun in
+    dump_cut (g.F.Files.content c.args.files.now) c.args.asked.now bytes is.bad is.fault is.text old new
+    c.in_ok-bytes.ensures.held is.dumped is.begun
+
+pub returns-in_err-flush-clause-cut : goal.returns-in_err-flush-clause-cut
+returns-in_err-flush-clause-cut g c = cut g (goal.at.returns-in_err-flush-clause-cut g c).After-flush
+
+pub returns-clause-cut : goal.returns-clause-cut
+returns-clause-cut g c = cut g (goal.at.returns-clause-cut g c).After-flush
+
+pub returns-in_err-flush-clause-printed : goal.returns-in_err-flush-clause-printed
+returns-in_err-flush-clause-printed g c =
+    let content = g.F.Files.content c.args.files.now in
+    let asked = c.args.asked.now in
+    let is : c.from_residual-in_err-flush.result ≡ Err fault.Output = grind (arith, common_steps) in
+    subst (λ r. PrintsUnlessDenied (Dumps content asked) (CanDump content asked) r (g.O.Write.contents c.args.out.now)
+    (g.O.Write.contents c.flush.new.self)) (sym is)
+    (inl (inr (refl, (c.in_ok-bytes.bytes.items, c.in_ok-bytes.ensures.held, tt))))

@@ -1,0 +1,80 @@
+-- The prover tries no chain of steps by itself: what each step found is handed to it, in order.
+use Rattle.std.proofs.Common.{◌≡◌, inr, refl, ap, subst, sym, ◌∙◌, ℕ, List, Global, Option, Ok, Err}
+use Rattle.std.specs.Io.KnownBytes.{Appends}
+use Rattle.losses.specs.declared.part.HartPieces.{HartPieces}
+use Rattle.output.specs.Begun.{AppendsBeginning}
+use Rattle.output.proofs.Beginnings.{begun_kept}
+use Rattle.rvclass.specs.Image.{Image}
+use Rattle.command_inputs.specs.Begun.{IsCutOf}
+use Rattle.command_inputs.proofs.Beginnings.{printed_begun}
+use Rattle.command_inputs.proofs.Runs.{appends-keeps, ends_silently, prints}
+use Rattle.capture_commands.specs.EachHart.{each_hart}
+use Rattle.capture_commands.specs.Pieces.{ArePieces, HasPieces, WritesPieces, end_of_pieces, parts_of, parts_text}
+use Rattle.capture_commands.proofs.lossy_decoding.decode_lossy.Goals as goal
+
+-- The texts of harts.
+abbrev text_of : List (HartPieces Global) → List ℕ
+text_of pieces = each_hart parts_text 0 (parts_of pieces)
+
+-- A beginning was written of what was collected.
+cut : (harts : ℕ) (program : Image) (bytes : List ℕ) (pieces : List (HartPieces Global)) (old new : Option (List ℕ))
+    → ArePieces harts program bytes (Ok pieces) → AppendsBeginning (text_of pieces) old new
+    → IsCutOf (WritesPieces harts program bytes) old new
+cut harts program bytes pieces old new found begun =
+    inr (printed_begun (WritesPieces harts program bytes) (text_of pieces) (end_of_pieces pieces) old new
+    (Ok pieces, found, record { text = refl; ended = refl }) begun)
+
+pub returns-in-Err-clause-printed : goal.returns-in-Err-clause-printed
+returns-in-Err-clause-printed g c =
+    let why = c.in-Err.fault in
+    let found = ArePieces c.args.harts c.args.program.now c.args.bytes.now in
+    ends_silently (WritesPieces c.args.harts c.args.program.now c.args.bytes.now)
+    (HasPieces c.args.harts c.args.program.now c.args.bytes.now) (found (Err why)) why
+    (g.O.Write.contents c.args.out.now) (inr c.in-Err.ensures.fault) (λ none. (Err why, none, refl))
+
+pub returns-in-Err-write_pieces-clause-cut : goal.returns-in-Err-write_pieces-clause-cut
+returns-in-Err-write_pieces-clause-cut g c =
+    let old = g.O.Write.contents c.args.out.now in
+    let new = g.O.Write.contents c.write_pieces.new.out in
+    cut c.args.harts c.args.program.now c.args.bytes.now c.in-Ok.pieces.items old new c.in-Ok.ensures.found
+    (subst (λ pieces. AppendsBeginning (text_of pieces) old new) c.as_slice.ensures.value c.write_pieces.ensures.begun)
+
+pub returns-then-is_err-clause-cut : goal.returns-then-is_err-clause-cut
+returns-then-is_err-clause-cut g c =
+    let old = g.O.Write.contents c.args.out.now in
+    let mid = g.O.Write.contents c.write_pieces.new.out in
+    let new = g.O.Write.contents c.flush.new.self in
+    let pieces = c.in-Ok.pieces.items in
+    cut c.args.harts c.args.program.now c.args.bytes.now pieces old new c.in-Ok.ensures.found
+    (begun_kept (text_of pieces) old mid new
+    (subst (λ pieces. AppendsBeginning (text_of pieces) old mid) c.as_slice.ensures.value c.write_pieces.ensures.begun)
+    c.flush.ensures.bytes)
+
+pub returns-clause-cut : goal.returns-clause-cut
+returns-clause-cut g c =
+    let old = g.O.Write.contents c.args.out.now in
+    let mid = g.O.Write.contents c.write_pieces.new.out in
+    let new = g.O.Write.contents c.flush.new.self in
+    let pieces = c.in-Ok.pieces.items in
+    cut c.args.harts c.args.program.now c.args.bytes.now pieces old new c.in-Ok.ensures.found
+    (begun_kept (text_of pieces) old mid new
+    (subst (λ pieces. AppendsBeginning (text_of pieces) old mid) c.as_slice.ensures.value c.write_pieces.ensures.begun)
+    c.flush.ensures.bytes)
+
+pub returns-clause-printed : goal.returns-clause-printed
+returns-clause-printed g c =
+    let run = WritesPieces c.args.harts c.args.program.now c.args.bytes.now in
+    let old = g.O.Write.contents c.args.out.now in
+    let mid = g.O.Write.contents c.write_pieces.new.out in
+    let new = g.O.Write.contents c.flush.new.self in
+    let pieces = c.in-Ok.pieces.items in
+    let ended : c.ended.result ≡ end_of_pieces pieces =
+    c.ended.ensures.value ∙ ap end_of_pieces c.as_slice-2.ensures.value in
+    let text = subst (λ pieces. Appends old mid (text_of pieces)) c.as_slice.ensures.value
+    c.in-Ok-write_pieces.ensures.text in
+    prints run (HasPieces c.args.harts c.args.program.now c.args.bytes.now) c.ended.result old new (record {
+      text = text_of pieces;
+      prints = subst (λ ended. run (record { text = text_of pieces; ended = ended })) (sym ended)
+          (Ok pieces, c.in-Ok.ensures.found, record { text = refl; ended = refl });
+      appended = appends-keeps old mid new (text_of pieces) text c.flush.ensures.bytes;
+    })

@@ -1,0 +1,10 @@
+-- The texts of the harts so far are written.
+use Rattle.std.proofs.Common.{take}
+use Rattle.std.specs.Io.KnownBytes.{Appends}
+use Rattle.capture_commands.specs.EachHart.{each_hart}
+use Rattle.capture_commands.specs.Pieces.{parts_of, parts_text}
+use Rattle.capture_commands.proofs.lossy_decoding.write_pieces.Given as goal
+
+abbrev pub invariant-loop-hart : goal.invariant-loop-hart
+invariant-loop-hart g l = Appends (g.O.Write.contents l.fn.out) (g.O.Write.contents l.out)
+    (each_hart parts_text 0 (parts_of (take l.hart-counter l.harts)))

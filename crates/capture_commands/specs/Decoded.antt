@@ -1,0 +1,72 @@
+-- What `decode` prints, and how it ends.
+use Rattle.std.specs.Prelude.{⊤, ◌⊎◌, ◌≡◌, ℕ, Bool, true, false, List, Option}
+use Rattle.std.specs.Io.KnownBytes.{Keeps}
+use Rattle.captures.specs.Decoded.{IsDecoded}
+use Rattle.captures.specs.declared.outcome.CaptureFault.{CaptureFault}
+use Rattle.retire.specs.LogText.{log_text}
+use Rattle.retire.specs.Number.{number_of}
+use Rattle.retire.specs.declared.event.Event.{Event}
+use Rattle.rvclass.specs.Fetch.{words_of}
+use Rattle.rvclass.specs.Image.{Image}
+use Rattle.subcommands.specs.declared.words.Decode.{Decode}
+use Rattle.command_inputs.specs.Begun.{BeginsPrinted}
+use Rattle.command_inputs.specs.Finding.{Once}
+use Rattle.command_inputs.specs.Found.{IsBase, IsProgramAt, IsRead}
+use Rattle.command_inputs.specs.Known.{Content}
+use Rattle.command_inputs.specs.Meaning.{Meaning}
+use Rattle.command_inputs.specs.Order.{base_fault}
+use Rattle.command_inputs.specs.Printed.{First, Printed}
+use Rattle.capture_commands.specs.Decoding.{end_of_capture}
+use Rattle.capture_commands.specs.EachHart.{each_hart}
+use Rattle.capture_commands.specs.Pieces.{HasPieces, WritesPieces}
+
+-- For each hart, from this one on, its line and the text of its log.
+abbrev pub harts_text : ℕ → List (List Event) → List ℕ
+harts_text hart lists = each_hart log_text hart lists
+
+-- The logs that a capture's bytes decode to are written, and the run ends as decoding does.
+pub record WritesDecoded (harts : ℕ) (program : Image) (bytes : List ℕ) (printed : Printed) : Type 0 where
+  pub lists : List (List Event)
+  pub closed : List Bool
+  pub stop : Option (ℕ × CaptureFault)
+  pub decoded : IsDecoded (words_of program) harts bytes lists closed stop
+  pub text : printed.text ≡ harts_text 0 lists
+  pub ended : printed.ended ≡ end_of_capture stop closed
+
+-- What a capture has of the logs is written: where messages may be lost, what is left of each log, and else the logs
+-- that its bytes decode to.
+abbrev pub WritesLogs : Bool → ℕ → Image → List ℕ → Printed → Type 0
+WritesLogs true harts program bytes = WritesPieces harts program bytes
+WritesLogs false harts program bytes = WritesDecoded harts program bytes
+
+-- The base is looked at first, then the image and the capture. Where there is no fault, what the capture has of the
+-- logs is written.
+abbrev pub Decodes : Content → Decode → Printed → Type 0
+Decodes content asked =
+    First (IsBase asked.base.now) (λ base.
+    First (IsProgramAt content base asked.image) (λ program.
+    First (IsRead content asked.capture) (WritesLogs asked.lossy asked.harts program)))
+
+-- Where messages may be lost, `decode` writes once what is left of the logs is collected.
+abbrev pub CanWriteLogs : Bool → ℕ → Image → List ℕ → Type 0
+CanWriteLogs true harts program bytes = HasPieces harts program bytes
+CanWriteLogs false harts program bytes = ⊤
+
+-- `decode` writes once it has the program and the capture.
+abbrev pub CanDecode : Content → Decode → Type 0
+CanDecode content asked =
+    Once (IsBase asked.base.now) (λ base.
+    Once (IsProgramAt content base asked.image) (λ program.
+    Once (IsRead content asked.capture) (λ bytes.
+    CanWriteLogs asked.lossy asked.harts program bytes)))
+
+-- What `decode` means. It takes memory for the text of a log once the logs before it are written.
+abbrev pub decode_meaning : Decode → Meaning
+decode_meaning asked = record {
+  early = base_fault (number_of asked.base.now);
+  Prints = λ content. Decodes content asked;
+  CanWrite = λ content. CanDecode content asked;
+  Begins = λ content old new. Keeps old new ⊎ BeginsPrinted (Decodes content asked) old new;
+  WritesInParts = ⊤;
+  Cuts = λ content. Decodes content asked;
+}

@@ -1,0 +1,20 @@
+-- How the decoding of a capture ends.
+use Rattle.std.specs.Prelude.{ℕ, ◌+◌, Bool, true, false, List, [], ◌∷◌, Option, Some, None, Result, Ok, Err}
+use Rattle.captures.specs.declared.outcome.CaptureFault.{CaptureFault}
+use Rattle.command_inputs.specs.Faults.{capture_fault}
+use Rattle.command_inputs.specs.declared.fault.Fault.{Fault}
+use Rattle.command_inputs.specs.declared.fault.Fault.TheVariants as fault
+use Rattle.command_inputs.specs.declared.status.Status.{Status}
+use Rattle.command_inputs.specs.declared.status.Status.TheVariants.{Whole}
+
+-- The end by the flags of harts, from this hart on: all is done where each is closed, and else the fault names the
+-- first hart that is not.
+abbrev pub end_of_harts : ℕ → List Bool → Result Status Fault
+end_of_harts hart [] = Ok Whole
+end_of_harts hart (true ∷ closed) = end_of_harts (hart + 1) closed
+end_of_harts hart (false ∷ closed) = Err (fault.Unclosed hart)
+
+-- The fault at which decoding stopped, if there is one, and else the end by the flags of the harts.
+abbrev pub end_of_capture : Option (ℕ × CaptureFault) → List Bool → Result Status Fault
+end_of_capture (Some stop) closed = Err (capture_fault stop.0 stop.1)
+end_of_capture None closed = end_of_harts 0 closed

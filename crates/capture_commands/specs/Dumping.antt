@@ -1,0 +1,41 @@
+-- What `dump` prints, and how it ends.
+use Rattle.std.specs.Prelude.{⊤, ◌≡◌, ℕ, Bool, true, false, List, Option, Some, None, Result, Ok, Err}
+use Rattle.captures.specs.Dump.{IsDump}
+use Rattle.captures.specs.declared.outcome.CaptureFault.TheVariants as capture
+use Rattle.message.specs.declared.fault.MessageFault.{MessageFault}
+use Rattle.subcommands.specs.declared.words.Dump.{Dump}
+use Rattle.command_inputs.specs.Faults.{capture_fault}
+use Rattle.command_inputs.specs.Finding.{Once}
+use Rattle.command_inputs.specs.Found.{IsRead}
+use Rattle.command_inputs.specs.Known.{Content}
+use Rattle.command_inputs.specs.Meaning.{Meaning, writing_at_once}
+use Rattle.command_inputs.specs.Printed.{First, Printed}
+use Rattle.command_inputs.specs.declared.fault.Fault.{Fault}
+use Rattle.command_inputs.specs.declared.status.Status.{Status}
+use Rattle.command_inputs.specs.declared.status.Status.TheVariants.{NotWhole, Whole}
+
+-- The fault of the place where no whole message, or no header, stands, if there is one; else the end by whether a
+-- payload is bad.
+abbrev pub end_of_dump : Bool → Option (ℕ × MessageFault) → Result Status Fault
+end_of_dump bad (Some stop) = Err (capture_fault stop.0 (capture.Message stop.1))
+end_of_dump true None = Ok NotWhole
+end_of_dump false None = Ok Whole
+
+-- The dump of a capture is written, and the run ends as the dump does.
+pub record WritesDump (bytes : List ℕ) (printed : Printed) : Type 0 where
+  pub bad : Bool
+  pub stop : Option (ℕ × MessageFault)
+  pub dumped : IsDump bytes bad stop printed.text
+  pub ended : printed.ended ≡ end_of_dump bad stop
+
+-- The capture is read. Where there is no fault, its dump is written.
+abbrev pub Dumps : Content → Dump → Printed → Type 0
+Dumps content asked = First (IsRead content asked.capture) WritesDump
+
+-- `dump` writes once it has the capture.
+abbrev pub CanDump : Content → Dump → Type 0
+CanDump content asked = Once (IsRead content asked.capture) (λ _. ⊤)
+
+-- What `dump` means. No fault of it is found without the capture.
+abbrev pub dump_meaning : Dump → Meaning
+dump_meaning asked = writing_at_once None (λ content. Dumps content asked) (λ content. CanDump content asked)

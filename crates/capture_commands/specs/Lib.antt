@@ -1,0 +1,6 @@
+pub mod Dumping
+pub mod EachHart
+pub mod Decoding
+pub mod Pieces
+pub mod Decoded
+pub mod steps

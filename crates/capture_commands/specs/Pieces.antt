@@ -1,0 +1,112 @@
+-- What `decode` prints where messages may be lost, and how it ends.
+use Rattle.std.specs.Prelude.{◌≡◌, ℕ, ◌++◌, Bool, true, false, codes, List, Option, Some, None, Result, Ok, Err, length}
+use Rattle.std.specs.Prelude.{map}
+use Rattle.std.specs.Fmt.{decimal}
+use Rattle.std.specs.List.{flat_map, list_any}
+use Rattle.std.specs.declared.alloc.Global.{Global}
+use Rattle.captures.specs.Whole.{IsReadFault, IsWhole}
+use Rattle.captures.specs.declared.capture_reading.ReadFault.{ReadFault}
+use Rattle.losses.specs.Collects.{GivesFault, GivesPieces}
+use Rattle.losses.specs.Parts.{LogPart, Events, Missing}
+use Rattle.losses.specs.PartsIn.{parts_in}
+use Rattle.losses.specs.declared.fault.LossyFault.{LossyFault}
+use Rattle.losses.specs.declared.part.HartPieces.{HartPieces}
+use Rattle.message.specs.declared.header.Header.{Header}
+use Rattle.message.specs.declared.message.Message.{Message}
+use Rattle.payload.specs.declared.mode.Mode.{Mode}
+use Rattle.payload.specs.declared.mode.Mode.TheVariants.{Differential}
+use Rattle.retire.specs.LogText.{log_text}
+use Rattle.rvclass.specs.Image.{Image}
+use Rattle.command_inputs.specs.Faults.{lossy_fault, reading_fault}
+use Rattle.command_inputs.specs.Printed.{First, Printed}
+use Rattle.command_inputs.specs.declared.fault.Fault.{Fault}
+use Rattle.command_inputs.specs.declared.status.Status.{Status}
+use Rattle.command_inputs.specs.declared.status.Status.TheVariants.{NotWhole}
+use Rattle.capture_commands.specs.Decoding.{end_of_harts}
+use Rattle.capture_commands.specs.EachHart.{each_hart}
+
+-- The line of a gap, with how many numbers are missing; or the line of a stretch, with how many events it has, and the
+-- text of their log.
+abbrev pub part_text : LogPart → List ℕ
+part_text (Missing count) = codes "gap: " ++ (decimal count ++ codes " messages\n")
+part_text (Events events) = (codes "stretch: " ++ (decimal (length events) ++ codes " events\n")) ++ log_text events
+
+-- The texts of the parts of a hart's log, in order.
+abbrev pub parts_text : List LogPart → List ℕ
+parts_text parts = flat_map part_text parts
+
+-- The parts of each hart's log.
+abbrev pub parts_of : List (HartPieces Global) → List (List LogPart)
+parts_of pieces = map (λ (own : HartPieces Global). parts_in own.parts.items) pieces
+
+-- Whether each hart is closed.
+abbrev pub closed_of : List (HartPieces Global) → List Bool
+closed_of pieces = map (λ (own : HartPieces Global). own.closed) pieces
+
+-- The part is a gap, in which numbers are missing.
+abbrev pub is_gap : LogPart → Bool
+is_gap (Missing count) = true
+is_gap (Events events) = false
+
+-- Some hart's log has a gap.
+abbrev pub have_gaps : List (List LogPart) → Bool
+have_gaps harts = list_any (list_any is_gap) harts
+
+-- A fault stays the end. Without one, all is done only where there are no gaps.
+abbrev pub end_with_gaps : Bool → Result Status Fault → Result Status Fault
+end_with_gaps gaps (Err why) = Err why
+end_with_gaps true (Ok status) = Ok NotWhole
+end_with_gaps false (Ok status) = Ok status
+
+-- The fault names the first hart that is not closed. Where all are closed, the end is by whether there are gaps.
+abbrev pub end_of_pieces : List (HartPieces Global) → Result Status Fault
+end_of_pieces pieces = end_with_gaps (have_gaps (parts_of pieces)) (end_of_harts 0 (closed_of pieces))
+
+-- The count of harts: the header's, or without a header this one.
+abbrev pub harts_counted : ℕ → Option Header → ℕ
+harts_counted harts None = harts
+harts_counted harts (Some header) = header.harts
+
+-- The header's mode, or without a header the differential one.
+abbrev pub mode_of_header : Option Header → Mode
+mode_of_header None = Differential
+mode_of_header (Some header) = header.mode
+
+-- A capture's header, if it has one, and all its messages are found, or why it is not read whole.
+abbrev pub IsReadWhole : List ℕ → Result (Option Header × List Message) ReadFault → Type 0
+IsReadWhole bytes (Ok whole) = IsWhole bytes whole.0 whole.1
+IsReadWhole bytes (Err why) = IsReadFault bytes why
+
+-- What is left of the logs is collected from the header and the messages, or collecting ends at a fault. Where the
+-- capture was not read whole, its fault stays.
+abbrev pub AreCollectedFrom : ℕ → Image → Result (Option Header × List Message) ReadFault
+    → Result (List (HartPieces Global)) Fault → Type 0
+AreCollectedFrom harts program (Err why) found = found ≡ Err (reading_fault why)
+AreCollectedFrom harts program (Ok whole) (Ok pieces) =
+    GivesPieces program (harts_counted harts whole.0) (mode_of_header whole.0) whole.1 pieces
+AreCollectedFrom harts program (Ok whole) (Err why) =
+    (fault : LossyFault) × (why ≡ lossy_fault fault)
+    × GivesFault program (harts_counted harts whole.0) (mode_of_header whole.0) whole.1 fault
+
+-- What is left of the logs of a capture's harts is found, or the first fault. All messages are read before any is
+-- judged.
+pub record ArePieces (harts : ℕ) (program : Image) (bytes : List ℕ) (found : Result (List (HartPieces Global)) Fault)
+    : Type 0 where
+  pub whole : Result (Option Header × List Message) ReadFault
+  pub read : IsReadWhole bytes whole
+  pub collected : AreCollectedFrom harts program whole found
+
+-- What is left of the logs is found, with no fault.
+pub record HasPieces (harts : ℕ) (program : Image) (bytes : List ℕ) : Type 0 where
+  pub pieces : List (HartPieces Global)
+  pub found : ArePieces harts program bytes (Ok pieces)
+
+-- For each hart its line and the texts of its log's parts are written. The run ends by which harts are closed and by
+-- whether there are gaps.
+pub record WritesParts (pieces : List (HartPieces Global)) (printed : Printed) : Type 0 where
+  pub text : printed.text ≡ each_hart parts_text 0 (parts_of pieces)
+  pub ended : printed.ended ≡ end_of_pieces pieces
+
+-- What is left of the logs is found first. Where there is no fault, its parts are written.
+abbrev pub WritesPieces : ℕ → Image → List ℕ → Printed → Type 0
+WritesPieces harts program bytes = First (ArePieces harts program bytes) WritesParts

@@ -1,0 +1,140 @@
+//! The subcommand `decode`.
+
+ghost use Rattle.std.specs.Prelude.{⊤, ◌≡◌, ◌≢◌, ◌⊎◌, Err, IfErr, IfSome, OnOk};
+ghost use Rattle.std.specs.Io.KnownBytes.{Appends, Keeps};
+ghost use Rattle.receiver.specs.Received.{events_in};
+ghost use Rattle.output.specs.Begun.{AppendsBeginning};
+ghost use Rattle.retire.specs.Number.{number_of};
+ghost use Rattle.command_inputs.specs.Begun.{BeginsPrinted, IsCutOf};
+ghost use Rattle.command_inputs.specs.Printed.{IsPrintingDenied, PrintsUnlessDenied};
+ghost use Rattle.command_inputs.specs.Faults.{final_status, status_of};
+ghost use Rattle.command_inputs.specs.Order.{base_fault};
+ghost use Rattle.capture_commands.specs.Decoded.{Decodes, WritesDecoded, harts_text, CanDecode};
+ghost use Rattle.capture_commands.specs.Decoding.{end_of_capture};
+ghost use Rattle.capture_commands.specs.steps.Writing.{EndsWriting, StopsBehindLine};
+
+use crate::lossy_decoding::decode_lossy;
+use captures::{CaptureOutcome, decode_capture};
+use command_inputs::{Fault, Files, Status, base_of, content_of, program_of};
+use output::write_text;
+use retire::{Event, write_log};
+use rvclass::Program;
+use std::alloc::Global;
+use std::io::Write;
+use subcommands::Decode;
+
+/// Writes the log of each hart, as far as the messages of a capture settle it. Returns that all is done where the
+/// capture's header, if it has one, is valid, no message is refused, every packet is decoded and each hart's closing
+/// packet came.
+///
+/// Where messages may be lost, what is left of each hart's log is written instead: a line for each gap, and for each
+/// stretch a line and its log. All is done then where there is no gap and each hart's closing packet came. A gap alone
+/// is no fault, but the status is then that the capture is not good. Where the capture is not read whole, a message is
+/// refused or its packet is not decoded, nothing is written.
+pub fn decode<'a, F: Files, O: Write>(
+    alloc: Global,
+    files: &mut F,
+    asked: &Decode<'a>,
+    out: &mut O,
+) -> Result<Status, Fault<'a>>
+    ensures early { IfSome (base_fault (number_of asked.now.base.now)) (λ fault. result ≡ Err fault) }
+    ensures refused { final_status result ≡ Status.Refused → out.new ≡ out.old }
+    ensures printed { PrintsUnlessDenied (Decodes (F.content files.old) asked.now)
+        (CanDecode (F.content files.old) asked.now) result
+        (O.contents out.old) (O.contents out.new) }
+    ensures begun { result ≡ Err Fault.Memory → Keeps (O.contents out.old) (O.contents out.new)
+        ⊎ BeginsPrinted (Decodes (F.content files.old) asked.now) (O.contents out.old) (O.contents out.new) }
+    ensures cut { IsCutOf (Decodes (F.content files.old) asked.now) (O.contents out.old) (O.contents out.new) }
+{
+    let base = match base_of(asked.base) {
+        Ok(base) => base,
+        Err(why) => return Err(why),
+    };
+    let program = match program_of(files, base, asked.image) {
+        Ok(program) => program,
+        Err(why) => return Err(why),
+    };
+    let bytes = match content_of(files, asked.capture) {
+        Ok(bytes) => bytes,
+        Err(why) => return Err(why),
+    };
+    let capture = bytes.as_slice();
+    if asked.lossy {
+        decode_lossy(alloc, &program, asked.harts, capture, out)
+    } else {
+        decode_whole(alloc, &program, asked.harts, capture, out)
+    }
+}
+
+/// Writes the log of each hart, as far as the messages of these bytes settle it, where no message may be lost.
+fn decode_whole<'a, O: Write>(
+    alloc: Global,
+    program: &Program,
+    harts: u16,
+    bytes: &[u8],
+    out: &mut O,
+) -> Result<Status, Fault<'a>>
+    ensures never_refused { final_status result ≢ Status.Refused }
+    ensures printed { PrintsUnlessDenied (WritesDecoded harts program.now bytes.now) ⊤ result
+        (O.contents out.old) (O.contents out.new) }
+    ensures cut { IsCutOf (WritesDecoded harts program.now bytes.now) (O.contents out.old) (O.contents out.new) }
+{
+    let outcome = decode_capture(alloc, program, harts, bytes)?;
+    write_outcome(alloc, &outcome, out)
+}
+
+/// Writes the log of each hart, as far as it was decoded, and returns how decoding ended. What was decoded before a
+/// fault is written whole, also where the fault is that a decoder was refused memory. The exceptions: the output fails,
+/// or memory for a log's text is refused.
+fn write_outcome<'a, O: Write>(
+    alloc: Global,
+    outcome: &CaptureOutcome,
+    out: &mut O,
+) -> Result<Status, Fault<'a>>
+    ensures never_refused { final_status result ≢ Status.Refused }
+    ensures written { EndsWriting (events_in outcome.now.harts.items) outcome.now.closed.items outcome.now.fault
+        result (O.contents out.old) (O.contents out.new) }
+    ensures begun { AppendsBeginning (harts_text 0 (events_in outcome.now.harts.items))
+        (O.contents out.old) (O.contents out.new) }
+{
+    write_logs(alloc, outcome.harts.as_slice(), out)?;
+    out.flush()?;
+    ended(outcome)
+}
+
+/// Writes the log of each hart, after a line with the hart's number. Memory may be refused for the text of a log, once
+/// the line of its hart is written.
+fn write_logs<'a, O: Write>(
+    alloc: Global,
+    logs: &[Vec<Event>],
+    out: &mut O,
+) -> Result<(), Fault<'a>>
+    ensures machine { IfErr result (λ fault. status_of fault ≡ Status.Machine) }
+    ensures denied { IfErr result (IsPrintingDenied ⊤) }
+    ensures memory { result ≡ Err Fault.Memory
+        → StopsBehindLine (events_in logs.now) (O.contents out.old) (O.contents out.new) }
+    ensures text { OnOk result (Appends (O.contents out.old) (O.contents out.new) (harts_text 0 (events_in logs.now))) }
+    ensures begun { AppendsBeginning (harts_text 0 (events_in logs.now)) (O.contents out.old) (O.contents out.new) }
+{
+    for (hart, log) in logs.iter().enumerate() {
+        write_text(out, format_args!("hart {hart}\n"))?;
+        write_log(alloc, out, log.as_slice())?;
+    }
+    Ok(())
+}
+
+/// How decoding ended: at its fault, if there is one, or at the first hart whose closing packet did not come.
+fn ended<'a>(outcome: &CaptureOutcome) -> Result<Status, Fault<'a>>
+    ensures value { result ≡ end_of_capture outcome.now.fault outcome.now.closed.items }
+    ensures never_refused { final_status result ≢ Status.Refused }
+{
+    if let Some((number, why)) = outcome.fault {
+        return Err(Fault::of_capture(number, why));
+    }
+    for (hart, closed) in outcome.closed.iter().enumerate() {
+        if !*closed {
+            return Err(Fault::Unclosed(hart));
+        }
+    }
+    Ok(Status::Whole)
+}

@@ -1,0 +1,226 @@
+//! The subcommand `decode` where messages may be lost.
+
+ghost use Rattle.std.specs.Prelude.{⊤, ◌≡◌, ◌≢◌, Ok, Err, IfErr, IfOk, OnOk};
+ghost use Rattle.std.specs.Io.KnownBytes.{Appends};
+ghost use Rattle.std.specs.List.{list_any};
+ghost use Rattle.losses.specs.Parts.{Events, Missing};
+ghost use Rattle.losses.specs.PartsIn.{part_of, parts_in};
+ghost use Rattle.output.specs.Begun.{AppendsBeginning};
+ghost use Rattle.command_inputs.specs.Begun.{IsCutOf};
+ghost use Rattle.command_inputs.specs.Faults.{final_status, status_of};
+ghost use Rattle.command_inputs.specs.Printed.{IsPrintingDenied, PrintsUnlessDenied};
+ghost use Rattle.capture_commands.specs.Decoding.{end_of_harts};
+ghost use Rattle.capture_commands.specs.EachHart.{each_hart};
+ghost use Rattle.capture_commands.specs.Pieces.{ArePieces, HasPieces, WritesPieces, closed_of, end_of_pieces};
+ghost use Rattle.capture_commands.specs.Pieces.{harts_counted, have_gaps, is_gap, mode_of_header, part_text, parts_of};
+ghost use Rattle.capture_commands.specs.Pieces.{parts_text};
+
+use captures::read_messages;
+use command_inputs::{Fault, Status};
+use losses::{HartPieces, Part, collect_lossy};
+use message::Header;
+use output::write_text;
+use payload::Mode;
+use retire::{Event, write_log};
+use rvclass::Program;
+use std::alloc::Global;
+use std::io::Write;
+
+/// Writes what is left of the log of each hart. Returns that all is done where each hart's closing packet came and
+/// there is no gap. Where the capture is not read whole, a message is refused or its packet is not decoded, nothing is
+/// written.
+pub(crate) fn decode_lossy<'a, O: Write>(
+    alloc: Global,
+    program: &Program,
+    harts: u16,
+    bytes: &[u8],
+    out: &mut O,
+) -> Result<Status, Fault<'a>>
+    ensures never_refused { final_status result ≢ Status.Refused }
+    ensures printed { PrintsUnlessDenied (WritesPieces harts program.now bytes.now)
+        (HasPieces harts program.now bytes.now) result (O.contents out.old) (O.contents out.new) }
+    ensures cut { IsCutOf (WritesPieces harts program.now bytes.now) (O.contents out.old) (O.contents out.new) }
+{
+    let pieces = match pieces_of(alloc, program, harts, bytes) {
+        Ok(pieces) => pieces,
+        Err(fault) => return Err(fault),
+    };
+    match write_pieces(alloc, pieces.as_slice(), out) {
+        Ok(()) => {}
+        Err(fault) => return Err(fault),
+    }
+    if out.flush().is_err() {
+        return Err(Fault::Output);
+    }
+    ended(pieces.as_slice())
+}
+
+/// What is left of the logs of a capture's harts.
+fn pieces_of<'a>(
+    alloc: Global,
+    program: &Program,
+    harts: u16,
+    bytes: &[u8],
+) -> Result<Vec<HartPieces>, Fault<'a>>
+    ensures found { IfOk result (λ pieces. ArePieces harts program.now bytes.now (Ok pieces.items)) }
+    ensures fault { IfErr result (λ fault. ArePieces harts program.now bytes.now (Err fault)) }
+    ensures never_refused { IfErr result (λ fault. status_of fault ≢ Status.Refused) }
+{
+    let whole = match read_messages(alloc, bytes) {
+        Ok(whole) => whole,
+        Err(fault) => return Err(Fault::of_reading(fault)),
+    };
+    match collect_lossy(
+        alloc,
+        program,
+        harts_counted(harts, whole.header),
+        mode_of_header(whole.header),
+        whole.messages.as_slice(),
+    ) {
+        Ok(pieces) => Ok(pieces),
+        Err(fault) => Err(Fault::of_losses(fault)),
+    }
+}
+
+/// How many harts a capture has: as many as its header counts, or without a header this many.
+fn harts_counted(harts: u16, header: Option<Header>) -> u16
+    ensures { result ≡ harts_counted harts header }
+{
+    match header {
+        Some(header) => header.harts,
+        None => harts,
+    }
+}
+
+/// The mode of a hart whose packet that opens the trace is lost: the header's, or without a header the differential
+/// one.
+fn mode_of_header(header: Option<Header>) -> Mode
+    ensures { result ≡ mode_of_header header }
+{
+    match header {
+        Some(header) => header.mode,
+        None => Mode::Differential,
+    }
+}
+
+/// Writes what is left of each hart's log, after a line with the hart's number.
+fn write_pieces<'a, O: Write>(
+    alloc: Global,
+    harts: &[HartPieces],
+    out: &mut O,
+) -> Result<(), Fault<'a>>
+    ensures machine { IfErr result (λ fault. status_of fault ≡ Status.Machine) }
+    ensures denied { IfErr result (IsPrintingDenied ⊤) }
+    ensures text { OnOk result
+        (Appends (O.contents out.old) (O.contents out.new) (each_hart parts_text 0 (parts_of harts.now))) }
+    ensures begun { AppendsBeginning (each_hart parts_text 0 (parts_of harts.now)) (O.contents out.old)
+        (O.contents out.new) }
+{
+    for (hart, pieces) in harts.iter().enumerate() {
+        write_text(out, format_args!("hart {hart}\n"))?;
+        write_parts(alloc, pieces.parts.as_slice(), out)?;
+    }
+    Ok(())
+}
+
+/// Writes the parts of a hart's log.
+fn write_parts<'a, O: Write>(alloc: Global, parts: &[Part], out: &mut O) -> Result<(), Fault<'a>>
+    ensures machine { IfErr result (λ fault. status_of fault ≡ Status.Machine) }
+    ensures denied { IfErr result (IsPrintingDenied ⊤) }
+    ensures text { OnOk result (Appends (O.contents out.old) (O.contents out.new) (parts_text (parts_in parts.now))) }
+    ensures begun { AppendsBeginning (parts_text (parts_in parts.now)) (O.contents out.old) (O.contents out.new) }
+{
+    for part in parts {
+        write_part(alloc, part, out)?;
+    }
+    Ok(())
+}
+
+/// Writes the line of a gap, or the line of a stretch and its log.
+fn write_part<'a, O: Write>(alloc: Global, part: &Part, out: &mut O) -> Result<(), Fault<'a>>
+    ensures machine { IfErr result (λ fault. status_of fault ≡ Status.Machine) }
+    ensures denied { IfErr result (IsPrintingDenied ⊤) }
+    ensures text { OnOk result (Appends (O.contents out.old) (O.contents out.new) (part_text (part_of part.now))) }
+    ensures begun { AppendsBeginning (part_text (part_of part.now)) (O.contents out.old) (O.contents out.new) }
+{
+    match part {
+        Part::Gap(missing) => write_gap(*missing, out),
+        Part::Stretch(events) => write_stretch(alloc, events.as_slice(), out),
+    }
+}
+
+/// Writes the line of a gap, with how many numbers are missing.
+fn write_gap<'a, O: Write>(missing: u64, out: &mut O) -> Result<(), Fault<'a>>
+    ensures machine { IfErr result (λ fault. status_of fault ≡ Status.Machine) }
+    ensures denied { IfErr result (IsPrintingDenied ⊤) }
+    ensures text { OnOk result (Appends (O.contents out.old) (O.contents out.new) (part_text (Missing missing))) }
+    ensures begun { AppendsBeginning (part_text (Missing missing)) (O.contents out.old) (O.contents out.new) }
+{
+    write_text(out, format_args!("gap: {missing} messages\n"))?;
+    Ok(())
+}
+
+/// Writes the line of a stretch, with how many events it has, and their log.
+fn write_stretch<'a, O: Write>(
+    alloc: Global,
+    events: &[Event],
+    out: &mut O,
+) -> Result<(), Fault<'a>>
+    ensures machine { IfErr result (λ fault. status_of fault ≡ Status.Machine) }
+    ensures denied { IfErr result (IsPrintingDenied ⊤) }
+    ensures text { OnOk result (Appends (O.contents out.old) (O.contents out.new) (part_text (Events events.now))) }
+    ensures begun { AppendsBeginning (part_text (Events events.now)) (O.contents out.old) (O.contents out.new) }
+{
+    let count = events.len();
+    write_text(out, format_args!("stretch: {count} events\n"))?;
+    write_log(alloc, out, events)?;
+    Ok(())
+}
+
+/// How this ended: at the first hart whose closing packet did not come, or else by whether there are gaps.
+fn ended<'a>(harts: &[HartPieces]) -> Result<Status, Fault<'a>>
+    ensures value { result ≡ end_of_pieces harts.now }
+    ensures never_refused { final_status result ≢ Status.Refused }
+{
+    match closed(harts) {
+        Ok(_) if have_gaps(harts) => Ok(Status::NotWhole),
+        ended => ended,
+    }
+}
+
+/// That all is done where each hart's closing packet came, or else the fault of the first hart whose did not.
+fn closed<'a>(harts: &[HartPieces]) -> Result<Status, Fault<'a>>
+    ensures value { result ≡ end_of_harts 0 (closed_of harts.now) }
+    ensures never_refused { final_status result ≢ Status.Refused }
+{
+    for (hart, pieces) in harts.iter().enumerate() {
+        if !pieces.closed {
+            return Err(Fault::Unclosed(hart));
+        }
+    }
+    Ok(Status::Whole)
+}
+
+/// Whether some hart's log has a gap.
+fn have_gaps(harts: &[HartPieces]) -> bool
+    ensures { result ≡ have_gaps (parts_of harts.now) }
+{
+    for pieces in harts {
+        if has_gap(pieces.parts.as_slice()) {
+            return true;
+        }
+    }
+    false
+}
+
+/// Whether one of these parts is a gap.
+fn has_gap(parts: &[Part]) -> bool
+    ensures { result ≡ list_any is_gap (parts_in parts.now) }
+{
+    for part in parts {
+        if matches!(part, Part::Gap(_)) {
+            return true;
+        }
+    }
+    false
+}

@@ -1,0 +1,5 @@
+pub mod Beginnings
+pub mod FirstSteps
+mod FromFiles
+pub mod LegalLogs
+pub mod Runs

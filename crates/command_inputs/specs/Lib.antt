@@ -1,0 +1,10 @@
+pub mod Status
+pub mod Faults
+pub mod FaultText
+pub mod Order
+pub mod Known
+pub mod Finding
+pub mod Found
+pub mod Printed
+pub mod Begun
+pub mod Meaning

@@ -1,0 +1,32 @@
+//! How a command ends.
+
+ghost use Rattle.std.specs.Prelude.{◌≡◌};
+ghost use Rattle.command_inputs.specs.Status.{code_of};
+
+/// How a command ended, which decides its exit status.
+#[derive(Clone, Copy, Debug, PartialEq, Eq)]
+pub enum Status {
+    /// All that was asked for is done.
+    Whole,
+    /// Reading or decoding a capture stopped at a fault, a payload of it is bad, a hart's closing packet did not come
+    /// or there are gaps; or not every log came back whole.
+    NotWhole,
+    /// The words, the image, a log or the schedule is refused.
+    Refused,
+    /// A file was not read or the output not written, memory was refused, or there was a stop of `replay` or `bench`.
+    Machine,
+}
+
+impl Status {
+    /// The exit status.
+    pub fn code(self) -> u8
+        ensures { result ≡ code_of self }
+    {
+        match self {
+            Status::Whole => 0,
+            Status::NotWhole => 1,
+            Status::Refused => 2,
+            Status::Machine => 3,
+        }
+    }
+}

@@ -1,0 +1,19 @@
+-- What each subcommand means.
+use Rattle.subcommands.specs.declared.words.Asked.{Asked}
+use Rattle.subcommands.specs.declared.words.Asked.TheVariants.{Bench, Check, Decode, Dump, Encode, Replay}
+use Rattle.command_inputs.specs.Meaning.{Meaning}
+use Rattle.log_commands.specs.Benching.{bench_meaning}
+use Rattle.log_commands.specs.Checking.{check_meaning}
+use Rattle.log_commands.specs.Encoding.{encode_meaning}
+use Rattle.log_commands.specs.Replaying.{replay_meaning}
+use Rattle.capture_commands.specs.Decoded.{decode_meaning}
+use Rattle.capture_commands.specs.Dumping.{dump_meaning}
+
+-- What the subcommand means that is asked for, with what is asked of it.
+abbrev pub meaning_of : Asked → Meaning
+meaning_of (Check asked) = check_meaning asked
+meaning_of (Encode asked) = encode_meaning asked
+meaning_of (Dump asked) = dump_meaning asked
+meaning_of (Decode asked) = decode_meaning asked
+meaning_of (Replay asked) = replay_meaning asked
+meaning_of (Bench asked) = bench_meaning asked

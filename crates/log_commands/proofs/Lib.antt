@@ -1,0 +1,5 @@
+mod Gots
+mod Headers
+mod JudgedLogs
+mod Reports
+mod Schedules

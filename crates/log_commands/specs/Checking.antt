@@ -1,0 +1,144 @@
+-- What `check` prints, and how it ends.
+use Rattle.std.specs.Prelude.{⊤, ◌⊎◌, ◌≡◌, ℕ, ◌++◌, ◌∷◌, Bool, codes, List, Option, Some, None, Result, Ok, Err}
+use Rattle.std.specs.Prelude.{if◌then◌else◌, is_some, length}
+use Rattle.std.specs.Fmt.{decimal}
+use Rattle.std.specs.Io.KnownBytes.{Keeps}
+use Rattle.std.specs.List.{AllZip, flat_map, list_any}
+use Rattle.legalpath.specs.FaultText.{path_fault_text}
+use Rattle.legalpath.specs.FirstFault.{IsFirstFault}
+use Rattle.legalpath.specs.Legal.{Legal}
+use Rattle.legalpath.specs.declared.fault.PathFault.{PathFault}
+use Rattle.message.specs.Version.{most_harts}
+use Rattle.message.specs.declared.header.Version.TheVariants.{Two}
+use Rattle.retire.specs.Number.{number_of}
+use Rattle.retire.specs.declared.event.Event.{Event}
+use Rattle.rvclass.specs.Fetch.{words_of}
+use Rattle.rvclass.specs.Image.{Image}
+use Rattle.rvclass.specs.Words.{Words}
+use Rattle.subcommands.specs.declared.words.Check.{Check}
+use Rattle.command_inputs.specs.Faults.{Path}
+use Rattle.command_inputs.specs.Finding.{Once}
+use Rattle.command_inputs.specs.Found.{IsAskedProgram, IsLog}
+use Rattle.command_inputs.specs.Known.{Content}
+use Rattle.command_inputs.specs.Meaning.{Meaning}
+use Rattle.command_inputs.specs.Order.{logs_fault}
+use Rattle.command_inputs.specs.Printed.{First, IsPrinted, Printed}
+use Rattle.command_inputs.specs.declared.fault.Fault.{Fault}
+use Rattle.command_inputs.specs.declared.status.Status.{Status}
+use Rattle.command_inputs.specs.declared.status.Status.TheVariants.{Refused, Whole}
+
+-- A log is legal, or it has this first illegal row.
+abbrev pub IsVerdict : Words → List Event → Option PathFault → Type 0
+IsVerdict words events None = Legal words events
+IsVerdict words events (Some illegal) = IsFirstFault words events illegal
+
+-- A log that was read and judged: its path, its events, and its first illegal row, if it has one.
+pub record Judged : Type 0 where
+  pub path : List ℕ
+  pub events : List Event
+  pub illegal : Option PathFault
+
+-- The log at a path was read, and this is its judgement by the program.
+pub record IsJudgedAt (content : Content) (program : Image) (path : Path) (log : Judged) : Type 0 where
+  pub named : log.path ≡ path.now
+  pub read : IsLog content path (Ok log.events)
+  pub verdict : IsVerdict (words_of program) log.events log.illegal
+
+-- The line of a log at a path. It says that the log is legal and how many events it has, or which row is the first
+-- illegal one and why.
+abbrev pub verdict_line : List ℕ → ℕ → Option PathFault → List ℕ
+verdict_line path count None = path ++ (codes ": legal, " ++ (decimal count ++ codes " events\n"))
+verdict_line path count (Some illegal) = path ++ (codes ": " ++ (path_fault_text illegal ++ codes "\n"))
+
+-- The line of a log that was judged.
+abbrev pub check_line : Judged → List ℕ
+check_line log = verdict_line log.path (length log.events) log.illegal
+
+-- A log that was judged is illegal.
+abbrev pub is_illegal : Judged → Bool
+is_illegal log = is_some log.illegal
+
+-- The status of a run that read every log: input is refused where some log is illegal.
+abbrev pub status_with : Bool → Status
+status_with some_illegal = if some_illegal then Refused else Whole
+
+-- Every log was read. Each has its line, and the status says whether one is illegal.
+pub record ChecksAll (content : Content) (program : Image) (paths : List Path) (text : List ℕ) (status : Status)
+    : Type 0 where
+  pub logs : List Judged
+  pub judged : AllZip (IsJudgedAt content program) paths logs
+  pub lines : text ≡ flat_map check_line logs
+  pub ended : status ≡ status_with (list_any is_illegal logs)
+
+-- The logs before some path were read, and each has its line. The log at that path was not read, for this reason.
+pub record ChecksUpTo (content : Content) (program : Image) (paths : List Path) (text : List ℕ) (why : Fault)
+    : Type 0 where
+  pub front : List Path
+  pub path : Path
+  pub rest : List Path
+  pub logs : List Judged
+  pub whole : paths ≡ front ++ path ∷ rest
+  pub judged : AllZip (IsJudgedAt content program) front logs
+  pub lines : text ≡ flat_map check_line logs
+  pub unread : IsLog content path (Err why)
+
+-- The text is the lines of the logs at these paths, up to the first that is not read, and this is the end that goes
+-- with it.
+abbrev pub EndsLines : Content → Image → List Path → List ℕ → Result Status Fault → Type 0
+EndsLines content program paths text (Ok status) = ChecksAll content program paths text status
+EndsLines content program paths text (Err why) = ChecksUpTo content program paths text why
+
+-- The lines of the logs at these paths are written.
+abbrev pub WritesLines : Content → Image → List Path → Printed → Type 0
+WritesLines content program paths printed = EndsLines content program paths printed.text printed.ended
+
+-- The program is found first, by the base, the count of logs and the image. Where there is no fault, the lines of the
+-- logs are written.
+abbrev pub Checks : Content → Check → Printed → Type 0
+Checks content asked =
+    First (IsAskedProgram content (most_harts Two) asked.base.now asked.image asked.logs.items) (λ program.
+    WritesLines content program asked.logs.items)
+
+-- `check` writes once it has the program.
+abbrev pub CanCheck : Content → Check → Type 0
+CanCheck content asked =
+    Once (IsAskedProgram content (most_harts Two) asked.base.now asked.image asked.logs.items) (λ _. ⊤)
+
+-- All logs at a front part of these paths were read, perhaps at none or at all of them, and their lines were appended.
+pub record AppendsFirstLines (content : Content) (program : Image) (paths : List Path) (old new : Option (List ℕ))
+    : Type 0 where
+  pub front : List Path
+  pub rest : List Path
+  pub status : Status
+  pub whole : paths ≡ front ++ rest
+  pub lines : IsPrinted (WritesLines content program front) (Ok status) old new
+
+-- The program was found, and the lines of the first logs were appended, perhaps of none.
+abbrev pub BeginsLines : Content → Check → Option (List ℕ) → Option (List ℕ) → Type 0
+BeginsLines content asked old new =
+    Once (IsAskedProgram content (most_harts Two) asked.base.now asked.image asked.logs.items) (λ program.
+    AppendsFirstLines content program asked.logs.items old new)
+
+-- The lines of the logs at a front part of these paths are written.
+pub record WritesFirstLines (content : Content) (program : Image) (paths : List Path) (printed : Printed) : Type 0 where
+  pub front : List Path
+  pub rest : List Path
+  pub whole : paths ≡ front ++ rest
+  pub lines : WritesLines content program front printed
+
+-- The program was found, and the lines of the first logs are written.
+abbrev pub ChecksFirst : Content → Check → Printed → Type 0
+ChecksFirst content asked printed =
+    Once (IsAskedProgram content (most_harts Two) asked.base.now asked.image asked.logs.items) (λ program.
+    WritesFirstLines content program asked.logs.items printed)
+
+-- What `check` means. It writes the line of a log before it reads the next.
+abbrev pub check_meaning : Check → Meaning
+check_meaning asked = record {
+  early = logs_fault (most_harts Two) (number_of asked.base.now) (length asked.logs.items);
+  Prints = λ content. Checks content asked;
+  CanWrite = λ content. CanCheck content asked;
+  Begins = λ content old new. Keeps old new ⊎ BeginsLines content asked old new;
+  WritesInParts = ⊤;
+  Cuts = λ content. ChecksFirst content asked;
+}

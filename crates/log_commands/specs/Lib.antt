@@ -1,0 +1,5 @@
+pub mod Checking
+pub mod Encoding
+pub mod Sending
+pub mod Replaying
+pub mod Benching

@@ -1,0 +1,101 @@
+//! The subcommand `bench`.
+
+ghost use Rattle.std.specs.Prelude.{◌≡◌, ◌⊎◌, IfErr, IfOk, IfSome, Ok, Err, length};
+ghost use Rattle.retire.specs.Number.{number_of};
+ghost use Rattle.funnel.specs.Limits.{most_ports};
+ghost use Rattle.bench.specs.Beginnings.{AreBeginnings};
+ghost use Rattle.bench.specs.Stopping.{NamesOpen};
+ghost use Rattle.command_inputs.specs.Begun.{IsCutOf};
+ghost use Rattle.command_inputs.specs.Faults.{final_status};
+ghost use Rattle.command_inputs.specs.Order.{logs_fault};
+ghost use Rattle.command_inputs.specs.Printed.{PrintsUnlessDenied};
+ghost use Rattle.log_commands.specs.Benching.{Benches, BenchesLogs, CanBench, CanBenchLogs};
+ghost use Rattle.log_commands.specs.Sending.{IsSetting, config_at};
+
+use crate::reporting::end_with_report;
+use bench::{Config, Open, Outcome, run};
+use command_inputs::{Fault, Files, Status, asked_program, legal_logs_of};
+use funnel::MOST_PORTS;
+use legalpath::LegalLog;
+use std::alloc::Global;
+use std::io::Write;
+use std::sync::Wait;
+use std::thread::Threads;
+use subcommands::Bench;
+
+/// Sends each hart's log through the funnel from a thread of its own, once all logs are found legal, and writes the
+/// report of what comes of them. All is done where each log comes back whole. A stop is printed in the report, and the
+/// status is then that of the machine.
+pub fn bench<'a, F: Files, O: Write, R: Threads + Wait + Sync>(
+    alloc: Global,
+    rt: &R,
+    files: &mut F,
+    asked: &Bench<'a>,
+    out: &mut O,
+) -> Result<Status, Fault<'a>>
+    ensures early { IfSome (logs_fault most_ports (number_of asked.now.base.now) (length asked.now.logs.items))
+        (λ fault. result ≡ Err fault) }
+    ensures refused { final_status result ≡ Status.Refused → out.new ≡ out.old }
+    ensures untouched { result ≡ Err Fault.Memory → out.new ≡ out.old }
+    ensures printed { PrintsUnlessDenied (Benches (F.content files.old) asked.now)
+        (CanBench (F.content files.old) asked.now) result
+        (O.contents out.old) (O.contents out.new) }
+    ensures cut { IsCutOf (Benches (F.content files.old) asked.now) (O.contents out.old) (O.contents out.new) }
+{
+    let paths = asked.logs.as_slice();
+    let program = match asked_program(files, MOST_PORTS, asked.base, asked.image, paths) {
+        Ok(program) => program,
+        Err(why) => return Err(why),
+    };
+    match legal_logs_of(alloc, files, &program, paths) {
+        Ok(logs) => bench_logs(alloc, rt, asked, logs.as_slice(), out),
+        Err(why) => Err(why),
+    }
+}
+
+/// Sends each legal log through the funnel from a thread of its own, and writes the report of what comes of them.
+fn bench_logs<'a, O: Write, R: Threads + Wait + Sync>(
+    alloc: Global,
+    rt: &R,
+    asked: &Bench<'a>,
+    logs: &[LegalLog<'_>],
+    out: &mut O,
+) -> Result<Status, Fault<'a>>
+    ensures refused { final_status result ≡ Status.Refused → out.new ≡ out.old }
+    ensures untouched { result ≡ Err Fault.Memory → out.new ≡ out.old }
+    ensures printed { PrintsUnlessDenied (BenchesLogs asked.now logs.now) (CanBenchLogs asked.now logs.now) result
+        (O.contents out.old) (O.contents out.new) }
+    ensures cut { IsCutOf (BenchesLogs asked.now logs.now) (O.contents out.old) (O.contents out.new) }
+{
+    let outcome = outcome_of(alloc, rt, logs, asked)?;
+    end_with_report(&outcome, logs, out)
+}
+
+/// What comes of the logs. No packets are kept.
+fn outcome_of<'a, R: Threads + Wait + Sync>(
+    alloc: Global,
+    rt: &R,
+    logs: &[LegalLog<'_>],
+    asked: &Bench<'a>,
+) -> Result<Outcome, Fault<'a>>
+    ensures setting { IfOk result (λ _.
+        IsSetting most_ports (length logs.now) (config_at asked.now.period asked.now.mode asked.now.capacity) (Ok tt)) }
+    ensures count { IfOk result (λ outcome. length logs.now ≡ length outcome.harts.items) }
+    ensures came { IfOk result (λ outcome.
+        AreBeginnings (config_at asked.now.period asked.now.mode asked.now.capacity) logs.now outcome.harts.items) }
+    ensures names { IfOk result (λ outcome. NamesOpen outcome.stop outcome.harts.items) }
+    ensures fault { IfErr result (λ why. (why ≡ Fault.Memory)
+        ⊎ IsSetting most_ports (length logs.now) (config_at asked.now.period asked.now.mode asked.now.capacity)
+        (Err why)) }
+{
+    let config = Config {
+        period: asked.period,
+        mode: asked.mode,
+        capacity: asked.capacity,
+        keep: false,
+    };
+    match run(alloc, alloc, logs, config, &Open, rt) {
+        Ok(outcome) => Ok(outcome),
+        Err(why) => Err(Fault::of_setup(why)),
+    }
+}

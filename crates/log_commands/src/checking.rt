@@ -1,0 +1,117 @@
+//! The subcommand `check`.
+
+ghost use Rattle.std.specs.Prelude.{⊤, ◌≡◌, ◌⊎◌, ◌≤◌, Err, IfErr, IfSome, OnOk, length};
+ghost use Rattle.std.specs.Io.KnownBytes.{Appends, Keeps};
+ghost use Rattle.message.specs.Version.{most_harts};
+ghost use Rattle.message.specs.declared.header.Version.TheVariants.{Two};
+ghost use Rattle.output.specs.Begun.{AppendsBeginning};
+ghost use Rattle.retire.specs.Log.{most_rows};
+ghost use Rattle.retire.specs.Number.{number_of};
+ghost use Rattle.rvclass.specs.Fetch.{words_of};
+ghost use Rattle.command_inputs.specs.Begun.{BeginsPrinted, IsCutOf};
+ghost use Rattle.command_inputs.specs.Order.{logs_fault};
+ghost use Rattle.command_inputs.specs.Printed.{PrintsUnlessDenied};
+ghost use Rattle.log_commands.specs.Checking.{AppendsFirstLines, BeginsLines, ChecksFirst, WritesFirstLines, CanCheck};
+ghost use Rattle.log_commands.specs.Checking.{Checks, IsVerdict, WritesLines, verdict_line};
+
+use command_inputs::{Fault, Files, Status, asked_program, log_of};
+use legalpath::PathFault;
+use message::MOST_HARTS;
+use output::write_text;
+use retire::Event;
+use rvclass::Program;
+use std::alloc::Global;
+use std::io::Write;
+use subcommands::Check;
+
+/// Writes a line for each log, which says whether it is legal. Returns that all is done where all logs are legal, and
+/// else that the input is refused. A log that is not read ends the run, after the lines of the logs before it.
+pub fn check<'a, F: Files, O: Write>(
+    alloc: Global,
+    files: &mut F,
+    asked: &Check<'a>,
+    out: &mut O,
+) -> Result<Status, Fault<'a>>
+    ensures early { IfSome (logs_fault (most_harts Two) (number_of asked.now.base.now) (length asked.now.logs.items))
+        (λ fault. result ≡ Err fault) }
+    ensures printed { PrintsUnlessDenied (Checks (F.content files.old) asked.now)
+        (CanCheck (F.content files.old) asked.now) result
+        (O.contents out.old) (O.contents out.new) }
+    ensures begun { result ≡ Err Fault.Memory → Keeps (O.contents out.old) (O.contents out.new)
+        ⊎ BeginsLines (F.content files.old) asked.now (O.contents out.old) (O.contents out.new) }
+    ensures cut { IsCutOf (ChecksFirst (F.content files.old) asked.now) (O.contents out.old) (O.contents out.new) }
+{
+    let paths = asked.logs.as_slice();
+    let program = match asked_program(files, MOST_HARTS, asked.base, asked.image, paths) {
+        Ok(program) => program,
+        Err(why) => return Err(why),
+    };
+    let ended = judge_all(alloc, files, &program, paths, out);
+    if out.flush().is_err() {
+        return Err(Fault::Output);
+    }
+    ended
+}
+
+/// Judges the logs in turn, and writes the line of each.
+fn judge_all<'a, F: Files, O: Write>(
+    alloc: Global,
+    files: &mut F,
+    program: &Program,
+    logs: &[&'a str],
+    out: &mut O,
+) -> Result<Status, Fault<'a>>
+    ensures printed { PrintsUnlessDenied (WritesLines (F.content files.old) program.now logs.now) ⊤ result
+        (O.contents out.old) (O.contents out.new) }
+    ensures begun { result ≡ Err Fault.Memory → AppendsFirstLines (F.content files.old) program.now logs.now
+        (O.contents out.old) (O.contents out.new) }
+    ensures cut { BeginsPrinted (WritesFirstLines (F.content files.old) program.now logs.now) (O.contents out.old)
+        (O.contents out.new) }
+{
+    let mut status = Status::Whole;
+    for path in logs {
+        let events = match log_of(alloc, files, path) {
+            Ok(events) => events,
+            Err(why) => return Err(why),
+        };
+        let illegal = illegal_row(program, events.as_slice());
+        match write_line(path, events.len(), illegal, out) {
+            Ok(()) => {}
+            Err(why) => return Err(why),
+        }
+        if illegal.is_some() {
+            status = Status::Refused;
+        }
+    }
+    Ok(status)
+}
+
+/// The first illegal row of a log, if it has one.
+fn illegal_row(program: &Program, log: &[Event]) -> Option<PathFault>
+    requires { length log.now ≤ most_rows }
+    ensures { IsVerdict (words_of program.now) log.now result }
+{
+    legalpath::check(program, log).err()
+}
+
+/// Writes the line of a log: how many events it has, or its first illegal row.
+fn write_line<'a, O: Write>(
+    path: &str,
+    count: usize,
+    illegal: Option<PathFault>,
+    out: &mut O,
+) -> Result<(), Fault<'a>>
+    ensures fault { IfErr result (λ fault. fault ≡ Fault.Output) }
+    ensures text { OnOk result
+        (Appends (O.contents out.old) (O.contents out.new) (verdict_line path.now count illegal)) }
+    ensures begun { AppendsBeginning (verdict_line path.now count illegal) (O.contents out.old) (O.contents out.new) }
+{
+    let written = match illegal {
+        None => write_text(out, format_args!("{path}: legal, {count} events\n")),
+        Some(fault) => write_text(out, format_args!("{path}: {fault}\n")),
+    };
+    match written {
+        Ok(()) => Ok(()),
+        Err(_) => Err(Fault::Output),
+    }
+}

@@ -1,0 +1,93 @@
+//! The subcommand `encode`.
+
+ghost use Rattle.std.specs.Prelude.{◌≡◌, ◌≤◌, Err, IfErr, IfOk, IfSome, OnOk, length};
+ghost use Rattle.std.specs.Io.KnownBytes.{Appends};
+ghost use Rattle.message.specs.Version.{most_harts};
+ghost use Rattle.output.specs.Begun.{AppendsBeginning};
+ghost use Rattle.retire.specs.Number.{number_of};
+ghost use Rattle.command_inputs.specs.Begun.{IsCutOf};
+ghost use Rattle.command_inputs.specs.Faults.{final_status};
+ghost use Rattle.command_inputs.specs.Order.{logs_fault};
+ghost use Rattle.command_inputs.specs.Printed.{PrintsUnlessDenied};
+ghost use Rattle.log_commands.specs.Encoding.{CanEncode, Encodes, written};
+
+use captures::{encode_capture, encode_hex};
+use command_inputs::{Fault, Files, Status, asked_program, legal_logs_of};
+use legalpath::LegalLog;
+use std::alloc::Global;
+use std::io::Write;
+use subcommands::Encode;
+
+/// Writes the messages of each hart's log, once all logs are found legal: as a capture of the version that is asked
+/// for, or as lines of hexadecimal. The version limits the count of logs in both cases.
+pub fn encode<'a, F: Files, O: Write>(
+    alloc: Global,
+    files: &mut F,
+    asked: &Encode<'a>,
+    out: &mut O,
+) -> Result<Status, Fault<'a>>
+    requires { 1 ≤ asked.now.period }
+    ensures early { IfSome
+        (logs_fault (most_harts asked.now.version) (number_of asked.now.base.now) (length asked.now.logs.items))
+        (λ fault. result ≡ Err fault) }
+    ensures refused { final_status result ≡ Status.Refused → out.new ≡ out.old }
+    ensures untouched { result ≡ Err Fault.Memory → out.new ≡ out.old }
+    ensures printed { PrintsUnlessDenied (Encodes (F.content files.old) asked.now)
+        (CanEncode (F.content files.old) asked.now) result
+        (O.contents out.old) (O.contents out.new) }
+    ensures cut { IsCutOf (Encodes (F.content files.old) asked.now) (O.contents out.old) (O.contents out.new) }
+{
+    let paths = asked.logs.as_slice();
+    let most = asked.version.most_harts();
+    let program = match asked_program(files, most, asked.base, asked.image, paths) {
+        Ok(program) => program,
+        Err(why) => return Err(why),
+    };
+    match legal_logs_of(alloc, files, &program, paths) {
+        Ok(logs) => encode_logs(asked, logs.as_slice(), out),
+        Err(why) => Err(why),
+    }
+}
+
+/// Writes the messages of legal logs, flushes the output, and returns that all is done.
+fn encode_logs<'a, O: Write>(
+    asked: &Encode<'a>,
+    logs: &[LegalLog<'_>],
+    out: &mut O,
+) -> Result<Status, Fault<'a>>
+    requires period { 1 ≤ asked.now.period }
+    requires some { 1 ≤ length logs.now }
+    requires few { length logs.now ≤ most_harts asked.now.version }
+    ensures fault { IfErr result (λ fault. fault ≡ Fault.Output) }
+    ensures ended { IfOk result (λ status. status ≡ Status.Whole) }
+    ensures text { OnOk result (Appends (O.contents out.old) (O.contents out.new) (written asked.now logs.now)) }
+    ensures begun { AppendsBeginning (written asked.now logs.now) (O.contents out.old) (O.contents out.new) }
+{
+    write_messages(asked, logs, out)?;
+    out.flush()?;
+    Ok(Status::Whole)
+}
+
+/// Writes the messages of legal logs.
+#[tactic(auto, using(crate::proofs::Headers::may_start))]
+fn write_messages<'a, O: Write>(
+    asked: &Encode<'a>,
+    logs: &[LegalLog<'_>],
+    out: &mut O,
+) -> Result<(), Fault<'a>>
+    requires period { 1 ≤ asked.now.period }
+    requires some { 1 ≤ length logs.now }
+    requires few { length logs.now ≤ most_harts asked.now.version }
+    ensures fault { IfErr result (λ fault. fault ≡ Fault.Output) }
+    ensures text { OnOk result (Appends (O.contents out.old) (O.contents out.new)
+        (written asked.now logs.now)) }
+    ensures begun { AppendsBeginning (written asked.now logs.now) (O.contents out.old) (O.contents out.new) }
+{
+    if asked.hex {
+        encode_hex(logs, asked.period, asked.mode, out).map_err(|_| Fault::Output)
+    } else {
+        encode_capture(logs, asked.period, asked.mode, asked.version, out).map_err(
+            |_| Fault::Output,
+        )
+    }
+}

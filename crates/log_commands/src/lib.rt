@@ -1,0 +1,16 @@
+//! The subcommands of `tracebench` that read logs: [`check`] judges them, [`encode`] writes their messages, [`replay`]
+//! and [`bench`] send them through the funnel and report what comes of them.
+//!
+//! Each reads a base, an image and logs, in this order, and ends at the first fault.
+#![tactic(auto)]
+
+mod benching;
+mod checking;
+mod encoding;
+mod replaying;
+mod reporting;
+
+pub use benching::bench;
+pub use checking::check;
+pub use encoding::encode;
+pub use replaying::replay;
