@@ -34,23 +34,14 @@ drop_none [] (suc used) h = refl
 drop_none (x ∷ taken) zero h = cc
 drop_none (x ∷ taken) (suc used) h = drop_none taken used h
 
-pub type_on-taken : (class : Class) (to : ℕ) (taken : List Bool) (used : ℕ) (outcome : Bool) → class ≡ Branch to →
-    Some outcome ≡ slice_get taken used → outcome ≡ true → Some (5, drop (used + 1) taken) ≡ type_on class
-    (drop used taken)
-type_on-taken class to taken used outcome is get o =
+pub type_on-some : (class : Class) (to : ℕ) (taken : List Bool) (used : ℕ) (outcome is_taken : Bool) →
+    class ≡ Branch to → Some outcome ≡ slice_get taken used → outcome ≡ is_taken →
+    type_on (Branch to) (is_taken ∷ drop (used + 1) taken) ≡ type_on class (drop used taken)
+type_on-some class to taken used outcome is_taken is get o =
     let more : suc used ≡ used + 1 = omega arith in
-    let one : drop (suc used) taken ≡ drop (used + 1) taken = ap (λ n. drop n taken) more in
     sym (ap (λ c. type_on c (drop used taken)) is ∙ ap (type_on (Branch to)) (drop_some taken used outcome (sym get))
-    ∙ ap (λ b. type_on (Branch to) (b ∷ drop (suc used) taken)) o ∙ ap (λ l. Some (5, l)) one)
-
-pub type_on-not_taken : (class : Class) (to : ℕ) (taken : List Bool) (used : ℕ) (outcome : Bool) → class ≡ Branch to →
-    Some outcome ≡ slice_get taken used → outcome ≡ false → Some (4, drop (used + 1) taken) ≡ type_on class
-    (drop used taken)
-type_on-not_taken class to taken used outcome is get o =
-    let more : suc used ≡ used + 1 = omega arith in
-    let one : drop (suc used) taken ≡ drop (used + 1) taken = ap (λ n. drop n taken) more in
-    sym (ap (λ c. type_on c (drop used taken)) is ∙ ap (type_on (Branch to)) (drop_some taken used outcome (sym get))
-    ∙ ap (λ b. type_on (Branch to) (b ∷ drop (suc used) taken)) o ∙ ap (λ l. Some (4, l)) one)
+    ∙ ap (λ b. type_on (Branch to) (b ∷ drop (suc used) taken)) o
+    ∙ ap (λ n. type_on (Branch to) (is_taken ∷ drop n taken)) more)
 
 pub type_on-none : (class : Class) (to : ℕ) (taken : List Bool) (used : ℕ) → class ≡ Branch to →
     None ≡ slice_get taken used → None ≡ type_on class (drop used taken)
