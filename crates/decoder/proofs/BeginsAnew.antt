@@ -12,9 +12,10 @@ use Rattle.decoder.specs.Describes.{Describes}
 use Rattle.decoder.specs.Order.{open_packet}
 use Rattle.decoder.specs.Resuming.{IsSync, PassesOver}
 use Rattle.decoder.specs.DecoderStands.{DecoderStands}
-use Rattle.decoder.specs.steps.Planning.{CanFollowAt, admitted, decoder_after}
+use Rattle.decoder.specs.steps.Planning.{CanFollow, CanFollowAt, MayCome, admitted, decoder_after}
 use Rattle.decoder.specs.steps.Stretches.{Gives, RightBefore, stretch_count}
 use Rattle.decoder.specs.declared.decoding.Decoder.{Decoder}
+use Rattle.decoder.specs.declared.decoding.Phase.{Phase}
 use Rattle.decoder.specs.declared.decoding.Phase.TheVariants.{Running}
 use Rattle.decoder.specs.declared.stretch.Stretch.{Stretch}
 
@@ -34,29 +35,31 @@ module _ (words : Words) (mode : Mode) (d : Decoder) (over : PassesOver mode d) 
     reported = over.reported;
   }
 
-  -- What can follow of a synchronisation is the same of both.
-  after_opening : (p : Packet) (piece more : List Event) → IsSync p → CanFollowAt words d p piece more →
-      CanFollowAt words (opened d) p piece more
-  after_opening (packet.Sync taken priv address) piece more sync can = record {
-    admits = refl;
-    comes = tt;
+  -- What can follow can follow in each phase in which the packet may come.
+  in_phase : (phase now : Phase) (p : Packet) (piece more : List Event) →
+      CanFollow words d.mode phase d.waiting d.last d.reported p piece more → admitted now p ≡ Ok tt →
+      MayCome now d.waiting p → CanFollow words d.mode now d.waiting d.last d.reported p piece more
+  in_phase phase now p piece more can admits comes = record {
+    admits = admits;
+    comes = comes;
     settles = can.settles;
     settled_follows = can.settled_follows;
     fits = can.fits;
     follows = can.follows;
   }
+
+  -- What can follow of a synchronisation is the same of both.
+  after_opening : (p : Packet) (piece more : List Event) → IsSync p → CanFollowAt words d p piece more →
+      CanFollowAt words (opened d) p piece more
+  after_opening (packet.Sync taken priv address) piece more sync can =
+      in_phase d.phase Running (packet.Sync taken priv address) piece more can refl tt
   after_opening other piece more sync can = absurd sync
 
   after_passing : (p : Packet) (piece more : List Event) → IsSync p → CanFollowAt words (opened d) p piece more →
       CanFollowAt words d p piece more
-  after_passing (packet.Sync taken priv address) piece more sync can = record {
-    admits = subst (λ phase. admitted phase (packet.Sync taken priv address) ≡ Ok tt) (sym over.phase) refl;
-    comes = tt;
-    settles = can.settles;
-    settled_follows = can.settled_follows;
-    fits = can.fits;
-    follows = can.follows;
-  }
+  after_passing (packet.Sync taken priv address) piece more sync can =
+      in_phase Running d.phase (packet.Sync taken priv address) piece more can
+      (subst (λ phase. admitted phase (packet.Sync taken priv address) ≡ Ok tt) (sym over.phase) refl) tt
   after_passing other piece more sync can = absurd sync
 
   pub passing_right : RightBefore words d.last
