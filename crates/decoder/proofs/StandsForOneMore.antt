@@ -137,6 +137,16 @@ module _ (words : Words) where
   abbrev plain : Waiting → Packet
   plain waiting = packet.Address waiting.outcomes waiting.delta report.Plain
 
+  -- Where an address packet waits, it is the last of the packets.
+  waits_last : (packets : List Packet) (waiting : Waiting) → waiting_after (last_or None packets) ≡ Some waiting →
+      (packets ≡ []) ⊎ Ending packets → (front : List Packet) × (packets ≡ front ++ plain waiting ∷ [])
+  waits_last packets waiting some (inl is) = let no : None ≡ Some waiting =
+      sym (ap (λ l. waiting_after (last_or None l)) is) ∙ some in cc
+  waits_last packets waiting some (inr e) =
+      let last = ap (last_or None) e.is ∙ last_or-last None e.front e.last in
+      let q = waits_plain e.last waiting (sym (ap waiting_after last) ∙ some) in
+      (e.front, e.is ∙ ap (λ x. e.front ++ x ∷ []) q)
+
   -- The pieces of the packets before one that waits.
   record Behind (front : List Packet) (waiting : Waiting) (log : List Event) (d : Decoder) : Type 0 where
     held : Held words d.mode front waiting.outcomes waiting.delta log
@@ -261,15 +271,11 @@ module _ (words : Words) where
           subst (λ x. DecoderStands words (packets ++ p ∷ []) (log ++ (x ++ more))
           (decoder_after d p settled of_packet)) (sym empty)
           (more_settled packets log d p settled of_packet more s none one' two can')
-      by_waiting (Some waiting) some (inl is) = let no : None ≡ Some waiting =
-          sym (ap (λ l. waiting_after (last_or None l)) is) ∙ some in cc
-      by_waiting (Some waiting) some (inr e) =
-          let last = ap (last_or None) e.is ∙ last_or-last None e.front e.last in
-          let q = waits_plain e.last waiting (sym (ap waiting_after last) ∙ some) in
-          let whole : packets ≡ e.front ++ plain waiting ∷ [] = e.is ∙ ap (λ x. e.front ++ x ∷ []) q in
+      by_waiting (Some waiting) some e =
+          let (front, whole) = waits_last packets waiting some e in
           subst (λ l. DecoderStands words (l ++ p ∷ []) (log ++ (piece ++ more)) (decoder_after d p settled of_packet))
           (sym whole)
-          (more_waiting e.front waiting log d p settled of_packet piece more
+          (more_waiting front waiting log d p settled of_packet piece more
           (subst (λ l. DecoderStands words l log d) whole s) one two can)
 
   -- Where they do not fit behind the log, a log is described that is longer than what there is room for.
@@ -378,11 +384,7 @@ module _ (words : Words) where
       by_waiting : (waiting : Option Waiting) → waiting_after (last_or None packets) ≡ waiting →
           (packets ≡ []) ⊎ Ending packets → Followed d p
       by_waiting None none e = only_settled program packets log d p other s none all
-      by_waiting (Some waiting) some (inl is) = let no : None ≡ Some waiting =
-          sym (ap (λ l. waiting_after (last_or None l)) is) ∙ some in cc
-      by_waiting (Some waiting) some (inr e) =
-          let last = ap (last_or None) e.is ∙ last_or-last None e.front e.last in
-          let q = waits_plain e.last waiting (sym (ap waiting_after last) ∙ some) in
-          let whole : packets ≡ e.front ++ plain waiting ∷ [] = e.is ∙ ap (λ x. e.front ++ x ∷ []) q in
-          only_waiting program e.front waiting log d p other (subst (λ l. DecoderStands words l log d) whole s)
+      by_waiting (Some waiting) some e =
+          let (front, whole) = waits_last packets waiting some e in
+          only_waiting program front waiting log d p other (subst (λ l. DecoderStands words l log d) whole s)
           (subst (λ l. Describes words (l ++ p ∷ []) other) whole all)
