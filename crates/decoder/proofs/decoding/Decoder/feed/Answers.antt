@@ -14,6 +14,7 @@ use Rattle.decoder.specs.steps.Planning.{admitted, decoder_after, IsNamed}
 use Rattle.decoder.specs.Order.{open_packet}
 use Rattle.decoder.specs.steps.Stretches.{left_of, stretch_count, AddsStretch}
 use Rattle.decoder.specs.DecoderStands.{DecoderStands}
+use Rattle.decoder.proofs.decoding.Decoder.feed.Goals.{After-write-2}
 use Rattle.decoder.proofs.decoding.Decoder.feed.Goals as goal
 
 pub returns-in-Err-clause-none : goal.returns-in-Err-clause-none
@@ -72,6 +73,18 @@ returns-then-is_err-clause-memory g c = λ packets s is.
     (vec_capacity log) s found.gives_settled found.gives_of_packet can
     (no_room _ _ full all c.plan.ensures.room c.plan.new.log.ok.0 c.left.ensures c.left-2.ensures)
 
+module _ (g : _) (c : After-write-2 g) where
+  -- The events of both stretches were added.
+  all : c.write-2.new.log.items
+      ≡ c.args.log.now.items ++ (c.in_default.ensures.found.settled ++ c.in_default.ensures.found.of_packet)
+  all =
+      let found = c.in_default.ensures.found in
+      both_added (words_of c.args.program.now) c.plan.new.first c.plan.new.second found.settled found.of_packet
+      found.gives_settled found.gives_of_packet c.args.log.now.items c.plan.new.log.items
+      c.in_default.ensures.written c.write.new.log.items
+      (subst (λ l. AddsStretch (words_of c.args.program.now) (left_of c.plan.new.first) l c.write.new.log.items)
+      c.reserve.ensures.items c.write.ensures.adds) c.write-2.new.log.items c.write-2.ensures.adds
+
 pub returns-clause-stands : goal.returns-clause-stands
 returns-clause-stands g c = λ packets s.
     let w = words_of c.args.program.now in
@@ -84,12 +97,8 @@ returns-clause-stands g c = λ packets s.
     let can = found.can (stands_right w packets log d s) in
     let new = stands_more w packets log d p first second found.settled found.of_packet s found.gives_settled
     found.gives_of_packet can in
-    let adds = subst (λ l. AddsStretch w (left_of first) l c.write.new.log.items) c.reserve.ensures.items
-    c.write.ensures.adds in
-    let all = both_added w first second found.settled found.of_packet found.gives_settled found.gives_of_packet log
-    c.plan.new.log.items c.in_default.ensures.written c.write.new.log.items adds c.write-2.new.log.items
-    c.write-2.ensures.adds in
-    let logs = subst (λ l. DecoderStands w (packets ++ p ∷ []) l (decoder_after d p first second)) (sym all) new in
+    let whole = all g (goal.at.returns-clause-stands g c).After-write-2 in
+    let logs = subst (λ l. DecoderStands w (packets ++ p ∷ []) l (decoder_after d p first second)) (sym whole) new in
     subst (λ x. DecoderStands w (packets ++ p ∷ []) c.write-2.new.log.items x) (sym c.after.ensures) logs
 
 pub returns-clause-only : goal.returns-clause-only
@@ -120,15 +129,10 @@ write-requires-2-clause-room g c =
     (has_room fits c.reserve.ensures.len c.plan.new.log.ok.0 c.write.ensures.room c.left.ensures c.left-2.ensures)
 
 pub returns-clause-goes_on : goal.returns-clause-goes_on
-returns-clause-goes_on g c =
-    let found = c.in_default.ensures.found in
-    let adds = subst (λ l. AddsStretch (words_of c.args.program.now) (left_of c.plan.new.first) l
-    c.write.new.log.items) c.reserve.ensures.items c.write.ensures.adds in (
-      found.settled ++ found.of_packet,
-      both_added (words_of c.args.program.now) c.plan.new.first c.plan.new.second found.settled found.of_packet
-          found.gives_settled found.gives_of_packet c.args.log.now.items c.plan.new.log.items
-          c.in_default.ensures.written c.write.new.log.items adds c.write-2.new.log.items c.write-2.ensures.adds,
-    )
+returns-clause-goes_on g c = (
+  c.in_default.ensures.found.settled ++ c.in_default.ensures.found.of_packet,
+  all g (goal.at.returns-clause-goes_on g c).After-write-2,
+)
 
 pub returns-clause-short : goal.returns-clause-short
 unfolding returns-clause-goes_on
@@ -176,11 +180,7 @@ returns-clause-begins g c = λ mode over sync stretch is.
     let can = found.can (passing_right w mode d over) in
     let new = begins_stretch w mode d over p first second found.settled found.of_packet sync found.gives_settled
     found.gives_of_packet can in
-    let adds = subst (λ l. AddsStretch w (left_of first) l c.write.new.log.items) c.reserve.ensures.items
-    c.write.ensures.adds in
-    let all = both_added w first second found.settled found.of_packet found.gives_settled found.gives_of_packet log
-    c.plan.new.log.items c.in_default.ensures.written c.write.new.log.items adds c.write-2.new.log.items
-    c.write-2.ensures.adds in
-    let same = append_cancel_left log (found.settled ++ found.of_packet) stretch (sym all ∙ is) in
+    let whole = all g (goal.at.returns-clause-begins g c).After-write-2 in
+    let same = append_cancel_left log (found.settled ++ found.of_packet) stretch (sym whole ∙ is) in
     let logs = subst (λ l. DecoderStands w (open_packet mode ∷ p ∷ []) l (decoder_after d p first second)) same new in
     subst (λ x. DecoderStands w (open_packet mode ∷ p ∷ []) stretch x) (sym c.after.ensures) logs
