@@ -181,14 +181,9 @@ pub fn reported_retirement(
     ensures none { IfErr result (λ fault. SuitsNone (words_of program.now) before
         (FitsSync reported.taken reported.privilege reported.addr) fault) }
 {
-    let event = match retirement(program, reported) {
-        Ok(event) => event,
-        Err(fault) => return Err(fault),
-    };
-    match follows(program, before, event) {
-        Ok(()) => Ok(event),
-        Err(fault) => Err(fault),
-    }
+    let event = retirement(program, reported)?;
+    follows(program, before, event)?;
+    Ok(event)
 }
 
 /// Whether an event may stand at a place, after the event before.
@@ -222,10 +217,8 @@ fn trap_alone(
         return Err(DecodeFault::WrongPlace);
     }
     let trap = cause.trap(reported.addr, reported.privilege);
-    match follows(program, before, trap) {
-        Ok(()) => Ok(Stretch::One(trap)),
-        Err(fault) => Err(fault),
-    }
+    follows(program, before, trap)?;
+    Ok(Stretch::One(trap))
 }
 
 /// The trap of a packet that reports its handler, after the event before: it was taken where that event leads.
@@ -249,10 +242,8 @@ fn trap_handled(
         return Err(DecodeFault::WrongPlace);
     };
     let trap = cause.trap(epc, privilege);
-    match follows(program, before, trap) {
-        Ok(()) => Ok(trap),
-        Err(fault) => Err(fault),
-    }
+    follows(program, before, trap)?;
+    Ok(trap)
 }
 
 /// The trap and the first retirement of its handler that a packet reports, after the event before.
