@@ -5,11 +5,12 @@ use Rattle.std.specs.Prelude.{Ok, is_some}
 use Rattle.retire.specs.declared.event.Event.{Event}
 use Rattle.legalpath.specs.LastPlace.{last_place}
 use Rattle.payload.specs.Closing.{is_closing_packet}
+use Rattle.payload.specs.declared.mode.Mode.{Mode}
 use Rattle.payload.specs.declared.packet.Packet.{Packet}
 use Rattle.payload.specs.declared.packet.Packet.TheVariants as packet
 use Rattle.payload.specs.declared.packet.Report.TheVariants as report
 use Rattle.payload.specs.declared.packet.Support.TheVariants as support
-use Rattle.decoder.specs.Order.{MayFollow, MayPrecede, IsOpen}
+use Rattle.decoder.specs.Order.{MayFollow, MayPrecede, IsOpen, open_packet}
 use Rattle.decoder.specs.Pieces.{reported_after}
 use Rattle.decoder.specs.steps.Planning.{MayCome, admitted, admitted_first}
 use Rattle.decoder.specs.steps.Planning.{reported_past}
@@ -34,15 +35,20 @@ ending (p ∷ q ∷ packets) = more (ending (q ∷ packets))
     more (inl none) = cc
     more (inr e) = inr (record { front = p ∷ e.front; last = e.last; is = ap (λ l. p ∷ l) e.is })
 
+-- A packet that opens a trace announces a mode.
+pub opening_of : (p : Packet) → IsOpen p → (mode : Mode) × (p ≡ open_packet mode)
+opening_of (packet.Sync taken priv address) is = absurd is
+opening_of (packet.Trap taken priv cause interrupt handler address tval) is = absurd is
+opening_of (packet.Support (support.Open mode)) is = (mode, refl)
+opening_of (packet.Support support.EndedRep) is = absurd is
+opening_of (packet.Support support.EndedNtr) is = absurd is
+opening_of (packet.Address taken delta report) is = absurd is
+opening_of (packet.Map taken) is = absurd is
+
 -- The first packet is admitted where it opens the trace, and then it may come.
 pub opens : (p : Packet) → IsOpen p → (admitted_first p ≡ Ok tt) × MayCome Unopened None p
-opens (packet.Sync taken priv address) is = absurd is
-opens (packet.Trap taken priv cause interrupt handler address tval) is = absurd is
-opens (packet.Support (support.Open mode)) is = (refl, refl)
-opens (packet.Support support.EndedRep) is = absurd is
-opens (packet.Support support.EndedNtr) is = absurd is
-opens (packet.Address taken delta report) is = absurd is
-opens (packet.Map taken) is = absurd is
+opens p is =
+    subst (λ q. (admitted_first q ≡ Ok tt) × MayCome Unopened None q) (sym (opening_of p is).1) (refl, refl)
 
 pub opens_only : (p : Packet) → admitted_first p ≡ Ok tt → IsOpen p
 opens_only (packet.Sync taken priv address) admits = cc

@@ -13,11 +13,12 @@ use Rattle.decoder.specs.DecoderStands.{DecoderStands}
 use Rattle.decoder.specs.declared.decoding.Decoder.{Decoder}
 use Rattle.decoder.specs.declared.fault.DecodeFault.{DecodeFault}
 use Rattle.decoder.specs.declared.fault.DecodeFault.TheVariants.{Memory, NotOpened}
+use Rattle.decoder.proofs.NextPacket.{opening_of}
 use Rattle.losses.specs.Runs.{from_sync, mode_of_first, mode_or, opened}
 use Rattle.losses.specs.steps.DecoderSteps.{Feeds}
 use Rattle.losses.specs.steps.FollowingRuns.{FollowsRun, IsNotDecodedInRun, Refuses, StandsAfter}
 use Rattle.losses.proofs.RunLemmas.{Kind, Syncs, Closes, Passed, kind_of, describes_nothing, describes_none}
-use Rattle.losses.proofs.RunLemmas.{from_sync-begun, from_sync-none, open_last, opening_of}
+use Rattle.losses.proofs.RunLemmas.{from_sync-begun, from_sync-none, open_last}
 use Rattle.losses.proofs.TraceLemmas.{last_is_closing-last}
 use Rattle.losses.proofs.TraceSteps.{state_laws}
 

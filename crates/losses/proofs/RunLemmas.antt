@@ -12,7 +12,7 @@ use Rattle.payload.specs.declared.packet.Packet.TheVariants as packet
 use Rattle.payload.specs.declared.packet.Support.TheVariants as support
 use Rattle.decoder.specs.Describes.{Describes}
 use Rattle.decoder.specs.ModeOf.{mode_of}
-use Rattle.decoder.specs.Order.{IsOpen, open_packet}
+use Rattle.decoder.specs.Order.{IsOpen}
 use Rattle.decoder.specs.Pieces.{Pieces}
 use Rattle.decoder.specs.Resuming.{IsSync}
 use Rattle.losses.specs.Parts.{LogPart, gap, stretch}
@@ -55,16 +55,6 @@ kind_of (packet.Support support.EndedRep) = Closes refl refl (λ is. is)
 kind_of (packet.Support support.EndedNtr) = Closes refl refl (λ is. is)
 kind_of (packet.Address taken delta report) = Passed refl refl (λ is. is)
 kind_of (packet.Map taken) = Passed refl refl (λ is. is)
-
--- A packet that opens a trace announces a mode.
-pub opening_of : (p : Packet) → IsOpen p → (mode : Mode) × (p ≡ open_packet mode)
-opening_of (packet.Sync taken priv address) is = absurd is
-opening_of (packet.Trap taken priv cause interrupt handler address tval) is = absurd is
-opening_of (packet.Support (support.Open mode)) is = (mode, refl)
-opening_of (packet.Support support.EndedRep) is = absurd is
-opening_of (packet.Support support.EndedNtr) is = absurd is
-opening_of (packet.Address taken delta report) is = absurd is
-opening_of (packet.Map taken) is = absurd is
 
 drop-front : (xs ys : List Packet) → drop (length xs) (xs ++ ys) ≡ ys
 drop-front [] ys = refl
