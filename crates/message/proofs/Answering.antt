@@ -190,17 +190,24 @@ answer-unpacked None m r = (λ e. absurd (unpacked_kind r _ (omega arith, omega 
 answer-unpacked (Some h) m r = let law = unpacked h m r in
     (λ e. let w = law.0 e in ((w.0, w.1), w.2), λ w. law.1 (w.0.0, w.0.1, w.1))
 
+-- What no known hart answers is answered exactly where the hart is not known.
+pub answer-unknown : {R : Type 0} (harts : Harts) (m : Message) (answered : Option Hart → R) (stranger : R)
+    → answered None ≡ stranger → ((h : Hart) → answered (Some h) ≡ stranger → ⊥)
+    → (answered (slice_get harts m.hart) ≡ stranger) ↔ (length harts ≤ m.hart)
+answer-unknown harts m answered stranger none known_hart = elim (slice_get_cases harts m.hart).1 [
+  | inl known ↦
+      rw known.2 (
+        λ e. absurd (known_hart known.0 e),
+        λ past. absurd (let within = known.1 in omega (arith, within, past)),
+      )
+  | inr past ↦ rw past.1 (λ e. past.0, λ w. none)
+]
+
 -- Stranger is answered exactly where the hart is not known.
 pub answer-stranger : (harts : Harts) (m : Message)
     → (answer_of (slice_get harts m.hart) m ≡ Err fault.Stranger) ↔ (length harts ≤ m.hart)
-answer-stranger harts m = elim (slice_get_cases harts m.hart).1 [
-  | inl known ↦
-      rw known.2 (
-        λ e. absurd (known_hart known.0 m e),
-        λ past. absurd (let within = known.1 in omega (arith, within, past)),
-      )
-  | inr past ↦ rw past.1 (λ e. past.0, λ w. refl)
-]
+answer-stranger harts m =
+    answer-unknown harts m (λ o. answer_of o m) (Err fault.Stranger) refl (λ h. known_hart h m)
   where
     known_hart : (h : Hart) (m : Message) → answer h m ≡ Err fault.Stranger → ⊥
     known_hart h m = by_tests h m (λ r. r ≡ Err fault.Stranger → ⊥)

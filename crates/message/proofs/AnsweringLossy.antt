@@ -3,11 +3,10 @@ use Rattle.std.proofs.Common.{◌≡◌, ◌+◌, ◌-◌, ◌<◌, ◌≤◌, �
 use Rattle.std.proofs.Common.{Ok, Err, arith, nat_lt, refl, inl, inr, length, slice_get, ap, if◌then◌else◌, ◌∙◌}
 use Rattle.std.specs.Prelude.{IsSomeAnd, not, ◌||◌}
 use Rattle.std.proofs.lemmas.Bool.{ltb-true, ltb-false, lt-ltb, le-ltb}
-use Rattle.std.proofs.lemmas.Option.{slice_get_cases}
 use Rattle.payload.specs.Reading.{reading}
 use Rattle.payload.specs.declared.packet.Packet.{Packet}
 use Rattle.payload.specs.declared.fault.PackFault.{PackFault}
-use Rattle.message.proofs.Answering.{Going, not_both, kind, apart, gap_of}
+use Rattle.message.proofs.Answering.{Going, answer-unknown, not_both, kind, apart, gap_of}
 use Rattle.message.specs.Harts.{Harts, is_over}
 use Rattle.message.specs.Lossy.{answer_lossy, answer_lossy_of, packet_after_loss}
 use Rattle.message.specs.declared.hart.Hart.{Hart}
@@ -204,14 +203,8 @@ answer_lossy-bad (Some h) m why = bad_lossy h m why
 -- Stranger is answered exactly where the hart is not known.
 pub answer_lossy-stranger : (harts : Harts) (m : Message)
     → (answer_lossy_of (slice_get harts m.hart) m ≡ Err fault.Stranger) ↔ (length harts ≤ m.hart)
-answer_lossy-stranger harts m = elim (slice_get_cases harts m.hart).1 [
-  | inl known ↦
-      rw known.2 (
-        λ e. absurd (known_hart known.0 m e),
-        λ past. absurd (let within = known.1 in omega (arith, within, past)),
-      )
-  | inr past ↦ rw past.1 (λ e. past.0, λ w. refl)
-]
+answer_lossy-stranger harts m =
+    answer-unknown harts m (λ o. answer_lossy_of o m) (Err fault.Stranger) refl (λ h. known_hart h m)
   where
     known_hart : (h : Hart) (m : Message) → answer_lossy h m ≡ Err fault.Stranger → ⊥
     known_hart h m = by_tests_lossy h m (λ r. r ≡ Err fault.Stranger → ⊥)
