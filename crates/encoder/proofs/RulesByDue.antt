@@ -99,14 +99,8 @@ module _ (words : Words) (period : ℕ) where
       by_events : (n : ℕ) (b2 b : Option Event) (held : Event) (a : Option Event) (next : Event) → Right words held
           → (count_with n held % period == 0) ≡ (left == 0) → next_due (Some held)
           (due_at words period (record { number = n; before_that = b2; before = b; event = held; after = a })) left next
-          ≡ due_at words period (record {
-            number = count_with n held;
-            before_that = b;
-            before = Some held;
-            event =
-                next;
-            after = after;
-          })
+          ≡ due_at words period
+          (following (record { number = n; before_that = b2; before = b; event = held; after = a }) next after)
       by_events n b2 b (Retire at type level) a (Retire addr itype priv) r l =
           ap
           (λ x. cond (not (priv == level) || x) due.Sync
@@ -147,18 +141,12 @@ module _ (words : Words) (period : ℕ) where
   -- The rule of an event before one that is no handler is as the code says.
   pub rule-before : (n : ℕ) (b2 b : Option Event) (held next : Event) (after : Option Event) → Right words held
       → Step words held next → is_handler_due (due_at words period
-      (record { number = count_with n held; before_that = b; before = Some held; event = next; after = after })) ≡ false
+      (following (record { number = n; before_that = b2; before = b; event = held; after = None }) next after)) ≡ false
       → rule words period (record { number = n; before_that = b2; before = b; event = held; after = Some next })
       ≡ rule_before words held (due_at words period (record
       { number = n; before_that = b2; before = b; event = held; after = None })) next
-      (due_at words period (record {
-        number = count_with n held;
-        before_that = b;
-        before = Some held;
-        event =
-            next;
-        after = after;
-      }))
+      (due_at words period
+      (following (record { number = n; before_that = b2; before = b; event = held; after = None }) next after))
   rule-before n b2 b (Retire at type level) next after r s free =
       by_due (is_handler words b2 b (Retire at type level)) (is_start period n b level)
       (is_some_and (is_discontinuity words) b) _ _ (cut_off-due n b at type level next after) _
