@@ -30,11 +30,12 @@ use Rattle.message.specs.declared.header.Version.TheVariants.{One, Two}
 use Rattle.message.specs.declared.message.Message.{Message}
 use Rattle.receiver.specs.Agreeing.{opens_another}
 use Rattle.receiver.specs.Holds.{AreDecoded}
+use Rattle.receiver.specs.declared.fault.ReceiveFault.{ReceiveFault}
 use Rattle.receiver.specs.declared.fault.ReceiveFault.TheVariants as receiving
 use Rattle.captures.proofs.CapturesSplit.{capture_split, capture_none, capture_not_cut, capture_not_bad, capture_first}
 use Rattle.captures.proofs.Elements.{All-behind}
 use Rattle.captures.proofs.HeaderFaults.{has_header, marked_by}
-use Rattle.captures.proofs.NextMessages.{all_ranges, program_image, log_described, log_ended, next_message}
+use Rattle.captures.proofs.NextMessages.{IsNext, all_ranges, program_image, log_described, log_ended, next_message}
 use Rattle.captures.specs.Decoded.{AreMessagesDecoded, BeginsRefused, IsDecoded, NoHeader, Stops, Version1, Version2}
 use Rattle.captures.specs.Messages.{messages_of_harts}
 use Rattle.message.specs.OfHart.{packets_of}
@@ -95,16 +96,23 @@ module _ (program : Image) (period : ℕ) (mode : Mode) (logs : List ProgramLog)
       (slice_get-get_or logs k (program_log program []) known)
       ∙ sym (get_or-replicate (length logs) k true d known))
 
+  -- A message of theirs that is refused comes next behind the first ones.
+  refused_next : (messages later : List Message) (rest : List ℕ) (why : ReceiveFault) → all ≡ messages ++ later
+      → rest ≡ capture later → All IsMessage later
+      → (left : BeginsRefused (words_of program) (length logs) announced messages rest why)
+      → IsNext (words_of program) (length logs) mode messages left.message
+  refused_next messages later rest why whole same ranges left =
+      let first = capture_first later left.message left.rest ranges left.ranges (sym same ∙ left.begins) in
+      next_message program period mode logs legal all_same few messages left.message first.0
+      (whole ∙ ap (λ l. messages ++ l) first.1)
+
   -- No message behind the first ones is refused.
   not_refused : (messages later : List Message) (rest : List ℕ) (why : DemuxFault) → all ≡ messages ++ later
       → rest ≡ capture later → All IsMessage later
       → BeginsRefused (words_of program) (length logs) announced messages rest (receiving.Demux why)
       → AreAccepted (newcomers (length logs)) messages → ⊥
   not_refused messages later rest why whole same ranges refused accepted =
-      let first = capture_first later refused.message refused.rest ranges refused.ranges (sym same ∙ refused.begins) in
-      let next =
-      next_message program period mode logs legal all_same few messages refused.message first.0
-      (whole ∙ ap (λ l. messages ++ l) first.1) in
+      let next = refused_next messages later rest (receiving.Demux why) whole same ranges refused in
       let taken = next.taken accepted in
       let answer = refused.refused in
       cc
@@ -115,10 +123,7 @@ module _ (program : Image) (period : ℕ) (mode : Mode) (logs : List ProgramLog)
       → BeginsRefused (words_of program) (length logs) announced messages rest (receiving.Decode why)
       → AreAccepted (newcomers (length logs)) messages → why ≡ Memory
   not_decoded messages later rest why whole same ranges left accepted =
-      let first = capture_first later left.message left.rest ranges left.ranges (sym same ∙ left.begins) in
-      let next =
-      next_message program period mode logs legal all_same few messages left.message first.0
-      (whole ∙ ap (λ l. messages ++ l) first.1) in
+      let next = refused_next messages later rest (receiving.Decode why) whole same ranges left in
       let one = next.taken accepted in
       let other = left.refused.0.accepted in
       let packet : next.packet ≡ left.refused.0.packet = cc in
@@ -133,10 +138,7 @@ module _ (program : Image) (period : ℕ) (mode : Mode) (logs : List ProgramLog)
       → BeginsRefused (words_of program) (length logs) announced messages rest receiving.Mode
       → AreAccepted (newcomers (length logs)) messages → ⊥
   not_another messages later rest whole same ranges left accepted =
-      let first = capture_first later left.message left.rest ranges left.ranges (sym same ∙ left.begins) in
-      let next =
-      next_message program period mode logs legal all_same few messages left.message first.0
-      (whole ∙ ap (λ l. messages ++ l) first.1) in
+      let next = refused_next messages later rest receiving.Mode whole same ranges left in
       let one = next.taken accepted in
       let other = left.refused.accepted in
       let packet : next.packet ≡ left.refused.packet = cc in

@@ -17,7 +17,7 @@ use Rattle.receiver.specs.Received.{Received}
 use Rattle.receiver.specs.NotReceived.{IsNotReceived}
 use Rattle.receiver.specs.declared.fault.ReceiveFault.{ReceiveFault}
 use Rattle.receiver.specs.declared.fault.ReceiveFault.TheVariants as receiving
-use Rattle.captures.specs.Decoded.{AreMessagesDecoded, BeginsRefused, StopsDecoding}
+use Rattle.captures.specs.Decoded.{AreMessagesDecoded, BeginsRefused, Stops, StopsDecoding}
 use Rattle.captures.specs.steps.Collecting.{HasReceivedUpTo, as_capture_fault}
 use Rattle.captures.specs.declared.outcome.CaptureFault.{CaptureFault}
 use Rattle.captures.specs.declared.outcome.CaptureFault.TheVariants as capture_fault
@@ -71,20 +71,26 @@ module _ (words : Words) (harts : ℕ) (announced : Option Mode) (bytes : List �
     takes = receives r.messages r.takes;
   }
 
-  -- All of them were, where the bytes end.
-  pub collected_all : (left : List ℕ) (number : ℕ) (received : Received)
-      → Reaches words harts announced bytes left number received → left ≡ []
-      → HasReceivedUpTo words harts announced bytes received None
-  collected_all left number received r ended = record {
+  -- Receiving stops there.
+  reached : (left : List ℕ) (number : ℕ) (old new : Received) (stop : Option (ℕ × CaptureFault))
+      → (r : Reaches words harts announced bytes left number old) → Holds (λ hart. words) harts r.messages new
+      → Stops words harts announced r.messages left stop → HasReceivedUpTo words harts announced bytes new stop
+  reached left number old new stop r holds stops = record {
     messages = r.messages;
     rest = left;
     ranges = r.ranges;
     whole = r.whole;
     accepted = r.takes.accepts.accepted;
     agree = r.agree;
-    holds = r.takes.holds;
-    stops = ended;
+    holds = holds;
+    stops = stops;
   }
+
+  -- All of them were, where the bytes end.
+  pub collected_all : (left : List ℕ) (number : ℕ) (received : Received)
+      → Reaches words harts announced bytes left number received → left ≡ []
+      → HasReceivedUpTo words harts announced bytes received None
+  collected_all left number received r ended = reached left number received received None r r.takes.holds ended
 
   -- No message stands behind them.
   pub collected_before : (left : List ℕ) (number : ℕ) (received : Received) (why : MessageFault)
@@ -92,16 +98,9 @@ module _ (words : Words) (harts : ℕ) (announced : Option Mode) (bytes : List �
       → (why ≡ message.Short) ⊎ (why ≡ message.BadLength) → (why ≡ message.Short → IsCut left)
       → (why ≡ message.BadLength → HasBadLength left)
       → HasReceivedUpTo words harts announced bytes received (Some (number, capture_fault.Message why))
-  collected_before left number received why r either cut bad = record {
-    messages = r.messages;
-    rest = left;
-    ranges = r.ranges;
-    whole = r.whole;
-    accepted = r.takes.accepts.accepted;
-    agree = r.agree;
-    holds = r.takes.holds;
-    stops = (r.counted, stops either);
-  }
+  collected_before left number received why r either cut bad =
+      reached left number received received (Some (number, capture_fault.Message why)) r r.takes.holds
+      (r.counted, stops either)
     where
       stops : (why ≡ message.Short) ⊎ (why ≡ message.BadLength)
           → StopsDecoding words harts announced r.messages left (capture_fault.Message why)
@@ -121,16 +120,9 @@ module _ (words : Words) (harts : ℕ) (announced : Option Mode) (bytes : List �
       → ((messages : List Message) → HasReceived (λ hart. words) harts messages old
       → IsNotReceived words harts announced messages message why)
       → fault ≡ as_capture_fault why → HasReceivedUpTo words harts announced bytes new (Some (number, fault))
-  collected_at left next number old new message why fault r is here holds refused is_fault = record {
-    messages = r.messages;
-    rest = left;
-    ranges = r.ranges;
-    whole = r.whole;
-    accepted = r.takes.accepts.accepted;
-    agree = r.agree;
-    holds = holds r.messages r.takes;
-    stops = (r.counted, subst (StopsDecoding words harts announced r.messages left) (sym is_fault) (stops why begins));
-  }
+  collected_at left next number old new message why fault r is here holds refused is_fault =
+      reached left number old new (Some (number, fault)) r (holds r.messages r.takes)
+      (r.counted, subst (StopsDecoding words harts announced r.messages left) (sym is_fault) (stops why begins))
     where
       begins : BeginsRefused words harts announced r.messages left why
       begins = record {
