@@ -1,4 +1,4 @@
--- What the contracts of packets, of encoder and of decoder cite.
+-- What the contracts of packets, of encoder and decoder, and of measures cite.
 pub use Rattle.payload.specs.Bytes
 pub use Rattle.payload.specs.Extension
 pub use Rattle.payload.specs.Fields
@@ -38,3 +38,6 @@ pub use Rattle.decoder.specs.DecoderStands
 pub use Rattle.decoder.specs.Resuming
 pub use Rattle.decoder.specs.FaultText as DecodeFaultText
 pub use Rattle.roundtrip.specs.Reach
+pub use Rattle.measuring.specs.Kinds as CountedKinds
+pub use Rattle.measuring.specs.Measures
+pub use Rattle.measuring.specs.Table as MeasureTable

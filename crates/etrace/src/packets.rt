@@ -1,7 +1,9 @@
-//! Packets and their payloads, the encoder that makes a log's packets, and the decoder that gives the log back.
+//! Packets and their payloads, the encoder that makes a log's packets, what they cost, and the decoder that gives the log
+//! back.
 
 pub use decoder::{DecodeFault, Decoder};
 pub use encoder::{Burst, Encoder, Source};
+pub use measuring::{Measures, measure, write_measures};
 pub use payload::{
     MOST_BYTES, MOST_OUTCOMES, Mode, Outcomes, PackFault, Packet, Payload, Report, Support, pack,
     unpack,
