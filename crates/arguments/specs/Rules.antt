@@ -41,6 +41,11 @@ abbrev pub lossy_rule : Rule
 lossy_rule =
     record (new_rule (codes "lossy")) { long = Some (codes "lossy"); action = Some SetTrue }
 
+-- `--explain`.
+abbrev pub explain_rule : Rule
+explain_rule =
+    record (new_rule (codes "explain")) { long = Some (codes "explain"); action = Some SetTrue }
+
 -- IMAGE, a word of its own that has to be there.
 abbrev pub image_rule : Rule
 image_rule = record (new_rule (codes "IMAGE")) { action = Some Set; required = true }
@@ -106,6 +111,14 @@ harts_rule = record (new_rule (codes "harts")) {
 -- CAPTURE, a word of its own that has to be there.
 abbrev pub capture_rule : Rule
 capture_rule = record (new_rule (codes "CAPTURE")) { action = Some Set; required = true }
+
+-- SENT, a word of its own that has to be there.
+abbrev pub sent_rule : Rule
+sent_rule = record (new_rule (codes "SENT")) { action = Some Set; required = true }
+
+-- RECEIVED, a word of its own that has to be there.
+abbrev pub received_rule : Rule
+received_rule = record (new_rule (codes "RECEIVED")) { action = Some Set; required = true }
 
 -- The argument is read by this rule, and by its own subcommand alone.
 abbrev pub IsReadBy : Rule → Arg → Type 0

@@ -5,5 +5,6 @@
 mod rules;
 
 pub use rules::{
-    base, capacity, capture, full, harts, hex, image, logs, lossy, period, schedule, version_one,
+    base, capacity, capture, explain, full, harts, hex, image, logs, lossy, period, received,
+    schedule, sent, version_one,
 };

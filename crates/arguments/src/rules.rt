@@ -1,8 +1,8 @@
 //! One function for each argument.
 
-ghost use Rattle.arguments.specs.Rules.{IsReadBy, base_rule, capacity_rule, capture_rule, full_rule, harts_rule};
-ghost use Rattle.arguments.specs.Rules.{hex_rule, image_rule, logs_rule, lossy_rule, period_rule, schedule_rule};
-ghost use Rattle.arguments.specs.Rules.{version_one_rule};
+ghost use Rattle.arguments.specs.Rules.{IsReadBy, base_rule, capacity_rule, capture_rule, explain_rule, full_rule};
+ghost use Rattle.arguments.specs.Rules.{harts_rule, hex_rule, image_rule, logs_rule, lossy_rule, period_rule};
+ghost use Rattle.arguments.specs.Rules.{received_rule, schedule_rule, sent_rule, version_one_rule};
 ghost use Rattle.arguments.specs.steps.Forms.{file_rule, flag_rule, number_rule};
 
 use clap::{Arg, ArgAction, value_parser};
@@ -72,6 +72,17 @@ pub fn capture<'a>(alloc: Global) -> Arg<'a>
     ensures { IsReadBy capture_rule result }
 {
     file(alloc, "CAPTURE", "File of trace messages")
+}
+
+/// `--explain`, which asks for a line that explains an illegal row.
+pub fn explain<'a>(alloc: Global) -> Arg<'a>
+    ensures { IsReadBy explain_rule result }
+{
+    flag(
+        alloc,
+        "explain",
+        "Print below an illegal row what stands there and what may follow",
+    )
 }
 
 /// `--full`, which asks for full addresses in the packets, not differences.
@@ -144,6 +155,13 @@ pub fn period<'a>(alloc: Global) -> Arg<'a>
     .value_parser(value_parser!(u16).range(i64::from(SHORTEST_PERIOD)..=i64::from(LONGEST_PERIOD)))
 }
 
+/// RECEIVED, the file of the trace messages that came, which has to be given.
+pub fn received<'a>(alloc: Global) -> Arg<'a>
+    ensures { IsReadBy received_rule result }
+{
+    file(alloc, "RECEIVED", "File of the trace messages that came")
+}
+
 /// SCHEDULE, the file of turns, which has to be given.
 pub fn schedule<'a>(alloc: Global) -> Arg<'a>
     ensures { IsReadBy schedule_rule result }
@@ -153,6 +171,13 @@ pub fn schedule<'a>(alloc: Global) -> Arg<'a>
         "SCHEDULE",
         "File of the turns: hart numbers, and `c` for taking a message",
     )
+}
+
+/// SENT, the file of all trace messages that were sent, which has to be given.
+pub fn sent<'a>(alloc: Global) -> Arg<'a>
+    ensures { IsReadBy sent_rule result }
+{
+    file(alloc, "SENT", "File of all trace messages that were sent")
 }
 
 /// `--v1`, which asks for a capture of version 1.

@@ -4,7 +4,7 @@ use Rattle.message.specs.Capacity.{most_capacity}
 use Rattle.message.specs.Version.{most_harts}
 use Rattle.message.specs.declared.header.Version.TheVariants.{Two}
 use Rattle.subcommands.specs.declared.words.Asked.{Asked}
-use Rattle.subcommands.specs.declared.words.Asked.TheVariants.{Bench, Decode, Encode, Replay}
+use Rattle.subcommands.specs.declared.words.Asked.TheVariants.{Bench, Decode, Encode, Measure, Replay}
 
 -- The most retirements from one periodic synchronisation to the next.
 abbrev pub longest_period : ℕ
@@ -18,4 +18,5 @@ IsWithinLimits (Replay asked) =
     (1 ≤ asked.period) × (asked.period ≤ longest_period) × (1 ≤ asked.capacity) × (asked.capacity ≤ most_capacity)
 IsWithinLimits (Bench asked) =
     (1 ≤ asked.period) × (asked.period ≤ longest_period) × (1 ≤ asked.capacity) × (asked.capacity ≤ most_capacity)
+IsWithinLimits (Measure asked) = (1 ≤ asked.period) × (asked.period ≤ longest_period)
 IsWithinLimits _ = Unit {0}

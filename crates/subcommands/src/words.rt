@@ -3,11 +3,13 @@
 use message::Version;
 use payload::Mode;
 
-/// `check --base B IMAGE LOG...`: whether the log of each hart is legal.
+/// `check --base B [--explain] IMAGE LOG...`: whether the log of each hart is legal.
 #[derive(Debug, Drop)]
 pub struct Check<'a> {
     /// The address of the image's first byte, not yet read as a number.
     pub base: &'a str,
+    /// Whether a line is wanted that explains an illegal row.
+    pub explain: bool,
     /// The path of the image.
     pub image: &'a str,
     /// The paths of the logs, at least one, in the order of the words.
@@ -93,6 +95,30 @@ pub struct Bench<'a> {
     pub logs: Vec<&'a str>,
 }
 
+/// `audit SENT RECEIVED`: what became of the messages of one capture, by another that came of them.
+#[derive(Debug, Drop)]
+pub struct Audit<'a> {
+    /// The path of the capture that was sent.
+    pub sent: &'a str,
+    /// The path of the capture that came.
+    pub received: &'a str,
+}
+
+/// `measure --base B [--period N] [--full] IMAGE LOG...`: how many packets and bytes the log of each hart takes.
+#[derive(Debug, Drop)]
+pub struct Measure<'a> {
+    /// The address of the image's first byte, not yet read as a number.
+    pub base: &'a str,
+    /// How many retirements there are from one periodic synchronisation to the next, 1 to 65535.
+    pub period: u16,
+    /// Whether packets name addresses by differences or in full.
+    pub mode: Mode,
+    /// The path of the image.
+    pub image: &'a str,
+    /// The paths of the logs, at least one, in the order of the words.
+    pub logs: Vec<&'a str>,
+}
+
 /// A subcommand with its files and options, as texts of the words.
 #[derive(Debug, Drop)]
 pub enum Asked<'a> {
@@ -108,4 +134,8 @@ pub enum Asked<'a> {
     Replay(Replay<'a>),
     /// A run of `bench`.
     Bench(Bench<'a>),
+    /// A run of `audit`.
+    Audit(Audit<'a>),
+    /// A run of `measure`.
+    Measure(Measure<'a>),
 }
