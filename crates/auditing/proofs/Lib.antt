@@ -1,0 +1,15 @@
+pub mod RunLemmas
+pub mod Appending
+pub mod OwnMessages
+pub mod CountLemmas
+pub mod TakingLemmas
+pub mod SentLemmas
+pub mod TallyLemmas
+pub mod WholeLemmas
+pub mod WholeTallies
+pub mod Taken
+pub mod Counting
+pub mod Indexed
+pub mod Starting
+pub mod AllWhole
+pub mod DecodedAgain

@@ -1,0 +1,143 @@
+-- The audit of SENT before the first message of RECEIVED.
+use Rattle.std.proofs.Common.{◌≡◌, ◌⊎◌, inl, inr, ℕ, All, List, [], ◌∷◌, ◌++◌, Option, Some, None, refl, sym, ap, subst}
+use Rattle.std.proofs.Common.{◌∙◌, Result, Ok, Err, IfOk, drop, append-nil}
+use Rattle.std.specs.Prelude.{IfErr}
+use Rattle.message.specs.Capture.{capture}
+use Rattle.message.specs.Cut.{IsMessage}
+use Rattle.message.specs.Header.{IsHeader, header_bytes}
+use Rattle.message.specs.declared.fault.MessageFault.{MessageFault}
+use Rattle.message.specs.declared.header.Header.{Header}
+use Rattle.message.specs.declared.message.Message.{Message}
+use Rattle.captures.specs.NoMessage.{BeginsNone}
+use Rattle.captures.specs.Whole.{BeginsWith}
+use Rattle.auditing.proofs.TallyLemmas.{starts}
+use Rattle.auditing.specs.Audits.{Audits}
+use Rattle.auditing.specs.Ledger.{HartLedger, Ledger}
+use Rattle.auditing.specs.Sent.{AreInTurn, BeginsMisplaced, IsSent, IsSentFault, StopsBehind, harts_in, harts_of}
+use Rattle.auditing.specs.Sent.{known_harts}
+use Rattle.auditing.specs.declared.fault.SentFault.{SentFault}
+use Rattle.auditing.specs.declared.fault.SentFault.TheVariants as fault
+use Rattle.auditing.specs.steps.Indexing.{AreIndexed, HasCounted, IsCountFault, StopsCounting, harts_by}
+
+-- The messages of these bytes are audited.
+abbrev pub IsStarted : List ℕ → ℕ → Ledger → Type 0
+IsStarted bytes harts ledger =
+    (sent : List Message) × All IsMessage sent × (bytes ≡ capture sent) × AreInTurn harts [] sent
+    × Audits sent [] ledger
+
+-- The count of harts is that of SENT's.
+counts_harts : (header : Option Header) (highest : ℕ) (sent : List Message) → highest ≡ harts_in sent
+    → harts_by header highest ≡ harts_of header sent
+counts_harts None highest sent is = is
+counts_harts (Some header) highest sent is = refl
+
+-- Messages that were counted and indexed are audited.
+pub started : (header : Option Header) (harts count highest number : ℕ) (bytes counts : List ℕ)
+    (index : List HartLedger) → harts ≡ known_harts header → HasCounted harts bytes [] counts highest number
+    → count ≡ harts_by header highest
+    → ((messages : List Message) → All IsMessage messages → bytes ≡ capture messages
+    → AreIndexed count messages index)
+    → IsStarted bytes harts (record { header = header; harts = index; strangers = 0 })
+started header harts count highest number bytes counts index harts_is has count_is indexed =
+    let sent = has.messages in
+    let whole : bytes ≡ capture sent = has.whole ∙ append-nil (capture sent) in
+    let turn : AreInTurn (known_harts header) [] sent = subst (λ h. AreInTurn h [] sent) harts_is has.in_turn in
+    let counted : count ≡ harts_of header sent = count_is ∙ counts_harts header highest sent has.highest_is in
+    (sent, has.ranges, whole, has.in_turn,
+    starts header sent index turn (subst (λ c. AreIndexed c sent index) counted (indexed sent has.ranges whole)))
+
+-- What stands behind a header, or without one, makes SENT whole.
+pub sent_whole : (bytes rest : List ℕ) (header : Option Header) (harts : ℕ) (ledger : Ledger)
+    → BeginsWith header bytes rest → harts ≡ known_harts header → ledger.header ≡ header → IsStarted rest harts ledger
+    → (sent : List Message) × IsSent bytes ledger.header sent × Audits sent [] ledger
+sent_whole bytes rest header harts ledger begins harts_is header_is is =
+    (is.0, subst (λ h. IsSent bytes h is.0) (sym header_is) (at header begins harts_is), is.4)
+  where
+    at : (header : Option Header) → BeginsWith header bytes rest → harts ≡ known_harts header → IsSent bytes header is.0
+    at None begins harts_is = record {
+          whole = record { ranges = is.1; whole = (begins.0, begins.1 ∙ is.2) };
+          in_turn = subst (λ h. AreInTurn h [] is.0) harts_is is.3;
+        }
+    at (Some header) begins harts_is = record {
+          whole = record {
+            ranges = is.1;
+            whole = (begins.0, begins.1 ∙ ap (λ r. header_bytes header ++ r) is.2);
+          };
+          in_turn = subst (λ h. AreInTurn h [] is.0) harts_is is.3;
+        }
+
+-- What stops counting behind a header, or without one, is the fault of SENT.
+pub sent_stops : (bytes rest : List ℕ) (header : Option Header) (harts : ℕ) (why : SentFault)
+    → BeginsWith header bytes rest → harts ≡ known_harts header → IsCountFault harts rest why → IsSentFault bytes why
+sent_stops bytes rest header harts fault.Memory begins harts_is stops = tt
+sent_stops bytes rest header harts (fault.Unread number why) begins harts_is stops =
+    inr (stops_at header begins harts_is)
+  where
+    stops_at : (header : Option Header) → BeginsWith header bytes rest → harts ≡ known_harts header
+        → StopsBehind bytes number (λ harts messages rest. BeginsNone rest why)
+    stops_at None begins harts_is = record {
+          header = None;
+          messages = stops.messages;
+          rest = stops.rest;
+          ranges = stops.ranges;
+          whole = (begins.0, begins.1 ∙ stops.whole);
+          in_turn = subst (λ h. AreInTurn h [] stops.messages) harts_is stops.in_turn;
+          counted = stops.number_is;
+          refused = stops.refused;
+        }
+    stops_at (Some header) begins harts_is = record {
+          header = Some header;
+          messages = stops.messages;
+          rest = stops.rest;
+          ranges = stops.ranges;
+          whole = (begins.0, begins.1 ∙ ap (λ r. header_bytes header ++ r) stops.whole);
+          in_turn = subst (λ h. AreInTurn h [] stops.messages) harts_is stops.in_turn;
+          counted = stops.number_is;
+          refused = stops.refused;
+        }
+sent_stops bytes rest header harts (fault.Misplaced number why) begins harts_is stops =
+    stops_at header begins harts_is
+  where
+    stops_at : (header : Option Header) → BeginsWith header bytes rest → harts ≡ known_harts header
+        → StopsBehind bytes number (BeginsMisplaced why)
+    stops_at None begins harts_is = record {
+          header = None;
+          messages = stops.messages;
+          rest = stops.rest;
+          ranges = stops.ranges;
+          whole = (begins.0, begins.1 ∙ stops.whole);
+          in_turn = subst (λ h. AreInTurn h [] stops.messages) harts_is stops.in_turn;
+          counted = stops.number_is;
+          refused = subst (λ h. BeginsMisplaced why h stops.messages stops.rest) harts_is stops.refused;
+        }
+    stops_at (Some header) begins harts_is = record {
+          header = Some header;
+          messages = stops.messages;
+          rest = stops.rest;
+          ranges = stops.ranges;
+          whole = (begins.0, begins.1 ∙ ap (λ r. header_bytes header ++ r) stops.whole);
+          in_turn = subst (λ h. AreInTurn h [] stops.messages) harts_is stops.in_turn;
+          counted = stops.number_is;
+          refused = subst (λ h. BeginsMisplaced why h stops.messages stops.rest) harts_is stops.refused;
+        }
+
+-- The same, by what is answered.
+pub sent_started : (bytes rest : List ℕ) (header : Option Header) (harts : ℕ) (r : Result Ledger SentFault)
+    → BeginsWith header bytes rest → harts ≡ known_harts header
+    → IfOk r (λ (ledger : Ledger). (ledger.header ≡ header) × IsStarted rest harts ledger)
+    → IfOk r (λ (ledger : Ledger). (sent : List Message) × IsSent bytes ledger.header sent × Audits sent [] ledger)
+sent_started bytes rest header harts (Ok ledger) begins harts_is is =
+    sent_whole bytes rest header harts ledger begins harts_is is.0 is.1
+sent_started bytes rest header harts (Err why) begins harts_is is = tt
+
+pub sent_refused : (bytes rest : List ℕ) (header : Option Header) (harts : ℕ) (r : Result Ledger SentFault)
+    → BeginsWith header bytes rest → harts ≡ known_harts header
+    → IfErr r (IsCountFault harts rest) → IfErr r (IsSentFault bytes)
+sent_refused bytes rest header harts (Ok ledger) begins harts_is is = tt
+sent_refused bytes rest header harts (Err why) begins harts_is is = sent_stops bytes rest header harts why begins harts_is is
+
+-- A header in front of bytes, and what is behind it.
+pub begins_header : (bytes left : List ℕ) (header : Header) → IsHeader header → bytes ≡ header_bytes header ++ left
+    → BeginsWith (Some header) bytes (drop 16 bytes)
+begins_header bytes left header is begins =
+    (is, begins ∙ ap (λ rest. header_bytes header ++ rest) (sym (ap (drop 16) begins)))

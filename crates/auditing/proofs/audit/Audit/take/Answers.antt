@@ -1,0 +1,15 @@
+-- What is kept and the fate are those of the definitions, by the laws on one more message.
+use Rattle.std.proofs.Common.{◌∙◌, ap, subst, sym}
+use Rattle.auditing.proofs.Taken.{as_many, fate_is_from, takes_all}
+use Rattle.auditing.specs.Audits.{Audits}
+use Rattle.auditing.specs.Ledger.{Ledger}
+use Rattle.auditing.proofs.audit.Audit.take.Goals as goal
+
+pub returns-clause-fate : goal.returns-clause-fate
+returns-clause-fate g c = λ sent received audits.
+    c.take_by_hart.ensures.fate ∙ fate_is_from sent received c.args.self.now audits c.args.message.now
+
+pub returns-clause-taken : goal.returns-clause-taken
+returns-clause-taken g c = λ sent received audits.
+    subst (Audits sent _) (sym c.take_by_hart.ensures.after)
+    (takes_all sent received c.args.self.now audits c.args.message.now)

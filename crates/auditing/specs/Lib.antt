@@ -1,0 +1,11 @@
+pub mod Fates
+pub mod FateText
+pub mod Judged
+pub mod Losing
+pub mod Tallies
+pub mod Ledger
+pub mod Audits
+pub mod Sent
+pub mod Untouched
+pub mod DecodedAgain
+pub mod steps

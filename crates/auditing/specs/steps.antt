@@ -1,0 +1,3 @@
+pub mod Indexing
+pub mod Taking
+pub mod Scanning

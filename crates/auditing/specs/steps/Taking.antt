@@ -1,0 +1,94 @@
+-- Taking one message.
+use Rattle.std.specs.Prelude.{ℕ, ◌+◌, ◌-◌, ◌^◌, ◌==◌, ◌&&◌, not, nat_lt, Bool, true, false, if◌then◌else◌, List, Option, Some, None}
+use Rattle.std.specs.Prelude.{length, min, slice_get, slice_index_or, slice_set}
+use Rattle.std.specs.List.{count_by}
+use Rattle.std.specs.Str.{bytes_eq}
+use Rattle.message.specs.declared.message.Message.{Message}
+use Rattle.auditing.specs.Ledger.{HartLedger, Ledger}
+use Rattle.auditing.specs.declared.fate.Fate.{Fate}
+use Rattle.auditing.specs.declared.fate.Fate.TheVariants as fate
+use Rattle.auditing.specs.declared.tally.Counts.{Counts}
+use Rattle.auditing.specs.declared.tally.Tally.{Tally}
+
+-- The fate of a message of a hart, by the payload that SENT has with its number, if it has one.
+abbrev pub fate_by : HartLedger → ℕ → List ℕ → Option (List ℕ) → Fate
+fate_by own number payload None = fate.Stranger
+fate_by own number payload (Some sent) =
+    if not (bytes_eq payload sent) then fate.Changed else
+    if slice_index_or own.came number false then fate.Repeat else
+    if nat_lt (number + 1) own.past then fate.Late else
+    fate.InOrder
+
+-- The fate of a message of a hart with this number and this payload.
+abbrev pub fate_in : HartLedger → ℕ → List ℕ → Fate
+fate_in own number payload = fate_by own number payload (slice_get own.payloads number)
+
+-- One more, where 2^64 - 1 stays.
+abbrev pub one_more : ℕ → ℕ
+one_more count = min (count + 1) (2 ^ 64 - 1)
+
+-- The counts after one more message of this fate.
+abbrev pub counted : Counts → Fate → Counts
+counted counts fate.Stranger = record counts { came = one_more counts.came; strange = one_more counts.strange }
+counted counts fate.Changed = record counts { came = one_more counts.came; changed = one_more counts.changed }
+counted counts fate.Repeat = record counts { came = one_more counts.came; repeated = one_more counts.repeated }
+counted counts fate.Late = record counts { came = one_more counts.came; late = one_more counts.late }
+counted counts fate.InOrder = record counts { came = one_more counts.came }
+
+-- What is kept of the hart after its message with this number and this fate.
+abbrev pub hart_after : HartLedger → ℕ → Fate → HartLedger
+hart_after own number fate.Late =
+    record own { came = slice_set own.came number true; counts = counted own.counts fate.Late }
+hart_after own number fate.InOrder = record own {
+      came = slice_set own.came number true;
+      past = number + 1;
+      counts = counted own.counts fate.InOrder;
+    }
+hart_after own number other = record own { counts = counted own.counts other }
+
+-- The fate of a message, by what is kept of its hart, if the hart is one of SENT's.
+abbrev pub fate_found : Option HartLedger → Message → Fate
+fate_found None message = fate.Stranger
+fate_found (Some own) message = fate_in own message.number message.payload
+
+-- The fate of a message, by what is kept.
+abbrev pub fate_from : Ledger → Message → Fate
+fate_from ledger message = fate_found (slice_get ledger.harts message.hart) message
+
+-- What is kept of all harts after a message, by what is kept of its hart, if the hart is one of SENT's.
+abbrev pub harts_found : List HartLedger → Message → Option HartLedger → List HartLedger
+harts_found harts message None = harts
+harts_found harts message (Some own) =
+    slice_set harts message.hart (hart_after own message.number (fate_in own message.number message.payload))
+
+-- How many strangers came after a message of this fate.
+abbrev pub strangers_after : ℕ → Fate → ℕ
+strangers_after strangers fate.Stranger = one_more strangers
+strangers_after strangers other = strangers
+
+-- What is kept after a message.
+abbrev pub ledger_after : Ledger → Message → Ledger
+ledger_after ledger message = record {
+      header = ledger.header;
+      harts = harts_found ledger.harts message (slice_get ledger.harts message.hart);
+      strangers = strangers_after ledger.strangers (fate_from ledger message);
+    }
+
+-- A hart is whole, by its counts and how many of its numbers are lost: none is lost, and none of its messages has
+-- another fate than in order.
+abbrev pub is_whole_by : Counts → ℕ → Bool
+is_whole_by counts lost =
+    lost == 0 && counts.strange == 0 && counts.changed == 0 && counts.repeated == 0 && counts.late == 0
+
+-- What became of the messages of a hart, by what is kept of it.
+abbrev pub tally_in : HartLedger → Tally
+tally_in own =
+    let lost = count_by not own.came in record {
+      sent = length own.came;
+      came = own.counts.came;
+      lost = lost;
+      repeated = own.counts.repeated;
+      late = own.counts.late;
+      changed = own.counts.changed;
+      whole = is_whole_by own.counts lost;
+    }

@@ -1,0 +1,182 @@
+//! The audit of a path.
+
+ghost use Rattle.std.specs.Prelude.{◌≡◌, ◌<◌, ◌^◌, ◌++◌, All, List, [], ◌∷◌, IfErr, IfOk, length};
+ghost use Rattle.message.specs.Capture.{capture};
+ghost use Rattle.message.specs.Cut.{IsMessage};
+ghost use Rattle.message.specs.declared.message.Message.{Message as AnyMessage};
+ghost use Rattle.auditing.specs.Audits.{Audits};
+ghost use Rattle.auditing.specs.Fates.{fate_of};
+ghost use Rattle.auditing.specs.Judged.{strangers_in};
+ghost use Rattle.auditing.specs.Ledger.{Ledger};
+ghost use Rattle.auditing.specs.Losing.{lost_runs};
+ghost use Rattle.auditing.specs.Sent.{AreInTurn, IsSent, IsSentFault, known_harts};
+ghost use Rattle.auditing.specs.Tallies.{tally_of};
+ghost use Rattle.auditing.specs.steps.Indexing.{IsCountFault, harts_by};
+ghost use Rattle.auditing.specs.steps.Taking.{fate_from, ledger_after};
+
+use crate::fate::Fate;
+use crate::fault::SentFault;
+use crate::hart::HartAudit;
+use crate::indexing::index_messages;
+use crate::judging::count_messages;
+use crate::lost::LostRuns;
+use crate::tally::Tally;
+use message::{Header, MOST_HARTS, Message, Messages};
+use std::alloc::{Allocator, Global};
+use std::marker::Model;
+
+/// How many bytes a header has.
+const HEADER: usize = 16;
+
+/// What became of the messages of SENT, as far as the messages of RECEIVED were taken.
+#[derive(Drop)]
+pub struct Audit<'a, A: Allocator = Global> {
+    /// The header of SENT.
+    header: Option<Header>,
+    /// What is kept of each hart of SENT.
+    harts: Vec<HartAudit<'a, A>, A>,
+    /// How many strangers came.
+    strangers: u64,
+}
+
+impl<'a, A: Allocator> Model for Audit<'a, A> {
+    ghost Value = { Ledger };
+
+    ghost view = { λ a. record { header = a.header; harts = a.harts.items; strangers = a.strangers } };
+}
+
+impl<'a, A: Allocator + Copy> Audit<'a, A> {
+    /// The audit of SENT, of which these are the bytes, before the first message of RECEIVED.
+    ///
+    /// SENT is whole where of each message the hart is known and the number is the one that comes next of the hart,
+    /// from 0. The harts are those that the header counts, or without a header 0 to the highest that has a message,
+    /// which is below 1,024. The first message that is not so is the fault, or the header. It is a stranger before a
+    /// repeat, and that before a gap. Payloads are not unpacked.
+    ///
+    /// No other fault comes but [`SentFault::Memory`]. At most 17 bytes are taken for each message, and 150 for each
+    /// hart that may come.
+    pub fn new(alloc: A, bytes: &'a [u8]) -> Result<Audit<'a, A>, SentFault>
+        ensures audits { IfOk result (λ audit. (sent : List AnyMessage) × IsSent bytes.entry.now audit.header sent
+            × Audits sent [] audit) }
+        ensures fault { IfErr result (IsSentFault bytes.entry.now) }
+    {
+        let mut messages = Messages::new(bytes);
+        match messages.header() {
+            Ok(Some(header)) => {
+                Audit::of_messages(alloc, Some(header), header.harts, &bytes[HEADER..])
+            }
+            Ok(None) => Audit::of_messages(alloc, None, MOST_HARTS, bytes),
+            Err(why) => Err(SentFault::Unread(0, why)),
+        }
+    }
+
+    /// The audit of the messages of these bytes, behind this header or none, where so many harts may come.
+    fn of_messages(
+        alloc: A,
+        header: Option<Header>,
+        harts: u16,
+        bytes: &'a [u8],
+    ) -> Result<Audit<'a, A>, SentFault>
+        requires { harts ≡ known_harts header }
+        ensures audits { IfOk result (λ audit. (audit.header ≡ header)
+            × ((sent : List AnyMessage) × All IsMessage sent × (bytes.entry.now ≡ capture sent)
+            × AreInTurn harts [] sent × Audits sent [] audit)) }
+        ensures fault { IfErr result (IsCountFault harts bytes.entry.now) }
+    {
+        let counted = match count_messages(alloc, harts, Messages::new(bytes)) {
+            Ok(counted) => counted,
+            Err(why) => return Err(why),
+        };
+        let count = count_of_harts(header, counted.highest);
+        let index = match index_messages(alloc, counted.counts.as_slice(), count, bytes) {
+            Ok(index) => index,
+            Err(_) => return Err(SentFault::Memory),
+        };
+        Ok(Audit {
+            header,
+            harts: index,
+            strangers: 0,
+        })
+    }
+}
+
+impl<'a, A: Allocator> Audit<'a, A> {
+    /// The header of SENT, if it has one.
+    pub fn header(&self) -> Option<Header>
+        ensures { result ≡ self.now.header }
+    {
+        self.header
+    }
+
+    /// How many harts SENT has.
+    pub fn harts(&self) -> usize
+        ensures { result ≡ length self.now.harts }
+    {
+        self.harts.len()
+    }
+
+    /// Takes the next message of RECEIVED, and returns what became of it. Takes no memory.
+    pub fn take(&mut self, message: &Message) -> Fate
+        ensures fate { (sent received : List AnyMessage) → Audits sent received self.old
+            → result ≡ fate_of sent received message.now }
+        ensures taken { (sent received : List AnyMessage) → Audits sent received self.old
+            → Audits sent (received ++ message.now ∷ []) self.new }
+        ensures header { self.new.header ≡ self.old.header }
+        ensures harts { length self.new.harts ≡ length self.old.harts }
+    {
+        self.take_by_hart(message)
+    }
+
+    /// As [`Audit::take`], by what is kept.
+    fn take_by_hart(&mut self, message: &Message) -> Fate
+        ensures fate { result ≡ fate_from self.old message.now }
+        ensures after { self.new ≡ ledger_after self.old message.now }
+    {
+        let fate = match self.harts.get_mut(usize::from(message.hart)) {
+            Some(hart) => hart.take(message.number, message.payload.bytes()),
+            None => Fate::Stranger,
+        };
+        if let Fate::Stranger = fate {
+            self.strangers = self.strangers.saturating_add(1);
+        }
+        fate
+    }
+
+    /// What became of the messages of a hart of SENT, counted. No count is above 2^64 - 1. Takes no memory.
+    pub fn tally(&self, hart: usize) -> Tally
+        requires known { hart < length self.now.harts }
+        ensures { (sent received : List AnyMessage) → Audits sent received self.now → length received < 2 ^ 64
+            → result ≡ tally_of sent received hart }
+    {
+        let own = &self.harts[hart];
+        own.tally()
+    }
+
+    /// The longest runs of numbers of a hart of SENT that were lost.
+    pub fn lost(&self, hart: usize) -> LostRuns<'_>
+        requires known { hart < length self.now.harts }
+        ensures { (sent received : List AnyMessage) → Audits sent received self.now
+            → result ≡ lost_runs sent received hart }
+    {
+        let own = &self.harts[hart];
+        LostRuns::new(own.came.as_slice())
+    }
+
+    /// How many strangers came, of whatever hart. The count is not above 2^64 - 1.
+    pub fn strangers(&self) -> u64
+        ensures { (sent received : List AnyMessage) → Audits sent received self.now → length received < 2 ^ 64
+            → result ≡ strangers_in sent received }
+    {
+        self.strangers
+    }
+}
+
+/// How many harts SENT has, behind this header or none, where so many stand in it up to the highest.
+fn count_of_harts(header: Option<Header>, highest: u16) -> u16
+    ensures { result ≡ harts_by header highest }
+{
+    match header {
+        Some(header) => header.harts,
+        None => highest,
+    }
+}

@@ -1,0 +1,37 @@
+//! What the definitions of an audit promise.
+
+ghost use Rattle.std.specs.Prelude.{ℕ, ◌≡◌, ◌↔◌, Bool, true, None, List, [], Option};
+ghost use Rattle.retire.specs.declared.event.Event.{Event};
+ghost use Rattle.rvclass.specs.Words.{Words, IsProgram};
+ghost use Rattle.captures.specs.Decoded.{IsDecoded};
+ghost use Rattle.captures.specs.Whole.{IsWhole};
+ghost use Rattle.captures.specs.declared.outcome.CaptureFault.{CaptureFault};
+ghost use Rattle.message.specs.OfHart.{of_hart};
+ghost use Rattle.message.specs.declared.header.Header.{Header};
+ghost use Rattle.message.specs.declared.message.Message.{Message};
+ghost use Rattle.auditing.specs.DecodedAgain.{AreAllWhole, AreDecodedAgain};
+ghost use Rattle.auditing.specs.Sent.{AreInTurn, IsSent};
+ghost use Rattle.auditing.specs.Tallies.{is_whole};
+ghost use Rattle.auditing.specs.Untouched.{IsUntouched};
+
+/// A hart is whole exactly where no number of it is lost, and none of its messages is repeated, late, changed or a
+/// stranger; and that is so exactly where what came of it is the list that was sent.
+pub fn whole_is_untouched()
+    ensures untouched { (harts hart : ℕ) (sent received : List Message) → AreInTurn harts [] sent
+        → (is_whole sent received hart ≡ true) ↔ IsUntouched sent received hart }
+    ensures same_list { (harts hart : ℕ) (sent received : List Message) → AreInTurn harts [] sent
+        → IsUntouched sent received hart ↔ (of_hart hart received ≡ of_hart hart sent) }
+{}
+
+/// Where SENT decodes without a fault, every hart of it is whole in RECEIVED, RECEIVED has no stranger and is read
+/// whole, and it has SENT's header or neither has one, RECEIVED decodes to the same logs and flags without a fault,
+/// unless memory is refused, in whatever way the messages of the harts are mixed. Both are decoded with the same count
+/// of harts.
+pub fn whole_decodes_again()
+    ensures { (words : Words) (harts : ℕ) (sent received : List ℕ) (header : Option Header)
+        (messages others : List Message) (lists again : List (List Event)) (closed flags : List Bool)
+        (stop : Option (ℕ × CaptureFault)) → IsProgram words
+        → IsSent sent header messages → IsWhole received header others → AreAllWhole header messages others
+        → IsDecoded words harts sent lists closed None → IsDecoded words harts received again flags stop
+        → AreDecodedAgain lists closed again flags stop }
+{}

@@ -1,0 +1,88 @@
+//! The numbers of a hart that were lost.
+
+ghost use Rattle.std.specs.Prelude.{◌≡◌, ◌++◌, ◌+◌, ◌<◌, ◌^◌, List, length, not};
+ghost use Rattle.std.specs.List.{position_or_len};
+ghost use Rattle.std.specs.Option.{option_to_list};
+ghost use Rattle.auditing.specs.Losing.{runs_of};
+ghost use Rattle.auditing.specs.steps.Scanning.{lost_in};
+ghost use Rattle.auditing.specs.declared.lost.Lost.{Lost as AnyLost};
+
+use std::marker::Model;
+
+/// A longest run of numbers of a hart that were lost.
+#[derive(Clone, Copy, Debug, PartialEq, Eq)]
+pub struct Lost {
+    /// The first of the numbers.
+    pub first: u64,
+    /// The last of the numbers.
+    pub last: u64,
+}
+
+/// The longest runs of numbers of a hart that were lost, one at a time. A clause sees those that are left.
+#[derive(Debug, Drop)]
+pub struct LostRuns<'a> {
+    /// Whether a true message came, from the next number on.
+    came: &'a [bool],
+    /// The next number.
+    number: u64,
+}
+
+impl<'a> Model for LostRuns<'a> {
+    ghost Value = { List AnyLost };
+
+    ghost view = { λ runs. runs_of (lost_in runs.number runs.came.now) };
+
+    ghost invariant = { λ runs. runs.number + length runs.came.now < 2 ^ 64 };
+}
+
+impl<'a> LostRuns<'a> {
+    /// The runs of the numbers from 0 on whose flags are not set.
+    pub(crate) fn new(came: &'a [bool]) -> LostRuns<'a>
+        ensures { result ≡ runs_of (lost_in 0 came.now) }
+    {
+        LostRuns { came, number: 0 }
+    }
+
+    /// The next run; `None` behind the last. Takes no memory.
+    pub fn next(&mut self) -> Option<Lost>
+        ensures { self.old ≡ option_to_list result ++ self.new }
+    {
+        let came = self.came;
+        let (_, left) = came.split_at(first_lost(came));
+        let first = self.number + (came.len() - left.len()) as u64;
+        let (run, behind) = left.split_at(first_come(left));
+        self.came = behind;
+        self.number = first + run.len() as u64;
+        if run.is_empty() {
+            return None;
+        }
+        Some(Lost {
+            first,
+            last: self.number - 1,
+        })
+    }
+}
+
+/// The place of the first flag that is not set, or the count of flags where each is set.
+fn first_lost(came: &[bool]) -> usize
+    ensures { result ≡ position_or_len not came.now }
+{
+    for (place, came) in came.iter().enumerate() {
+        if !*came {
+            return place;
+        }
+    }
+    came.len()
+}
+
+/// The place of the first flag that is set, or the count of flags where none is set.
+fn first_come(came: &[bool]) -> usize
+    ensures { result ≡ position_or_len (λ flag. flag) came.now }
+{
+    for (place, came) in came.iter().enumerate() {
+        if *came {
+            return place;
+        }
+    }
+    came.len()
+}

@@ -1,0 +1,406 @@
+//! What became of messages.
+
+/// Each fate alone and all at once, lost numbers, headers, refusals of SENT, and faults of RECEIVED.
+pub(crate) const TEXT: &str = r"
+# Nothing befell the messages: SENT and RECEIVED are the same.
+file sent.capture
+|~ 0 0 1f
+|~ 0 1 7300000020
+|~ 0 2 4f
+|~ 1 0 1f
+|~ 1 1 cf00
+$ tracebench audit sent.capture sent.capture
+> hart 0: 3 sent, 3 came, 0 lost, 0 repeated, 0 late, 0 changed, whole
+> hart 1: 2 sent, 2 came, 0 lost, 0 repeated, 0 late, 0 changed, whole
+> result: whole
+# The messages of the harts are mixed in another way, and each hart's stay in order.
+file mixed.capture
+|~ 1 0 1f
+|~ 0 0 1f
+|~ 0 1 7300000020
+|~ 1 1 cf00
+|~ 0 2 4f
+$ tracebench audit sent.capture mixed.capture
+> hart 0: 3 sent, 3 came, 0 lost, 0 repeated, 0 late, 0 changed, whole
+> hart 1: 2 sent, 2 came, 0 lost, 0 repeated, 0 late, 0 changed, whole
+> result: whole
+# A number is lost.
+file received.capture
+|~ 0 0 1f
+|~ 0 2 4f
+|~ 1 0 1f
+|~ 1 1 cf00
+$ tracebench audit sent.capture received.capture
+> hart 0: number 1 lost
+> hart 0: 3 sent, 2 came, 1 lost, 0 repeated, 0 late, 0 changed, not whole
+> hart 1: 2 sent, 2 came, 0 lost, 0 repeated, 0 late, 0 changed, whole
+> result: not whole
+? 1
+# The first number, and the last two.
+file received.capture
+|~ 0 1 7300000020
+|~ 0 2 4f
+$ tracebench audit sent.capture received.capture
+> hart 0: number 0 lost
+> hart 1: numbers 0 to 1 lost
+> hart 0: 3 sent, 2 came, 1 lost, 0 repeated, 0 late, 0 changed, not whole
+> hart 1: 2 sent, 0 came, 2 lost, 0 repeated, 0 late, 0 changed, not whole
+> result: not whole
+? 1
+file received.capture
+|~ 1 0 1f
+|~ 1 1 cf00
+|~ 0 0 1f
+$ tracebench audit sent.capture received.capture
+> hart 0: numbers 1 to 2 lost
+> hart 0: 3 sent, 1 came, 2 lost, 0 repeated, 0 late, 0 changed, not whole
+> hart 1: 2 sent, 2 came, 0 lost, 0 repeated, 0 late, 0 changed, whole
+> result: not whole
+? 1
+# All are lost: RECEIVED is empty.
+file empty.capture
+$ tracebench audit sent.capture empty.capture
+> hart 0: numbers 0 to 2 lost
+> hart 1: numbers 0 to 1 lost
+> hart 0: 3 sent, 0 came, 3 lost, 0 repeated, 0 late, 0 changed, not whole
+> hart 1: 2 sent, 0 came, 2 lost, 0 repeated, 0 late, 0 changed, not whole
+> result: not whole
+? 1
+# A repeat.
+file received.capture
+|~ 0 0 1f
+|~ 0 1 7300000020
+|~ 0 1 7300000020
+|~ 0 2 4f
+|~ 1 0 1f
+|~ 1 1 cf00
+$ tracebench audit sent.capture received.capture
+> message 2: hart 0 number 1: repeat
+> hart 0: 3 sent, 4 came, 0 lost, 1 repeated, 0 late, 0 changed, not whole
+> hart 1: 2 sent, 2 came, 0 lost, 0 repeated, 0 late, 0 changed, whole
+> result: not whole
+? 1
+# A late message, and a repeat of it.
+file received.capture
+|~ 0 0 1f
+|~ 0 2 4f
+|~ 0 1 7300000020
+|~ 0 1 7300000020
+|~ 1 0 1f
+|~ 1 1 cf00
+$ tracebench audit sent.capture received.capture
+> message 2: hart 0 number 1: late
+> message 3: hart 0 number 1: repeat
+> hart 0: 3 sent, 4 came, 0 lost, 1 repeated, 1 late, 0 changed, not whole
+> hart 1: 2 sent, 2 came, 0 lost, 0 repeated, 0 late, 0 changed, whole
+> result: not whole
+? 1
+# A changed message, also one whose payload is a beginning of what was sent, or goes on behind it. Its number is lost.
+file received.capture
+|~ 0 0 1f
+|~ 0 1 7300000021
+|~ 0 2 4f
+|~ 1 0 1f
+|~ 1 1 cf
+$ tracebench audit sent.capture received.capture
+> message 1: hart 0 number 1: changed
+> message 4: hart 1 number 1: changed
+> hart 0: number 1 lost
+> hart 1: number 1 lost
+> hart 0: 3 sent, 3 came, 1 lost, 0 repeated, 0 late, 1 changed, not whole
+> hart 1: 2 sent, 2 came, 1 lost, 0 repeated, 0 late, 1 changed, not whole
+> result: not whole
+? 1
+file received.capture
+|~ 0 0 1f00
+|~ 0 1 7300000020
+|~ 0 2 4f
+|~ 1 0 1f
+|~ 1 1 cf00
+$ tracebench audit sent.capture received.capture
+> message 0: hart 0 number 0: changed
+> hart 0: number 0 lost
+> hart 0: 3 sent, 3 came, 1 lost, 0 repeated, 0 late, 1 changed, not whole
+> hart 1: 2 sent, 2 came, 0 lost, 0 repeated, 0 late, 0 changed, whole
+> result: not whole
+? 1
+# A changed message whose true copy comes later: the copy is in order, and the next one too. A changed one makes none
+# late.
+file received.capture
+|~ 0 2 00
+|~ 0 0 1f
+|~ 0 1 7300000020
+|~ 0 2 4f
+|~ 1 0 1f
+|~ 1 1 cf00
+$ tracebench audit sent.capture received.capture
+> message 0: hart 0 number 2: changed
+> hart 0: 3 sent, 4 came, 0 lost, 0 repeated, 0 late, 1 changed, not whole
+> hart 1: 2 sent, 2 came, 0 lost, 0 repeated, 0 late, 0 changed, whole
+> result: not whole
+? 1
+# Its true copy came earlier: it is changed all the same, and no repeat.
+file received.capture
+|~ 0 0 1f
+|~ 0 1 7300000020
+|~ 0 1 00
+|~ 0 2 4f
+|~ 1 0 1f
+|~ 1 1 cf00
+$ tracebench audit sent.capture received.capture
+> message 2: hart 0 number 1: changed
+> hart 0: 3 sent, 4 came, 0 lost, 0 repeated, 0 late, 1 changed, not whole
+> hart 1: 2 sent, 2 came, 0 lost, 0 repeated, 0 late, 0 changed, whole
+> result: not whole
+? 1
+# Strangers: a huge number, after which nothing is late; a number behind the last; a hart that SENT does not have.
+file received.capture
+|~ 0 18446744073709551615 1f
+|~ 0 0 1f
+|~ 0 3 4f
+|~ 0 1 7300000020
+|~ 65535 0 1f
+|~ 0 2 4f
+|~ 1 0 1f
+|~ 1 1 cf00
+$ tracebench audit sent.capture received.capture
+> message 0: hart 0 number 18446744073709551615: stranger
+> message 2: hart 0 number 3: stranger
+> message 4: hart 65535 number 0: stranger
+> hart 0: 3 sent, 5 came, 0 lost, 0 repeated, 0 late, 0 changed, not whole
+> hart 1: 2 sent, 2 came, 0 lost, 0 repeated, 0 late, 0 changed, whole
+> strangers: 3 messages
+> result: not whole
+? 1
+# A stranger of a hart that SENT does not have leaves every hart whole, but not the result.
+file received.capture
+|< sent.capture
+|~ 2 0 1f
+$ tracebench audit sent.capture received.capture
+> message 5: hart 2 number 0: stranger
+> hart 0: 3 sent, 3 came, 0 lost, 0 repeated, 0 late, 0 changed, whole
+> hart 1: 2 sent, 2 came, 0 lost, 0 repeated, 0 late, 0 changed, whole
+> strangers: 1 messages
+> result: not whole
+? 1
+# All at once.
+file received.capture
+|~ 0 2 4f
+|~ 1 1 cf01
+|~ 0 0 1f
+|~ 0 2 4f
+|~ 7 7 1f
+$ tracebench audit sent.capture received.capture
+> message 1: hart 1 number 1: changed
+> message 2: hart 0 number 0: late
+> message 3: hart 0 number 2: repeat
+> message 4: hart 7 number 7: stranger
+> hart 0: number 1 lost
+> hart 1: numbers 0 to 1 lost
+> hart 0: 3 sent, 3 came, 1 lost, 1 repeated, 1 late, 0 changed, not whole
+> hart 1: 2 sent, 1 came, 2 lost, 0 repeated, 0 late, 1 changed, not whole
+> strangers: 1 messages
+> result: not whole
+? 1
+# Two runs of lost numbers of one hart. A late message lies between them.
+file long.capture
+|~ 0 0 1f
+|~ 0 1 01
+|~ 0 2 02
+|~ 0 3 03
+|~ 0 4 04
+|~ 0 5 4f
+file received.capture
+|~ 0 5 4f
+|~ 0 2 02
+$ tracebench audit long.capture received.capture
+> message 1: hart 0 number 2: late
+> hart 0: numbers 0 to 1 lost
+> hart 0: numbers 3 to 4 lost
+> hart 0: 6 sent, 2 came, 4 lost, 0 repeated, 1 late, 0 changed, not whole
+> result: not whole
+? 1
+# A hart that sent nothing: by the header, and below the highest that stands in SENT without one.
+file headed.capture
+|= ffff727674726163653200 00 0004 0300
+|< sent.capture
+$ tracebench audit headed.capture headed.capture
+> hart 0: 3 sent, 3 came, 0 lost, 0 repeated, 0 late, 0 changed, whole
+> hart 1: 2 sent, 2 came, 0 lost, 0 repeated, 0 late, 0 changed, whole
+> hart 2: 0 sent, 0 came, 0 lost, 0 repeated, 0 late, 0 changed, whole
+> result: whole
+file gap.capture
+|~ 2 0 4f
+$ tracebench audit gap.capture gap.capture
+> hart 0: 0 sent, 0 came, 0 lost, 0 repeated, 0 late, 0 changed, whole
+> hart 1: 0 sent, 0 came, 0 lost, 0 repeated, 0 late, 0 changed, whole
+> hart 2: 1 sent, 1 came, 0 lost, 0 repeated, 0 late, 0 changed, whole
+> result: whole
+# SENT has no message and no header: it has no hart.
+$ tracebench audit empty.capture empty.capture
+> result: whole
+$ tracebench audit empty.capture gap.capture
+> message 0: hart 2 number 0: stranger
+> strangers: 1 messages
+> result: not whole
+? 1
+# One version against the other, both ways: only where both have a header can these differ.
+$ tracebench audit headed.capture sent.capture
+> hart 0: 3 sent, 3 came, 0 lost, 0 repeated, 0 late, 0 changed, whole
+> hart 1: 2 sent, 2 came, 0 lost, 0 repeated, 0 late, 0 changed, whole
+> hart 2: 0 sent, 0 came, 0 lost, 0 repeated, 0 late, 0 changed, whole
+> result: whole
+$ tracebench audit sent.capture headed.capture
+> hart 0: 3 sent, 3 came, 0 lost, 0 repeated, 0 late, 0 changed, whole
+> hart 1: 2 sent, 2 came, 0 lost, 0 repeated, 0 late, 0 changed, whole
+> result: whole
+# Headers that differ: in the mode, in the period, in the count of harts.
+file other.capture
+|= ffff727674726163653200 01 0004 0300
+|< sent.capture
+$ tracebench audit headed.capture other.capture
+> hart 0: 3 sent, 3 came, 0 lost, 0 repeated, 0 late, 0 changed, whole
+> hart 1: 2 sent, 2 came, 0 lost, 0 repeated, 0 late, 0 changed, whole
+> hart 2: 0 sent, 0 came, 0 lost, 0 repeated, 0 late, 0 changed, whole
+> headers differ
+> result: not whole
+? 1
+file other.capture
+|= ffff727674726163653200 00 0005 0300
+|< sent.capture
+$ tracebench audit headed.capture other.capture
+> hart 0: 3 sent, 3 came, 0 lost, 0 repeated, 0 late, 0 changed, whole
+> hart 1: 2 sent, 2 came, 0 lost, 0 repeated, 0 late, 0 changed, whole
+> hart 2: 0 sent, 0 came, 0 lost, 0 repeated, 0 late, 0 changed, whole
+> headers differ
+> result: not whole
+? 1
+file other.capture
+|= ffff727674726163653200 00 0004 0200
+|< sent.capture
+|~ 9 9 4f
+$ tracebench audit headed.capture other.capture
+> message 5: hart 9 number 9: stranger
+> hart 0: 3 sent, 3 came, 0 lost, 0 repeated, 0 late, 0 changed, whole
+> hart 1: 2 sent, 2 came, 0 lost, 0 repeated, 0 late, 0 changed, whole
+> hart 2: 0 sent, 0 came, 0 lost, 0 repeated, 0 late, 0 changed, whole
+> strangers: 1 messages
+> headers differ
+> result: not whole
+? 1
+# SENT is refused: a header that is not valid or cut short, a message that is cut short or has a bad length.
+file bad.capture
+|= ffff727674726163653200 02 0004 0100
+$ tracebench audit bad.capture sent.capture
+! tracebench: bad.capture: capture header is not valid
+? 2
+file bad.capture
+|= ffff727674726163653200 00 0004 01
+$ tracebench audit bad.capture sent.capture
+! tracebench: bad.capture: message 0: the capture ends inside a message
+? 2
+file bad.capture
+|~ 0 0 1f
+|= 0000 0100000000000000 02 73
+$ tracebench audit bad.capture sent.capture
+! tracebench: bad.capture: message 1: the capture ends inside a message
+? 2
+file bad.capture
+|~ 0 0 1f
+|= 0000 0100000000000000 13
+$ tracebench audit bad.capture sent.capture
+! tracebench: bad.capture: message 1: payload length is not 1 to 18
+? 2
+# A stranger: of a hart that the header does not count, or without a header of hart 1,024.
+file bad.capture
+|= ffff727674726163653200 00 0004 0100
+|~ 0 0 1f
+|~ 1 0 1f
+$ tracebench audit bad.capture sent.capture
+! tracebench: bad.capture: message 1: stranger
+? 2
+file bad.capture
+|~ 1024 0 1f
+$ tracebench audit bad.capture sent.capture
+! tracebench: bad.capture: message 0: stranger
+? 2
+# A repeat, and a gap.
+file bad.capture
+|~ 0 0 1f
+|~ 1 0 1f
+|~ 0 1 01
+|~ 0 1 01
+$ tracebench audit bad.capture sent.capture
+! tracebench: bad.capture: message 3: repeat
+? 2
+file bad.capture
+|~ 0 0 1f
+|~ 1 0 1f
+|~ 0 2 01
+$ tracebench audit bad.capture sent.capture
+! tracebench: bad.capture: message 2: gap, expected number 1
+? 2
+# Two at once: the first message is named, and of one message the stranger. RECEIVED is not looked at.
+file bad.capture
+|~ 0 1 1f
+|~ 1024 0 1f
+$ tracebench audit bad.capture nothing.capture
+! tracebench: bad.capture: message 0: gap, expected number 0
+? 2
+file bad.capture
+|~ 1024 5 1f
+|= 00
+$ tracebench audit bad.capture nothing.capture
+! tracebench: bad.capture: message 0: stranger
+? 2
+# RECEIVED ends in a fault of its own: all before that place is audited.
+file received.capture
+|~ 0 0 1f
+|~ 1 0 1f
+|= 0000 0100000000000000 05 7300
+$ tracebench audit sent.capture received.capture
+> hart 0: numbers 1 to 2 lost
+> hart 1: number 1 lost
+> hart 0: 3 sent, 1 came, 2 lost, 0 repeated, 0 late, 0 changed, not whole
+> hart 1: 2 sent, 1 came, 1 lost, 0 repeated, 0 late, 0 changed, not whole
+> result: not whole
+! tracebench: message 2: the capture ends inside a message
+? 1
+file received.capture
+|< sent.capture
+|= 0000 0300000000000000 00
+$ tracebench audit sent.capture received.capture
+> hart 0: 3 sent, 3 came, 0 lost, 0 repeated, 0 late, 0 changed, whole
+> hart 1: 2 sent, 2 came, 0 lost, 0 repeated, 0 late, 0 changed, whole
+> result: not whole
+! tracebench: message 5: payload length is not 1 to 18
+? 1
+file received.capture
+|= ffff727674726163653200 00 0000 0100
+|< sent.capture
+$ tracebench audit gap.capture received.capture
+> hart 2: number 0 lost
+> hart 0: 0 sent, 0 came, 0 lost, 0 repeated, 0 late, 0 changed, whole
+> hart 1: 0 sent, 0 came, 0 lost, 0 repeated, 0 late, 0 changed, whole
+> hart 2: 1 sent, 0 came, 1 lost, 0 repeated, 0 late, 0 changed, not whole
+> result: not whole
+! tracebench: capture header is not valid
+? 1
+file received.capture
+|= ffff727674726163653200 00
+$ tracebench audit gap.capture received.capture
+> hart 2: number 0 lost
+> hart 0: 0 sent, 0 came, 0 lost, 0 repeated, 0 late, 0 changed, whole
+> hart 1: 0 sent, 0 came, 0 lost, 0 repeated, 0 late, 0 changed, whole
+> hart 2: 1 sent, 0 came, 1 lost, 0 repeated, 0 late, 0 changed, not whole
+> result: not whole
+! tracebench: message 0: the capture ends inside a message
+? 1
+# Files that are not there.
+$ tracebench audit nothing.capture sent.capture
+! tracebench: nothing.capture: cannot be read
+? 3
+$ tracebench audit sent.capture nothing.capture
+! tracebench: nothing.capture: cannot be read
+? 3
+";
