@@ -1,8 +1,9 @@
 -- Bits that read as a support packet are its fields, and its fields read as the packet.
-use Rattle.std.proofs.Common.{◌≡◌, ℕ, ◌<◌, inl, inr, true, ◌==◌, ◌&&◌, Ok, Err, arith, eqb-true}
+use Rattle.std.proofs.Common.{◌≡◌, ℕ, ◌^◌, ◌<◌, inl, inr, true, ◌==◌, ◌&&◌, Ok, Err, arith, eqb-true, refl, subst, sym}
 use Rattle.std.proofs.lemmas.Bool.{and_parts}
+use Rattle.payload.specs.Extension.{magnitude}
 use Rattle.payload.specs.Faults.{part}
-use Rattle.payload.specs.PacketFields.{support_fields}
+use Rattle.payload.specs.PacketFields.{fields_with, support_fields}
 use Rattle.payload.specs.steps.ReadingByKind.{has_fields, padded, support_reading}
 use Rattle.payload.specs.declared.mode.Mode.TheVariants as mode
 use Rattle.payload.specs.declared.packet.Packet.{Packet}
@@ -13,6 +14,7 @@ use Rattle.payload.specs.declared.fault.PackFault.TheVariants.{Unsupported}
 use Rattle.payload.proofs.Choices.{chosen_of_4}
 use Rattle.payload.proofs.PaddedBits.{IsRead, padded_found, padded_read}
 use Rattle.payload.proofs.Parts.{Holds}
+use Rattle.payload.proofs.Spells.{Spells}
 
 -- The fields by which support packets differ.
 record AreFields (n enable status options : ℕ) : Type 0 where
@@ -33,6 +35,20 @@ support_holds n ienable status options format subformat small are =
     let enable = are.enable_is in
     (format, (subformat, (omega arith, (omega arith, (are.status_is, (are.options_are, tt))))))
 
+-- Bits with the fields of a support packet are read as it.
+is_read : (n ienable status options : ℕ) (s : Support) → part n 0 2 ≡ 3 → part n 2 2 ≡ 3 → ienable < 2
+    → fields_with 0 (packet.Support s) ≡ support_fields ienable status options
+    → has_fields n ienable status options ≡ true → magnitude 144 n < 2 ^ 12 → IsRead n (packet.Support s)
+is_read n ienable status options s format subformat small same so width = record {
+  profile = tt;
+  spare = 0;
+  unused = omega arith;
+  spells = subst (Spells n) (sym same) (record {
+    holds = support_holds n ienable status options format subformat small (fields_found n ienable status options so);
+    width = width;
+  });
+}
+
 pub support_found : (n : ℕ) (p : Packet) → part n 0 2 ≡ 3 → part n 2 2 ≡ 3 → support_reading n ≡ Ok p → IsRead n p
 unfolding support_reading
 support_found n p format subformat e =
@@ -41,42 +57,16 @@ support_found n p format subformat e =
     (padded 13 n (packet.Support (support.Open mode.Full)))
     (padded 13 n (packet.Support support.EndedRep)) (padded 13 n (packet.Support support.EndedNtr))
     (Err Unsupported) (Ok p) e) [
-      | inl (so, same) ↦ padded_found 13 n _ p same (λ width. record {
-        profile = tt;
-        spare = 0;
-        unused = omega arith;
-        spells = record {
-          holds = support_holds n 1 0 0 format subformat (omega arith) (fields_found n 1 0 0 so);
-          width = width;
-        };
-      })
-      | inr (inl (so, same)) ↦ padded_found 13 n _ p same (λ width. record {
-        profile = tt;
-        spare = 0;
-        unused = omega arith;
-        spells = record {
-          holds = support_holds n 1 0 1 format subformat (omega arith) (fields_found n 1 0 1 so);
-          width = width;
-        };
-      })
-      | inr (inr (inl (so, same))) ↦ padded_found 13 n _ p same (λ width. record {
-        profile = tt;
-        spare = 0;
-        unused = omega arith;
-        spells = record {
-          holds = support_holds n 0 1 0 format subformat (omega arith) (fields_found n 0 1 0 so);
-          width = width;
-        };
-      })
-      | inr (inr (inr (inl (so, same)))) ↦ padded_found 13 n _ p same (λ width. record {
-        profile = tt;
-        spare = 0;
-        unused = omega arith;
-        spells = record {
-          holds = support_holds n 0 3 0 format subformat (omega arith) (fields_found n 0 3 0 so);
-          width = width;
-        };
-      })
+      | inl (so, same) ↦
+          padded_found 13 n _ p same
+          (is_read n 1 0 0 (support.Open mode.Differential) format subformat (omega arith) refl so)
+      | inr (inl (so, same)) ↦
+          padded_found 13 n _ p same
+          (is_read n 1 0 1 (support.Open mode.Full) format subformat (omega arith) refl so)
+      | inr (inr (inl (so, same))) ↦
+          padded_found 13 n _ p same (is_read n 0 1 0 support.EndedRep format subformat (omega arith) refl so)
+      | inr (inr (inr (inl (so, same)))) ↦
+          padded_found 13 n _ p same (is_read n 0 3 0 support.EndedNtr format subformat (omega arith) refl so)
       | inr (inr (inr (inr same))) ↦ absurd (cc)
     ]
 

@@ -1,10 +1,11 @@
 -- Bits that read as a trap packet are its fields, and its fields read as the packet.
 use Rattle.std.proofs.Common.{◌≡◌, ◌≢◌, ℕ, zero, suc, ◌-◌, ◌*◌, ◌^◌, ◌<◌, inl, inr, Bool, true, false, cond, ◌==◌, Ok}
-use Rattle.std.proofs.Common.{Err, refl, arith, ne_eqb}
+use Rattle.std.proofs.Common.{Err, List, [], refl, arith, ne_eqb}
 use Rattle.std.proofs.lemmas.Bool.{eqb-false}
 use Rattle.payload.specs.Extension.{magnitude}
 use Rattle.payload.specs.Faults.{part, is_interrupt, trap_width}
-use Rattle.payload.specs.PacketFields.{flag_of}
+use Rattle.payload.specs.Fields.{Field}
+use Rattle.payload.specs.PacketFields.{flag_of, trap_fields, value_fields}
 use Rattle.payload.specs.Reading.{trap_from}
 use Rattle.payload.specs.steps.ReadingByKind.{padded, trap_reading}
 use Rattle.payload.specs.declared.packet.Packet.{Packet}
@@ -12,6 +13,7 @@ use Rattle.payload.specs.declared.packet.Packet.TheVariants as packet
 use Rattle.payload.specs.declared.fault.PackFault.TheVariants.{BadPrivilege}
 use Rattle.payload.proofs.Choices.{chosen}
 use Rattle.payload.proofs.PaddedBits.{IsRead, padded_found, padded_read}
+use Rattle.payload.proofs.Parts.{Holds}
 use Rattle.payload.proofs.SyncBits.{branch_is, branch_back}
 
 flag_is : (x : ℕ) → x < 2 → x ≡ flag_of (x == 1)
@@ -23,6 +25,15 @@ flag_back : (x : ℕ) (holds : Bool) → x ≡ flag_of holds → (x == 1) ≡ ho
 flag_back x true e = rw e refl
 flag_back x false e = rw e refl
 
+trap_holds : (n : ℕ) (interrupt : Bool) (behind : List Field) → part n 0 2 ≡ 3 → part n 2 2 ≡ 1
+    → part n 13 1 ≡ flag_of interrupt → Holds n 78 behind
+    → Holds n 0 (trap_fields (part n 4 1 == 0) (part n 5 2) (part n 7 6) interrupt (part n 14 1 == 1)
+    (2 * part n 15 63) behind)
+trap_holds n interrupt behind format subformat flag rest =
+    let branch = branch_is (part n 4 1) (omega arith) in
+    let handler = flag_is (part n 14 1) (omega arith) in
+    (format, (subformat, (branch, (refl, (refl, (flag, (handler, (omega arith, rest))))))))
+
 -- What is read of a trap whose interrupt bit is this.
 trap_with : (n : ℕ) (interrupt : Bool) → part n 0 2 ≡ 3 → part n 2 2 ≡ 1 → part n 5 2 ≢ 2
     → part n 13 1 ≡ flag_of interrupt
@@ -33,35 +44,14 @@ trap_with n true format subformat level flag width = record {
   profile = ((omega arith, level), omega arith, (omega arith, omega arith), refl);
   spare = 0;
   unused = omega arith;
-  spells = record {
-    holds = (
-      format,
-      (
-        subformat,
-        (
-          branch_is (part n 4 1) (omega arith),
-          (refl, (refl, (flag, (flag_is (part n 14 1) (omega arith), (omega arith, tt))))),
-        ),
-      ),
-    );
-    width = width;
-  };
+  spells = record { holds = trap_holds n true [] format subformat flag tt; width = width };
 }
 trap_with n false format subformat level flag width = record {
   profile = ((omega arith, level), omega arith, (omega arith, omega arith), omega arith);
   spare = 0;
   unused = omega arith;
   spells = record {
-    holds = (
-      format,
-      (
-        subformat,
-        (
-          branch_is (part n 4 1) (omega arith),
-          (refl, (refl, (flag, (flag_is (part n 14 1) (omega arith), (omega arith, (refl, tt)))))),
-        ),
-      ),
-    );
+    holds = trap_holds n false (value_fields false (part n 78 64)) format subformat flag (refl, tt);
     width = width;
   };
 }

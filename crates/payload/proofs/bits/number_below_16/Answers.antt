@@ -1,8 +1,12 @@
 -- The search does not join two words that overlap.
-use Rattle.std.proofs.Common.{◌*◌, ◌^◌, ◌<◌, length, sym, subst, ◌∙◌, arith}
+use Rattle.std.proofs.Common.{◌≡◌, ℕ, ◌*◌, ◌^◌, ◌<◌, List, length, get_or, ◌∙◌, arith}
+use Rattle.payload.specs.Bytes.{number}
 use Rattle.payload.proofs.ByteLists.{number-lt}
 use Rattle.payload.proofs.NumbersOfBytes.{two_parts, bytes_from_each}
 use Rattle.payload.proofs.bits.number_below_16.Goals as goal
+
+below : (bytes : List ℕ) (n : ℕ) → ((i : ℕ) → get_or bytes i 0 < 256) → n ≡ number bytes → n < 2 ^ (8 * length bytes)
+below bytes n each e = rw e (number-lt bytes (bytes_from_each bytes each))
 
 pub returns-then-count-ge8-clause-value : goal.returns-then-count-ge8-clause-value
 returns-then-count-ge8-clause-value c =
@@ -13,8 +17,7 @@ returns-then-count-ge8-clause-value c =
 
 pub returns-then-count-ge8-clause-below : goal.returns-then-count-ge8-clause-below
 returns-then-count-ge8-clause-below c =
-    subst (λ n. n < 2 ^ (8 * length c.args.bytes.now)) (sym (returns-then-count-ge8-clause-value c))
-    (number-lt c.args.bytes.now (bytes_from_each c.args.bytes.now (λ i. omega (arith, c.type_inv.bytes i))))
+    below c.args.bytes.now _ (λ i. omega (arith, c.type_inv.bytes i)) (returns-then-count-ge8-clause-value c)
 
 pub returns-then-count-ge4-clause-value : goal.returns-then-count-ge4-clause-value
 returns-then-count-ge4-clause-value c =
@@ -27,8 +30,7 @@ returns-then-count-ge4-clause-value c =
 
 pub returns-then-count-ge4-clause-below : goal.returns-then-count-ge4-clause-below
 returns-then-count-ge4-clause-below c =
-    subst (λ n. n < 2 ^ (8 * length c.args.bytes.now)) (sym (returns-then-count-ge4-clause-value c))
-    (number-lt c.args.bytes.now (bytes_from_each c.args.bytes.now (λ i. omega (arith, c.type_inv.bytes i))))
+    below c.args.bytes.now _ (λ i. omega (arith, c.type_inv.bytes i)) (returns-then-count-ge4-clause-value c)
 
 pub returns-then-count-ge2-clause-value : goal.returns-then-count-ge2-clause-value
 returns-then-count-ge2-clause-value c =
