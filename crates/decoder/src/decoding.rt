@@ -243,12 +243,8 @@ impl Decoder {
         ensures small { length program.now.bytes ≤ 2 ^ 24 }
     {
         let paths = Paths::of(program);
-        if let Err(fault) = self.admit(packet) {
-            return Err(fault);
-        }
-        if let Err(fault) = self.settled(paths, packet, first, log) {
-            return Err(fault);
-        }
+        self.admit(packet)?;
+        self.settled(paths, packet, first, log)?;
         if !self.may_come(packet) {
             return Err(DecodeFault::WrongPlace);
         }

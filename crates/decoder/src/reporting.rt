@@ -260,14 +260,9 @@ fn trap_and_handler(
     ensures short { IfOk result (λ stretch. stretch_count stretch ≤ 2) }
     ensures pending { IfOk result (λ stretch. stretch_progress stretch ≡ Progress.Pending) }
 {
-    let trap = match trap_handled(program, before, cause) {
-        Ok(trap) => trap,
-        Err(fault) => return Err(fault),
-    };
-    match reported_retirement(program, Some(trap), reported) {
-        Ok(event) => Ok(Stretch::Two(trap, event)),
-        Err(fault) => Err(fault),
-    }
+    let trap = trap_handled(program, before, cause)?;
+    let event = reported_retirement(program, Some(trap), reported)?;
+    Ok(Stretch::Two(trap, event))
 }
 
 /// The events of a trap that a packet reports with its handler's address, or without, after the event before.
@@ -291,11 +286,6 @@ pub fn trap(
     } else {
         trap_alone(program, *before, reported, cause)
     };
-    match found {
-        Ok(found) => {
-            *stretch = found;
-            Ok(())
-        }
-        Err(fault) => Err(fault),
-    }
+    *stretch = found?;
+    Ok(())
 }

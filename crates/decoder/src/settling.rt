@@ -50,28 +50,19 @@ fn walk<A: Allocator>(
     ensures behind { (rest : List AnyEvent) × (log.new.items ≡ log.old.items ++ rest) }
     ensures room { vec_capacity log.new ≡ vec_capacity log.old }
 {
-    let from = match start(paths.program, before) {
-        Ok(from) => from,
-        Err(fault) => return Err(fault),
-    };
+    let from = start(paths.program, before)?;
     match ahead {
-        Progress::Written => match write_found(paths, from, outcomes, goal, log) {
-            Ok(Some(walked)) => {
+        Progress::Written => {
+            if let Some(walked) = write_found(paths, from, outcomes, goal, log)? {
                 *stretch = Stretch::walk(from, outcomes, goal, walked);
                 return Ok(());
             }
-            Ok(None) => {}
-            Err(fault) => return Err(fault),
-        },
+        }
         Progress::Pending => {}
     }
-    match measure(paths, from, outcomes, goal) {
-        Ok(walked) => {
-            *stretch = Stretch::walk(from, outcomes, goal, walked);
-            Ok(())
-        }
-        Err(fault) => Err(fault),
-    }
+    let walked = measure(paths, from, outcomes, goal)?;
+    *stretch = Stretch::walk(from, outcomes, goal, walked);
+    Ok(())
 }
 
 /// Whether an address packet with plain bits is explicit where this packet follows it.
@@ -189,13 +180,8 @@ fn sync(
     ensures short { OnOk result (stretch_count stretch.new ≤ 2) }
     ensures pending { OnOk result (stretch_progress stretch.new ≡ Progress.Pending) }
 {
-    match reported_retirement(program, *before, reported) {
-        Ok(event) => {
-            *stretch = Stretch::One(event);
-            Ok(())
-        }
-        Err(fault) => Err(fault),
-    }
+    *stretch = Stretch::One(reported_retirement(program, *before, reported)?);
+    Ok(())
 }
 
 /// The events of a packet itself in a trace of this mode, as long as no packet follows.

@@ -5,12 +5,12 @@ use Rattle.rvclass.specs.Fetch.{words_of}
 use Rattle.decoder.proofs.PlanFollows.{plans, plans_none}
 use Rattle.decoder.specs.Fits.{Fits}
 use Rattle.decoder.specs.steps.Stretches.{stretch_last, Suits, SuitsNone}
-use Rattle.decoder.specs.steps.Planning.{admitted}
+use Rattle.decoder.specs.steps.Planning.{Plans, PlansNone, admitted}
 use Rattle.decoder.proofs.decoding.Decoder.plan.Goals as goal
 
 pub returns-clause-found : goal.returns-clause-found
 returns-clause-found g c =
-    let w = words_of c.args.program.now in
+    let w = words_of c.of-paths.result.program.now in
     let d = c.args.self.now in
     let p = c.args.packet.now in
     let first = c.settled.new.stretch in
@@ -21,13 +21,14 @@ returns-clause-found g c =
     let of_packet' = subst (λ r. OnOk c.events_of_packet.result
     (Suits w (stretch_last d.last first) (Fits w d.mode (stretch_last d.last first) r p None) second))
     c.place-reported.ensures of_packet in
-    let admits : admitted d.phase p ≡ Ok tt = sym c.in_default.ensures in
-    plans w d p first second c.events_of_packet.result admits (c.if-not-may_come.ensures.0 cc)
-    c.in_default-settled.ensures.found of_packet'
+    let admits : admitted d.phase p ≡ Ok tt = sym c.in_ok-admit.ensures in
+    subst (λ q. OnOk c.events_of_packet.result (Plans (words_of q) d p first second)) c.of-paths.ensures
+    (plans w d p first second c.events_of_packet.result admits (c.if-not-may_come.ensures.0 cc)
+    c.in_ok-settled.ensures.found of_packet')
 
 pub returns-clause-none : goal.returns-clause-none
 returns-clause-none g c =
-    let w = words_of c.args.program.now in
+    let w = words_of c.of-paths.result.program.now in
     let d = c.args.self.now in
     let p = c.args.packet.now in
     let first = c.settled.new.stretch in
@@ -37,6 +38,7 @@ returns-clause-none g c =
     let none' = subst (λ r. IfErr c.events_of_packet.result
     (SuitsNone w (stretch_last d.last first) (Fits w d.mode (stretch_last d.last first) r p None)))
     c.place-reported.ensures none in
-    let admits : admitted d.phase p ≡ Ok tt = sym c.in_default.ensures in
-    plans_none w d p c.of-paths.result.bound.words first c.events_of_packet.result admits
-    c.in_default-settled.ensures.found none'
+    let admits : admitted d.phase p ≡ Ok tt = sym c.in_ok-admit.ensures in
+    subst (λ q. IfErr c.events_of_packet.result (PlansNone (words_of q) d p)) c.of-paths.ensures
+    (plans_none w d p c.of-paths.result.bound.words first c.events_of_packet.result admits
+    c.in_ok-settled.ensures.found none')
