@@ -1,0 +1,7 @@
+pub mod NearestLemmas
+pub mod EntryLemmas
+pub mod LineLemmas
+pub mod BlankLemmas
+pub mod OrderLemmas
+pub mod FileLemmas
+mod WorkedSymbols

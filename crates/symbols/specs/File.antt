@@ -1,0 +1,53 @@
+-- The symbols of a file, which has them in lines as `nm` prints them: an address, a type and a name, parted by single
+-- blanks.
+use Rattle.std.specs.Prelude.{ℕ, ◌==◌, ◌&&◌, ◌||◌, if◌then◌else◌, Bool, List, [], ◌∷◌, Option, Some, None}
+use Rattle.std.specs.List.{after_first, before_first, filter_map, slice_split}
+use Rattle.retire.specs.Number.{digits_number}
+
+-- A name, and the address of the first byte that it names.
+pub record Symbol : Type 0 where
+  pub address : ℕ
+  pub name : List ℕ
+
+-- A file's greatest length.
+abbrev pub most_bytes : ℕ
+most_bytes = 16777216
+
+-- The lines of a text, which line feeds part.
+abbrev pub lines_of : List ℕ → List (List ℕ)
+lines_of text = slice_split (λ byte. byte == 10) text
+
+-- A line without a carriage return at its end.
+abbrev pub without_return : List ℕ → List ℕ
+without_return [] = []
+without_return (byte ∷ []) = if byte == 13 then [] else byte ∷ []
+without_return (byte ∷ next ∷ rest) = byte ∷ without_return (next ∷ rest)
+
+-- The byte is a blank.
+abbrev pub is_blank : ℕ → Bool
+is_blank byte = byte == 32
+
+-- The type is one of t, T, w and W: a symbol of code, or a weak one.
+abbrev pub is_code_type : ℕ → Bool
+is_code_type byte = (byte == 116) || (byte == 84) || (byte == 119) || (byte == 87)
+
+-- The name behind a type of code and a blank. It has a byte at least.
+abbrev pub name_behind : List ℕ → Option (List ℕ)
+name_behind (kind ∷ blank ∷ byte ∷ rest) = if is_code_type kind && is_blank blank then Some (byte ∷ rest) else None
+name_behind _ = None
+
+-- The symbol at this address with this name, if there are both.
+abbrev pub symbol_with : Option ℕ → Option (List ℕ) → Option Symbol
+symbol_with (Some address) (Some name) = Some (record { address = address; name = name })
+symbol_with _ _ = None
+
+-- The symbol of a line: one to sixteen hexadecimal digits, a blank, the type, a blank and the name. Another line has
+-- none.
+abbrev pub symbol_of : List ℕ → Option Symbol
+symbol_of line =
+    let text = without_return line in
+    symbol_with (digits_number (before_first is_blank text)) (name_behind (after_first is_blank text))
+
+-- The symbols of a file, in its order.
+abbrev pub symbols_of : List ℕ → List Symbol
+symbols_of file = filter_map symbol_of (lines_of file)

@@ -1,0 +1,69 @@
+//! Writing what a place is named.
+
+ghost use Rattle.std.specs.Prelude.{◌≡◌, IfErr, OnOk, Some};
+ghost use Rattle.std.specs.Io.KnownBytes.{Appends};
+ghost use Rattle.output.specs.Begun.{AppendsBeginning};
+ghost use Rattle.symbols.specs.Naming.{naming};
+ghost use Rattle.symbols.specs.SymbolText.{distance_text, named_text, symbol_text};
+
+use crate::named::Named;
+use crate::symbols::Symbols;
+use output::{write_bytes, write_text};
+use retire::WriteFault;
+use std::alloc::Allocator;
+use std::fmt;
+use std::io::Write;
+
+/// How far a place lies behind a symbol's address, as it stands behind the name.
+#[derive(Clone, Copy)]
+struct Distance(u64);
+
+impl fmt::Display for Distance {
+    ghost output = { λ distance. Some (distance_text distance.0) };
+
+    fn fmt<W: fmt::Write>(&self, f: &mut fmt::Formatter<W>) -> fmt::Result {
+        write!(f, "+{:x}>", self.0)
+    }
+}
+
+/// Writes a name in angle brackets, behind a blank and with its distance.
+fn write_named<W: Write>(named: &Named<'_>, sink: &mut W) -> Result<(), WriteFault>
+    ensures text { OnOk result
+        (Appends (W.contents sink.old) (W.contents sink.new) (named_text (Some (naming named.now)))) }
+    ensures begun { AppendsBeginning (named_text (Some (naming named.now)))
+        (W.contents sink.old) (W.contents sink.new) }
+    ensures fault { IfErr result (λ fault. fault ≡ WriteFault.Write) }
+{
+    match write_bytes(sink, b" <") {
+        Ok(()) => {}
+        Err(_) => return Err(WriteFault::Write),
+    }
+    match write_bytes(sink, named.name) {
+        Ok(()) => {}
+        Err(_) => return Err(WriteFault::Write),
+    }
+    match write_text(sink, Distance(named.distance)) {
+        Ok(()) => Ok(()),
+        Err(_) => Err(WriteFault::Write),
+    }
+}
+
+/// Writes what stands behind a place: a blank, and in angle brackets the name of its symbol, a plus, and how far the
+/// place lies behind the symbol's address, in hexadecimal. Nothing is written where the place has no name.
+///
+/// The only fault is [`WriteFault::Write`], where the writer failed; what was written then is a beginning of the text.
+/// No memory is taken, and the writer is not flushed.
+pub fn write_symbol<W: Write, A: Allocator>(
+    symbols: &Symbols<A>,
+    place: u64,
+    sink: &mut W,
+) -> Result<(), WriteFault>
+    ensures text { OnOk result (Appends (W.contents sink.old) (W.contents sink.new) (symbol_text symbols.now place)) }
+    ensures begun { AppendsBeginning (symbol_text symbols.now place) (W.contents sink.old) (W.contents sink.new) }
+    ensures fault { IfErr result (λ fault. fault ≡ WriteFault.Write) }
+{
+    match symbols.at(place) {
+        Some(named) => write_named(&named, sink),
+        None => Ok(()),
+    }
+}
