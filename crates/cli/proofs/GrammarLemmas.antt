@@ -1,11 +1,42 @@
 -- How a command's grammar grows as it is built.
-use Rattle.std.proofs.Common.{◌≡◌, ◌∙◌, ap, ap₂, subst, sym, ◌||◌, List, [], ◌∷◌, Result, Ok, Err, IfOk}
+use Rattle.std.proofs.Common.{◌≡◌, ◌∙◌, ap, ap₂, subst, sym, ◌||◌, ℕ, Bor, true, List, [], ◌∷◌, Some, Result, Ok, Err}
+use Rattle.std.proofs.Common.{IfOk}
 use Rattle.std.specs.List.{AllZip, fold}
 use Rattle.clap.specs.Words.{AddsArg, AddsInTurn, AddsSubcommand, App, Rule, with_rule, with_subcommand}
+use Rattle.clap.specs.Simple.{app_of_fields, on_top}
 use Rattle.clap.specs.declared.builder.arg.Arg.{Arg}
 use Rattle.clap.specs.declared.builder.command.Command.{Command}
+use Rattle.clap.specs.declared.builder.command.Command.TheViews.{out-Command as fields_of}
 use Rattle.arguments.specs.Rules.{IsReadBy}
 use Rattle.cli.specs.Grammar.{HasGrammar}
+
+-- A text at the top of help changes no grammar.
+pub with_about : (old new : Command) (text : Bor (List ℕ)) (app : App)
+    → fields_of new ≡ record (fields_of old) { about = Some text } → HasGrammar app old → HasGrammar app new
+with_about old new text app is has = (ap app_of_fields is ∙ has.0, ap (λ f. f.has_globals) is ∙ has.1)
+
+-- Nor does one at its end.
+pub with_end : (old new : Command) (text : Bor (List ℕ)) (app : App)
+    → fields_of new ≡ record (fields_of old) { after_help = Some text } → HasGrammar app old → HasGrammar app new
+with_end old new text app is has = (ap app_of_fields is ∙ has.0, ap (λ f. f.has_globals) is ∙ has.1)
+
+-- A version.
+pub with_version : (old new : Command) (text : Bor (List ℕ)) (app : App)
+    → fields_of new ≡ record (fields_of old) { version = Some text } → HasGrammar app old
+    → HasGrammar (on_top (λ s. record s { has_version = true }) app) new
+with_version old new text app is has = (
+  ap app_of_fields is ∙ ap (on_top (λ s. record s { has_version = true })) has.0,
+  ap (λ f. f.has_globals) is ∙ has.1,
+)
+
+-- A subcommand has to be there.
+pub with_required : (old new : Command) (app : App)
+    → fields_of new ≡ record (fields_of old) { subcommand_required = true } → HasGrammar app old
+    → HasGrammar (on_top (λ s. record s { subcommand_required = true }) app) new
+with_required old new app is has = (
+  ap app_of_fields is ∙ ap (on_top (λ s. record s { subcommand_required = true })) has.0,
+  ap (λ f. f.has_globals) is ∙ has.1,
+)
 
 -- One more argument.
 pub adds_rule : (old : Command) (a : Arg) (new : Command) (app : App) (rule : Rule)
@@ -51,3 +82,22 @@ adds_subcommand old sub new app inner has holds adds = (
   adds.shape holds.1 ∙ ap₂ with_subcommand has.0 (ap (λ (x : App). x.top) holds.0),
   adds.globals ∙ ap₂ (λ x y. x || y) has.1 holds.1,
 )
+
+-- More subcommands in turn.
+pub adds_subcommands : (old new : Command) (app : App) (apps : List App) (subs : List Command)
+    → HasGrammar app old → AllZip HasGrammar apps subs → AddsInTurn AddsSubcommand old subs new
+    → HasGrammar (fold (λ program inner. with_subcommand program inner.top) app apps) new
+adds_subcommands old new app [] [] has hold adds = subst (HasGrammar app) adds has
+adds_subcommands old new app [] (sub ∷ subs) has hold adds = absurd hold
+adds_subcommands old new app (inner ∷ apps) [] has hold adds = absurd hold
+adds_subcommands old new app (inner ∷ apps) (sub ∷ subs) has hold adds =
+    adds_subcommands adds.0 new (with_subcommand app inner.top) apps subs
+    (adds_subcommand old sub adds.0 app inner has hold.0 adds.1) hold.1 adds.2
+
+-- The same of what adding them gives, where memory may be refused.
+pub adds_all_subcommands : {E : Type 0} (made : Result Command E) (old : Command) (app : App) (apps : List App)
+    (subs : List Command) → HasGrammar app old → AllZip HasGrammar apps subs
+    → IfOk made (AddsInTurn AddsSubcommand old subs)
+    → IfOk made (HasGrammar (fold (λ program inner. with_subcommand program inner.top) app apps))
+adds_all_subcommands (Ok new) old app apps subs has hold adds = adds_subcommands old new app apps subs has hold adds
+adds_all_subcommands (Err e) old app apps subs has hold adds = tt

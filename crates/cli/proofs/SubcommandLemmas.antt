@@ -1,8 +1,8 @@
 -- Words with no fault name one of the program's own subcommands.
 use Rattle.std.proofs.Common.{◌≡◌, ◌≢◌, ◌∙◌, ◌&&◌, ◌||◌, ap, subst, refl, codes, cond, Bool, true, false, not}
 use Rattle.std.proofs.Common.{true≢false, if◌then◌else◌, is_some, List, [], ◌∷◌, Option, Some, None, ◌⊎◌, inl, inr}
-use Rattle.std.proofs.Common.{⊎_elim, option_map, unwrap_or, sym}
-use Rattle.std.specs.List.{fold, list_any}
+use Rattle.std.proofs.Common.{⊎_elim, map, option_map, unwrap_or, sym}
+use Rattle.std.specs.List.{fold, list_all, list_any}
 use Rattle.clap.specs.Facts.{explicit_source}
 use Rattle.clap.specs.Takes.{is_given}
 use Rattle.std.specs.Prelude.{Box, find}
@@ -33,7 +33,7 @@ use Rattle.clap.specs.declared.error.Error.{Error}
 use Rattle.clap.specs.declared.parser.matches.ArgMatches.TheViews.{out-ArgMatches}
 use Rattle.std.proofs.lemmas.Option.{same_Some}
 use Rattle.cli.specs.Asking.{AreRefused, Asks, AsksFound, WordsAsk}
-use Rattle.cli.specs.Grammar.{HasGrammar, IsSubcommand, program_app}
+use Rattle.cli.specs.Grammar.{HasGrammar, IsOneOf, IsSubcommand, all_apps, program_app}
 use Rattle.subcommands.specs.declared.words.Asked.{Asked}
 use Rattle.clap.specs.Walk.{done, waits, plain, refused, next, trailing, subcommand, value, idle, option, positional}
 use Rattle.clap.specs.Walk.{answers_to}
@@ -205,6 +205,54 @@ abbrev AreKnown : List Shape → Type 0
 AreKnown [] = Unit {0}
 AreKnown (s ∷ ss) = (IsSubcommand s.name ⊎ ((s.name ≡ help) × (s.aliases ≡ []))) × AreKnown ss
 
+-- ---- whether each is known, which computes
+
+abbrev own_names : List Text
+own_names = map (λ app. app.top.name) all_apps
+
+abbrev is_named : List Text → Text → Bool
+is_named names name = list_any (λ n. bytes_eq name n) names
+
+abbrev has_none : List Text → Bool
+has_none [] = true
+has_none (x ∷ xs) = false
+
+abbrev is_help : Shape → Bool
+is_help s = bytes_eq s.name help && has_none s.aliases
+
+abbrev are_known : List Shape → Bool
+are_known ss = list_all (λ s. is_named own_names s.name || is_help s) ss
+
+or_true : (a b : Bool) → (a || b) ≡ true → (a ≡ true) ⊎ (b ≡ true)
+or_true true b is = inl refl
+or_true false b is = inr is
+
+and_true : (a b : Bool) → (a && b) ≡ true → (a ≡ true) × (b ≡ true)
+and_true true b is = (refl, is)
+and_true false b is = absurd (true≢false (sym is))
+
+one_of : (names : List Text) (name : Text) → is_named names name ≡ true → IsOneOf names name
+one_of [] name is = absurd (true≢false (sym is))
+one_of (n ∷ ns) name is = ⊎_elim (λ same. inl ((bytes_eq-Decides name n).0 same)) (λ other. inr (one_of ns name other))
+    (or_true (bytes_eq name n) (is_named ns name) is)
+
+no_alias : (aliases : List Text) → has_none aliases ≡ true → aliases ≡ []
+no_alias [] is = refl
+no_alias (x ∷ xs) is = absurd (true≢false (sym is))
+
+own_or_help : (s : Shape) → (is_named own_names s.name || is_help s) ≡ true
+    → IsSubcommand s.name ⊎ ((s.name ≡ help) × (s.aliases ≡ []))
+own_or_help s is = ⊎_elim (λ own. inl (one_of own_names s.name own)) (λ other.
+    let parts = and_true (bytes_eq s.name help) (has_none s.aliases) other in
+    inr ((bytes_eq-Decides s.name help).0 parts.0, no_alias s.aliases parts.1))
+    (or_true (is_named own_names s.name) (is_help s) is)
+
+all_known : (ss : List Shape) → are_known ss ≡ true → AreKnown ss
+all_known [] is = tt
+all_known (s ∷ ss) is =
+    let parts = and_true (is_named own_names s.name || is_help s) (are_known ss) is in
+    (own_or_help s parts.0, all_known ss parts.1)
+
 -- A subcommand of the program's own was found, with its rows.
 abbrev pub FindsOwn : Option (Text × List Row) → Type 0
 FindsOwn None = ⊥
@@ -243,22 +291,7 @@ enters_known a (Some stop) known other some = finds a.subs stop.0 stop.1 known o
 finds_own : (words : List Text) → fault_of program_app words ≡ [] → FindsOwn (subcommand_of program_app words)
 finds_own words none =
     let met = level_enters (built program_app) (argument_words program_app words) refl refl none in
-    enters_known (built program_app) _ (
-      inl (inl refl),
-      (
-        inl (inr (inl refl)),
-        (
-          inl (inr (inr (inl refl))),
-          (
-            inl (inr (inr (inr (inl refl)))),
-            (
-              inl (inr (inr (inr (inr (inl refl))))),
-              (inl (inr (inr (inr (inr (inr refl))))), (inr (refl, refl), tt)),
-            ),
-          ),
-        ),
-      ),
-    ) met.1 met.0
+    enters_known (built program_app) _ (all_known (built program_app).subs refl) met.1 met.0
 
 -- ---- the same of a command with the program's grammar
 

@@ -13,7 +13,8 @@ use Rattle.payload.specs.declared.mode.Mode.TheVariants.{Differential, Full}
 use Rattle.subcommands.specs.Kind.{IsCheck}
 use Rattle.subcommands.specs.Limits.{longest_period}
 use Rattle.subcommands.specs.declared.words.Asked.{Asked}
-use Rattle.subcommands.specs.declared.words.Asked.TheVariants.{Bench, Check, Decode, Dump, Encode, Replay}
+use Rattle.subcommands.specs.declared.words.Asked.TheVariants.{Audit, Bench, Check, Decode, Dump, Encode, Measure}
+use Rattle.subcommands.specs.declared.words.Asked.TheVariants.{Replay}
 
 -- The first value of an argument, or no text where it has none.
 abbrev pub text_of : Text → List Row → Text
@@ -74,7 +75,8 @@ IsHarts = IsUpTo (most_harts Two)
 -- What is asked is the subcommand of this name, with the values that these rows have for its arguments.
 abbrev pub Asks : Text → List Row → Asked → Type 0
 Asks name rows (Check asked) = (name ≡ codes "check")
-    × (asked.base.now ≡ text_of (codes "base") rows) × (asked.image.now ≡ text_of (codes "IMAGE") rows)
+    × (asked.base.now ≡ text_of (codes "base") rows) × IsFlag (one_of (codes "explain") rows) asked.explain
+    × (asked.image.now ≡ text_of (codes "IMAGE") rows)
     × (map (λ log. log.now) asked.logs.items ≡ texts_of (codes "LOG") rows)
 Asks name rows (Encode asked) = (name ≡ codes "encode")
     × (asked.base.now ≡ text_of (codes "base") rows) × IsPeriod (one_of (codes "period") rows) asked.period
@@ -97,6 +99,12 @@ Asks name rows (Bench asked) = (name ≡ codes "bench")
     × IsMode (one_of (codes "full") rows) asked.mode
     × IsCapacity (one_of (codes "capacity") rows) asked.capacity
     × (asked.image.now ≡ text_of (codes "IMAGE") rows)
+    × (map (λ log. log.now) asked.logs.items ≡ texts_of (codes "LOG") rows)
+Asks name rows (Audit asked) = (name ≡ codes "audit")
+    × (asked.sent.now ≡ text_of (codes "SENT") rows) × (asked.received.now ≡ text_of (codes "RECEIVED") rows)
+Asks name rows (Measure asked) = (name ≡ codes "measure")
+    × (asked.base.now ≡ text_of (codes "base") rows) × IsPeriod (one_of (codes "period") rows) asked.period
+    × IsMode (one_of (codes "full") rows) asked.mode × (asked.image.now ≡ text_of (codes "IMAGE") rows)
     × (map (λ log. log.now) asked.logs.items ≡ texts_of (codes "LOG") rows)
 
 -- A subcommand with its rows was found, and it is what is asked.

@@ -1,40 +1,57 @@
 -- The words that the program takes, in clap's own terms.
-use Rattle.std.specs.Prelude.{◌≡◌, ◌⊎◌, codes, true, false}
-use Rattle.clap.specs.Words.{App, Text, app_of, new_app}
+use Rattle.std.specs.Prelude.{◌≡◌, ◌⊎◌, codes, true, false, List, [], ◌∷◌, map}
+use Rattle.std.specs.List.{fold}
+use Rattle.clap.specs.Words.{App, Rule, Text, app_of, new_app}
 use Rattle.clap.specs.Words.{with_rule, with_subcommand}
 use Rattle.clap.specs.Simple.{on_top}
 use Rattle.clap.specs.declared.builder.command.Command.{Command}
 use Rattle.clap.specs.declared.builder.command.Command.TheViews.{out-Command as fields_of}
-use Rattle.arguments.specs.Rules.{base_rule, capacity_rule, capture_rule, full_rule, harts_rule, hex_rule}
-use Rattle.arguments.specs.Rules.{image_rule, logs_rule, lossy_rule, period_rule, schedule_rule, version_one_rule}
+use Rattle.arguments.specs.Rules.{base_rule, capacity_rule, capture_rule, explain_rule, full_rule, harts_rule, hex_rule}
+use Rattle.arguments.specs.Rules.{image_rule, logs_rule, lossy_rule, period_rule, received_rule, schedule_rule}
+use Rattle.arguments.specs.Rules.{sent_rule, version_one_rule}
 
--- `check --base B IMAGE LOG...`.
+-- A subcommand of this name with arguments that are read by these rules.
+abbrev pub with_arguments : Text → List Rule → App
+with_arguments name rules = fold with_rule (new_app name) rules
+
+-- `check --base B [--explain] IMAGE LOG...`.
 abbrev pub check_app : App
-check_app = with_rule (with_rule (with_rule (new_app (codes "check")) base_rule) image_rule) logs_rule
+check_app = with_arguments (codes "check") (base_rule ∷ explain_rule ∷ image_rule ∷ logs_rule ∷ [])
 
 -- `encode --base B [--period N] [--full] [--v1] [--hex] IMAGE LOG...`.
 abbrev pub encode_app : App
-encode_app = with_rule (with_rule (with_rule (with_rule (with_rule (with_rule (with_rule (new_app (codes "encode"))
-    base_rule) period_rule) full_rule) version_one_rule) hex_rule) image_rule) logs_rule
+encode_app = with_arguments (codes "encode") (base_rule ∷ period_rule ∷ full_rule ∷ version_one_rule ∷ hex_rule ∷
+    image_rule ∷ logs_rule ∷ [])
 
 -- `dump CAPTURE`.
 abbrev pub dump_app : App
-dump_app = with_rule (new_app (codes "dump")) capture_rule
+dump_app = with_arguments (codes "dump") (capture_rule ∷ [])
 
 -- `decode --base B [--harts N] [--lossy] IMAGE CAPTURE`.
 abbrev pub decode_app : App
-decode_app = with_rule (with_rule (with_rule (with_rule (with_rule (new_app (codes "decode")) base_rule) harts_rule)
-    lossy_rule) image_rule) capture_rule
+decode_app = with_arguments (codes "decode") (base_rule ∷ harts_rule ∷ lossy_rule ∷ image_rule ∷ capture_rule ∷ [])
 
 -- `replay --base B [--period N] [--full] [--capacity N] IMAGE SCHEDULE LOG...`.
 abbrev pub replay_app : App
-replay_app = with_rule (with_rule (with_rule (with_rule (with_rule (with_rule (with_rule (new_app (codes "replay"))
-    base_rule) period_rule) full_rule) capacity_rule) image_rule) schedule_rule) logs_rule
+replay_app = with_arguments (codes "replay") (base_rule ∷ period_rule ∷ full_rule ∷ capacity_rule ∷ image_rule ∷
+    schedule_rule ∷ logs_rule ∷ [])
 
 -- `bench --base B [--period N] [--full] [--capacity N] IMAGE LOG...`.
 abbrev pub bench_app : App
-bench_app = with_rule (with_rule (with_rule (with_rule (with_rule (with_rule (new_app (codes "bench")) base_rule)
-    period_rule) full_rule) capacity_rule) image_rule) logs_rule
+bench_app = with_arguments (codes "bench") (base_rule ∷ period_rule ∷ full_rule ∷ capacity_rule ∷ image_rule ∷
+    logs_rule ∷ [])
+
+-- `audit SENT RECEIVED`.
+abbrev pub audit_app : App
+audit_app = with_arguments (codes "audit") (sent_rule ∷ received_rule ∷ [])
+
+-- `measure --base B [--period N] [--full] IMAGE LOG...`.
+abbrev pub measure_app : App
+measure_app = with_arguments (codes "measure") (base_rule ∷ period_rule ∷ full_rule ∷ image_rule ∷ logs_rule ∷ [])
+
+-- The program's subcommands, in the order in which help lists them.
+abbrev pub all_apps : List App
+all_apps = check_app ∷ encode_app ∷ dump_app ∷ decode_app ∷ replay_app ∷ bench_app ∷ audit_app ∷ measure_app ∷ []
 
 -- The program without its subcommands, one of which has to be there. It has a version.
 abbrev pub bare_program : App
@@ -43,14 +60,16 @@ bare_program = on_top (λ s. record s { has_version = true; subcommand_required 
 
 -- The program with its subcommands.
 abbrev pub program_app : App
-program_app = with_subcommand (with_subcommand (with_subcommand (with_subcommand (with_subcommand (with_subcommand
-    bare_program check_app.top) encode_app.top) dump_app.top) decode_app.top) replay_app.top) bench_app.top
+program_app = fold (λ program app. with_subcommand program app.top) bare_program all_apps
+
+-- The text is one of these.
+abbrev pub IsOneOf : List Text → Text → Type 0
+IsOneOf [] text = ⊥
+IsOneOf (first ∷ rest) text = (text ≡ first) ⊎ IsOneOf rest text
 
 -- The text is the name of one of the program's subcommands.
 abbrev pub IsSubcommand : Text → Type 0
-IsSubcommand name = (name ≡ codes "check")
-    ⊎ ((name ≡ codes "encode") ⊎ ((name ≡ codes "dump") ⊎ ((name ≡ codes "decode")
-    ⊎ ((name ≡ codes "replay") ⊎ (name ≡ codes "bench")))))
+IsSubcommand = IsOneOf (map (λ app. app.top.name) all_apps)
 
 -- The command has this grammar, and no argument that its subcommands share.
 abbrev pub HasGrammar : App → Command → Type 0

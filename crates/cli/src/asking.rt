@@ -14,7 +14,8 @@ use message::{MOST_CAPACITY, MOST_HARTS, Version};
 use payload::Mode;
 use std::alloc::{AllocError, Global};
 use subcommands::{
-    Asked, Bench, Check, Decode, Dump, Encode, Replay, SHORTEST_PERIOD, SMALLEST_CAPACITY,
+    Asked, Audit, Bench, Check, Decode, Dump, Encode, Measure, Replay, SHORTEST_PERIOD,
+    SMALLEST_CAPACITY,
 };
 
 /// The period where the words give none.
@@ -44,17 +45,6 @@ fn texts<'a>(alloc: Global, given: &ArgMatches<'a>, id: &str) -> Result<Vec<&'a 
     }
 }
 
-/// What was asked of `check`.
-fn check_asked<'a>(alloc: Global, given: &ArgMatches<'a>) -> Result<Asked<'a>, AllocError>
-    ensures { IfOk result (Asks (codes "check") (rows_of (found_of given.now))) }
-{
-    Ok(Asked::Check(Check {
-        base: text(given, "base"),
-        image: text(given, "IMAGE"),
-        logs: texts(alloc, given, "LOG")?,
-    }))
-}
-
 /// The period, 1 to 65535 by the range that `clap` keeps.
 fn period<'a>(given: &ArgMatches<'a>) -> u16
     ensures { IsPeriod (one_of (codes "period") (rows_of (found_of given.now))) result }
@@ -70,6 +60,18 @@ fn flag<'a>(given: &ArgMatches<'a>, id: &str) -> bool
     ensures { IsFlag (one_of id.now (rows_of (found_of given.now))) result }
 {
     given.get_flag(id)
+}
+
+/// What was asked of `check`.
+fn check_asked<'a>(alloc: Global, given: &ArgMatches<'a>) -> Result<Asked<'a>, AllocError>
+    ensures { IfOk result (Asks (codes "check") (rows_of (found_of given.now))) }
+{
+    Ok(Asked::Check(Check {
+        base: text(given, "base"),
+        explain: flag(given, "explain"),
+        image: text(given, "IMAGE"),
+        logs: texts(alloc, given, "LOG")?,
+    }))
 }
 
 /// The mode, which is differential where the words do not ask for full addresses.
@@ -180,6 +182,29 @@ fn bench_asked<'a>(alloc: Global, given: &ArgMatches<'a>) -> Result<Asked<'a>, A
     }))
 }
 
+/// What was asked of `audit`.
+fn audit_asked<'a>(given: &ArgMatches<'a>) -> Asked<'a>
+    ensures { Asks (codes "audit") (rows_of (found_of given.now)) result }
+{
+    Asked::Audit(Audit {
+        sent: text(given, "SENT"),
+        received: text(given, "RECEIVED"),
+    })
+}
+
+/// What was asked of `measure`.
+fn measure_asked<'a>(alloc: Global, given: &ArgMatches<'a>) -> Result<Asked<'a>, AllocError>
+    ensures { IfOk result (Asks (codes "measure") (rows_of (found_of given.now))) }
+{
+    Ok(Asked::Measure(Measure {
+        base: text(given, "base"),
+        period: period(given),
+        mode: mode(given),
+        image: text(given, "IMAGE"),
+        logs: texts(alloc, given, "LOG")?,
+    }))
+}
+
 /// What was asked of the subcommand with this name.
 fn asked_of<'a>(alloc: Global, name: &str, given: &ArgMatches<'a>) -> Result<Asked<'a>, AllocError>
     requires { IsSubcommand name.now }
@@ -192,6 +217,8 @@ fn asked_of<'a>(alloc: Global, name: &str, given: &ArgMatches<'a>) -> Result<Ask
         "decode" => Ok(decode_asked(given)),
         "replay" => replay_asked(alloc, given),
         "bench" => bench_asked(alloc, given),
+        "audit" => Ok(audit_asked(given)),
+        "measure" => measure_asked(alloc, given),
         _ => unreachable!("clap knows no other subcommand"),
     }
 }

@@ -1,18 +1,19 @@
 //! The program's subcommands, one function each.
 
 ghost use Rattle.std.specs.Prelude.{IfOk, List};
-ghost use Rattle.std.specs.List.{AllZip, fold};
+ghost use Rattle.std.specs.List.{AllZip};
 ghost use Rattle.arguments.specs.Rules.{IsReadBy};
-ghost use Rattle.clap.specs.Words.{Rule, new_app, with_rule};
-ghost use Rattle.cli.specs.Grammar.{HasGrammar, bench_app, check_app, decode_app, dump_app, encode_app, program_app};
-ghost use Rattle.cli.specs.Grammar.{replay_app};
+ghost use Rattle.clap.specs.Words.{Rule};
+ghost use Rattle.cli.specs.Grammar.{HasGrammar, all_apps, audit_app, bench_app, check_app, decode_app, dump_app};
+ghost use Rattle.cli.specs.Grammar.{encode_app, measure_app, program_app, replay_app, with_arguments};
 
 use crate::help::{
-    BENCH_EXAMPLE, CHECK_EXAMPLE, DECODE_EXAMPLE, DUMP_EXAMPLE, ENCODE_EXAMPLE, EXIT_STATUSES,
-    REPLAY_EXAMPLE, VERSION,
+    AUDIT_EXAMPLE, BENCH_EXAMPLE, CHECK_EXAMPLE, DECODE_EXAMPLE, DUMP_EXAMPLE, ENCODE_EXAMPLE,
+    EXIT_STATUSES, MEASURE_EXAMPLE, REPLAY_EXAMPLE, VERSION,
 };
 use arguments::{
-    base, capacity, capture, full, harts, hex, image, logs, lossy, period, schedule, version_one,
+    base, capacity, capture, explain, full, harts, hex, image, logs, lossy, period, received,
+    schedule, sent, version_one,
 };
 use clap::{Arg, Command};
 use std::alloc::{AllocError, Global};
@@ -26,7 +27,7 @@ fn subcommand<'a>(
     args: Vec<Arg<'a>>,
 ) -> Result<Command<'a>, AllocError>
     ensures { IfOk result (λ command. (rules : List Rule) → AllZip IsReadBy rules args.entry.items
-        → HasGrammar (fold with_rule (new_app name.entry.now) rules) command) }
+        → HasGrammar (with_arguments name.entry.now rules) command) }
 {
     Command::new(alloc, name)
         .about(about)
@@ -38,7 +39,7 @@ fn subcommand<'a>(
 fn check<'a>(alloc: Global) -> Result<Command<'a>, AllocError>
     ensures { IfOk result (HasGrammar check_app) }
 {
-    let args = vec![in alloc; base(alloc), image(alloc), logs(alloc)]?;
+    let args = vec![in alloc; base(alloc), explain(alloc), image(alloc), logs(alloc)]?;
     subcommand(
         alloc,
         "check",
@@ -147,20 +148,66 @@ fn bench<'a>(alloc: Global) -> Result<Command<'a>, AllocError>
     )
 }
 
+/// The words that `audit` takes.
+fn audit<'a>(alloc: Global) -> Result<Command<'a>, AllocError>
+    ensures { IfOk result (HasGrammar audit_app) }
+{
+    let args = vec![in alloc; sent(alloc), received(alloc)]?;
+    subcommand(
+        alloc,
+        "audit",
+        "Compare a capture that came with the one that was sent, message by message",
+        AUDIT_EXAMPLE,
+        args,
+    )
+}
+
+/// The words that `measure` takes.
+fn measure<'a>(alloc: Global) -> Result<Command<'a>, AllocError>
+    ensures { IfOk result (HasGrammar measure_app) }
+{
+    let args = vec![in alloc;
+        base(alloc),
+        period(alloc),
+        full(alloc),
+        image(alloc),
+        logs(alloc),
+    ]?;
+    subcommand(
+        alloc,
+        "measure",
+        "Count the packets and bytes that logs take, as CSV",
+        MEASURE_EXAMPLE,
+        args,
+    )
+}
+
+/// The program's subcommands, in the order in which help lists them.
+fn all_subcommands<'a>(alloc: Global) -> Result<Vec<Command<'a>>, AllocError>
+    ensures { IfOk result (λ commands. AllZip HasGrammar all_apps commands.items) }
+{
+    let subcommands = vec![in alloc;
+        check(alloc)?,
+        encode(alloc)?,
+        dump(alloc)?,
+        decode(alloc)?,
+        replay(alloc)?,
+        bench(alloc)?,
+        audit(alloc)?,
+        measure(alloc)?,
+    ]?;
+    Ok(subcommands)
+}
+
 /// The program with all its subcommands.
 pub(crate) fn program<'a>(alloc: Global) -> Result<Command<'a>, AllocError>
     ensures { IfOk result (HasGrammar program_app) }
 {
-    let command = Command::new(alloc, "tracebench")
+    let subcommands = all_subcommands(alloc)?;
+    Command::new(alloc, "tracebench")
         .about("A bench for RISC-V instruction trace (E-Trace)")
         .version(VERSION)
         .after_help(EXIT_STATUSES)
         .subcommand_required(true)
-        .subcommand(check(alloc)?)?
-        .subcommand(encode(alloc)?)?
-        .subcommand(dump(alloc)?)?
-        .subcommand(decode(alloc)?)?
-        .subcommand(replay(alloc)?)?
-        .subcommand(bench(alloc)?)?;
-    Ok(command)
+        .subcommands(subcommands)
 }

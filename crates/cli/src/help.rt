@@ -9,8 +9,8 @@ The help of a subcommand ends with an example, over files in the repository's fo
 
 Exit statuses:
   0  All is written, and all is good
-  1  A capture is not good, or a log does not come back whole
-  2  The words, the image, a log or the schedule is refused, or a log is illegal
+  1  A capture is not good, or a log or an audited capture did not come back whole
+  2  The words, the image, a log, the schedule or SENT is refused, or a log is illegal
   3  A file is not read, the output is not written, memory is refused, or a run stops early";
 
 /// What the help of `check` ends with.
@@ -44,3 +44,13 @@ pub(crate) const BENCH_EXAMPLE: &str = "\
 Example:
   tracebench bench --base 80000000 examples/two_harts/image.bin \\
     examples/two_harts/hart00.csv examples/two_harts/hart01.csv";
+
+/// What the help of `audit` ends with.
+pub(crate) const AUDIT_EXAMPLE: &str = "\
+Example:
+  tracebench audit examples/two_harts/both.capture examples/two_harts/both.capture";
+
+/// What the help of `measure` ends with.
+pub(crate) const MEASURE_EXAMPLE: &str = "\
+Example:
+  tracebench measure --base 80000000 --period 64 examples/loop/image.bin examples/loop/log.csv";

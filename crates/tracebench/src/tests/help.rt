@@ -9,13 +9,15 @@ $ tracebench --help
 ! Usage: tracebench <COMMAND>
 !
 ! Commands:
-!   check   Check whether logs are legal
-!   encode  Write the trace messages of logs
-!   dump    Write the messages of a capture as text
-!   decode  Write the logs that the messages of a capture describe
-!   replay  Send logs through the funnel as a schedule says, and report what comes of them
-!   bench   Send logs through the funnel, each from a thread of its own, and report what comes of them
-!   help    Print this message or the help of the given subcommand(s)
+!   check    Check whether logs are legal
+!   encode   Write the trace messages of logs
+!   dump     Write the messages of a capture as text
+!   decode   Write the logs that the messages of a capture describe
+!   replay   Send logs through the funnel as a schedule says, and report what comes of them
+!   bench    Send logs through the funnel, each from a thread of its own, and report what comes of them
+!   audit    Compare a capture that came with the one that was sent, message by message
+!   measure  Count the packets and bytes that logs take, as CSV
+!   help     Print this message or the help of the given subcommand(s)
 !
 ! Options:
 !   -h, --help     Print help
@@ -25,8 +27,8 @@ $ tracebench --help
 !
 ! Exit statuses:
 !   0  All is written, and all is good
-!   1  A capture is not good, or a log does not come back whole
-!   2  The words, the image, a log or the schedule is refused, or a log is illegal
+!   1  A capture is not good, or a log or an audited capture did not come back whole
+!   2  The words, the image, a log, the schedule or SENT is refused, or a log is illegal
 !   3  A file is not read, the output is not written, memory is refused, or a run stops early
 ? 2
 
@@ -53,7 +55,7 @@ $ tracebench dump --version
 $ tracebench check --help
 ! Check whether logs are legal
 !
-! Usage: tracebench check --base <B> <IMAGE> <LOG>...
+! Usage: tracebench check [OPTIONS] --base <B> <IMAGE> <LOG>...
 !
 ! Arguments:
 !   <IMAGE>   File of the program's bytes
@@ -61,6 +63,7 @@ $ tracebench check --help
 !
 ! Options:
 !       --base <B>  Address of the image's first byte, in hexadecimal
+!       --explain   Print below an illegal row what stands there and what may follow
 !   -h, --help      Print help
 !
 ! Example:
@@ -158,5 +161,38 @@ $ tracebench bench --help
 ! Example:
 !   tracebench bench --base 80000000 examples/two_harts/image.bin \
 !     examples/two_harts/hart00.csv examples/two_harts/hart01.csv
+? 2
+$ tracebench audit --help
+! Compare a capture that came with the one that was sent, message by message
+!
+! Usage: tracebench audit <SENT> <RECEIVED>
+!
+! Arguments:
+!   <SENT>      File of all trace messages that were sent
+!   <RECEIVED>  File of the trace messages that came
+!
+! Options:
+!   -h, --help  Print help
+!
+! Example:
+!   tracebench audit examples/two_harts/both.capture examples/two_harts/both.capture
+? 2
+$ tracebench measure --help
+! Count the packets and bytes that logs take, as CSV
+!
+! Usage: tracebench measure [OPTIONS] --base <B> <IMAGE> <LOG>...
+!
+! Arguments:
+!   <IMAGE>   File of the program's bytes
+!   <LOG>...  Logs, each of one hart, as CSV
+!
+! Options:
+!       --base <B>    Address of the image's first byte, in hexadecimal
+!       --period <N>  Retirements from one periodic synchronisation to the next, 1 to 65535 [default: 1024]
+!       --full        Name addresses in full, not by differences
+!   -h, --help        Print help
+!
+! Example:
+!   tracebench measure --base 80000000 --period 64 examples/loop/image.bin examples/loop/log.csv
 ? 2
 "#;

@@ -5,7 +5,7 @@ pub(crate) const TEXT: &str = r#"
 # No subcommand, and one that does not exist.
 % tracebench
 ! error: 'tracebench' requires a subcommand but one was not provided
-!   [subcommands: check, encode, dump, decode, replay, bench, help]
+!   [subcommands: check, encode, dump, decode, replay, bench, audit, measure, help]
 !
 ! Usage: tracebench <COMMAND>
 !
@@ -19,7 +19,15 @@ pub(crate) const TEXT: &str = r#"
 
 # `check`.
 % tracebench check --base 80000000 image.bin a.csv b.csv
-> Check(Check { base: "80000000", image: "image.bin", logs: ["a.csv", "b.csv"] })
+> Check(Check { base: "80000000", explain: false, image: "image.bin", logs: ["a.csv", "b.csv"] })
+% tracebench check image.bin --explain log.csv --base 0
+> Check(Check { base: "0", explain: true, image: "image.bin", logs: ["log.csv"] })
+% tracebench check --explain --base 0 --explain image.bin log.csv
+! error: the argument '--explain' cannot be used multiple times
+!
+! Usage: tracebench check [OPTIONS] --base <B> <IMAGE> <LOG>...
+!
+! For more information, try '--help'.
 % tracebench check --base 80000000 --full image.bin log.csv
 ! error: unexpected argument '--full' found
 !
@@ -186,6 +194,58 @@ pub(crate) const TEXT: &str = r#"
 !   <LOG>...
 !
 ! Usage: tracebench bench --base <B> <IMAGE> <LOG>...
+!
+! For more information, try '--help'.
+
+# `audit`.
+% tracebench audit sent.capture received.capture
+> Audit(Audit { sent: "sent.capture", received: "received.capture" })
+% tracebench audit sent.capture
+! error: the following required arguments were not provided:
+!   <RECEIVED>
+!
+! Usage: tracebench audit <SENT> <RECEIVED>
+!
+! For more information, try '--help'.
+% tracebench audit sent.capture --base 0 received.capture
+! error: unexpected argument '--base' found
+!
+!   tip: to pass '--base' as a value, use '-- --base'
+!
+! Usage: tracebench audit <SENT> <RECEIVED>
+!
+! For more information, try '--help'.
+% tracebench audit sent.capture received.capture more.capture
+! error: unexpected argument 'more.capture' found
+!
+! Usage: tracebench audit <SENT> <RECEIVED>
+!
+! For more information, try '--help'.
+
+# `measure`: its period and mode.
+% tracebench measure --base 80000000 image.bin a.csv b.csv
+> Measure(Measure { base: "80000000", period: 1024, mode: Differential, image: "image.bin", logs: ["a.csv", "b.csv"] })
+% tracebench measure image.bin log.csv --full --period 1 --base 0
+> Measure(Measure { base: "0", period: 1, mode: Full, image: "image.bin", logs: ["log.csv"] })
+% tracebench measure --base 0 --period 65535 image.bin log.csv
+> Measure(Measure { base: "0", period: 65535, mode: Differential, image: "image.bin", logs: ["log.csv"] })
+% tracebench measure --base 0 --period 0 image.bin log.csv
+! error: invalid value '0' for '--period <N>': 0 is not in 1..=65535
+!
+! For more information, try '--help'.
+% tracebench measure --base 0 --capacity 1 image.bin log.csv
+! error: unexpected argument '--capacity' found
+!
+!   tip: to pass '--capacity' as a value, use '-- --capacity'
+!
+! Usage: tracebench measure --base <B> <IMAGE> <LOG>...
+!
+! For more information, try '--help'.
+% tracebench measure --base 0 image.bin
+! error: the following required arguments were not provided:
+!   <LOG>...
+!
+! Usage: tracebench measure --base <B> <IMAGE> <LOG>...
 !
 ! For more information, try '--help'.
 "#;

@@ -10,6 +10,7 @@ returns c =
     let none_or : Option (List ℕ) → List ℕ = λ o. unwrap_or o [] in (
       refl,
       c.text.ensures ∙ ap none_or (first_value-rows given (codes "base")),
+      c.flag.ensures,
       c.text-2.ensures ∙ ap none_or (first_value-rows given (codes "IMAGE")),
       c.in_ok-texts.ensures,
     )
