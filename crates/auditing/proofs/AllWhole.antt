@@ -3,7 +3,7 @@ use Rattle.std.proofs.Common.{◌≡◌, ◌≢◌, ◌⊎◌, inl, inr, ℕ, ze
 use Rattle.std.proofs.Common.{◌∷◌, ◌++◌, Option, Some, None, length, refl, sym, ap, subst, ◌∙◌, arith}
 use Rattle.std.specs.Prelude.{◌↔◌}
 use Rattle.std.specs.List.{count_by, list_any}
-use Rattle.std.proofs.lemmas.Bool.{cases_lt, eqb-true}
+use Rattle.std.proofs.lemmas.Bool.{cases_lt, eqb-true, true≢false}
 use Rattle.std.proofs.lemmas.List.Sums.{sum_by-cons}
 use Rattle.message.specs.OfHart.{of_hart}
 use Rattle.message.specs.declared.header.Header.{Header}
@@ -27,19 +27,19 @@ use Rattle.auditing.specs.steps.Indexing.{payloads_of}
 pub whole_untouched : (harts hart : ℕ) (sent received : List Message) → AreInTurn harts [] sent
     → (is_whole sent received hart ≡ true) ↔ IsUntouched sent received hart
 whole_untouched harts hart sent received turn = (
-      λ whole. untouched sent hart (payloads_of (of_hart hart sent)) (numbered harts hart [] sent turn) received
+  λ whole. untouched sent hart (payloads_of (of_hart hart sent)) (numbered harts hart [] sent turn) received
       ((whole-Decides sent received hart).0 whole),
-      λ is. (whole-Decides sent received hart).1
+  λ is. (whole-Decides sent received hart).1
       (same_again sent hart (payloads_of (of_hart hart sent)) (numbered harts hart [] sent turn) received is),
-    )
+)
 
 -- And that is so exactly where what came of it is the list that was sent.
 pub untouched_same : (harts hart : ℕ) (sent received : List Message) → AreInTurn harts [] sent
     → IsUntouched sent received hart ↔ (of_hart hart received ≡ of_hart hart sent)
 untouched_same harts hart sent received turn = (
-      λ is. same_again sent hart (payloads_of (of_hart hart sent)) (numbered harts hart [] sent turn) received is,
-      λ same. untouched sent hart (payloads_of (of_hart hart sent)) (numbered harts hart [] sent turn) received same,
-    )
+  λ is. same_again sent hart (payloads_of (of_hart hart sent)) (numbered harts hart [] sent turn) received is,
+  λ same. untouched sent hart (payloads_of (of_hart hart sent)) (numbered harts hart [] sent turn) received same,
+)
 
 -- A message of a hart of which SENT has none is a stranger.
 is_stranger : (sent before : List Message) (message : Message) → of_hart message.hart sent ≡ []
@@ -51,12 +51,17 @@ is_stranger sent before message none =
     (any_of_hart message.hart (is_numbered message.hart message.number) (of_its_hart message.hart message.number) sent
     ∙ ap (list_any (is_numbered message.hart message.number)) none)
 
+-- What is counted is not none.
+never_zero : (b : Bool) (rest : ℕ) → b ≡ true → cond b 1 0 + rest ≡ 0 → ⊥
+never_zero true rest is none = omega (arith, none)
+never_zero false rest is none = true≢false (sym is)
+
 -- Where no stranger came, none of a hart came of which SENT has none.
 none_came : (sent : List Message) (hart : ℕ) → of_hart hart sent ≡ [] → (before messages : List Message)
     → count_by (λ (one : Judged). is_fate fate.Stranger one.fate) (judged_behind sent before messages) ≡ 0
     → of_hart hart messages ≡ []
-none_came sent hart none before [] no = refl
-none_came sent hart none before (message ∷ messages) no =
+none_came sent hart none before [] zero_count = refl
+none_came sent hart none before (message ∷ messages) zero_count =
     go (eqb message.hart hart) refl
     (none_came sent hart none (before ++ message ∷ []) messages (let rest = split in omega (arith, rest)))
   where
@@ -65,7 +70,7 @@ none_came sent hart none before (message ∷ messages) no =
         (judged_behind sent (before ++ message ∷ []) messages) ≡ 0
     split =
         sym (sum_by-cons (λ (one : Judged). cond (is_fate fate.Stranger one.fate) 1 0) (judged_one sent before message)
-        (judged_behind sent (before ++ message ∷ []) messages)) ∙ no
+        (judged_behind sent (before ++ message ∷ []) messages)) ∙ zero_count
 
     go : (own : Bool) → eqb message.hart hart ≡ own → of_hart hart messages ≡ []
         → cond own (message ∷ of_hart hart messages) (of_hart hart messages) ≡ []
@@ -74,10 +79,9 @@ none_came sent hart none before (message ∷ messages) no =
         let its = eqb-true message.hart hart is in
         let stranger =
         is_stranger sent before message (ap (λ h. of_hart h sent) its ∙ none) in
-        let one : cond (is_fate fate.Stranger (fate_of sent before message)) 1 0 ≡ 1 =
-        ap (λ b. cond b 1 0) stranger in
-        let both = split in
-        absurd (omega (arith, one, both))
+        absurd (never_zero (is_fate fate.Stranger (fate_of sent before message))
+        (count_by (λ (one : Judged). is_fate fate.Stranger one.fate)
+        (judged_behind sent (before ++ message ∷ []) messages)) stranger split)
 
 -- Each hart has the messages that were sent.
 pub all_same : (header : Option Header) (sent received : List Message) → AreInTurn (known_harts header) [] sent

@@ -22,7 +22,7 @@ pub any_weaker : {X : Type 0} (p q : X → Bool) → ((x : X) → p x ≡ true �
 any_weaker p q each [] is = is
 any_weaker p q each (x ∷ xs) is =
     elim (or_cases (p x) (list_any p xs) is) [
-      inl here ↦ or_left (q x) (list_any q xs) (each x here)
+      | inl here ↦ or_left (q x) (list_any q xs) (each x here)
       | inr there ↦ or_right (q x) (list_any q xs) (any_weaker p q each xs there)
     ]
 

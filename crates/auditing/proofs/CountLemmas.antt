@@ -75,51 +75,51 @@ pub counts-next : (sent received : List Message) (message : Message) (its : Fate
     → fate_of sent received message ≡ its
     → counted (counts_of sent received message.hart) its ≡ counts_of sent (received ++ message ∷ []) message.hart
 counts-next sent received message fate.Stranger is = λ i. record {
-      came = came sent received message fate.Stranger is i;
-      strange = grows sent received message fate.Stranger is fate.Stranger refl i;
-      changed = stays sent received message fate.Stranger is fate.Changed refl i;
-      repeated = stays sent received message fate.Stranger is fate.Repeat refl i;
-      late = stays sent received message fate.Stranger is fate.Late refl i;
-    }
+  came = came sent received message fate.Stranger is i;
+  strange = grows sent received message fate.Stranger is fate.Stranger refl i;
+  changed = stays sent received message fate.Stranger is fate.Changed refl i;
+  repeated = stays sent received message fate.Stranger is fate.Repeat refl i;
+  late = stays sent received message fate.Stranger is fate.Late refl i;
+}
 counts-next sent received message fate.Changed is = λ i. record {
-      came = came sent received message fate.Changed is i;
-      strange = stays sent received message fate.Changed is fate.Stranger refl i;
-      changed = grows sent received message fate.Changed is fate.Changed refl i;
-      repeated = stays sent received message fate.Changed is fate.Repeat refl i;
-      late = stays sent received message fate.Changed is fate.Late refl i;
-    }
+  came = came sent received message fate.Changed is i;
+  strange = stays sent received message fate.Changed is fate.Stranger refl i;
+  changed = grows sent received message fate.Changed is fate.Changed refl i;
+  repeated = stays sent received message fate.Changed is fate.Repeat refl i;
+  late = stays sent received message fate.Changed is fate.Late refl i;
+}
 counts-next sent received message fate.Repeat is = λ i. record {
-      came = came sent received message fate.Repeat is i;
-      strange = stays sent received message fate.Repeat is fate.Stranger refl i;
-      changed = stays sent received message fate.Repeat is fate.Changed refl i;
-      repeated = grows sent received message fate.Repeat is fate.Repeat refl i;
-      late = stays sent received message fate.Repeat is fate.Late refl i;
-    }
+  came = came sent received message fate.Repeat is i;
+  strange = stays sent received message fate.Repeat is fate.Stranger refl i;
+  changed = stays sent received message fate.Repeat is fate.Changed refl i;
+  repeated = grows sent received message fate.Repeat is fate.Repeat refl i;
+  late = stays sent received message fate.Repeat is fate.Late refl i;
+}
 counts-next sent received message fate.Late is = λ i. record {
-      came = came sent received message fate.Late is i;
-      strange = stays sent received message fate.Late is fate.Stranger refl i;
-      changed = stays sent received message fate.Late is fate.Changed refl i;
-      repeated = stays sent received message fate.Late is fate.Repeat refl i;
-      late = grows sent received message fate.Late is fate.Late refl i;
-    }
+  came = came sent received message fate.Late is i;
+  strange = stays sent received message fate.Late is fate.Stranger refl i;
+  changed = stays sent received message fate.Late is fate.Changed refl i;
+  repeated = stays sent received message fate.Late is fate.Repeat refl i;
+  late = grows sent received message fate.Late is fate.Late refl i;
+}
 counts-next sent received message fate.InOrder is = λ i. record {
-      came = came sent received message fate.InOrder is i;
-      strange = stays sent received message fate.InOrder is fate.Stranger refl i;
-      changed = stays sent received message fate.InOrder is fate.Changed refl i;
-      repeated = stays sent received message fate.InOrder is fate.Repeat refl i;
-      late = stays sent received message fate.InOrder is fate.Late refl i;
-    }
+  came = came sent received message fate.InOrder is i;
+  strange = stays sent received message fate.InOrder is fate.Stranger refl i;
+  changed = stays sent received message fate.InOrder is fate.Changed refl i;
+  repeated = stays sent received message fate.InOrder is fate.Repeat refl i;
+  late = stays sent received message fate.InOrder is fate.Late refl i;
+}
 
 -- The counts of another hart.
 pub counts-other : (sent received : List Message) (message : Message) (hart : ℕ) → message.hart ≢ hart
     → counts_of sent received hart ≡ counts_of sent (received ++ message ∷ []) hart
 counts-other sent received message hart other = λ i. record {
-      came = capped (length (sym (of_hart-other hart received message other) i));
-      strange = capped (same fate.Stranger i);
-      changed = capped (same fate.Changed i);
-      repeated = capped (same fate.Repeat i);
-      late = capped (same fate.Late i);
-    }
+  came = capped (length (sym (of_hart-other hart received message other) i));
+  strange = capped (same fate.Stranger i);
+  changed = capped (same fate.Changed i);
+  repeated = capped (same fate.Repeat i);
+  late = capped (same fate.Late i);
+}
   where
     same : (fate : Fate)
         → fates_counted sent received hart fate ≡ fates_counted sent (received ++ message ∷ []) hart fate

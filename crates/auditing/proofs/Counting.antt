@@ -46,14 +46,14 @@ found_or (y ∷ ys) (suc i) x is = found_or ys i x is
 -- Before the first message nothing is counted.
 pub counted_none : (harts : ℕ) (bytes : List ℕ) → HasCounted harts bytes bytes (replicate harts 0) 0 0
 counted_none harts bytes = record {
-      messages = [];
-      ranges = All-nil IsMessage;
-      whole = refl;
-      in_turn = tt;
-      number_is = refl;
-      each = each;
-      highest_is = refl;
-    }
+  messages = [];
+  ranges = All-nil IsMessage;
+  whole = refl;
+  in_turn = tt;
+  number_is = refl;
+  each = each;
+  highest_is = refl;
+}
   where
     each : (hart : ℕ) → slice_get (replicate harts 0) hart ≡ next_number harts [] hart
     each hart = go (cases_lt hart harts)
@@ -90,9 +90,9 @@ counted_more harts bytes left next counts more highest higher number m has few s
       number_is = ap (λ n. n + 1) has.number_is ∙ sym (length_push has.messages m);
       each = each;
       highest_is =
-      highest_is ∙ ap (λ h. max h (min (m.hart + 1) (2 ^ 16 - 1))) has.highest_is
-      ∙ ap (λ h. max (harts_in has.messages) h) (omega (arith, few, within))
-      ∙ sym (harts_in-next has.messages m);
+          highest_is ∙ ap (λ h. max h (min (m.hart + 1) (2 ^ 16 - 1))) has.highest_is
+          ∙ ap (λ h. max (harts_in has.messages) h) (omega (arith, few, within))
+          ∙ sym (harts_in-next has.messages m);
     }
   where
     its : misplaced harts has.messages m ≡ None
@@ -159,14 +159,14 @@ pub unread_at : (harts : ℕ) (bytes left counts : List ℕ) (highest number : �
     → (why ≡ message.Short → IsCut left) → (why ≡ message.BadLength → HasBadLength left)
     → IsCountFault harts bytes (fault.Unread number why)
 unread_at harts bytes left counts highest number why has either short bad = record {
-      messages = has.messages;
-      rest = left;
-      ranges = has.ranges;
-      whole = has.whole;
-      in_turn = has.in_turn;
-      number_is = has.number_is;
-      refused = begins_none left why either short bad;
-    }
+  messages = has.messages;
+  rest = left;
+  ranges = has.ranges;
+  whole = has.whole;
+  in_turn = has.in_turn;
+  number_is = has.number_is;
+  refused = begins_none left why either short bad;
+}
 
 -- And where one stands that is not the next of its hart.
 pub misplaced_here : (harts : ℕ) (bytes left next counts : List ℕ) (highest number : ℕ) (m : Message)
@@ -174,20 +174,20 @@ pub misplaced_here : (harts : ℕ) (bytes left next counts : List ℕ) (highest 
     → left ≡ message_bytes m ++ next → misplaced_at (slice_get counts m.hart) m.number ≡ Some why
     → IsCountFault harts bytes (fault.Misplaced number why)
 misplaced_here harts bytes left next counts highest number m why has is begins refused = record {
-      messages = has.messages;
-      rest = left;
-      ranges = has.ranges;
-      whole = has.whole;
-      in_turn = has.in_turn;
-      number_is = has.number_is;
-      refused = record {
-        message = m;
-        more = next;
-        ranges = is;
-        begins = begins;
-        misplaced = ap (λ o. misplaced_at o m.number) (sym (has.each m.hart)) ∙ refused;
-      };
-    }
+  messages = has.messages;
+  rest = left;
+  ranges = has.ranges;
+  whole = has.whole;
+  in_turn = has.in_turn;
+  number_is = has.number_is;
+  refused = record {
+    message = m;
+    more = next;
+    ranges = is;
+    begins = begins;
+    misplaced = ap (λ o. misplaced_at o m.number) (sym (has.each m.hart)) ∙ refused;
+  };
+}
 
 -- What is placed is not misplaced.
 pub placed_none : (o : Option DemuxFault) (done : Unit {0}) → placed o ≡ Ok done → o ≡ None

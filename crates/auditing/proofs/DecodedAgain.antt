@@ -89,11 +89,11 @@ place_of (first ∷ all) hart before after message same =
           own = ap (λ own. cond own (first ∷ of_hart hart rest.front) (of_hart hart rest.front)) is ∙ rest.own;
         }
     go later true is [] same = record {
-          front = [];
-          back = all;
-          whole = ap (λ m. m ∷ all) (first_is first message (of_hart hart all) after same);
-          own = refl;
-        }
+      front = [];
+      back = all;
+      whole = ap (λ m. m ∷ all) (first_is first message (of_hart hart all) after same);
+      own = refl;
+    }
       where
         first_is : (x y : Message) (xs ys : List Message) → x ∷ xs ≡ y ∷ ys → x ≡ y
         first_is x y xs ys e = cc
@@ -105,7 +105,7 @@ place_of (first ∷ all) hart before after message same =
           back = rest.back;
           whole = ap (λ l. first ∷ l) rest.whole;
           own = ap (λ own. cond own (first ∷ of_hart hart rest.front) (of_hart hart rest.front)) is
-          ∙ (λ i. split.0 i ∷ rest.own i);
+              ∙ (λ i. split.0 i ∷ rest.own i);
         }
       where
         both : (x y : Message) (xs ys : List Message) → x ∷ xs ≡ y ∷ ys → (x ≡ y) × (xs ≡ ys)
@@ -252,14 +252,14 @@ module _ (words : Words) (program : IsProgram words) (harts : ℕ) (announced : 
   same_lists : (again : List (List Event)) (flags : List Bool)
       → AreDecoded (λ hart. words) harts received again flags → (again ≡ lists) × (flags ≡ closed)
   same_lists again flags other = (
-        each_same again lists (other.lists_count ∙ sym decoded.lists_count)
+    each_same again lists (other.lists_count ∙ sym decoded.lists_count)
         (λ hart a b at_a at_b. one_log words program (packets_of hart sent) a b
         (subst (λ ps. Describes words ps a) (same_packets hart) (other.described hart a at_a))
         (decoded.described hart b at_b)),
-        each_same flags closed (other.closed_count ∙ sym decoded.closed_count)
+    each_same flags closed (other.closed_count ∙ sym decoded.closed_count)
         (λ hart a b at_a at_b. other.are_closed hart a at_a ∙ ap last_is_closing (same_packets hart)
         ∙ sym (decoded.are_closed hart b at_b)),
-      )
+  )
     where
       each_same : {X : Type 0} (xs ys : List X) → length xs ≡ length ys
           → ((k : ℕ) (x y : X) → slice_get xs k ≡ Some x → slice_get ys k ≡ Some y → x ≡ y) → xs ≡ ys

@@ -28,8 +28,8 @@ longer_fresh payloads payload =
 pub indexed_none : (harts : ℕ) (index : List HartLedger) → index ≡ replicate harts (fresh [])
     → AreIndexed harts [] index
 indexed_none harts index is = record {
-      count = ap length is ∙ length-replicate harts (fresh []);
-      each = λ hart own found.
+  count = ap length is ∙ length-replicate harts (fresh []);
+  each = λ hart own found.
       let there : slice_get (replicate harts (fresh [])) hart ≡ Some own =
       ap (λ l. slice_get l hart) (sym is) ∙ found in
       let within = slice_get_within (replicate harts (fresh [])) hart own there in
@@ -37,7 +37,7 @@ indexed_none harts index is = record {
       let same = get_or-replicate harts hart (fresh []) (fresh [])
       (omega (arith, within, length-replicate harts (fresh []))) in
       same_own own (fresh []) (sym there ∙ at ∙ ap Some same);
-    }
+}
   where
     same_own : (a b : HartLedger) → Some a ≡ Some b → a ≡ b
     same_own a b e = cc
@@ -50,11 +50,11 @@ indexed_more harts front m index has = go (slice_get index m.hart) refl
     go : (o : Option HartLedger) → slice_get index m.hart ≡ o
         → AreIndexed harts (front ++ m ∷ []) (added_found index m.hart m.payload o)
     go None found = record {
-          count = has.count;
-          each = λ hart own is.
+      count = has.count;
+      each = λ hart own is.
           has.each hart own is
           ∙ ap (λ l. fresh (payloads_of l)) (sym (of_hart-other hart front m (other hart own is)));
-        }
+    }
       where
         other : (hart : ℕ) (own : HartLedger) → slice_get index hart ≡ Some own → m.hart ≢ hart
         other hart own is same = clash own (sym is ∙ ap (slice_get index) (sym same) ∙ found)
@@ -62,9 +62,9 @@ indexed_more harts front m index has = go (slice_get index m.hart) refl
             clash : (own : HartLedger) → Some own ≡ None → ⊥
             clash own e = cc
     go (Some its) found = record {
-          count = length-set index m.hart (longer its m.payload) ∙ has.count;
-          each = λ hart own is. at hart own (slice_get-set index m.hart (longer its m.payload) hart own is);
-        }
+      count = length-set index m.hart (longer its m.payload) ∙ has.count;
+      each = λ hart own is. at hart own (slice_get-set index m.hart (longer its m.payload) hart own is);
+    }
       where
         grown : longer its m.payload ≡ fresh (payloads_of (of_hart m.hart (front ++ m ∷ [])))
         grown =
@@ -118,9 +118,9 @@ index_next harts messages left index more hart payload rest has some first more_
           ranges = All-tail IsMessage m back ranges;
           rest = split.2;
           indexed =
-          subst (AreIndexed harts (has.front ++ m ∷ []))
-          (sym (more_is ∙ (λ i. added index (split.0 i) (split.1 i))))
-          (indexed_more harts has.front m index has.indexed);
+              subst (AreIndexed harts (has.front ++ m ∷ []))
+              (sym (more_is ∙ (λ i. added index (split.0 i) (split.1 i))))
+              (indexed_more harts has.front m index has.indexed);
         }
 
 -- Behind the last all are indexed.

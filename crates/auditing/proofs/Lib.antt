@@ -12,4 +12,5 @@ pub mod Counting
 pub mod Indexed
 pub mod Starting
 pub mod AllWhole
+pub mod OneFault
 pub mod DecodedAgain

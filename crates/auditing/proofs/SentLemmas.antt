@@ -97,6 +97,8 @@ pub in_turn-next : (harts : ℕ) (before messages : List Message) (message : Mes
     → misplaced harts (before ++ messages) message ≡ None → AreInTurn harts before (messages ++ message ∷ [])
 in_turn-next harts before [] message turn is =
     (ap (λ front. misplaced harts front message) (sym (append-nil before)) ∙ is, tt)
-in_turn-next harts before (first ∷ messages) message turn is =
-    (turn.0, in_turn-next harts (before ++ first ∷ []) messages message turn.1
-    (ap (λ front. misplaced harts front message) (append_assoc before (first ∷ []) messages) ∙ is))
+in_turn-next harts before (first ∷ messages) message turn is = (
+  turn.0,
+  in_turn-next harts (before ++ first ∷ []) messages message turn.1
+      (ap (λ front. misplaced harts front message) (append_assoc before (first ∷ []) messages) ∙ is),
+)

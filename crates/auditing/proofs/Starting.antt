@@ -1,6 +1,7 @@
 -- The audit of SENT before the first message of RECEIVED.
 use Rattle.std.proofs.Common.{◌≡◌, ◌⊎◌, inl, inr, ℕ, All, List, [], ◌∷◌, ◌++◌, Option, Some, None, refl, sym, ap, subst}
-use Rattle.std.proofs.Common.{◌∙◌, Result, Ok, Err, IfOk, drop, append-nil}
+use Rattle.std.proofs.Common.{◌∙◌, ◌-◌, Result, Ok, Err, IfOk, drop, length, take, append-nil}
+use Rattle.std.proofs.lemmas.List.{take_rest}
 use Rattle.std.specs.Prelude.{IfErr}
 use Rattle.message.specs.Capture.{capture}
 use Rattle.message.specs.Cut.{IsMessage}
@@ -42,9 +43,13 @@ started header harts count highest number bytes counts index harts_is has count_
     let sent = has.messages in
     let whole : bytes ≡ capture sent = has.whole ∙ append-nil (capture sent) in
     let turn : AreInTurn (known_harts header) [] sent = subst (λ h. AreInTurn h [] sent) harts_is has.in_turn in
-    let counted : count ≡ harts_of header sent = count_is ∙ counts_harts header highest sent has.highest_is in
-    (sent, has.ranges, whole, has.in_turn,
-    starts header sent index turn (subst (λ c. AreIndexed c sent index) counted (indexed sent has.ranges whole)))
+    let counted : count ≡ harts_of header sent = count_is ∙ counts_harts header highest sent has.highest_is in (
+      sent,
+      has.ranges,
+      whole,
+      has.in_turn,
+      starts header sent index turn (subst (λ c. AreIndexed c sent index) counted (indexed sent has.ranges whole)),
+    )
 
 -- What stands behind a header, or without one, makes SENT whole.
 pub sent_whole : (bytes rest : List ℕ) (header : Option Header) (harts : ℕ) (ledger : Ledger)
@@ -55,16 +60,16 @@ sent_whole bytes rest header harts ledger begins harts_is header_is is =
   where
     at : (header : Option Header) → BeginsWith header bytes rest → harts ≡ known_harts header → IsSent bytes header is.0
     at None begins harts_is = record {
-          whole = record { ranges = is.1; whole = (begins.0, begins.1 ∙ is.2) };
-          in_turn = subst (λ h. AreInTurn h [] is.0) harts_is is.3;
-        }
+      whole = record { ranges = is.1; whole = (begins.0, begins.1 ∙ is.2) };
+      in_turn = subst (λ h. AreInTurn h [] is.0) harts_is is.3;
+    }
     at (Some header) begins harts_is = record {
-          whole = record {
-            ranges = is.1;
-            whole = (begins.0, begins.1 ∙ ap (λ r. header_bytes header ++ r) is.2);
-          };
-          in_turn = subst (λ h. AreInTurn h [] is.0) harts_is is.3;
-        }
+      whole = record {
+        ranges = is.1;
+        whole = (begins.0, begins.1 ∙ ap (λ r. header_bytes header ++ r) is.2);
+      };
+      in_turn = subst (λ h. AreInTurn h [] is.0) harts_is is.3;
+    }
 
 -- What stops counting behind a header, or without one, is the fault of SENT.
 pub sent_stops : (bytes rest : List ℕ) (header : Option Header) (harts : ℕ) (why : SentFault)
@@ -76,50 +81,50 @@ sent_stops bytes rest header harts (fault.Unread number why) begins harts_is sto
     stops_at : (header : Option Header) → BeginsWith header bytes rest → harts ≡ known_harts header
         → StopsBehind bytes number (λ harts messages rest. BeginsNone rest why)
     stops_at None begins harts_is = record {
-          header = None;
-          messages = stops.messages;
-          rest = stops.rest;
-          ranges = stops.ranges;
-          whole = (begins.0, begins.1 ∙ stops.whole);
-          in_turn = subst (λ h. AreInTurn h [] stops.messages) harts_is stops.in_turn;
-          counted = stops.number_is;
-          refused = stops.refused;
-        }
+      header = None;
+      messages = stops.messages;
+      rest = stops.rest;
+      ranges = stops.ranges;
+      whole = (begins.0, begins.1 ∙ stops.whole);
+      in_turn = subst (λ h. AreInTurn h [] stops.messages) harts_is stops.in_turn;
+      counted = stops.number_is;
+      refused = stops.refused;
+    }
     stops_at (Some header) begins harts_is = record {
-          header = Some header;
-          messages = stops.messages;
-          rest = stops.rest;
-          ranges = stops.ranges;
-          whole = (begins.0, begins.1 ∙ ap (λ r. header_bytes header ++ r) stops.whole);
-          in_turn = subst (λ h. AreInTurn h [] stops.messages) harts_is stops.in_turn;
-          counted = stops.number_is;
-          refused = stops.refused;
-        }
+      header = Some header;
+      messages = stops.messages;
+      rest = stops.rest;
+      ranges = stops.ranges;
+      whole = (begins.0, begins.1 ∙ ap (λ r. header_bytes header ++ r) stops.whole);
+      in_turn = subst (λ h. AreInTurn h [] stops.messages) harts_is stops.in_turn;
+      counted = stops.number_is;
+      refused = stops.refused;
+    }
 sent_stops bytes rest header harts (fault.Misplaced number why) begins harts_is stops =
     stops_at header begins harts_is
   where
     stops_at : (header : Option Header) → BeginsWith header bytes rest → harts ≡ known_harts header
         → StopsBehind bytes number (BeginsMisplaced why)
     stops_at None begins harts_is = record {
-          header = None;
-          messages = stops.messages;
-          rest = stops.rest;
-          ranges = stops.ranges;
-          whole = (begins.0, begins.1 ∙ stops.whole);
-          in_turn = subst (λ h. AreInTurn h [] stops.messages) harts_is stops.in_turn;
-          counted = stops.number_is;
-          refused = subst (λ h. BeginsMisplaced why h stops.messages stops.rest) harts_is stops.refused;
-        }
+      header = None;
+      messages = stops.messages;
+      rest = stops.rest;
+      ranges = stops.ranges;
+      whole = (begins.0, begins.1 ∙ stops.whole);
+      in_turn = subst (λ h. AreInTurn h [] stops.messages) harts_is stops.in_turn;
+      counted = stops.number_is;
+      refused = subst (λ h. BeginsMisplaced why h stops.messages stops.rest) harts_is stops.refused;
+    }
     stops_at (Some header) begins harts_is = record {
-          header = Some header;
-          messages = stops.messages;
-          rest = stops.rest;
-          ranges = stops.ranges;
-          whole = (begins.0, begins.1 ∙ ap (λ r. header_bytes header ++ r) stops.whole);
-          in_turn = subst (λ h. AreInTurn h [] stops.messages) harts_is stops.in_turn;
-          counted = stops.number_is;
-          refused = subst (λ h. BeginsMisplaced why h stops.messages stops.rest) harts_is stops.refused;
-        }
+      header = Some header;
+      messages = stops.messages;
+      rest = stops.rest;
+      ranges = stops.ranges;
+      whole = (begins.0, begins.1 ∙ ap (λ r. header_bytes header ++ r) stops.whole);
+      in_turn = subst (λ h. AreInTurn h [] stops.messages) harts_is stops.in_turn;
+      counted = stops.number_is;
+      refused = subst (λ h. BeginsMisplaced why h stops.messages stops.rest) harts_is stops.refused;
+    }
 
 -- The same, by what is answered.
 pub sent_started : (bytes rest : List ℕ) (header : Option Header) (harts : ℕ) (r : Result Ledger SentFault)
@@ -138,6 +143,6 @@ sent_refused bytes rest header harts (Err why) begins harts_is is = sent_stops b
 
 -- A header in front of bytes, and what is behind it.
 pub begins_header : (bytes left : List ℕ) (header : Header) → IsHeader header → bytes ≡ header_bytes header ++ left
-    → BeginsWith (Some header) bytes (drop 16 bytes)
+    → BeginsWith (Some header) bytes (take (length bytes - 16) (drop 16 bytes))
 begins_header bytes left header is begins =
-    (is, begins ∙ ap (λ rest. header_bytes header ++ rest) (sym (ap (drop 16) begins)))
+    (is, begins ∙ ap (λ rest. header_bytes header ++ rest) (sym (take_rest bytes 16 ∙ ap (drop 16) begins)))

@@ -94,6 +94,6 @@ module _ (sent received : List Message) (ledger : Ledger) (audits : Audits sent 
         each = each_of o refl;
         others = λ hart past. let count = as_many o in audits.others hart (omega (arith, past, count));
         strangers = ap (λ n. strangers_after n (fate_from ledger message)) audits.strangers
-        ∙ ap (strangers_after (capped (strangers_in sent received))) fate_is_from
-        ∙ strangers-next sent received message (fate_of sent received message) refl;
+            ∙ ap (strangers_after (capped (strangers_in sent received))) fate_is_from
+            ∙ strangers-next sent received message (fate_of sent received message) refl;
       }

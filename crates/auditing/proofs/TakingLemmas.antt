@@ -158,12 +158,12 @@ module _ (sent received : List Message) (message : Message) (own : HartLedger)
       → has_number before message.hart message.number ≡ true
       → AuditsHart sent more message.hart (record own { counts = counted own.counts fate.Repeat })
   repeats its is has = record {
-        payloads = stands.payloads;
-        came = stands.came ∙ (λ i. map (λ (m : Message). sym (same m.number) i) (of_hart message.hart sent));
-        past = past;
-        counts = ap (λ counts. counted counts fate.Repeat) stands.counts
+    payloads = stands.payloads;
+    came = stands.came ∙ (λ i. map (λ (m : Message). sym (same m.number) i) (of_hart message.hart sent));
+    past = past;
+    counts = ap (λ counts. counted counts fate.Repeat) stands.counts
         ∙ counts-next sent received message fate.Repeat its;
-      }
+  }
     where
       same : (number : ℕ)
           → has_number (true_ones sent more) message.hart number ≡ has_number before message.hart number
@@ -209,12 +209,12 @@ module _ (sent received : List Message) (message : Message) (own : HartLedger)
       → AuditsHart sent more message.hart
       (record own { came = set own.came message.number true; counts = counted own.counts fate.Late })
   late its is greater = record {
-        payloads = stands.payloads;
-        came = marked is;
-        past = past;
-        counts = ap (λ counts. counted counts fate.Late) stands.counts
+    payloads = stands.payloads;
+    came = marked is;
+    past = past;
+    counts = ap (λ counts. counted counts fate.Late) stands.counts
         ∙ counts-next sent received message fate.Late its;
-      }
+  }
     where
       low : message.number + 1 < own.past
       low = ltb-true (message.number + 1) own.past (sym (stands.past message.number) ∙ greater)
@@ -235,12 +235,12 @@ module _ (sent received : List Message) (message : Message) (own : HartLedger)
         counts = counted own.counts fate.InOrder;
       })
   in_order its is none = record {
-        payloads = stands.payloads;
-        came = marked is;
-        past = past;
-        counts = ap (λ counts. counted counts fate.InOrder) stands.counts
+    payloads = stands.payloads;
+    came = marked is;
+    past = past;
+    counts = ap (λ counts. counted counts fate.InOrder) stands.counts
         ∙ counts-next sent received message fate.InOrder its;
-      }
+  }
     where
       high : own.past ≤ message.number + 1
       high = ltb-false (message.number + 1) own.past (sym (stands.past message.number) ∙ none)
@@ -300,12 +300,12 @@ module _ (sent received : List Message) (message : Message) (own : HartLedger)
 pub takes_other : (sent received : List Message) (message : Message) (hart : ℕ) (own : HartLedger)
     → message.hart ≢ hart → AuditsHart sent received hart own → AuditsHart sent (received ++ message ∷ []) hart own
 takes_other sent received message hart own other stands = record {
-      payloads = stands.payloads;
-      came = stands.came ∙ (λ i. map (λ (m : Message). sym (same m.number) i) (of_hart hart sent));
-      past = λ number. any-other (λ (m : Message). eqb m.hart hart && ltb number m.number) sent received message
+  payloads = stands.payloads;
+  came = stands.came ∙ (λ i. map (λ (m : Message). sym (same m.number) i) (of_hart hart sent));
+  past = λ number. any-other (λ (m : Message). eqb m.hart hart && ltb number m.number) sent received message
       (ap (λ b. b && ltb number message.number) (ne_eqb message.hart hart other)) ∙ stands.past number;
-      counts = stands.counts ∙ counts-other sent received message hart other;
-    }
+  counts = stands.counts ∙ counts-other sent received message hart other;
+}
   where
     same : (number : ℕ)
         → has_number (true_ones sent (received ++ message ∷ [])) hart number

@@ -33,11 +33,11 @@ no_flags (message ∷ messages) = ap (λ rest. false ∷ rest) (no_flags message
 starts_hart : (harts hart : ℕ) (sent : List Message) → AreInTurn harts [] sent
     → AuditsHart sent [] hart (fresh (payloads_of (of_hart hart sent)))
 starts_hart harts hart sent turn = record {
-      payloads = numbered harts hart [] sent turn;
-      came = no_flags (of_hart hart sent);
-      past = λ number. sym (le-ltb (number + 1) 0 (omega arith));
-      counts = refl;
-    }
+  payloads = numbered harts hart [] sent turn;
+  came = no_flags (of_hart hart sent);
+  past = λ number. sym (le-ltb (number + 1) 0 (omega arith));
+  counts = refl;
+}
 
 -- No message of SENT is of another hart.
 pub others_none : (header : Option Header) (sent : List Message) → AreInTurn (known_harts header) [] sent → (hart : ℕ)
@@ -50,12 +50,12 @@ pub starts : (header : Option Header) (sent : List Message) (index : List HartLe
     → AreInTurn (known_harts header) [] sent → AreIndexed (harts_of header sent) sent index
     → Audits sent [] (record { header = header; harts = index; strangers = 0 })
 starts header sent index turn indexed = record {
-      count = indexed.count;
-      each = λ hart own is. subst (AuditsHart sent [] hart) (sym (indexed.each hart own is))
+  count = indexed.count;
+  each = λ hart own is. subst (AuditsHart sent [] hart) (sym (indexed.each hart own is))
       (starts_hart (known_harts header) hart sent turn);
-      others = λ hart beyond. others_none header sent turn hart (omega (arith, indexed.count, beyond));
-      strangers = refl;
-    }
+  others = λ hart beyond. others_none header sent turn hart (omega (arith, indexed.count, beyond));
+  strangers = refl;
+}
 
 -- The numbers that are lost are those whose flags are not set.
 lost_from : (marked : ℕ → Bool) (hart start : ℕ) (payloads : List (List ℕ))
@@ -80,11 +80,11 @@ pub runs_are : (sent received : List Message) (hart : ℕ) (own : HartLedger) �
 runs_are sent received hart own stands =
     let marked = has_number (true_ones sent received) hart in
     ap runs_of (
-      ap (lost_in 0) (stands.came ∙ ap (flags marked) stands.payloads)
-      ∙ sym (lost_from marked hart 0 own.payloads)
-      ∙ ap (λ (messages : List Message).
-      filter (λ number. not (marked number)) (map (λ (message : Message). message.number) messages))
-      (sym stands.payloads))
+    ap (lost_in 0) (stands.came ∙ ap (flags marked) stands.payloads)
+    ∙ sym (lost_from marked hart 0 own.payloads)
+    ∙ ap (λ (messages : List Message).
+    filter (λ number. not (marked number)) (map (λ (message : Message). message.number) messages))
+    (sym stands.payloads))
 
 -- How many are lost.
 unset_counted : (marked : ℕ → Bool) (messages : List Message)

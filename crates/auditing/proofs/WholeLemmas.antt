@@ -36,7 +36,7 @@ any_kept p q (x ∷ xs) is = go (any_kept p q xs) (q x) is
         → list_any p (cond kept (x ∷ filter q xs) (filter q xs)) ≡ true → (p x || list_any p xs) ≡ true
     go rest true passed =
         elim (or_cases (p x) (list_any p (filter q xs)) passed) [
-          inl here ↦ or_left (p x) (list_any p xs) here
+          | inl here ↦ or_left (p x) (list_any p xs) here
           | inr there ↦ or_right (p x) (list_any p xs) (rest there)
         ]
     go rest false passed = or_right (p x) (list_any p xs) (rest passed)
@@ -108,7 +108,7 @@ placed hart start number (payload ∷ payloads) (one ∷ front) message back at 
       number_is = rest.number_is;
       payload_is = rest.payload_is;
       unlike = or_from _ _
-      (and_right _ _ (ne_eqb one.number number (λ e. omega (arith, e, number_is, at)))) rest.unlike;
+          (and_right _ _ (ne_eqb one.number number (λ e. omega (arith, e, number_is, at)))) rest.unlike;
       lower = or_from _ _ (and_right _ _ (le-ltb number one.number (omega (arith, number_is, at)))) rest.lower;
     }
 
@@ -135,7 +135,7 @@ all_marked : (marked : ℕ → Bool) (hart start : ℕ) (payloads : List (List �
     → (number : ℕ) → start ≤ number → number < start + length payloads → marked number ≡ true
 all_marked marked hart start [] none number from below = absurd (omega (arith, from, below))
 all_marked marked hart start (payload ∷ payloads) none number from below =
-    go (λ no above. all_marked marked hart (start + 1) payloads no number above (omega (arith, below)))
+    go (λ gone above. all_marked marked hart (start + 1) payloads gone number above (omega (arith, below)))
     (marked start) refl none
   where
     rest : List ℕ
@@ -144,14 +144,14 @@ all_marked marked hart start (payload ∷ payloads) none number from below =
 
     go : (rest ≡ [] → start + 1 ≤ number → marked number ≡ true) → (is : Bool) → marked start ≡ is
         → cond (not is) (start ∷ rest) rest ≡ [] → marked number ≡ true
-    go later false is no = absurd (never start rest no)
+    go later false is gone = absurd (never start rest gone)
       where
         never : (n : ℕ) (ns : List ℕ) → n ∷ ns ≡ [] → ⊥
         never n ns e = cc
-    go later true is no =
+    go later true is gone =
         elim (cases_eq start number) [
-          inl same ↦ sym (ap marked same) ∙ is
-          | inr other ↦ later no (above_it other)
+          | inl same ↦ sym (ap marked same) ∙ is
+          | inr other ↦ later gone (above_it other)
         ]
       where
         above_it : (start ≡ number → ⊥) → start + 1 ≤ number
@@ -307,11 +307,11 @@ module _ (sent : List Message) (hart : ℕ) (payloads : List (List ℕ))
   pub untouched : (received : List Message) → of_hart hart received ≡ of_hart hart sent
       → IsUntouched sent received hart
   untouched received same = record {
-        none_lost = ap (λ (messages : List Message).
+    none_lost = ap (λ (messages : List Message).
         filter (λ number. not (has_number (true_ones sent received) hart number))
         (map (λ (message : Message). message.number) messages)) (sym same) ∙ none_missing [] received (same ∙ own);
-        in_order = none_touched [] received (same ∙ own);
-      }
+    in_order = none_touched [] received (same ∙ own);
+  }
 
   -- Where a true one with a greater number came, none of this number is in order.
   never_later : (low : ℕ) (before messages : List Message) → has_greater (true_ones sent before) hart low ≡ true

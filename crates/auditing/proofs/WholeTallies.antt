@@ -159,13 +159,13 @@ module _ (sent received : List Message) (hart : ℕ) (own : HartLedger) (stands 
           let d = and_parts _ _ c.0 in
           same_again sent hart own.payloads stands.payloads received (record {
             none_lost =
-            nil_from_length (lost_numbers sent received hart) (sym lost_is ∙ eqb-true (count_by not own.came) 0 d.0);
+                nil_from_length (lost_numbers sent received hart) (sym lost_is ∙ eqb-true (count_by not own.came) 0 d.0);
             in_order =
-            none_touched_by hart (judged sent received)
-            (sym strange_is ∙ eqb-true own.counts.strange 0 d.1)
-            (sym changed_is ∙ eqb-true own.counts.changed 0 c.1)
-            (sym repeated_is ∙ eqb-true own.counts.repeated 0 b.1)
-            (sym late_is ∙ eqb-true own.counts.late 0 a.1);
+                none_touched_by hart (judged sent received)
+                (sym strange_is ∙ eqb-true own.counts.strange 0 d.1)
+                (sym changed_is ∙ eqb-true own.counts.changed 0 c.1)
+                (sym repeated_is ∙ eqb-true own.counts.repeated 0 b.1)
+                (sym late_is ∙ eqb-true own.counts.late 0 a.1);
           })
 
       none : (its : Fate) → is_fate fate.InOrder its ≡ false → IsUntouched sent received hart
@@ -191,14 +191,14 @@ module _ (sent received : List Message) (hart : ℕ) (own : HartLedger) (stands 
   -- The tally is the one of the definition.
   pub tally_is : tally_in own ≡ tally_of sent received hart
   tally_is = λ i. record {
-        sent = sent_is i;
-        came = came_is i;
-        lost = lost_is i;
-        repeated = repeated_is i;
-        late = late_is i;
-        changed = changed_is i;
-        whole = whole_is i;
-      }
+    sent = sent_is i;
+    came = came_is i;
+    lost = lost_is i;
+    repeated = repeated_is i;
+    late = late_is i;
+    changed = changed_is i;
+    whole = whole_is i;
+  }
     where
       sent_is : length own.came ≡ length (of_hart hart sent)
       sent_is = ap length stands.came ∙ length-map (of_hart hart sent) _

@@ -17,12 +17,12 @@ capped count = min count (2 ^ 64 - 1)
 -- How many messages of a hart came, and how many of them have each fate.
 abbrev pub counts_of : List Message → List Message → ℕ → Counts
 counts_of sent received hart = record {
-      came = capped (length (of_hart hart received));
-      strange = capped (fates_counted sent received hart fate.Stranger);
-      changed = capped (fates_counted sent received hart fate.Changed);
-      repeated = capped (fates_counted sent received hart fate.Repeat);
-      late = capped (fates_counted sent received hart fate.Late);
-    }
+  came = capped (length (of_hart hart received));
+  strange = capped (fates_counted sent received hart fate.Stranger);
+  changed = capped (fates_counted sent received hart fate.Changed);
+  repeated = capped (fates_counted sent received hart fate.Repeat);
+  late = capped (fates_counted sent received hart fate.Late);
+}
 
 -- What is kept of a hart is what its messages in SENT and in RECEIVED make it: SENT has its messages with these
 -- payloads, numbered from 0; the flag of a number is set where a true message of RECEIVED has it; a true message of

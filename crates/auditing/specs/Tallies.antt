@@ -16,11 +16,11 @@ is_whole sent received hart = pointwise is_same (of_hart hart received) (of_hart
 -- What became of the messages of a hart.
 abbrev pub tally_of : List Message → List Message → ℕ → Tally
 tally_of sent received hart = record {
-      sent = length (of_hart hart sent);
-      came = length (of_hart hart received);
-      lost = length (lost_numbers sent received hart);
-      repeated = fates_counted sent received hart fate.Repeat;
-      late = fates_counted sent received hart fate.Late;
-      changed = fates_counted sent received hart fate.Changed;
-      whole = is_whole sent received hart;
-    }
+  sent = length (of_hart hart sent);
+  came = length (of_hart hart received);
+  lost = length (lost_numbers sent received hart);
+  repeated = fates_counted sent received hart fate.Repeat;
+  late = fates_counted sent received hart fate.Late;
+  changed = fates_counted sent received hart fate.Changed;
+  whole = is_whole sent received hart;
+}

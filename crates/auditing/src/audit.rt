@@ -1,8 +1,9 @@
 //! The audit of a path.
 
-ghost use Rattle.std.specs.Prelude.{◌≡◌, ◌<◌, ◌^◌, ◌++◌, All, List, [], ◌∷◌, IfErr, IfOk, length};
+ghost use Rattle.std.specs.Prelude.{◌≡◌, ◌<◌, ◌^◌, ◌++◌, All, List, [], ◌∷◌, IfErr, IfOk, Option, length};
 ghost use Rattle.message.specs.Capture.{capture};
 ghost use Rattle.message.specs.Cut.{IsMessage};
+ghost use Rattle.message.specs.declared.header.Header.{Header as AnyHeader};
 ghost use Rattle.message.specs.declared.message.Message.{Message as AnyMessage};
 ghost use Rattle.auditing.specs.Audits.{Audits};
 ghost use Rattle.auditing.specs.Fates.{fate_of};
@@ -56,6 +57,21 @@ impl<'a, A: Allocator + Copy> Audit<'a, A> {
     /// No other fault comes but [`SentFault::Memory`]. At most 17 bytes are taken for each message, and 150 for each
     /// hart that may come.
     pub fn new(alloc: A, bytes: &'a [u8]) -> Result<Audit<'a, A>, SentFault>
+        ensures audits { IfOk result (λ audit. (sent : List AnyMessage) × IsSent bytes.entry.now audit.header sent
+            × Audits sent [] audit) }
+        ensures fault { IfErr result (IsSentFault bytes.entry.now) }
+        // Where SENT is whole, memory was refused.
+        ensures memory { (header : Option AnyHeader) (sent : List AnyMessage) → IsSent bytes.entry.now header sent
+            → IfErr result (λ fault. fault ≡ SentFault.Memory) }
+    {
+        match Audit::by_header(alloc, bytes) {
+            Ok(audit) => Ok(audit),
+            Err(why) => Err(why),
+        }
+    }
+
+    /// As [`Audit::new`], by the header.
+    fn by_header(alloc: A, bytes: &'a [u8]) -> Result<Audit<'a, A>, SentFault>
         ensures audits { IfOk result (λ audit. (sent : List AnyMessage) × IsSent bytes.entry.now audit.header sent
             × Audits sent [] audit) }
         ensures fault { IfErr result (IsSentFault bytes.entry.now) }

@@ -28,8 +28,7 @@ pub(crate) fn count_messages<A: Allocator>(
 {
     let mut counts = vec![in alloc; 0; usize::from(harts)]?;
     let mut highest = 0;
-    let mut number = 0;
-    loop {
+    for number in 0..u64::MAX {
         let message = match left.next() {
             Ok(Some(message)) => message,
             Ok(None) => return Ok(Counted { counts, highest }),
@@ -40,8 +39,8 @@ pub(crate) fn count_messages<A: Allocator>(
             Err(why) => return Err(SentFault::Misplaced(number, why)),
         }
         highest = highest.max(message.hart.saturating_add(1));
-        number += 1;
     }
+    Err(SentFault::Memory)
 }
 
 /// Counts one more message of its hart. Refuses a message that is not the next of its hart.

@@ -51,11 +51,11 @@ IsCountFault harts bytes fault.Memory = Unit {0}
 -- What is kept of a hart with these payloads before the first message of RECEIVED.
 abbrev pub fresh : List (List ℕ) → HartLedger
 fresh payloads = record {
-      payloads = payloads;
-      came = map (λ _. false) payloads;
-      past = 0;
-      counts = record { came = 0; strange = 0; changed = 0; repeated = 0; late = 0 };
-    }
+  payloads = payloads;
+  came = map (λ _. false) payloads;
+  past = 0;
+  counts = record { came = 0; strange = 0; changed = 0; repeated = 0; late = 0 };
+}
 
 -- The payloads of messages.
 abbrev pub payloads_of : List Message → List (List ℕ)

@@ -40,10 +40,10 @@ abbrev pub hart_after : HartLedger → ℕ → Fate → HartLedger
 hart_after own number fate.Late =
     record own { came = slice_set own.came number true; counts = counted own.counts fate.Late }
 hart_after own number fate.InOrder = record own {
-      came = slice_set own.came number true;
-      past = number + 1;
-      counts = counted own.counts fate.InOrder;
-    }
+  came = slice_set own.came number true;
+  past = number + 1;
+  counts = counted own.counts fate.InOrder;
+}
 hart_after own number other = record own { counts = counted own.counts other }
 
 -- The fate of a message, by what is kept of its hart, if the hart is one of SENT's.
@@ -69,10 +69,10 @@ strangers_after strangers other = strangers
 -- What is kept after a message.
 abbrev pub ledger_after : Ledger → Message → Ledger
 ledger_after ledger message = record {
-      header = ledger.header;
-      harts = harts_found ledger.harts message (slice_get ledger.harts message.hart);
-      strangers = strangers_after ledger.strangers (fate_from ledger message);
-    }
+  header = ledger.header;
+  harts = harts_found ledger.harts message (slice_get ledger.harts message.hart);
+  strangers = strangers_after ledger.strangers (fate_from ledger message);
+}
 
 -- A hart is whole, by its counts and how many of its numbers are lost: none is lost, and none of its messages has
 -- another fate than in order.

@@ -11,7 +11,7 @@ returns-clause-audits g c =
     let highest = c.in-Ok.counted.highest in (
       refl,
       started c.args.header c.args.harts c.count_of_harts-count.result highest counted.0 c.args.bytes.now counts
-      c.in-Ok-index_messages.index.items c.requires
-      (subst (λ bytes. HasCounted c.args.harts bytes [] counts highest counted.0) c.new.ensures counted.1)
-      c.count_of_harts-count.ensures c.in-Ok-index_messages.ensures,
+          c.in-Ok-index_messages.index.items c.requires
+          (subst (λ bytes. HasCounted c.args.harts bytes [] counts highest counted.0) c.new.ensures counted.1)
+          c.count_of_harts-count.ensures c.in-Ok-index_messages.ensures,
     )
