@@ -39,7 +39,8 @@ module _ (config : Config) (message : Message) (result : Result (Unit {0}) Colle
       → IsGathered config log started own hart old → IsGathered config log started own hart new
   other_more hart log own other (inl runs) = inl (
     runs.0,
-    λ first. other_taken message result old new takes config.period config.mode hart (length own) log other (runs.1 first),
+    λ first.
+        other_taken message result old new takes config.period config.mode hart (length own) log other (runs.1 first),
   )
   other_more hart log own other (inr cut) =
       inr (other_cut_off message result old new takes config.period config.mode hart (length own) log other cut)

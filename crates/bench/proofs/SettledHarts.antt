@@ -33,10 +33,11 @@ module _ (config : Config) (logs : List ProgramLog) (started : List ℕ) (taken 
       of_one hart log at (inl runs) = runs.1 (carried hart log at runs.0)
       of_one hart log at (inr cut) = inr cut
 
-  -- What was taken of each hart that is not refused carries the first payloads of its log, since its worker was started.
+  -- What was taken of each hart that is not refused carries the first payloads of its log: its worker was started.
   pub are_carried : {A : Type 0} (harts : List (HartOutcome A)) → Finishes collected harts
       → AreCarried config logs taken harts
-  are_carried harts ends = λ hart log came known at going. of_one hart log came known at going (gathered.each hart log known)
+  are_carried harts ends = λ hart log came known at going.
+      of_one hart log came known at going (gathered.each hart log known)
     where
       of_one : (hart : ℕ) (log : ProgramLog) (came : HartOutcome _) → slice_get logs hart ≡ Some log
           → slice_get harts hart ≡ Some came → came.refused ≡ false

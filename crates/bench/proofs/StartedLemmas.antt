@@ -52,7 +52,8 @@ module _ (config : Config) (logs : List ProgramLog) where
 
   -- Before the first.
   pub none_begun : (from : ℕ) (started : List ℕ) (collected : Collected) → from ≡ length logs → collected.logs ≡ logs
-      → ((hart : ℕ) (log : ProgramLog) → slice_get logs hart ≡ Some log → HasCollected config.period config.mode log 0 hart collected)
+      → ((hart : ℕ) (log : ProgramLog) → slice_get logs hart ≡ Some log
+      → HasCollected config.period config.mode log 0 hart collected)
       → AreBegun from started collected
   none_begun from started collected all own begun = record {
     own = own;
@@ -110,8 +111,8 @@ module _ (config : Config) (logs : List ProgramLog) where
         stays : (hart : ℕ) (log : ProgramLog) → hart ≢ place → HasCollected config.period config.mode log 0 hart old
             → HasCollected config.period config.mode log 0 hart new
         stays hart log other has =
-            collected_same config.period config.mode 0 hart log old new (others hart other) (ap (λ (c : Collected). c.logs) same)
-            keep has
+            collected_same config.period config.mode 0 hart log old new (others hart other)
+            (ap (λ (c : Collected). c.logs) same) keep has
 
         as_before : (hart : ℕ) (log : ProgramLog) → hart ≢ place → IsBegun log started hart old
             → IsBegun log started hart new
@@ -119,14 +120,16 @@ module _ (config : Config) (logs : List ProgramLog) where
         as_before hart log other (inr cut) =
             inr (cut_off_same config.period config.mode 0 hart log old new (others hart other) keep cut)
 
-        cut : (log : ProgramLog) → HasCollected config.period config.mode log 0 place old → IsCutOff config.period config.mode log 0 place new
+        cut : (log : ProgramLog) → HasCollected config.period config.mode log 0 place old
+            → IsCutOff config.period config.mode log 0 place new
         cut log has = record {
           count = 0;
           within = omega arith;
           lacks = λ some. omega (arith, some);
           few = omega arith;
           came =
-              subst (λ flag. HasOutcome place (kept flag (got_after config.period config.mode log 0)) true new) (sym keep)
+              subst (λ flag. HasOutcome place (kept flag (got_after config.period config.mode log 0)) true new)
+              (sym keep)
               (refused (kept old.keep (got_after config.period config.mode log 0)) false has.came);
         }
 

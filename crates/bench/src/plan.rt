@@ -3,8 +3,8 @@
 use crate::config::Config;
 use legalpath::LegalLog;
 
-/// What a run is over, and what goes along whole: the logs, how they are sent, what comes round each send, and what
-/// threads run in.
+/// What a run is over: the logs, how they go through the funnel, what the caller does round each send, and the runtime
+/// of the threads.
 #[derive(Drop)]
 pub(crate) struct Plan<'s, 'p, G, R> {
     pub(crate) logs: &'s [LegalLog<'p>],

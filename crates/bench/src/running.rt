@@ -148,13 +148,16 @@ fn conduct<'s, 'p, E, A: Allocator + Copy, G: Gate, R: Threads + Wait + Sync>(
     requires outlet { (outlet.old.taken ≡ []) × (outlet.old.made ≡ length plan.now.logs.now) }
     requires count { length plan.now.logs.now ≤ most_ports }
     ensures beginnings { IfOk result (λ outcome. AreBeginnings plan.now.config plan.now.logs.now outcome.harts.items) }
-    ensures taken { IfOk result (λ outcome. AreThoseTaken plan.now.config plan.now.logs.now outlet.new.taken outcome.harts.items) }
-    ensures carried { IfOk result (λ outcome. AreCarried plan.now.config plan.now.logs.now outlet.new.taken outcome.harts.items) }
+    ensures taken { IfOk result
+        (λ outcome. AreThoseTaken plan.now.config plan.now.logs.now outlet.new.taken outcome.harts.items) }
+    ensures carried { IfOk result
+        (λ outcome. AreCarried plan.now.config plan.now.logs.now outlet.new.taken outcome.harts.items) }
     ensures lacks { IfOk result (λ outcome. LackSomeTaken outlet.new.taken outcome.harts.items) }
     ensures stop { IfOk result (λ outcome. NamesOpen outcome.stop outcome.harts.items) }
     ensures refused_harts { IfOk result (λ outcome. NoRefusedIsClosed outcome.harts.items) }
     ensures handed_back { IfOk result (λ outcome.
-        IfHandedBack (LacksPayloads plan.now.config.period plan.now.config.mode plan.now.logs.now outlet.new.taken) outcome.stop) }
+        IfHandedBack (LacksPayloads plan.now.config.period plan.now.config.mode plan.now.logs.now outlet.new.taken)
+        outcome.stop) }
     ensures untouched { OnErr result (outlet.new ≡ outlet.old) }
     ensures funnel { outlet.new ≡ record outlet.old { taken = outlet.new.taken } }
 {

@@ -32,8 +32,8 @@ pub record IsWorkerOf {S : Type 0} (at : S → SourceAt) (funnel : FunnelId) (co
 abbrev pub IsGathered : Config → ProgramLog → List ℕ → List Message → ℕ → Collected → Type 0
 IsGathered config log started taken hart collected =
     (Contains started hart
-        × (CarryFirst config.period config.mode log taken
-            → IsTakenOf config.period config.mode log (length taken) hart collected))
+    × (CarryFirst config.period config.mode log taken
+    → IsTakenOf config.period config.mode log (length taken) hart collected))
     ⊎ IsCutOff config.period config.mode log (length taken) hart collected
 
 -- The collector has these logs. The messages that were taken of each hart are gathered, where workers of these harts

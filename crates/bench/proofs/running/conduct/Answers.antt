@@ -38,8 +38,8 @@ module _ (g : _) (c : goal.After-drop-handed_back-2 g) where
       c.start_all-workers.new.collector) (sym c.requires.outlet.0) c.start_all-workers.ensures.gathered)
 
   -- And taken, now that the workers are settled.
-  taken : CameUnlessRefused c.args.plan.now.config.period c.args.plan.now.config.mode c.args.plan.now.logs.now c.collect.new.outlet.taken
-      c.collect.new.collector
+  taken : CameUnlessRefused c.args.plan.now.config.period c.args.plan.now.config.mode c.args.plan.now.logs.now
+      c.collect.new.outlet.taken c.collect.new.collector
   taken =
       gathered_taken c.args.plan.now.config c.args.plan.now.logs.now started c.collect.new.outlet.taken
       c.collect.new.collector gathered c.settle_all.ensures.carried

@@ -25,8 +25,8 @@ loop-port-init g c =
       workers = λ k d within. absurd (omega (arith, within, none));
       keep = refl;
       harts =
-          none_begun c.args.plan.now.config c.args.plan.now.logs.now _ (harts_of c.args.workers.items) c.args.collector.now
-          (count ∙ all) c.requires.own c.requires.begun;
+          none_begun c.args.plan.now.config c.args.plan.now.logs.now _ (harts_of c.args.workers.items)
+          c.args.collector.now (count ∙ all) c.requires.own c.requires.begun;
     }
 
 pub start-requires-after_bounds : goal.start-requires-after_bounds
@@ -49,8 +49,8 @@ loop-port-preserved-in-Some-start g c =
     let grown = pushed.len in
     let same = pushed.capacity in
     let known =
-    slice_get_read c.args.plan.now.logs.now _ c.len-hart.result c.index-logs-hart.result refl (omega (arith, count, few))
-    c.index-logs-hart.is in
+    slice_get_read c.args.plan.now.logs.now _ c.len-hart.result c.index-plan-hart.result refl
+    (omega (arith, count, few)) c.index-plan-hart.is in
     let at : SourceAt → SourceAt = λ source. source in
     let new =
     new_worker at c.args.outlet.now.funnel c.args.plan.now.config c.args.plan.now.logs.now worker _ _ _ _
