@@ -115,13 +115,11 @@ leads_any (Some (TrapReturn y, n)) a t l = refl
 leads_any (Some (NotRetirable, n)) a t l = cc
 
 pub one_stays : (word : Option Word) (a t x : ℕ) → leads_from a t word ≡ One x → hides_its_target word ≡ false
-one_stays None a t x l = cc
-one_stays (Some (Plain, n)) a t x l = refl
-one_stays (Some (Jump to, n)) a t x l = refl
-one_stays (Some (Branch to, n)) a t x l = refl
-one_stays (Some (Uninferable, n)) a t x l = cc
-one_stays (Some (TrapReturn y, n)) a t x l = cc
-one_stays (Some (NotRetirable, n)) a t x l = cc
+one_stays word a t x l = go (hides_its_target word) refl
+  where
+    go : (hides : Bool) → hides_its_target word ≡ hides → hides ≡ false
+    go false h = refl
+    go true h = let any = leads_any word a t h in cc
 
 pub any_leaves : (word : Option Word) (a t : ℕ) → leads_from a t word ≡ Any → hides_its_target word ≡ true
 any_leaves None a t l = cc

@@ -41,15 +41,12 @@ returns-in_default-clause-text g c =
 
 pub returns-clause-text : goal.returns-clause-text
 returns-clause-text g c =
-    let period = c.args.period in
-    let mode = c.args.mode in
-    let log = c.args.log.now in
-    let number = c.loop-number.number in
-    let few = few_payloads period mode log in
+    let all = payloads c.args.period c.args.mode c.args.log.now in
+    let few = few_payloads c.args.period c.args.mode c.args.log.now in
     let same = ap length c.events.ensures.events in
-    let over : length (payloads period mode log) ≤ number = omega (arith, few, same, c.loop-number-test.false) in
+    let over : length all ≤ c.loop-number.number = omega (arith, few, same, c.loop-number-test.false) in
     written_all g.F.Form.text (g.W.Write.contents c.args.sink.now) (g.W.Write.contents c.loop-number.sink) c.args.hart
-    number (payloads period mode log) over c.loop-number.invariant.1
+    c.loop-number.number all over c.loop-number.invariant.1
 
 pub returns-in_err-write-clause-begun : goal.returns-in_err-write-clause-begun
 returns-in_err-write-clause-begun g c =

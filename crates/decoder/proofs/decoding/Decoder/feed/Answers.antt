@@ -171,16 +171,13 @@ returns-in-Err-clause-begins_none g c = λ mode over sync. inr (λ other all.
 pub returns-clause-begins : goal.returns-clause-begins
 returns-clause-begins g c = λ mode over sync stretch is.
     let w = words_of c.args.program.now in
-    let log = c.args.log.now.items in
-    let d = c.args.self.now in
-    let p = c.args.packet.now in
-    let first = c.plan.new.first in
-    let second = c.plan.new.second in
     let found = c.in_default.ensures.found in
-    let can = found.can (passing_right w mode d over) in
-    let new = begins_stretch w mode d over p first second found.settled found.of_packet sync found.gives_settled
-    found.gives_of_packet can in
-    let whole = all g (goal.at.returns-clause-begins g c).After-write-2 in
-    let same = append_cancel_left log (found.settled ++ found.of_packet) stretch (sym whole ∙ is) in
-    let logs = subst (λ l. DecoderStands w (open_packet mode ∷ p ∷ []) l (decoder_after d p first second)) same new in
-    subst (λ x. DecoderStands w (open_packet mode ∷ p ∷ []) stretch x) (sym c.after.ensures) logs
+    let new = begins_stretch w mode c.args.self.now over c.args.packet.now c.plan.new.first c.plan.new.second
+    found.settled found.of_packet sync found.gives_settled found.gives_of_packet
+    (found.can (passing_right w mode c.args.self.now over)) in
+    let same = append_cancel_left c.args.log.now.items (found.settled ++ found.of_packet) stretch
+    (sym (all g (goal.at.returns-clause-begins g c).After-write-2) ∙ is) in
+    let trace = open_packet mode ∷ c.args.packet.now ∷ [] in
+    subst (λ x. DecoderStands w trace stretch x) (sym c.after.ensures)
+    (subst (λ l. DecoderStands w trace l (decoder_after c.args.self.now c.args.packet.now c.plan.new.first
+    c.plan.new.second)) same new)

@@ -30,15 +30,14 @@ pub returns-clause-none : goal.returns-clause-none
 returns-clause-none g c =
     let w = words_of c.of-paths.result.program.now in
     let d = c.args.self.now in
-    let p = c.args.packet.now in
     let first = c.settled.new.stretch in
     let none = subst (λ l. IfErr c.events_of_packet.result
-    (SuitsNone w l (Fits w d.mode l c.place-reported.result p None)))
+    (SuitsNone w l (Fits w d.mode l c.place-reported.result c.args.packet.now None)))
     c.last-last.ensures c.events_of_packet.ensures.none in
     let none' = subst (λ r. IfErr c.events_of_packet.result
-    (SuitsNone w (stretch_last d.last first) (Fits w d.mode (stretch_last d.last first) r p None)))
+    (SuitsNone w (stretch_last d.last first) (Fits w d.mode (stretch_last d.last first) r c.args.packet.now None)))
     c.place-reported.ensures none in
-    let admits : admitted d.phase p ≡ Ok tt = sym c.in_ok-admit.ensures in
-    subst (λ q. IfErr c.events_of_packet.result (PlansNone (words_of q) d p)) c.of-paths.ensures
-    (plans_none w d p c.of-paths.result.bound.words first c.events_of_packet.result admits
+    let admits : admitted d.phase c.args.packet.now ≡ Ok tt = sym c.in_ok-admit.ensures in
+    subst (λ q. IfErr c.events_of_packet.result (PlansNone (words_of q) d c.args.packet.now)) c.of-paths.ensures
+    (plans_none w d c.args.packet.now c.of-paths.result.bound.words first c.events_of_packet.result admits
     c.in_ok-settled.ensures.found none')
