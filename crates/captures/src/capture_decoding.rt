@@ -63,10 +63,7 @@ fn decode_messages<A: Allocator + Copy>(
         AreMessagesDecoded (words_of program.now) harts announced messages.entry (events_in outcome.harts.items)
         outcome.closed.items outcome.fault) }
 {
-    let mut receiver = match Receiver::new(alloc, harts) {
-        Ok(receiver) => receiver,
-        Err(fault) => return Err(fault),
-    };
+    let mut receiver = Receiver::new(alloc, harts)?;
     let fault = collect(&mut receiver, program, announced, messages);
     let (harts, closed) = receiver.into_parts();
     Ok(CaptureOutcome {
@@ -86,10 +83,7 @@ fn decode_nothing<A: Allocator + Copy>(
         (events_in outcome.harts.items ≡ replicate harts []) × (outcome.closed.items ≡ replicate harts false)
         × (outcome.fault ≡ Some (0, fault))) }
 {
-    let receiver = match Receiver::new(alloc, harts) {
-        Ok(receiver) => receiver,
-        Err(fault) => return Err(fault),
-    };
+    let receiver = Receiver::new(alloc, harts)?;
     let (harts, closed) = receiver.into_parts();
     Ok(CaptureOutcome {
         harts,

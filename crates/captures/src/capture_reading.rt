@@ -64,10 +64,8 @@ pub fn read_messages<A: Allocator>(alloc: A, bytes: &[u8]) -> Result<WholeCaptur
         Ok(header) => header,
         Err(fault) => return Err(ReadFault::Message(0, fault)),
     };
-    match all_messages(alloc, left) {
-        Ok(messages) => Ok(WholeCapture { header, messages }),
-        Err(fault) => Err(fault),
-    }
+    let messages = all_messages(alloc, left)?;
+    Ok(WholeCapture { header, messages })
 }
 
 /// All messages of these bytes.

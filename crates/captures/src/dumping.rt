@@ -42,10 +42,7 @@ pub fn dump_capture<W: Write>(capture: &[u8], sink: &mut W) -> Result<Dumped, Wr
     let mut messages = Messages::new(capture);
     match messages.header() {
         Ok(Some(header)) => {
-            match write_header_line(sink, &header) {
-                Ok(()) => {}
-                Err(fault) => return Err(fault),
-            }
+            write_header_line(sink, &header)?;
             dump_messages(messages, header.mode, sink)
         }
         Ok(None) => dump_messages(messages, Mode::Differential, sink),
@@ -103,10 +100,7 @@ fn dump_messages<W: Write>(
     loop {
         match messages.next() {
             Ok(Some(message)) => {
-                match write_message_line(sink, mode, &message) {
-                    Ok(is_bad) => bad |= is_bad,
-                    Err(fault) => return Err(fault),
-                }
+                bad |= write_message_line(sink, mode, &message)?;
                 count += 1;
             }
             Ok(None) => return Ok(Dumped { bad, fault: None }),

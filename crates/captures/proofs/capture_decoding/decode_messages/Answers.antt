@@ -10,5 +10,5 @@ returns g c =
     let harts = c.args.harts in
     collected_decoded words harts c.args.announced c.args.messages c.collect-fault.new.receiver c.collect-fault.result
     (events_in c.into_parts-harts.result.0.items) c.into_parts-harts.result.1.items
-    (c.collect-fault.ensures harts (c.in-Ok.ensures (λ hart. words)))
+    (c.collect-fault.ensures harts (c.in_ok-receiver.ensures (λ hart. words)))
     (c.into_parts-harts.ensures.decoded (λ hart. words) harts)

@@ -11,7 +11,7 @@ returns g c =
     let lists = events_in c.into_parts-harts.result.0.items in
     let closed = c.into_parts-harts.result.1.items in
     let decoded = c.into_parts-harts.ensures.decoded (λ hart. words) c.args.harts []
-    (c.in-Ok.ensures (λ hart. words)).holds
+    (c.in_ok-receiver.ensures (λ hart. words)).holds
     in (
       no_lists words c.args.harts lists closed decoded,
       none_closed words c.args.harts lists closed decoded,

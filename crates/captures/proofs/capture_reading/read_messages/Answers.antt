@@ -1,5 +1,6 @@
 -- What was read behind a header or without one: by laws on captures, which no tactic finds.
 use Rattle.std.proofs.Common.{Ok, Err, refl, ap, subst}
+use Rattle.std.proofs.lemmas.Result.{err_from_is_err_and}
 use Rattle.message.specs.Header.{HasBadHeader, IsCutHeader}
 use Rattle.captures.proofs.HeaderFaults.{no_header}
 use Rattle.captures.proofs.WholeCaptures.{begins_with, never_both, stops_behind, whole_of, whole_only}
@@ -27,22 +28,24 @@ returns-in-Err-clause-memory g c = λ header messages whole.
     never_both c.args.bytes.now header messages (fault.Message 0 c.in-Err.fault) whole
     (AtHeader (record { first = refl; none = none }))
 
-pub returns-in-Ok-all_messages-clause-reads_back : goal.returns-in-Ok-all_messages-clause-reads_back
-returns-in-Ok-all_messages-clause-reads_back g c = λ header messages whole.
-    whole_only c.args.bytes.now c.in-Ok.header header c.in-Ok-all_messages.messages.items messages
-    (whole_of c.args.bytes.now c.header.new.self c.in-Ok.header c.in-Ok-all_messages.messages.items
-    (begins g (goal.at.returns-in-Ok-all_messages-clause-reads_back g c).After-all_messages)
-    c.in-Ok-all_messages.ensures.read) whole
+pub returns-clause-reads_back : goal.returns-clause-reads_back
+returns-clause-reads_back g c = λ header messages whole.
+    whole_only c.args.bytes.now c.in-Ok.header header c.in_ok-messages.messages.items messages
+    (whole_of c.args.bytes.now c.header.new.self c.in-Ok.header c.in_ok-messages.messages.items
+    (begins g (goal.at.returns-clause-reads_back g c).After-all_messages)
+    c.in_ok-messages.ensures.read) whole
 
-pub returns-in-Err-all_messages-clause-fault : goal.returns-in-Err-all_messages-clause-fault
-returns-in-Err-all_messages-clause-fault g c =
-    stops_behind c.args.bytes.now c.header.new.self c.in-Ok.header c.in-Err-all_messages.fault
-    (begins g (goal.at.returns-in-Err-all_messages-clause-fault g c).After-all_messages)
-    c.in-Err-all_messages.ensures.fault
+pub returns-in_err-messages-clause-fault : goal.returns-in_err-messages-clause-fault
+returns-in_err-messages-clause-fault g c =
+    let made = err_from_is_err_and c.from_residual.result c.from_residual.ensures.1 in
+    rw (made.1, made.2) (stops_behind c.args.bytes.now c.header.new.self c.in-Ok.header c.in_err-messages.field-0.0
+    (begins g (goal.at.returns-in_err-messages-clause-fault g c).After-all_messages)
+    c.in_err-messages.ensures.fault)
 
-pub returns-in-Err-all_messages-clause-memory : goal.returns-in-Err-all_messages-clause-memory
-returns-in-Err-all_messages-clause-memory g c = λ header messages whole.
-    never_both c.args.bytes.now header messages c.in-Err-all_messages.fault whole
-    (stops_behind c.args.bytes.now c.header.new.self c.in-Ok.header c.in-Err-all_messages.fault
-    (begins g (goal.at.returns-in-Err-all_messages-clause-memory g c).After-all_messages)
-    c.in-Err-all_messages.ensures.fault)
+pub returns-in_err-messages-clause-memory : goal.returns-in_err-messages-clause-memory
+returns-in_err-messages-clause-memory g c = λ header messages whole.
+    let made = err_from_is_err_and c.from_residual.result c.from_residual.ensures.1 in
+    rw (made.1, made.2) (never_both c.args.bytes.now header messages c.in_err-messages.field-0.0 whole
+    (stops_behind c.args.bytes.now c.header.new.self c.in-Ok.header c.in_err-messages.field-0.0
+    (begins g (goal.at.returns-in_err-messages-clause-memory g c).After-all_messages)
+    c.in_err-messages.ensures.fault))

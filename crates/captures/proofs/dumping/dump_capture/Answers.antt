@@ -1,7 +1,7 @@
 -- What the bytes begin with decides which dump it is: the lemmas on each case are handed over, which no tactic finds.
 use Rattle.std.proofs.Common.{◌≡◌, ◌++◌, ◌∙◌, Ok, Err, ap, arith, subst, sym}
 use Rattle.std.specs.Prelude.{IfSome}
-use Rattle.std.proofs.lemmas.Result.{IfOk-weaker, on_err_weaker}
+use Rattle.std.proofs.lemmas.Result.{IfOk-weaker, err_from_is_err_and, on_err_weaker}
 use Rattle.payload.specs.declared.mode.Mode.TheVariants.{Differential}
 use Rattle.message.specs.Header.{HasBadHeader, IsCutHeader, IsHeader, IsMarked, header_bytes}
 use Rattle.message.specs.steps.Filling.{AreBytes}
@@ -27,29 +27,34 @@ module _ (g : _) (c : After-write_header_line g) where
       AreBytes-behind (header_bytes c.in-Ok-Some.header) c.header.new.self
       (subst AreBytes headed.1 (λ k. let fits = c.type_inv.capture k in omega (arith, fits)))
 
-pub returns-in-Err-write_header_line-clause-begun : goal.returns-in-Err-write_header_line-clause-begun
-returns-in-Err-write_header_line-clause-begun g c =
-    let after = (goal.at.returns-in-Err-write_header_line-clause-begun g c).After-write_header_line in
+pub returns-in_err-write_header_line-in-Ok-Some-clause-begun :
+    goal.returns-in_err-write_header_line-in-Ok-Some-clause-begun
+returns-in_err-write_header_line-in-Ok-Some-clause-begun g c =
+    let after = (goal.at.returns-in_err-write_header_line-in-Ok-Some-clause-begun g c).After-write_header_line in
     let is = headed g after in
-    line_begun c.args.capture.now c.in-Ok-Some.header c.header.new.self is.0 is.1 _ _ (rest_bytes g after)
-    c.write_header_line.ensures.begun
+    let made = err_from_is_err_and c.from_residual.result c.from_residual.ensures.1 in
+    rw made.1 (line_begun c.args.capture.now c.in-Ok-Some.header c.header.new.self is.0 is.1 _ _ (rest_bytes g after)
+    c.write_header_line.ensures.begun)
 
 pub dump_messages-requires : goal.dump_messages-requires
 dump_messages-requires g c = rest_bytes g (goal.at.dump_messages-requires g c).After-write_header_line
 
-pub returns-in-Ok-clause-dumped : goal.returns-in-Ok-clause-dumped
-returns-in-Ok-clause-dumped g c =
-    let is = headed g (goal.at.returns-in-Ok-clause-dumped g c).After-write_header_line in
+pub returns-in_ok-write_header_line-in-Ok-Some-clause-dumped :
+    goal.returns-in_ok-write_header_line-in-Ok-Some-clause-dumped
+returns-in_ok-write_header_line-in-Ok-Some-clause-dumped g c =
+    let is = headed g (goal.at.returns-in_ok-write_header_line-in-Ok-Some-clause-dumped g c).After-write_header_line in
     IfOk-weaker c.dump_messages.result _ _
     (λ dumped. headed_dumped c.args.capture.now c.in-Ok-Some.header c.header.new.self is.0 is.1 _ _ _
-    c.in-Ok.ensures.text dumped.bad dumped.fault)
+    c.in_ok-write_header_line-in-Ok-Some.ensures.text dumped.bad dumped.fault)
     c.dump_messages.ensures.dumped
 
-pub returns-in-Ok-clause-begun : goal.returns-in-Ok-clause-begun
-returns-in-Ok-clause-begun g c =
-    let is = headed g (goal.at.returns-in-Ok-clause-begun g c).After-write_header_line in
+pub returns-in_ok-write_header_line-in-Ok-Some-clause-begun :
+    goal.returns-in_ok-write_header_line-in-Ok-Some-clause-begun
+returns-in_ok-write_header_line-in-Ok-Some-clause-begun g c =
+    let is = headed g (goal.at.returns-in_ok-write_header_line-in-Ok-Some-clause-begun g c).After-write_header_line in
     on_err_weaker c.dump_messages.result
-    (headed_begun c.args.capture.now c.in-Ok-Some.header c.header.new.self is.0 is.1 _ _ _ c.in-Ok.ensures.text)
+    (headed_begun c.args.capture.now c.in-Ok-Some.header c.header.new.self is.0 is.1 _ _ _
+    c.in_ok-write_header_line-in-Ok-Some.ensures.text)
     c.dump_messages.ensures.begun
 
 pub returns-in-Ok-None-clause-dumped : goal.returns-in-Ok-None-clause-dumped
