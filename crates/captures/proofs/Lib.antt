@@ -1,5 +1,6 @@
 pub mod MessageTexts
 pub mod Elements
+pub mod FoundInFront
 pub mod CapturesSplit
 pub mod SoundLogs
 pub mod LogMessages
