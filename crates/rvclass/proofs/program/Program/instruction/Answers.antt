@@ -11,15 +11,28 @@ overflow_sub-place c =
 pub half_of-code-requires : goal.half_of-code-requires
 half_of-code-requires c =
     let s = words_stand _ _ _ (sym c.word_of.ensures ∙ c.in_ok-class.was) in
-    omega (arith, s.from, s.until, c.if-length-eq2.true, ap length c.deref.ensures.value,
-    ap length c.deref-then-length-eq2.ensures.value)
+    omega (
+      arith,
+      s.from,
+      s.until,
+      c.if-length-eq2.true,
+      ap length c.deref.ensures.value,
+      ap length c.deref-then-length-eq2.ensures.value,
+    )
 
 pub word_at-code-requires : goal.word_at-code-requires
 word_at-code-requires c =
     let e = sym c.word_of.ensures ∙ c.in_ok-class.was in
     let s = words_stand _ _ _ e in
-    omega (arith, s.from, s.until, words_length _ _ _ e, c.if-length-eq2.false, ap length c.deref.ensures.value,
-    ap length c.deref-else-length-eq2.ensures.value)
+    omega (
+      arith,
+      s.from,
+      s.until,
+      words_length _ _ _ e,
+      c.if-length-eq2.false,
+      ap length c.deref.ensures.value,
+      ap length c.deref-else-length-eq2.ensures.value,
+    )
 
 pub returns-then-length-eq2 : goal.returns-then-length-eq2
 returns-then-length-eq2 c =

@@ -1,3 +1,0 @@
-pub mod AuditText
-pub mod Audited
-pub mod steps
