@@ -46,18 +46,9 @@ pub fn decode<'a, F: Files, O: Write>(
         ⊎ BeginsPrinted (Decodes (F.content files.old) asked.now) (O.contents out.old) (O.contents out.new) }
     ensures cut { IsCutOf (Decodes (F.content files.old) asked.now) (O.contents out.old) (O.contents out.new) }
 {
-    let base = match base_of(asked.base) {
-        Ok(base) => base,
-        Err(why) => return Err(why),
-    };
-    let program = match program_of(files, base, asked.image) {
-        Ok(program) => program,
-        Err(why) => return Err(why),
-    };
-    let bytes = match content_of(files, asked.capture) {
-        Ok(bytes) => bytes,
-        Err(why) => return Err(why),
-    };
+    let base = base_of(asked.base)?;
+    let program = program_of(files, base, asked.image)?;
+    let bytes = content_of(files, asked.capture)?;
     let capture = bytes.as_slice();
     if asked.lossy {
         decode_lossy(alloc, &program, asked.harts, capture, out)

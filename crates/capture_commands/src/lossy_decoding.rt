@@ -41,17 +41,9 @@ pub(crate) fn decode_lossy<'a, O: Write>(
         (HasPieces harts program.now bytes.now) result (O.contents out.old) (O.contents out.new) }
     ensures cut { IsCutOf (WritesPieces harts program.now bytes.now) (O.contents out.old) (O.contents out.new) }
 {
-    let pieces = match pieces_of(alloc, program, harts, bytes) {
-        Ok(pieces) => pieces,
-        Err(fault) => return Err(fault),
-    };
-    match write_pieces(alloc, pieces.as_slice(), out) {
-        Ok(()) => {}
-        Err(fault) => return Err(fault),
-    }
-    if out.flush().is_err() {
-        return Err(Fault::Output);
-    }
+    let pieces = pieces_of(alloc, program, harts, bytes)?;
+    write_pieces(alloc, pieces.as_slice(), out)?;
+    out.flush()?;
     ended(pieces.as_slice())
 }
 

@@ -86,20 +86,18 @@ module _ (content : Content) (most : ℕ) (text : List ℕ) (image : Path) (item
         → (why ≡ fault.Memory) ⊎ IsAskedProgram content most text image paths (Err why)
         → PrintsUnlessDenied (First (IsAskedProgram content most text image items) Next) CanWrite ended out out
     program_ends Next none =
-        let Run = First (IsAskedProgram content most text image items) Next in
-        subst (λ r. PrintsUnlessDenied Run CanWrite r out out) (sym is)
-        (ends_silently Run CanWrite (IsAskedProgram content most text image paths (Err why)) why out none
-        (λ none. (Err why, program_there (Err why) none, refl)))
+        ends_silently (First (IsAskedProgram content most text image items) Next) CanWrite
+        (IsAskedProgram content most text image paths (Err why)) why ended out is none
+        (λ none. (Err why, program_there (Err why) none, refl))
 
     -- There is no program, so there are no logs.
     pub no_logs : (Next : List ProgramLog → Printed → Type 0)
         → (why ≡ fault.Memory) ⊎ IsAskedProgram content most text image paths (Err why)
         → PrintsUnlessDenied (First (AreAskedLogs content most text image items) Next) CanWrite ended out out
     no_logs Next none =
-        let Run = First (AreAskedLogs content most text image items) Next in
-        subst (λ r. PrintsUnlessDenied Run CanWrite r out out) (sym is)
-        (ends_silently Run CanWrite (IsAskedProgram content most text image paths (Err why)) why out none
-        (λ none. (Err why, (Err why, program_there (Err why) none, refl), refl)))
+        ends_silently (First (AreAskedLogs content most text image items) Next) CanWrite
+        (IsAskedProgram content most text image paths (Err why)) why ended out is none
+        (λ none. (Err why, (Err why, program_there (Err why) none, refl), refl))
 
     -- A log is not legal.
     pub logs_end : (Next : List ProgramLog → Printed → Type 0) (program : Image) (known : Content)
@@ -107,7 +105,6 @@ module _ (content : Content) (most : ℕ) (text : List ℕ) (image : Path) (item
         → (why ≡ fault.Memory) ⊎ AreLegalLogs known program paths (Err why)
         → PrintsUnlessDenied (First (AreAskedLogs content most text image items) Next) CanWrite ended out out
     logs_end Next program known found kept none =
-        let Run = First (AreAskedLogs content most text image items) Next in
-        subst (λ r. PrintsUnlessDenied Run CanWrite r out out) (sym is)
-        (ends_silently Run CanWrite (AreLegalLogs known program paths (Err why)) why out none
-        (λ none. (Err why, logs_there program known (Err why) found kept none, refl)))
+        ends_silently (First (AreAskedLogs content most text image items) Next) CanWrite
+        (AreLegalLogs known program paths (Err why)) why ended out is none
+        (λ none. (Err why, logs_there program known (Err why) found kept none, refl))

@@ -1,17 +1,13 @@
 -- What a run prints, from what it wrote.
-use Rattle.std.proofs.Common.{◌≡◌, ◌⊎◌, inl, inr, ℕ, sym, subst, ◌∙◌, append-nil, List, [], Option, Some, None, Result}
+use Rattle.std.proofs.Common.{◌≡◌, ◌⊎◌, inl, inr, refl, ℕ, sym, subst, ◌∙◌, List, [], Option, Some, None, Result}
 use Rattle.std.proofs.Common.{Ok, Err}
+use Rattle.std.proofs.KnownBytes.{Appends-nil}
 use Rattle.std.specs.Prelude.{IfErr, IfOk, OnOk}
 use Rattle.std.specs.Io.KnownBytes.{Appends, Keeps}
 use Rattle.command_inputs.specs.Printed.{IsPrinted, Printed, PrintsUnlessDenied, silent}
 use Rattle.command_inputs.specs.declared.fault.Fault.{Fault}
 use Rattle.command_inputs.specs.declared.fault.Fault.TheVariants as fault
 use Rattle.command_inputs.specs.declared.status.Status.{Status}
-
--- What is left alone has nothing appended.
-pub appends-nothing : (old : Option (List ℕ)) → Appends old old []
-appends-nothing None = tt
-appends-nothing (Some bytes) = sym (append-nil bytes)
 
 -- Bytes were appended, and then nothing more.
 pub appends-keeps : (old mid new : Option (List ℕ)) (bytes : List ℕ) → Appends old mid bytes → Keeps mid new
@@ -21,13 +17,22 @@ appends-keeps (Some xs) None new bytes first then = elim first [ ]
 appends-keeps (Some xs) (Some ys) None bytes first then = elim then [ ]
 appends-keeps (Some xs) (Some ys) (Some zs) bytes first then = then ∙ first
 
--- A fault that is found before anything is written, unless memory was refused.
-pub ends_silently : (Prints : Printed → Type 0) (CanWrite Finds : Type 0) (why : Fault) (old : Option (List ℕ))
-    → (why ≡ fault.Memory) ⊎ Finds → (Finds → Prints (silent why)) → PrintsUnlessDenied Prints CanWrite (Err why) old
-    old
-ends_silently Prints CanWrite Finds why old (inl denied) prints = inl (inl denied)
-ends_silently Prints CanWrite Finds why old (inr finds) prints =
-    inr (record { text = []; prints = prints finds; appended = appends-nothing old })
+-- A fault that is found before anything is written ends the run, unless memory was refused.
+pub ends_silently : (Prints : Printed → Type 0) (CanWrite Finds : Type 0) (why : Fault) (ended : Result Status Fault)
+    (old : Option (List ℕ)) → ended ≡ Err why → (why ≡ fault.Memory) ⊎ Finds → (Finds → Prints (silent why))
+    → PrintsUnlessDenied Prints CanWrite ended old old
+ends_silently Prints CanWrite Finds why ended old is (inl denied) prints =
+    subst (λ r. PrintsUnlessDenied Prints CanWrite r old old) (sym is) (inl (inl denied))
+ends_silently Prints CanWrite Finds why ended old is (inr finds) prints =
+    subst (λ r. PrintsUnlessDenied Prints CanWrite r old old) (sym is)
+    (inr (record { text = []; prints = prints finds; appended = Appends-nil old }))
+
+-- The output failed once the run could write.
+pub output_failed : (Prints : Printed → Type 0) (CanWrite : Type 0) (ended : Result Status Fault)
+    (old new : Option (List ℕ)) → ended ≡ Err fault.Output → CanWrite
+    → PrintsUnlessDenied Prints CanWrite ended old new
+output_failed Prints CanWrite ended old new is can =
+    subst (λ r. PrintsUnlessDenied Prints CanWrite r old new) (sym is) (inl (inr (refl, can)))
 
 -- A text was written and the run ended so, unless the output failed.
 pub written : (Prints : Printed → Type 0) (CanWrite : Type 0) (text : List ℕ) (status : Status)

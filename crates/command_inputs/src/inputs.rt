@@ -146,10 +146,7 @@ pub fn legal_logs_of<'a, 'p, F: Files>(
 {
     let mut logs = Vec::new(alloc);
     for path in paths {
-        let log = match legal_log_of(alloc, files, program, path) {
-            Ok(log) => log,
-            Err(why) => return Err(why),
-        };
+        let log = legal_log_of(alloc, files, program, path)?;
         if logs.push(log).is_err() {
             return Err(Fault::Memory);
         }

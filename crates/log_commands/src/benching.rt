@@ -1,6 +1,7 @@
 //! The subcommand `bench`.
 
 ghost use Rattle.std.specs.Prelude.{◌≡◌, ◌⊎◌, IfErr, IfOk, IfSome, Ok, Err, length};
+ghost use Rattle.std.specs.Thread.{IsSync};
 ghost use Rattle.retire.specs.Number.{number_of};
 ghost use Rattle.funnel.specs.Limits.{most_ports};
 ghost use Rattle.bench.specs.Beginnings.{AreBeginnings};
@@ -12,9 +13,10 @@ ghost use Rattle.command_inputs.specs.Printed.{PrintsUnlessDenied};
 ghost use Rattle.log_commands.specs.Benching.{Benches, BenchesLogs, CanBench, CanBenchLogs};
 ghost use Rattle.log_commands.specs.Sending.{IsSetting, config_at};
 
+use crate::legal_logs::{AskedLogs, OnLogs, over_legal_logs};
 use crate::reporting::end_with_report;
 use bench::{Config, Open, Outcome, run};
-use command_inputs::{Fault, Files, Status, asked_program, legal_logs_of};
+use command_inputs::{Fault, Files, Status};
 use funnel::MOST_PORTS;
 use legalpath::LegalLog;
 use std::alloc::Global;
@@ -42,14 +44,37 @@ pub fn bench<'a, F: Files, O: Write, R: Threads + Wait + Sync>(
         (O.contents out.old) (O.contents out.new) }
     ensures cut { IsCutOf (Benches (F.content files.old) asked.now) (O.contents out.old) (O.contents out.new) }
 {
-    let paths = asked.logs.as_slice();
-    let program = match asked_program(files, MOST_PORTS, asked.base, asked.image, paths) {
-        Ok(program) => program,
-        Err(why) => return Err(why),
+    let logs = AskedLogs {
+        most: MOST_PORTS,
+        base: asked.base,
+        image: asked.image,
+        paths: &asked.logs,
     };
-    match legal_logs_of(alloc, files, &program, paths) {
-        Ok(logs) => bench_logs(alloc, rt, asked, logs.as_slice(), out),
-        Err(why) => Err(why),
+    over_legal_logs(alloc, files, &logs, &OverThreads { rt, asked }, out)
+}
+
+/// A run of `bench`, over threads of this runtime.
+#[derive(Drop)]
+struct OverThreads<'a, 'b, R> {
+    rt: &'b R,
+    asked: &'b Bench<'a>,
+}
+
+impl<'a, R: Threads + Wait + Sync> OnLogs<'a> for OverThreads<'a, '_, R> {
+    ghost Takes = { λ task count. IsSync R.row };
+
+    ghost Prints = { λ task content logs. BenchesLogs task.asked.now logs };
+
+    ghost CanWrite = { λ task content logs. CanBenchLogs task.asked.now logs };
+
+    fn go_on<F: Files, O: Write>(
+        &self,
+        alloc: Global,
+        _: &mut F,
+        logs: &[LegalLog<'_>],
+        out: &mut O,
+    ) -> Result<Status, Fault<'a>> {
+        bench_logs(alloc, self.rt, self.asked, logs, out)
     }
 }
 

@@ -42,14 +42,9 @@ pub fn check<'a, F: Files, O: Write>(
     ensures cut { IsCutOf (ChecksFirst (F.content files.old) asked.now) (O.contents out.old) (O.contents out.new) }
 {
     let paths = asked.logs.as_slice();
-    let program = match asked_program(files, MOST_HARTS, asked.base, asked.image, paths) {
-        Ok(program) => program,
-        Err(why) => return Err(why),
-    };
+    let program = asked_program(files, MOST_HARTS, asked.base, asked.image, paths)?;
     let ended = judge_all(alloc, files, &program, paths, out);
-    if out.flush().is_err() {
-        return Err(Fault::Output);
-    }
+    out.flush()?;
     ended
 }
 
@@ -70,15 +65,9 @@ fn judge_all<'a, F: Files, O: Write>(
 {
     let mut status = Status::Whole;
     for path in logs {
-        let events = match log_of(alloc, files, path) {
-            Ok(events) => events,
-            Err(why) => return Err(why),
-        };
+        let events = log_of(alloc, files, path)?;
         let illegal = illegal_row(program, events.as_slice());
-        match write_line(path, events.len(), illegal, out) {
-            Ok(()) => {}
-            Err(why) => return Err(why),
-        }
+        write_line(path, events.len(), illegal, out)?;
         if illegal.is_some() {
             status = Status::Refused;
         }
@@ -106,12 +95,9 @@ fn write_line<'a, O: Write>(
         (Appends (O.contents out.old) (O.contents out.new) (verdict_line path.now count illegal)) }
     ensures begun { AppendsBeginning (verdict_line path.now count illegal) (O.contents out.old) (O.contents out.new) }
 {
-    let written = match illegal {
-        None => write_text(out, format_args!("{path}: legal, {count} events\n")),
-        Some(fault) => write_text(out, format_args!("{path}: {fault}\n")),
-    };
-    match written {
-        Ok(()) => Ok(()),
-        Err(_) => Err(Fault::Output),
+    match illegal {
+        None => write_text(out, format_args!("{path}: legal, {count} events\n"))?,
+        Some(fault) => write_text(out, format_args!("{path}: {fault}\n"))?,
     }
+    Ok(())
 }

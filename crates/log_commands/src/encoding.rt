@@ -1,6 +1,6 @@
 //! The subcommand `encode`.
 
-ghost use Rattle.std.specs.Prelude.{◌≡◌, ◌≤◌, Err, IfErr, IfOk, IfSome, OnOk, length};
+ghost use Rattle.std.specs.Prelude.{⊤, ◌≡◌, ◌≤◌, Err, IfErr, IfOk, IfSome, OnOk, length};
 ghost use Rattle.std.specs.Io.KnownBytes.{Appends};
 ghost use Rattle.message.specs.Version.{most_harts};
 ghost use Rattle.output.specs.Begun.{AppendsBeginning};
@@ -9,10 +9,11 @@ ghost use Rattle.command_inputs.specs.Begun.{IsCutOf};
 ghost use Rattle.command_inputs.specs.Faults.{final_status};
 ghost use Rattle.command_inputs.specs.Order.{logs_fault};
 ghost use Rattle.command_inputs.specs.Printed.{PrintsUnlessDenied};
-ghost use Rattle.log_commands.specs.Encoding.{CanEncode, Encodes, written};
+ghost use Rattle.log_commands.specs.Encoding.{CanEncode, Encodes, WritesMessages, written};
 
+use crate::legal_logs::{AskedLogs, OnLogs, over_legal_logs};
 use captures::{encode_capture, encode_hex};
-use command_inputs::{Fault, Files, Status, asked_program, legal_logs_of};
+use command_inputs::{Fault, Files, Status};
 use legalpath::LegalLog;
 use std::alloc::Global;
 use std::io::Write;
@@ -37,15 +38,31 @@ pub fn encode<'a, F: Files, O: Write>(
         (O.contents out.old) (O.contents out.new) }
     ensures cut { IsCutOf (Encodes (F.content files.old) asked.now) (O.contents out.old) (O.contents out.new) }
 {
-    let paths = asked.logs.as_slice();
     let most = asked.version.most_harts();
-    let program = match asked_program(files, most, asked.base, asked.image, paths) {
-        Ok(program) => program,
-        Err(why) => return Err(why),
+    let logs = AskedLogs {
+        most,
+        base: asked.base,
+        image: asked.image,
+        paths: &asked.logs,
     };
-    match legal_logs_of(alloc, files, &program, paths) {
-        Ok(logs) => encode_logs(asked, logs.as_slice(), out),
-        Err(why) => Err(why),
+    over_legal_logs(alloc, files, &logs, asked, out)
+}
+
+impl<'a> OnLogs<'a> for Encode<'a> {
+    ghost Takes = { λ asked count. (1 ≤ asked.period) × (1 ≤ count) × (count ≤ most_harts asked.version) };
+
+    ghost Prints = { λ asked content logs. WritesMessages asked logs };
+
+    ghost CanWrite = { λ asked content logs. ⊤ };
+
+    fn go_on<F: Files, O: Write>(
+        &self,
+        _: Global,
+        _: &mut F,
+        logs: &[LegalLog<'_>],
+        out: &mut O,
+    ) -> Result<Status, Fault<'a>> {
+        encode_logs(self, logs, out)
     }
 }
 

@@ -7,6 +7,7 @@
 mod benching;
 mod checking;
 mod encoding;
+mod legal_logs;
 mod replaying;
 mod reporting;
 

@@ -13,9 +13,10 @@ ghost use Rattle.command_inputs.specs.Printed.{PrintsUnlessDenied};
 ghost use Rattle.log_commands.specs.Replaying.{CanReplay, CanReplayLogs, AreGot, IsSchedule, Replays, ReplaysLogs};
 ghost use Rattle.log_commands.specs.Sending.{IsSetting, config_at};
 
+use crate::legal_logs::{AskedLogs, OnLogs, over_legal_logs};
 use crate::reporting::end_with_report;
 use bench::{Config, Outcome};
-use command_inputs::{Fault, Files, Status, asked_program, content_of, legal_logs_of};
+use command_inputs::{Fault, Files, Status, content_of};
 use funnel::Turn;
 use legalpath::LegalLog;
 use message::MOST_HARTS;
@@ -42,14 +43,30 @@ pub fn replay<'a, F: Files, O: Write>(
         (O.contents out.old) (O.contents out.new) }
     ensures cut { IsCutOf (Replays (F.content files.old) asked.now) (O.contents out.old) (O.contents out.new) }
 {
-    let paths = asked.logs.as_slice();
-    let program = match asked_program(files, MOST_HARTS, asked.base, asked.image, paths) {
-        Ok(program) => program,
-        Err(why) => return Err(why),
+    let logs = AskedLogs {
+        most: MOST_HARTS,
+        base: asked.base,
+        image: asked.image,
+        paths: &asked.logs,
     };
-    match legal_logs_of(alloc, files, &program, paths) {
-        Ok(logs) => replay_logs(alloc, files, asked, logs.as_slice(), out),
-        Err(why) => Err(why),
+    over_legal_logs(alloc, files, &logs, asked, out)
+}
+
+impl<'a> OnLogs<'a> for Replay<'a> {
+    ghost Takes = { λ asked count. count ≤ most_harts Two };
+
+    ghost Prints = { λ asked content logs. ReplaysLogs content asked logs };
+
+    ghost CanWrite = { λ asked content logs. CanReplayLogs content asked logs };
+
+    fn go_on<F: Files, O: Write>(
+        &self,
+        alloc: Global,
+        files: &mut F,
+        logs: &[LegalLog<'_>],
+        out: &mut O,
+    ) -> Result<Status, Fault<'a>> {
+        replay_logs(alloc, files, self, logs, out)
     }
 }
 

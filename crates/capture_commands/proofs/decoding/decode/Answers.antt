@@ -1,9 +1,12 @@
 -- The prover tries no chain of steps by itself: what each step found is handed to it, in order.
-use Rattle.std.proofs.Common.{Bool, Err, List, Ok, Option, Result, false, refl, subst, true, ℕ, ◌≡◌, ◌⊎◌}
+use Rattle.std.proofs.Common.{Bool, Err, List, Ok, Option, Result, ap, arith, false, inr, refl, subst, sym, true, ℕ, ◌≡◌, ◌∙◌, ◌⊎◌}
+use Rattle.std.proofs.lemmas.Grind.{common_steps}
+use Rattle.std.specs.Prelude.{IfSome}
 use Rattle.subcommands.specs.declared.words.Decode.{Decode}
 use Rattle.command_inputs.specs.Begun.{IsCutOf}
-use Rattle.command_inputs.specs.Found.{IsProgramAt, IsRead}
+use Rattle.command_inputs.specs.Found.{IsBase, IsProgramAt, IsRead}
 use Rattle.command_inputs.specs.Known.{Content}
+use Rattle.command_inputs.specs.Order.{base_fault}
 use Rattle.command_inputs.specs.Printed.{PrintsUnlessDenied}
 use Rattle.command_inputs.specs.declared.fault.Fault.{Fault}
 use Rattle.command_inputs.specs.declared.fault.Fault.TheVariants as fault
@@ -11,41 +14,62 @@ use Rattle.command_inputs.specs.declared.status.Status.{Status}
 use Rattle.command_inputs.proofs.Runs.{ends_silently}
 use Rattle.capture_commands.specs.Decoded.{Decodes, WritesLogs, CanDecode, CanWriteLogs}
 use Rattle.capture_commands.proofs.DecodedRuns.{logs_cut, logs_printed}
-use Rattle.capture_commands.proofs.decoding.decode.Goals.{In-Ok-content_of}
+use Rattle.capture_commands.proofs.decoding.decode.Goals.{After-as_slice-capture}
 use Rattle.capture_commands.proofs.decoding.decode.Goals as goal
 
-pub returns-in-Err-program_of-clause-printed : goal.returns-in-Err-program_of-clause-printed
-returns-in-Err-program_of-clause-printed g c =
-    let asked = c.args.asked.now in
-    let content = g.F.Files.content c.args.files.now in
-    let base = c.in-Ok.base in
-    let why = c.in-Err-program_of.why in
-    ends_silently (Decodes content asked) (CanDecode content asked) (IsProgramAt content base asked.image (Err why)) why
-    (g.O.Write.contents c.args.out.now) c.in-Err-program_of.ensures.fault
-    (λ none. (Ok base, c.in-Ok.ensures.found, (Err why, none, refl)))
+pub returns-in_err-base-clause-early : goal.returns-in_err-base-clause-early
+returns-in_err-base-clause-early g c =
+    let why = c.in_err-base.field-0.0 in
+    let is : c.from_residual.result ≡ Err why = grind (arith, common_steps) in
+    let none = c.in_err-base.ensures.none in
+    subst (λ number. IfSome (base_fault number) (λ fault. c.from_residual.result ≡ Err fault)) (sym none.1)
+    (is ∙ ap Err none.0)
 
-pub returns-in-Err-content_of-clause-printed : goal.returns-in-Err-content_of-clause-printed
-returns-in-Err-content_of-clause-printed g c =
+pub returns-in_err-base-clause-printed : goal.returns-in_err-base-clause-printed
+returns-in_err-base-clause-printed g c =
     let asked = c.args.asked.now in
     let content = g.F.Files.content c.args.files.now in
-    let base = c.in-Ok.base in
-    let program = c.in-Ok-program_of.program in
-    let why = c.in-Err-content_of.why in
+    let why = c.in_err-base.field-0.0 in
+    let is : c.from_residual.result ≡ Err why = grind (arith, common_steps) in
+    ends_silently (Decodes content asked) (CanDecode content asked) (IsBase asked.base.now (Err why)) why
+    c.from_residual.result (g.O.Write.contents c.args.out.now) is (inr c.in_err-base.ensures.found) (λ none. (Err why, none, refl))
+
+pub returns-in_err-program-clause-printed : goal.returns-in_err-program-clause-printed
+returns-in_err-program-clause-printed g c =
+    let asked = c.args.asked.now in
+    let content = g.F.Files.content c.args.files.now in
+    let base = c.in_ok-base.base in
+    let why = c.in_err-program.field-0.0 in
+    let is : c.from_residual-in_err-program.result ≡ Err why = grind (arith, common_steps) in
+    ends_silently (Decodes content asked) (CanDecode content asked) (IsProgramAt content base asked.image (Err why)) why
+    c.from_residual-in_err-program.result
+    (g.O.Write.contents c.args.out.now) is c.in_err-program.ensures.fault
+    (λ none. (Ok base, c.in_ok-base.ensures.found, (Err why, none, refl)))
+
+pub returns-in_err-bytes-clause-printed : goal.returns-in_err-bytes-clause-printed
+returns-in_err-bytes-clause-printed g c =
+    let asked = c.args.asked.now in
+    let content = g.F.Files.content c.args.files.now in
+    let base = c.in_ok-base.base in
+    let program = c.in_ok-program.program in
+    let why = c.in_err-bytes.field-0.0 in
+    let is : c.from_residual-in_err-bytes.result ≡ Err why = grind (arith, common_steps) in
     let lacked = subst (λ known. (why ≡ fault.Memory) ⊎ IsRead known asked.capture (Err why))
-    c.in-Ok-program_of.ensures.kept c.in-Err-content_of.ensures.lacked in
+    c.in_ok-program.ensures.kept c.in_err-bytes.ensures.lacked in
     ends_silently (Decodes content asked) (CanDecode content asked) (IsRead content asked.capture (Err why)) why
-    (g.O.Write.contents c.args.out.now) lacked
+    c.from_residual-in_err-bytes.result
+    (g.O.Write.contents c.args.out.now) is lacked
     (λ none. (
       Ok base,
-      c.in-Ok.ensures.found,
+      c.in_ok-base.ensures.found,
       (
         Ok program,
-        c.in-Ok-program_of.ensures.program,
+        c.in_ok-program.ensures.program,
         (Err why, none, refl),
       ),
     ))
 
-module _ (g : _) (c : In-Ok-content_of g) (slice : List ℕ) (same : slice ≡ c.in-Ok-content_of.bytes.items)
+module _ (g : _) (c : After-as_slice-capture g) (slice : List ℕ) (same : slice ≡ c.in_ok-bytes.bytes.items)
     (lossy : Bool) (is : c.args.asked.now.lossy ≡ lossy) where
   abbrev content : Content
   content = g.F.Files.content c.args.files.now
@@ -57,41 +81,41 @@ module _ (g : _) (c : In-Ok-content_of g) (slice : List ℕ) (same : slice ≡ c
   old = g.O.Write.contents c.args.out.now
 
   -- The file that was read is the capture.
-  read : IsRead content asked.capture (Ok c.in-Ok-content_of.bytes.items)
+  read : IsRead content asked.capture (Ok c.in_ok-bytes.bytes.items)
   read =
-      subst (λ known. IsRead known asked.capture (Ok c.in-Ok-content_of.bytes.items)) c.in-Ok-program_of.ensures.kept
-      c.in-Ok-content_of.ensures.held
+      subst (λ known. IsRead known asked.capture (Ok c.in_ok-bytes.bytes.items)) c.in_ok-program.ensures.kept
+      c.in_ok-bytes.ensures.held
 
   -- What is printed of the capture is what `decode` prints.
   printed : (ended : Result Status Fault) (new : Option (List ℕ))
-      → PrintsUnlessDenied (WritesLogs lossy asked.harts c.in-Ok-program_of.program slice)
-      (CanWriteLogs lossy asked.harts c.in-Ok-program_of.program slice) ended old new
+      → PrintsUnlessDenied (WritesLogs lossy asked.harts c.in_ok-program.program slice)
+      (CanWriteLogs lossy asked.harts c.in_ok-program.program slice) ended old new
       → PrintsUnlessDenied (Decodes content asked) (CanDecode content asked) ended old new
   printed ended new writes =
-      logs_printed content asked c.in-Ok.base c.in-Ok-program_of.program c.in-Ok-content_of.bytes.items
-      c.in-Ok.ensures.found c.in-Ok-program_of.ensures.program read lossy ended old new is
-      (subst (λ bytes. PrintsUnlessDenied (WritesLogs lossy asked.harts c.in-Ok-program_of.program bytes)
-      (CanWriteLogs lossy asked.harts c.in-Ok-program_of.program bytes) ended old new) same writes)
+      logs_printed content asked c.in_ok-base.base c.in_ok-program.program c.in_ok-bytes.bytes.items
+      c.in_ok-base.ensures.found c.in_ok-program.ensures.program read lossy ended old new is
+      (subst (λ bytes. PrintsUnlessDenied (WritesLogs lossy asked.harts c.in_ok-program.program bytes)
+      (CanWriteLogs lossy asked.harts c.in_ok-program.program bytes) ended old new) same writes)
 
   -- And so is a cut of it.
   cut : (new : Option (List ℕ))
-      → IsCutOf (WritesLogs lossy asked.harts c.in-Ok-program_of.program slice) old new
+      → IsCutOf (WritesLogs lossy asked.harts c.in_ok-program.program slice) old new
       → IsCutOf (Decodes content asked) old new
   cut new begins =
-      logs_cut content asked c.in-Ok.base c.in-Ok-program_of.program c.in-Ok-content_of.bytes.items
-      c.in-Ok.ensures.found c.in-Ok-program_of.ensures.program read lossy old new is
-      (subst (λ bytes. IsCutOf (WritesLogs lossy asked.harts c.in-Ok-program_of.program bytes) old new)
+      logs_cut content asked c.in_ok-base.base c.in_ok-program.program c.in_ok-bytes.bytes.items
+      c.in_ok-base.ensures.found c.in_ok-program.ensures.program read lossy old new is
+      (subst (λ bytes. IsCutOf (WritesLogs lossy asked.harts c.in_ok-program.program bytes) old new)
       same begins)
 
 pub returns-then-asked-clause-printed : goal.returns-then-asked-clause-printed
 returns-then-asked-clause-printed g c =
-    printed g (goal.at.returns-then-asked-clause-printed g c).In-Ok-content_of c.as_slice-capture.result.now
+    printed g (goal.at.returns-then-asked-clause-printed g c).After-as_slice-capture c.as_slice-capture.result.now
     c.as_slice-capture.ensures.value true c.if-asked.true c.decode_lossy.result
     (g.O.Write.contents c.decode_lossy.new.out) c.decode_lossy.ensures.printed
 
 pub returns-then-asked-clause-cut : goal.returns-then-asked-clause-cut
 returns-then-asked-clause-cut g c =
-    cut g (goal.at.returns-then-asked-clause-cut g c).In-Ok-content_of c.as_slice-capture.result.now
+    cut g (goal.at.returns-then-asked-clause-cut g c).After-as_slice-capture c.as_slice-capture.result.now
     c.as_slice-capture.ensures.value true c.if-asked.true
     (g.O.Write.contents c.decode_lossy.new.out) c.decode_lossy.ensures.cut
 
@@ -100,13 +124,13 @@ returns-then-asked-clause-begun g c = λ memory. returns-then-asked-clause-cut g
 
 pub returns-clause-printed : goal.returns-clause-printed
 returns-clause-printed g c =
-    printed g (goal.at.returns-clause-printed g c).In-Ok-content_of c.as_slice-capture.result.now
+    printed g (goal.at.returns-clause-printed g c).After-as_slice-capture c.as_slice-capture.result.now
     c.as_slice-capture.ensures.value false c.if-asked.false
     c.decode_whole.result (g.O.Write.contents c.decode_whole.new.out) c.decode_whole.ensures.printed
 
 pub returns-clause-cut : goal.returns-clause-cut
 returns-clause-cut g c =
-    cut g (goal.at.returns-clause-cut g c).In-Ok-content_of c.as_slice-capture.result.now
+    cut g (goal.at.returns-clause-cut g c).After-as_slice-capture c.as_slice-capture.result.now
     c.as_slice-capture.ensures.value false c.if-asked.false
     (g.O.Write.contents c.decode_whole.new.out) c.decode_whole.ensures.cut
 

@@ -1,5 +1,5 @@
 -- The prover tries no chain of steps by itself: what each step found is handed to it, in order.
-use Rattle.std.proofs.Common.{◌≡◌, refl, subst, sym, arith, inl, inr, ℕ, Bool, List, Option, Ok, Err}
+use Rattle.std.proofs.Common.{◌≡◌, refl, subst, arith, inr, ℕ, Bool, List, Option, Ok, Err}
 use Rattle.std.proofs.lemmas.Grind.{common_steps}
 use Rattle.output.specs.Begun.{AppendsBeginning}
 use Rattle.output.proofs.Beginnings.{begun_kept, whole_begun}
@@ -9,9 +9,8 @@ use Rattle.subcommands.specs.declared.words.Dump.{Dump}
 use Rattle.command_inputs.specs.Begun.{IsCutOf}
 use Rattle.command_inputs.specs.Found.{IsRead}
 use Rattle.command_inputs.specs.Known.{Content}
-use Rattle.command_inputs.specs.Printed.{PrintsUnlessDenied}
 use Rattle.command_inputs.specs.declared.fault.Fault.TheVariants as fault
-use Rattle.command_inputs.proofs.Runs.{appends-keeps, ends_silently, prints}
+use Rattle.command_inputs.proofs.Runs.{appends-keeps, ends_silently, output_failed, prints}
 use Rattle.capture_commands.specs.Dumping.{CanDump, Dumps, end_of_dump}
 use Rattle.capture_commands.proofs.dumping.dump.Goals.{After-flush}
 use Rattle.capture_commands.proofs.dumping.dump.Goals as goal
@@ -25,9 +24,8 @@ returns-in_err-bytes-clause-printed g c =
     let can = CanDump content asked in
     let why = c.in_err-bytes.field-0.0 in
     let is : c.from_residual.result ≡ Err why = grind (arith, common_steps) in
-    subst (λ r. PrintsUnlessDenied run can r out out) (sym is)
-    (ends_silently run can (IsRead content asked.capture (Err why)) why out c.in_err-bytes.ensures.lacked
-    (λ none. (Err why, none, refl)))
+    ends_silently run can (IsRead content asked.capture (Err why)) why c.from_residual.result out is
+    c.in_err-bytes.ensures.lacked (λ none. (Err why, none, refl))
 
 -- The capture was read, and a beginning of its dump was written.
 dump_cut : (content : Content) (asked : Dump) (bytes : List ℕ) (bad : Bool) (stop : Option (ℕ × MessageFault))
@@ -104,6 +102,6 @@ returns-in_err-flush-clause-printed g c =
     let content = g.F.Files.content c.args.files.now in
     let asked = c.args.asked.now in
     let is : c.from_residual-in_err-flush.result ≡ Err fault.Output = grind (arith, common_steps) in
-    subst (λ r. PrintsUnlessDenied (Dumps content asked) (CanDump content asked) r (g.O.Write.contents c.args.out.now)
-    (g.O.Write.contents c.flush.new.self)) (sym is)
-    (inl (inr (refl, (c.in_ok-bytes.bytes.items, c.in_ok-bytes.ensures.held, tt))))
+    output_failed (Dumps content asked) (CanDump content asked) c.from_residual-in_err-flush.result
+    (g.O.Write.contents c.args.out.now) (g.O.Write.contents c.flush.new.self) is
+    (c.in_ok-bytes.bytes.items, c.in_ok-bytes.ensures.held, tt)

@@ -1,10 +1,9 @@
 -- The prover tries no chain of steps by itself: what each step found is handed to it, in order.
-use Rattle.std.proofs.Common.{◌≡◌, inr, refl, subst, sym, arith, length, map, Ok, Err}
+use Rattle.std.proofs.Common.{◌≡◌, inr, refl, arith, length, map, Ok, Err}
 use Rattle.std.proofs.lemmas.Grind.{common_steps}
 use Rattle.bench.specs.Got.{got_of}
 use Rattle.bench.specs.Report.{is_whole, report_text}
 use Rattle.funnel.specs.Limits.{most_ports}
-use Rattle.command_inputs.specs.Printed.{PrintsUnlessDenied}
 use Rattle.command_inputs.proofs.Beginnings.{printed_begun}
 use Rattle.command_inputs.proofs.Runs.{ends_silently, written}
 use Rattle.log_commands.specs.Benching.{BenchesLogs, CanBenchLogs}
@@ -23,9 +22,8 @@ returns-in_err-outcome-clause-printed g c =
     let why = c.in_err-outcome.field-0.0 in
     let is : c.from_residual.result ≡ Err why = grind (arith, common_steps) in
     let config = config_at asked.period asked.mode asked.capacity in
-    subst (λ r. PrintsUnlessDenied run can r out out) (sym is)
-    (ends_silently run can (IsSetting most_ports (length logs) config (Err why)) why out c.in_err-outcome.ensures.fault
-    (λ none. (Err why, none, refl)))
+    ends_silently run can (IsSetting most_ports (length logs) config (Err why)) why c.from_residual.result out is
+    c.in_err-outcome.ensures.fault (λ none. (Err why, none, refl))
 
 module _ (g : _) (c : After-end_with_report g) where
   -- The report of what came of the logs may be printed.

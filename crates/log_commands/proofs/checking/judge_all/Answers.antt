@@ -3,12 +3,12 @@ use Rattle.std.proofs.Common.{◌≡◌, ◌⊎◌, ◌+◌, get_or, take, drop,
 use Rattle.std.proofs.Common.{Err, length}
 use Rattle.std.proofs.lemmas.Grind.{common_steps}
 use Rattle.std.specs.Io.KnownBytes.{Appends}
-use Rattle.std.specs.Prelude.{if◌then◌else◌, is_some}
+use Rattle.std.specs.Prelude.{⊤, if◌then◌else◌, is_some}
 use Rattle.output.specs.Begun.{AppendsBeginning}
 use Rattle.rvclass.specs.Fetch.{words_of}
 use Rattle.command_inputs.specs.Faults.{Path}
 use Rattle.command_inputs.specs.Found.{IsLog}
-use Rattle.command_inputs.specs.Printed.{IsPrinted}
+use Rattle.command_inputs.specs.Printed.{IsPrinted, PrintsUnlessDenied}
 use Rattle.command_inputs.specs.declared.fault.Fault.TheVariants as fault
 use Rattle.command_inputs.specs.declared.status.Status.TheVariants.{Refused}
 use Rattle.log_commands.specs.Checking.{IsVerdict, WritesLines, verdict_line}
@@ -16,22 +16,24 @@ use Rattle.log_commands.proofs.JudgedLogs.{first_lines, line_begun, lines_end, l
 use Rattle.log_commands.proofs.checking.judge_all.Goals as goal
 use Rattle.log_commands.proofs.checking.judge_all.Goals.{then-is_some, else-is_some}
 
-pub returns-in-Err-clause-printed : goal.returns-in-Err-clause-printed
-returns-in-Err-clause-printed g c =
+pub returns-in_err-events-clause-printed : goal.returns-in_err-events-clause-printed
+returns-in_err-events-clause-printed g c =
     let contents = g.O.Write.contents in
     let content = g.F.Files.content c.args.files.now in
     let paths = c.args.logs.now in
     let i = c.loop-path.path-index in
     let d : Path = record { ref_ptr = (0, 0); now = [] } in
-    let why = c.in-Err.why in
+    let why = c.in_err-events.field-0.0 in
+    let is : c.from_residual.result ≡ Err why = grind (arith, common_steps) in
     let unread = subst (λ known. (why ≡ fault.Memory) ⊎ IsLog known (get_or paths i d) (Err why))
-    c.loop-path.invariant.kept c.in-Err.ensures.fault in
-    lines_end content c.args.program.now paths i d c.loop-path.status (contents c.args.out.now)
-    (contents c.loop-path.out)
-    c.loop-path-test.true c.loop-path.invariant.printed why unread
+    c.loop-path.invariant.kept c.in_err-events.ensures.fault in
+    subst (λ r. PrintsUnlessDenied (WritesLines content c.args.program.now paths) ⊤ r (contents c.args.out.now)
+    (contents c.loop-path.out)) (sym is)
+    (lines_end content c.args.program.now paths i d c.loop-path.status (contents c.args.out.now)
+    (contents c.loop-path.out) c.loop-path-test.true c.loop-path.invariant.printed why unread)
 
-pub returns-in-Err-clause-begun : goal.returns-in-Err-clause-begun
-returns-in-Err-clause-begun g c = λ memory. record {
+pub returns-in_err-events-clause-begun : goal.returns-in_err-events-clause-begun
+returns-in_err-events-clause-begun g c = λ memory. record {
   front = take c.loop-path.path-index c.args.logs.now;
   rest = drop c.loop-path.path-index c.args.logs.now;
   status = c.loop-path.status;
@@ -51,15 +53,15 @@ loop-path-preserved g c =
     let mid = contents c.loop-path.out in
     let new = contents c.write_line.new.out in
     let status = c.loop-path.status in
-    let events = c.in-Ok.events.items in
+    let events = c.in_ok-events.events.items in
     let illegal = c.illegal_row-illegal.result in
     let read = subst (λ known. IsLog known (get_or paths i d) (Ok events)) c.loop-path.invariant.kept
-    c.in-Ok.ensures.log in
+    c.in_ok-events.ensures.log in
     let verdict = subst (λ log. IsVerdict (words_of program) log illegal) c.as_slice.ensures.value
     c.illegal_row-illegal.ensures in
     let count : c.len.result ≡ length events = grind (arith, common_steps) in
     let line = subst (λ count. Appends mid new (verdict_line (get_or paths i d).now count illegal)) count
-    c.in-Ok-write_line.ensures.text in
+    c.in_ok-write_line.ensures.text in
     let found : c.is_some.result ≡ is_some illegal = c.is_some.ensures in
     let now_is : c.if-is_some.status ≡ (if is_some illegal then Refused else status) = elim c.if-is_some.branch [
       | then-is_some w ↦ w.status-is ∙ ap (λ b. if b then Refused else status) (sym w.if-is_some.true ∙ found)
@@ -72,14 +74,14 @@ loop-path-preserved g c =
       kept = grind (arith, common_steps);
     }
 
-pub returns-in-Err-clause-cut : goal.returns-in-Err-clause-cut
-returns-in-Err-clause-cut g c =
+pub returns-in_err-events-clause-cut : goal.returns-in_err-events-clause-cut
+returns-in_err-events-clause-cut g c =
     first_lines (g.F.Files.content c.args.files.now) c.args.program.now c.args.logs.now c.loop-path.path-index
     c.loop-path.status
     (g.O.Write.contents c.args.out.now) (g.O.Write.contents c.loop-path.out) c.loop-path.invariant.printed
 
-pub returns-in-Err-write_line-clause-cut : goal.returns-in-Err-write_line-clause-cut
-returns-in-Err-write_line-clause-cut g c =
+pub returns-in_err-write_line-clause-cut : goal.returns-in_err-write_line-clause-cut
+returns-in_err-write_line-clause-cut g c =
     let contents = g.O.Write.contents in
     let content = g.F.Files.content c.args.files.now in
     let program = c.args.program.now in
@@ -89,10 +91,10 @@ returns-in-Err-write_line-clause-cut g c =
     let old = contents c.args.out.now in
     let mid = contents c.loop-path.out in
     let new = contents c.write_line.new.out in
-    let events = c.in-Ok.events.items in
+    let events = c.in_ok-events.events.items in
     let illegal = c.illegal_row-illegal.result in
     let read = subst (λ known. IsLog known (get_or paths i d) (Ok events)) c.loop-path.invariant.kept
-    c.in-Ok.ensures.log in
+    c.in_ok-events.ensures.log in
     let verdict = subst (λ log. IsVerdict (words_of program) log illegal) c.as_slice.ensures.value
     c.illegal_row-illegal.ensures in
     let count : c.len.result ≡ length events = grind (arith, common_steps) in

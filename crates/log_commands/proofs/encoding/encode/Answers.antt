@@ -1,109 +1,35 @@
--- The prover tries no chain of steps by itself: what each step found is handed to it, in order.
-use Rattle.std.proofs.Common.{◌≡◌, ◌⊎◌, inr, refl, subst, Ok, Err}
-use Rattle.std.specs.Prelude.{IfSome, OnOk, length}
-use Rattle.std.specs.Io.KnownBytes.{Appends}
-use Rattle.output.specs.Begun.{AppendsBeginning}
-use Rattle.message.specs.Version.{most_harts}
+-- The prover does not put the most logs of a version in the place of the number that the call returned.
+use Rattle.std.proofs.Common.{◌≡◌, subst, Err, length}
+use Rattle.std.specs.Prelude.{⊤, IfSome}
 use Rattle.retire.specs.Number.{number_of}
-use Rattle.command_inputs.specs.Found.{AreAskedLogs, IsAskedProgram}
+use Rattle.command_inputs.specs.Begun.{IsCutOf}
+use Rattle.command_inputs.specs.Finding.{Once}
+use Rattle.command_inputs.specs.Found.{AreAskedLogs}
 use Rattle.command_inputs.specs.Order.{logs_fault}
-use Rattle.command_inputs.specs.declared.fault.Fault.TheVariants as fault
-use Rattle.command_inputs.specs.declared.status.Status.TheVariants.{Whole}
-use Rattle.command_inputs.proofs.Beginnings.{printed_begun}
-use Rattle.command_inputs.proofs.FirstSteps.{early_ends, logs_end, logs_there, no_logs, passes}
-use Rattle.command_inputs.proofs.Runs as runs
-use Rattle.log_commands.specs.Encoding.{CanEncode, Encodes, WritesMessages, written}
-use Rattle.log_commands.proofs.encoding.encode.Goals.{After-encode_logs}
+use Rattle.command_inputs.specs.Printed.{First, PrintsUnlessDenied}
+use Rattle.log_commands.specs.Encoding.{WritesMessages}
 use Rattle.log_commands.proofs.encoding.encode.Goals as goal
-
-pub returns-in-Err-clause-early : goal.returns-in-Err-clause-early
-returns-in-Err-clause-early g c =
-    let asked = c.args.asked.now in
-    let why = c.in-Err.why in
-    early_ends (most_harts asked.version) asked.base.now asked.logs.items c.as_slice-paths.result.now
-    c.asked_program.result why (Err why) c.as_slice-paths.ensures.value c.in-Err.is refl
-    (subst (λ most. IfSome (logs_fault most (number_of asked.base.now) (length c.as_slice-paths.result.now))
-    (λ fault. c.asked_program.result ≡ Err fault)) c.most_harts-most.ensures c.asked_program.ensures.early)
-
-pub returns-in-Err-clause-printed : goal.returns-in-Err-clause-printed
-returns-in-Err-clause-printed g c =
-    let content = g.F.Files.content c.args.files.now in
-    let asked = c.args.asked.now in
-    let why = c.in-Err.why in
-    no_logs content (most_harts asked.version) asked.base.now asked.image asked.logs.items c.as_slice-paths.result.now
-    c.as_slice-paths.ensures.value (CanEncode content asked) (g.O.Write.contents c.args.out.now) why (Err why) refl
-    (WritesMessages asked)
-    (subst (λ most. (why ≡ fault.Memory)
-    ⊎ IsAskedProgram content most asked.base.now asked.image c.as_slice-paths.result.now (Err why))
-    c.most_harts-most.ensures c.in-Err.ensures.fault)
 
 pub returns-clause-early : goal.returns-clause-early
 returns-clause-early g c =
     let asked = c.args.asked.now in
-    passes (most_harts asked.version) asked.base.now asked.logs.items c.as_slice-paths.result.now
-    c.asked_program.result c.in-Ok.program (Err c.in-Err-legal_logs_of.why) c.as_slice-paths.ensures.value c.in-Ok.is
-    (subst (λ most. IfSome (logs_fault most (number_of asked.base.now) (length c.as_slice-paths.result.now))
-    (λ fault. c.asked_program.result ≡ Err fault)) c.most_harts-most.ensures c.asked_program.ensures.early)
+    subst (λ most. IfSome (logs_fault most (number_of asked.base.now) (length asked.logs.items))
+    (λ fault. c.over_legal_logs.result ≡ Err fault)) c.most_harts-most.ensures c.over_legal_logs.ensures.early
 
 pub returns-clause-printed : goal.returns-clause-printed
 returns-clause-printed g c =
     let content = g.F.Files.content c.args.files.now in
     let asked = c.args.asked.now in
-    let why = c.in-Err-legal_logs_of.why in
-    let program = c.in-Ok.program in
-    logs_end content (most_harts asked.version) asked.base.now asked.image asked.logs.items c.as_slice-paths.result.now
-    c.as_slice-paths.ensures.value (CanEncode content asked) (g.O.Write.contents c.args.out.now) why (Err why) refl
-    (WritesMessages asked) program (g.F.Files.content c.asked_program.new.files)
-    (subst (λ most. IsAskedProgram content most asked.base.now asked.image c.as_slice-paths.result.now (Ok program))
-    c.most_harts-most.ensures c.in-Ok.ensures.program)
-    c.in-Ok.ensures.kept c.in-Err-legal_logs_of.ensures.fault
+    subst (λ most. PrintsUnlessDenied
+    (First (AreAskedLogs content most asked.base.now asked.image asked.logs.items) (WritesMessages asked))
+    (Once (AreAskedLogs content most asked.base.now asked.image asked.logs.items) (λ _. ⊤)) c.over_legal_logs.result
+    (g.O.Write.contents c.args.out.now) (g.O.Write.contents c.over_legal_logs.new.out)) c.most_harts-most.ensures
+    c.over_legal_logs.ensures.printed
 
-pub returns-in-Ok-legal_logs_of-clause-early : goal.returns-in-Ok-legal_logs_of-clause-early
-returns-in-Ok-legal_logs_of-clause-early g c =
+pub returns-clause-cut : goal.returns-clause-cut
+returns-clause-cut g c =
     let asked = c.args.asked.now in
-    passes (most_harts asked.version) asked.base.now asked.logs.items c.as_slice-paths.result.now
-    c.asked_program.result c.in-Ok.program c.encode_logs.result c.as_slice-paths.ensures.value c.in-Ok.is
-    (subst (λ most. IfSome (logs_fault most (number_of asked.base.now) (length c.as_slice-paths.result.now))
-    (λ fault. c.asked_program.result ≡ Err fault)) c.most_harts-most.ensures c.asked_program.ensures.early)
-
-module _ (g : _) (c : After-encode_logs g) where
-  -- The logs that were found.
-  there : AreAskedLogs (g.F.Files.content c.args.files.now) (most_harts c.args.asked.now.version)
-      c.args.asked.now.base.now
-      c.args.asked.now.image c.args.asked.now.logs.items (Ok c.in-Ok-legal_logs_of.logs.items)
-  there =
-      let content = g.F.Files.content c.args.files.now in
-      let asked = c.args.asked.now in
-      let program = c.in-Ok.program in
-      logs_there content (most_harts asked.version) asked.base.now asked.image asked.logs.items
-      c.as_slice-paths.result.now c.as_slice-paths.ensures.value program (g.F.Files.content c.asked_program.new.files)
-      (Ok c.in-Ok-legal_logs_of.logs.items)
-      (subst (λ most. IsAskedProgram content most asked.base.now asked.image c.as_slice-paths.result.now (Ok program))
-      c.most_harts-most.ensures c.in-Ok.ensures.program)
-      c.in-Ok.ensures.kept c.in-Ok-legal_logs_of.ensures.logs
-
-pub returns-in-Ok-legal_logs_of-clause-printed : goal.returns-in-Ok-legal_logs_of-clause-printed
-returns-in-Ok-legal_logs_of-clause-printed g c =
-    let content = g.F.Files.content c.args.files.now in
-    let asked = c.args.asked.now in
-    let logs = c.in-Ok-legal_logs_of.logs.items in
-    let old = g.O.Write.contents c.args.out.now in
-    let new = g.O.Write.contents c.encode_logs.new.out in
-    let there = there g (goal.at.returns-in-Ok-legal_logs_of-clause-printed g c).After-encode_logs in
-    runs.written (Encodes content asked) (CanEncode content asked) (written asked logs) Whole c.encode_logs.result old
-    new
-    (Ok logs, there, refl) (logs, there, tt) c.encode_logs.ensures.fault c.encode_logs.ensures.ended
-    (subst (λ logs. OnOk c.encode_logs.result (Appends old new (written asked logs))) c.as_slice.ensures.value
-    c.encode_logs.ensures.text)
-
-pub returns-in-Ok-legal_logs_of-clause-cut : goal.returns-in-Ok-legal_logs_of-clause-cut
-returns-in-Ok-legal_logs_of-clause-cut g c =
-    let content = g.F.Files.content c.args.files.now in
-    let asked = c.args.asked.now in
-    let logs = c.in-Ok-legal_logs_of.logs.items in
-    let old = g.O.Write.contents c.args.out.now in
-    let new = g.O.Write.contents c.encode_logs.new.out in
-    inr (printed_begun (Encodes content asked) (written asked logs) (Ok Whole) old new
-    (Ok logs, there g (goal.at.returns-in-Ok-legal_logs_of-clause-cut g c).After-encode_logs, refl)
-    (subst (λ logs. AppendsBeginning (written asked logs) old new) c.as_slice.ensures.value
-    c.encode_logs.ensures.begun))
+    subst (λ most. IsCutOf
+    (First (AreAskedLogs (g.F.Files.content c.args.files.now) most asked.base.now asked.image asked.logs.items)
+    (WritesMessages asked)) (g.O.Write.contents c.args.out.now) (g.O.Write.contents c.over_legal_logs.new.out))
+    c.most_harts-most.ensures c.over_legal_logs.ensures.cut

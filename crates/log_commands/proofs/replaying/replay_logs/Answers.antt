@@ -1,12 +1,11 @@
 -- The prover tries no chain of steps by itself: what each step found is handed to it, in order.
-use Rattle.std.proofs.Common.{◌≡◌, inr, refl, subst, sym, arith, length, map, Ok, Err}
+use Rattle.std.proofs.Common.{◌≡◌, inr, refl, subst, arith, length, map, Ok, Err}
 use Rattle.std.proofs.lemmas.Grind.{common_steps}
 use Rattle.bench.specs.Got.{got_of}
 use Rattle.bench.specs.Replayed.{replayed}
 use Rattle.bench.specs.Report.{is_whole, report_text}
 use Rattle.message.specs.Version.{most_harts}
 use Rattle.message.specs.declared.header.Version.TheVariants.{Two}
-use Rattle.command_inputs.specs.Printed.{PrintsUnlessDenied}
 use Rattle.command_inputs.proofs.Beginnings.{printed_begun}
 use Rattle.command_inputs.proofs.Runs.{ends_silently, written}
 use Rattle.log_commands.specs.Replaying.{CanReplayLogs, AreGot, IsSchedule, ReplaysLogs}
@@ -25,9 +24,8 @@ returns-in_err-turns-clause-printed g c =
     let can = CanReplayLogs content asked logs in
     let why = c.in_err-turns.field-0.0 in
     let is : c.from_residual.result ≡ Err why = grind (arith, common_steps) in
-    subst (λ r. PrintsUnlessDenied run can r out out) (sym is)
-    (ends_silently run can (IsSchedule content (length logs) asked.schedule (Err why)) why out
-    c.in_err-turns.ensures.fault (λ none. (Err why, none, refl)))
+    ends_silently run can (IsSchedule content (length logs) asked.schedule (Err why)) why c.from_residual.result out is
+    c.in_err-turns.ensures.fault (λ none. (Err why, none, refl))
 
 pub returns-in_err-outcome-clause-printed : goal.returns-in_err-outcome-clause-printed
 returns-in_err-outcome-clause-printed g c =
@@ -40,10 +38,9 @@ returns-in_err-outcome-clause-printed g c =
     let why = c.in_err-outcome.field-0.0 in
     let is : c.from_residual-in_err-outcome.result ≡ Err why = grind (arith, common_steps) in
     let config = config_at asked.period asked.mode asked.capacity in
-    subst (λ r. PrintsUnlessDenied run can r out out) (sym is)
-    (ends_silently run can (IsSetting (most_harts Two) (length logs) config (Err why)) why out
-    c.in_err-outcome.ensures.fault
-    (λ none. (Ok c.in_ok-turns.turns.items, c.in_ok-turns.ensures.turns, (Err why, none, refl))))
+    ends_silently run can (IsSetting (most_harts Two) (length logs) config (Err why)) why
+    c.from_residual-in_err-outcome.result out is c.in_err-outcome.ensures.fault
+    (λ none. (Ok c.in_ok-turns.turns.items, c.in_ok-turns.ensures.turns, (Err why, none, refl)))
 
 module _ (g : _) (c : After-end_with_report g) where
   -- The report of what came of the logs may be printed.

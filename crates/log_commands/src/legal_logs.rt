@@ -1,0 +1,87 @@
+//! The steps of each subcommand that needs legal logs.
+
+ghost use Rattle.std.specs.Prelude.{◌≡◌, ◌≤◌, ℕ, Err, IfSome, List, length};
+ghost use Rattle.legalpath.specs.ProgramLog.{ProgramLog};
+ghost use Rattle.retire.specs.Number.{number_of};
+ghost use Rattle.command_inputs.specs.Begun.{IsCutOf};
+ghost use Rattle.command_inputs.specs.Faults.{final_status};
+ghost use Rattle.command_inputs.specs.Finding.{Once};
+ghost use Rattle.command_inputs.specs.Found.{AreAskedLogs};
+ghost use Rattle.command_inputs.specs.Known.{Content};
+ghost use Rattle.command_inputs.specs.Order.{logs_fault};
+ghost use Rattle.command_inputs.specs.Printed.{First, Printed, PrintsUnlessDenied};
+
+use command_inputs::{Fault, Files, Status, asked_program, legal_logs_of};
+use legalpath::LegalLog;
+use std::alloc::Global;
+use std::io::Write;
+
+/// Which logs are asked for.
+#[derive(Clone, Copy)]
+pub(crate) struct AskedLogs<'a, 'b> {
+    /// The most logs that there may be.
+    pub(crate) most: u16,
+    /// The address of the image's first byte, not yet read as a number.
+    pub(crate) base: &'a str,
+    /// The path of the image.
+    pub(crate) image: &'a str,
+    /// The paths of the logs.
+    pub(crate) paths: &'b Vec<&'a str>,
+}
+
+/// What a subcommand does with legal logs.
+pub(crate) trait OnLogs<'a> {
+    /// How many logs it takes.
+    ghost Takes: { Self → ℕ → Type 0 };
+    /// What it prints of legal logs, and how it ends, by what is known of the files.
+    ghost Prints: { Self → Content → List ProgramLog → Printed → Type 0 };
+    /// What it has found once it writes.
+    ghost CanWrite: { Self → Content → List ProgramLog → Type 0 };
+
+    /// Goes on with legal logs.
+    fn go_on<F: Files, O: Write>(
+        &self,
+        alloc: Global,
+        files: &mut F,
+        logs: &[LegalLog<'_>],
+        out: &mut O,
+    ) -> Result<Status, Fault<'a>>
+        requires { Takes self.now (length logs.now) }
+        ensures refused { final_status result ≡ Status.Refused → out.new ≡ out.old }
+        ensures untouched { result ≡ Err Fault.Memory → out.new ≡ out.old }
+        ensures printed { PrintsUnlessDenied (Prints self.now (F.content files.old) logs.now)
+            (CanWrite self.now (F.content files.old) logs.now) result (O.contents out.old) (O.contents out.new) }
+        ensures cut { IsCutOf (Prints self.now (F.content files.old) logs.now) (O.contents out.old)
+            (O.contents out.new) };
+}
+
+/// Finds the program and the legal logs that are asked for, and goes on with these.
+pub(crate) fn over_legal_logs<'a, F: Files, O: Write, T: OnLogs<'a>>(
+    alloc: Global,
+    files: &mut F,
+    asked: &AskedLogs<'a, '_>,
+    task: &T,
+    out: &mut O,
+) -> Result<Status, Fault<'a>>
+    requires { (count : ℕ) → 1 ≤ count → count ≤ asked.now.most → T.Takes task.now count }
+    ensures early { IfSome (logs_fault asked.now.most (number_of asked.now.base.now) (length asked.now.paths.now.items))
+        (λ fault. result ≡ Err fault) }
+    ensures refused { final_status result ≡ Status.Refused → out.new ≡ out.old }
+    ensures untouched { result ≡ Err Fault.Memory → out.new ≡ out.old }
+    ensures printed { PrintsUnlessDenied
+        (First (AreAskedLogs (F.content files.old) asked.now.most asked.now.base.now asked.now.image
+        asked.now.paths.now.items)
+        (T.Prints task.now (F.content files.old)))
+        (Once (AreAskedLogs (F.content files.old) asked.now.most asked.now.base.now asked.now.image
+        asked.now.paths.now.items)
+        (T.CanWrite task.now (F.content files.old))) result (O.contents out.old) (O.contents out.new) }
+    ensures cut { IsCutOf
+        (First (AreAskedLogs (F.content files.old) asked.now.most asked.now.base.now asked.now.image
+        asked.now.paths.now.items)
+        (T.Prints task.now (F.content files.old))) (O.contents out.old) (O.contents out.new) }
+{
+    let paths = asked.paths.as_slice();
+    let program = asked_program(files, asked.most, asked.base, asked.image, paths)?;
+    let logs = legal_logs_of(alloc, files, &program, paths)?;
+    task.go_on(alloc, files, logs.as_slice(), out)
+}
