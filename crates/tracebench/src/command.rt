@@ -49,7 +49,7 @@ pub fn command<F: Files, O: Write, E: Write, R: Threads + Wait + Sync>(
         E.contents err.old err.new) }
 {
     let status = match asked(alloc, words) {
-        Ok(asked) => run(alloc, rt, files, &asked, out, err),
+        Ok(asked) => run(alloc, rt, files, asked, out, err),
         Err(error) => report_words_error(err, &error),
     };
     status.code()
@@ -60,17 +60,17 @@ fn run<F: Files, O: Write, E: Write, R: Threads + Wait + Sync>(
     alloc: Global,
     rt: &R,
     files: &mut F,
-    asked: &Asked<'_>,
+    asked: Asked<'_>,
     out: &mut O,
     err: &mut E,
 ) -> Status
-    requires { IsWithinLimits asked.now }
+    requires { IsWithinLimits asked }
     ensures quiet { result ≡ Status.Whole → err.new ≡ err.old }
-    ensures refused { ¬ IsCheck asked.now → result ≡ Status.Refused → out.new ≡ out.old }
-    ensures done { IsDone (F.content files.old) asked.now result (O.contents out.old) (O.contents out.new)
+    ensures refused { ¬ IsCheck asked.entry → result ≡ Status.Refused → out.new ≡ out.old }
+    ensures done { IsDone (F.content files.old) asked.entry result (O.contents out.old) (O.contents out.new)
         E.contents err.old err.new }
 {
-    match carry_out(alloc, rt, files, asked, out) {
+    match carry_out(alloc, rt, files, &asked, out) {
         Ok(status) => status,
         Err(fault) => report_error(err, &fault),
     }

@@ -5,9 +5,7 @@ use Rattle.command_inputs.specs.declared.fault.Fault.TheVariants as fault
 use Rattle.tracebench.specs.Words.{ReportsFault}
 use Rattle.tracebench.proofs.CarriedOut.{carried_out}
 use Rattle.tracebench.proofs.command.command.Goals as goal
-use Rattle.tracebench.proofs.command.command.Goals.{in-Ok+in-Check-1, in-Ok+in-Encode-1, in-Ok+in-Dump-1}
-use Rattle.tracebench.proofs.command.command.Goals.{in-Ok+in-Replay-1}
-use Rattle.tracebench.proofs.command.command.Goals.{in-Ok+in-Bench-1, in-Err+in-Some-1, in-Err+in-None-1}
+use Rattle.tracebench.proofs.command.command.Goals.{in-Ok, in-Err+in-Some-1, in-Err+in-None-1}
 
 pub returns-clause-printed : goal.returns-clause-printed
 returns-clause-printed g c =
@@ -15,27 +13,7 @@ returns-clause-printed g c =
     let words = map string_bytes c.args.words.now in
     let err_contents = g.E.Write.contents in
     let contents = g.O.Write.contents in elim c.match-asked.branch [
-      | in-Ok+in-Check-1 w ↦ inr
-          (inr (carried_out contents err_contents content words w.in-Ok.asked w.run-status.result c.match-asked.status
-          c.code.result c.args.out.now w.run-status.new.out c.match-asked.out c.args.err.now w.run-status.new.err
-          c.match-asked.err
-          w.in-Ok.ensures.found w.status-is c.code.ensures w.out-is w.err-is w.run-status.ensures.done))
-      | in-Ok+in-Encode-1 w ↦ inr
-          (inr (carried_out contents err_contents content words w.in-Ok.asked w.run-status.result c.match-asked.status
-          c.code.result c.args.out.now w.run-status.new.out c.match-asked.out c.args.err.now w.run-status.new.err
-          c.match-asked.err
-          w.in-Ok.ensures.found w.status-is c.code.ensures w.out-is w.err-is w.run-status.ensures.done))
-      | in-Ok+in-Dump-1 w ↦ inr
-          (inr (carried_out contents err_contents content words w.in-Ok.asked w.run-status.result c.match-asked.status
-          c.code.result c.args.out.now w.run-status.new.out c.match-asked.out c.args.err.now w.run-status.new.err
-          c.match-asked.err
-          w.in-Ok.ensures.found w.status-is c.code.ensures w.out-is w.err-is w.run-status.ensures.done))
-      | in-Ok+in-Replay-1 w ↦ inr
-          (inr (carried_out contents err_contents content words w.in-Ok.asked w.run-status.result c.match-asked.status
-          c.code.result c.args.out.now w.run-status.new.out c.match-asked.out c.args.err.now w.run-status.new.err
-          c.match-asked.err
-          w.in-Ok.ensures.found w.status-is c.code.ensures w.out-is w.err-is w.run-status.ensures.done))
-      | in-Ok+in-Bench-1 w ↦ inr
+      | in-Ok w ↦ inr
           (inr (carried_out contents err_contents content words w.in-Ok.asked w.run-status.result c.match-asked.status
           c.code.result c.args.out.now w.run-status.new.out c.match-asked.out c.args.err.now w.run-status.new.err
           c.match-asked.err
