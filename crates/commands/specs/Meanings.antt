@@ -1,10 +1,11 @@
 -- What each subcommand means.
 use Rattle.subcommands.specs.declared.words.Asked.{Asked}
-use Rattle.subcommands.specs.declared.words.Asked.TheVariants.{Bench, Check, Decode, Dump, Encode, Replay}
+use Rattle.subcommands.specs.declared.words.Asked.TheVariants.{Bench, Check, Decode, Dump, Encode, Measure, Replay}
 use Rattle.command_inputs.specs.Meaning.{Meaning}
 use Rattle.log_commands.specs.Benching.{bench_meaning}
 use Rattle.log_commands.specs.Checking.{check_meaning}
 use Rattle.log_commands.specs.Encoding.{encode_meaning}
+use Rattle.log_commands.specs.Measuring.{measure_meaning}
 use Rattle.log_commands.specs.Replaying.{replay_meaning}
 use Rattle.capture_commands.specs.Decoded.{decode_meaning}
 use Rattle.capture_commands.specs.Dumping.{dump_meaning}
@@ -17,3 +18,4 @@ meaning_of (Dump asked) = dump_meaning asked
 meaning_of (Decode asked) = decode_meaning asked
 meaning_of (Replay asked) = replay_meaning asked
 meaning_of (Bench asked) = bench_meaning asked
+meaning_of (Measure asked) = measure_meaning asked

@@ -10,4 +10,4 @@ mod dispatch;
 pub use capture_commands::{decode, dump};
 pub use command_inputs::{Fault, FileFault, Files, Status, report_error};
 pub use dispatch::carry_out;
-pub use log_commands::{bench, check, encode, replay};
+pub use log_commands::{bench, check, encode, measure, replay};

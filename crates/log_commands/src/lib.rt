@@ -1,5 +1,5 @@
-//! The subcommands of `tracebench` that read logs: [`check`] judges them, [`encode`] writes their messages, [`replay`]
-//! and [`bench`] send them through the funnel and report what comes of them.
+//! The subcommands of `tracebench` that read logs: [`check`] judges them, [`encode`] writes their messages, [`measure`]
+//! counts what these cost, [`replay`] and [`bench`] send them through the funnel and report what comes of them.
 //!
 //! Each reads a base, an image and logs, in this order, and ends at the first fault.
 #![tactic(auto)]
@@ -8,10 +8,12 @@ mod benching;
 mod checking;
 mod encoding;
 mod legal_logs;
+mod measures;
 mod replaying;
 mod reporting;
 
 pub use benching::bench;
 pub use checking::check;
 pub use encoding::encode;
+pub use measures::measure;
 pub use replaying::replay;

@@ -44,6 +44,11 @@ $ tracebench encode --base 80000000 image.bin log.csv
 >~ 0 1 7300000020
 >~ 0 2 0a
 >~ 0 3 4f
+$ tracebench measure --base 80000000 image.bin log.csv log.csv
+> hart,events,retirements,traps,branches,packets,support,sync,trap,address,map,notify,updiscon,payload_bytes,longest,bits_per_retirement
+> 0,2,2,0,0,4,2,1,0,1,0,0,0,8,5,32.000
+> 1,2,2,0,0,4,2,1,0,1,0,0,0,8,5,32.000
+> all,4,4,0,0,8,4,2,0,2,0,0,0,16,5,32.000
 $ tracebench dump gap.capture
 > 0 0 open
 > 0 1 sync addr=80000000 priv=3 branch=1

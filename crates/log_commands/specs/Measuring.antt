@@ -1,0 +1,37 @@
+-- What `measure` prints, and how it ends.
+use Rattle.std.specs.Prelude.{⊤, ◌≡◌, List, Ok, length}
+use Rattle.legalpath.specs.ProgramLog.{ProgramLog}
+use Rattle.measuring.specs.Table.{measures_table}
+use Rattle.message.specs.Version.{most_harts}
+use Rattle.message.specs.declared.header.Version.TheVariants.{Two}
+use Rattle.retire.specs.Number.{number_of}
+use Rattle.subcommands.specs.declared.words.Measure.{Measure}
+use Rattle.command_inputs.specs.Finding.{Once}
+use Rattle.command_inputs.specs.Found.{AreAskedLogs}
+use Rattle.command_inputs.specs.Known.{Content}
+use Rattle.command_inputs.specs.Meaning.{Meaning, writing_at_once}
+use Rattle.command_inputs.specs.Order.{logs_fault}
+use Rattle.command_inputs.specs.Printed.{First, Printed}
+use Rattle.command_inputs.specs.declared.status.Status.TheVariants.{Whole}
+
+-- The table of the measures of legal logs is written, and all is done.
+abbrev pub WritesTable : Measure → List ProgramLog → Printed → Type 0
+WritesTable asked logs printed =
+    printed ≡ record { text = measures_table asked.period asked.mode logs; ended = Ok Whole }
+
+-- The base is looked at first, then the count of logs, the image and each log. Where there is no fault, the table of
+-- the logs is written.
+abbrev pub Measures : Content → Measure → Printed → Type 0
+Measures content asked =
+    First (AreAskedLogs content (most_harts Two) asked.base.now asked.image asked.logs.items) (WritesTable asked)
+
+-- `measure` writes once it has the legal logs.
+abbrev pub CanMeasure : Content → Measure → Type 0
+CanMeasure content asked =
+    Once (AreAskedLogs content (most_harts Two) asked.base.now asked.image asked.logs.items) (λ _. ⊤)
+
+-- What `measure` means.
+abbrev pub measure_meaning : Measure → Meaning
+measure_meaning asked = writing_at_once
+    (logs_fault (most_harts Two) (number_of asked.base.now) (length asked.logs.items))
+    (λ content. Measures content asked) (λ content. CanMeasure content asked)
