@@ -51,6 +51,8 @@ STAND_IN = '''\
         if wrong in ("short", "a hart", "status"):
             sys.stderr.write("tracebench: hart 1: no closing packet\\n")
             sys.exit(1)
+    if command == "measure":
+        print("hart,packets\\n0,5\\n1,5\\nall,10")
     if command == "bench":
         for hart, log in enumerate(logs):
             print(f"hart {{hart}}: 2 events, 5 packets, 12 payload bytes, decoded 2, whole")
@@ -88,15 +90,19 @@ class StandIn(unittest.TestCase):
     def test_all_is_as_it_should_be(self):
         ran = self.run_with()
         want = "check: 2 logs legal, 3 rows\nperiod 1024: capture of 113 bytes; decoded to the same bytes; "
-        want += "whole over threads, 10 packets, 24 payload bytes; 64.000 bits a row\nverdict: good\n"
+        want += "whole over threads, 10 packets, 24 payload bytes; 64.000 bits a row\n"
+        want += "hart,packets\n0,5\n1,5\nall,10\nverdict: good\n"
         self.assertEqual((ran.returncode, ran.stdout, ran.stderr), (0, want, ""))
 
     def test_each_command_is_run_at_each_period(self):
         ran = self.run_with(words=["--periods", "1,16", "--full"])
-        self.assertEqual([line.split(":")[0] for line in ran.stdout.splitlines()], ["check", "period 1", "period 16", "verdict"])
+        lines = [line.split(":")[0] for line in ran.stdout.splitlines() if ":" in line]
+        self.assertEqual(lines, ["check", "period 1", "period 16", "verdict"])
         calls = self.commands()
-        self.assertEqual([call[0] for call in calls], ["check", "encode", "decode", "bench", "encode", "decode", "bench"])
-        for call, period in ((calls[1], "1"), (calls[3], "1"), (calls[4], "16"), (calls[6], "16")):
+        each = ["encode", "decode", "bench", "measure"]
+        self.assertEqual([call[0] for call in calls], ["check", *each, *each])
+        for place, period in ((1, "1"), (3, "1"), (4, "1"), (5, "16"), (7, "16"), (8, "16")):
+            call = calls[place]
             self.assertEqual(call[1:7], ["--base", "80000000", "--period", period, "--full", "image.bin"])
             self.assertEqual(call[7:], self.paths)
 
@@ -134,7 +140,7 @@ class StandIn(unittest.TestCase):
         self.wrong("not whole", "; decoded to the same bytes; not whole over threads, ")
 
     def test_a_command_that_fails(self):
-        for command in ("encode", "bench"):
+        for command in ("encode", "bench", "measure"):
             ran = self.run_with(command + " fails")
             self.assertEqual((ran.returncode, ran.stderr), (3, "verdict: tracebench: out of memory\n"))
 
@@ -146,7 +152,7 @@ class StandIn(unittest.TestCase):
         logs = [self.file(f"many{hart:02}.csv", LOGS[0]) for hart in range(65)]
         ran = self.run_with(logs=logs)
         self.assertEqual(ran.returncode, 0)
-        self.assertIn("; no threads, since bench takes 64 logs at most\nverdict: good\n", ran.stdout)
+        self.assertIn("; no threads, since bench takes 64 logs at most\nhart,packets\n", ran.stdout)
 
     def test_words(self):
         for words in (["--periods", "0"], ["--periods", "65536"], ["--periods", "x"], ["--periods", ""]):
