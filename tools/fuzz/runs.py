@@ -6,7 +6,6 @@ import tempfile
 
 import audits
 import cases
-import lists
 import measures
 import reading
 
@@ -88,15 +87,6 @@ def of_pair(_, __, pair):
     yield Run(["audit", audits.SENT, audits.RECEIVED], status, text.encode(), error)
 
 
-def of_listed(maker, harts, listed):
-    """What `list` prints of a capture, by symbols where there are some."""
-    capture, symbols = listed
-    status, text, error = lists.listing(maker.program, harts, capture, lists.symbols_of(symbols or b""))
-    options = ["--base", f"{maker.program.base:x}", "--harts", str(harts)]
-    options += ["--symbols", "symbols"] if symbols is not None else []
-    yield Run(["list", *options, "image", "case"], status, text, error)
-
-
 def of_measured(maker, _, logs):
     """The lines of some legal logs, and what `measure` prints of them."""
     random = maker.random
@@ -111,8 +101,6 @@ def files_of(kind, case):
     """The files that the runs over a case read, but for the image."""
     if kind == "audits":
         return {audits.SENT: case[0], audits.RECEIVED: case[1]}
-    if kind == "lists":
-        return {"case": case[0], "symbols": case[1] or b""}
     if kind == "measures":
         return {f"case{hart}": reading.log_text(events).encode() for hart, events in enumerate(case)}
     return {"case": case}
@@ -123,7 +111,7 @@ def answer(binary, folder, words):
     return done.returncode, done.stdout, done.stderr
 
 
-OF_CASE = {"captures": of_capture, "logs": of_log, "audits": of_pair, "lists": of_listed, "measures": of_measured}
+OF_CASE = {"captures": of_capture, "logs": of_log, "audits": of_pair, "measures": of_measured}
 
 
 def compared(binary, kind, maker, harts, made):
