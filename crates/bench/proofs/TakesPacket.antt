@@ -73,24 +73,30 @@ module _ (message : Message) (packet : Packet) (old new : Collected) where
       let before = same_Some t.before (taken_by got refused) (sym t.taken_at ∙ came.taken) in
       came_left t.accepted t.after got refused refused came.taken t.moved t.harts t.stays (t.leaves ∙ before) came
 
+  -- What follows for the packet and the log that were taken in follows for the ones that are known.
+  of_known : (P : ProgramLog → Packet → Type 0) (answer : Result (Unit {0}) CollectFault)
+      → (t : TakesIn message packet answer old new) → (one : Packet) (log : ProgramLog) (some : List Packet)
+      → Accepts message one old → HasDecoded log message.hart some old
+      → (HoldsHart (words_of t.own.program) message.hart some t.accepted → P t.own packet) → P log one
+  of_known P answer t one log some accepts has own =
+      let same : t.own ≡ log = same_Some t.own log (sym t.log_at ∙ has.known) in
+      let packet_is : packet ≡ one = same_Ok packet one (sym t.packet_answered ∙ accepts.answer) in
+      subst (P log) packet_is
+      (subst (λ (its : ProgramLog). HoldsHart (words_of its.program) message.hart some t.accepted → P its packet) same
+      own
+      (holds_moved (words_of log.program) message.hart some old.received t.accepted message t.moved has.holds))
+
   -- What the packet describes is held then too.
   pub takes_decoded : (answer : Result (Unit {0}) CollectFault) → TakesIn message packet answer old new
       → (one : Packet) (log : ProgramLog) (some : List Packet) → Accepts message one old
       → HasDecoded log message.hart some old → OnOk answer (HasDecoded log message.hart (some ++ one ∷ []) new)
   takes_decoded (Err why) t one log some accepts has = tt
-  takes_decoded (Ok u) t one log some accepts has =
-      let same : t.own ≡ log = same_Some t.own log (sym t.log_at ∙ has.known) in
-      let packet_is : packet ≡ one = same_Ok packet one (sym t.packet_answered ∙ accepts.answer) in
-      let words = words_of log.program in
-      let before = holds_moved words message.hart some old.received t.accepted message t.moved has.holds in
-      let holds = subst (λ (own : ProgramLog). HoldsHart (words_of own.program) message.hart some t.accepted
-      → HoldsHart (words_of own.program) message.hart (some ++ packet ∷ []) new.received) same (t.holds some) in
-      record {
-        known = ap (λ logs. slice_get logs message.hart) t.logs ∙ has.known;
-        holds =
-            subst (λ one. HoldsHart words message.hart (some ++ one ∷ []) new.received) packet_is
-            (holds before);
-      }
+  takes_decoded (Ok u) t one log some accepts has = record {
+    known = ap (λ logs. slice_get logs message.hart) t.logs ∙ has.known;
+    holds =
+        of_known (λ its one. HoldsHart (words_of its.program) message.hart (some ++ one ∷ []) new.received) (Ok u) t
+        one log some accepts has (t.holds some);
+  }
 
   -- Else no log is described with it, or memory was refused.
   pub takes_none : (answer : Result (Unit {0}) CollectFault) → TakesIn message packet answer old new
@@ -99,15 +105,9 @@ module _ (message : Message) (packet : Packet) (old new : Collected) where
       ⊎ ((events : List Event) → ¬ Describes (words_of log.program) (some ++ one ∷ []) events))
   takes_none (Ok u) t one log some accepts has = tt
   takes_none (Err why) t one log some accepts has =
-      let same : t.own ≡ log = same_Some t.own log (sym t.log_at ∙ has.known) in
-      let packet_is : packet ≡ one = same_Ok packet one (sym t.packet_answered ∙ accepts.answer) in
-      let words = words_of log.program in
-      let before = holds_moved words message.hart some old.received t.accepted message t.moved has.holds in
-      let either = subst (λ (own : ProgramLog). HoldsHart (words_of own.program) message.hart some t.accepted
-      → (why ≡ fault.Memory)
-      ⊎ ((events : List Event) → ¬ Describes (words_of own.program) (some ++ packet ∷ []) events)) same (t.none some) in
-      subst (λ one. (why ≡ fault.Memory) ⊎ ((events : List Event) → ¬ Describes words (some ++ one ∷ []) events))
-      packet_is (either before)
+      of_known (λ its one. (why ≡ fault.Memory)
+      ⊎ ((events : List Event) → ¬ Describes (words_of its.program) (some ++ one ∷ []) events)) (Err why) t one log
+      some accepts has (t.none some)
 
   -- And a fault of the decoder is returned for its reason.
   pub takes_reason : (answer : Result (Unit {0}) CollectFault) → TakesIn message packet answer old new
@@ -115,13 +115,8 @@ module _ (message : Message) (packet : Packet) (old new : Collected) where
       → HasDecoded log message.hart some old → answer ≡ Err (fault.Decode why)
       → IsNotDecoded (words_of log.program) some one why
   takes_reason answer t one log some why accepts has is =
-      let same : t.own ≡ log = same_Some t.own log (sym t.log_at ∙ has.known) in
-      let packet_is : packet ≡ one = same_Ok packet one (sym t.packet_answered ∙ accepts.answer) in
-      let words = words_of log.program in
-      let before = holds_moved words message.hart some old.received t.accepted message t.moved has.holds in
-      let reason = subst (λ (own : ProgramLog). HoldsHart (words_of own.program) message.hart some t.accepted
-      → IsNotDecoded (words_of own.program) some packet why) same (λ holds. t.reason some why holds is) in
-      subst (λ one. IsNotDecoded words some one why) packet_is (reason before)
+      of_known (λ its one. IsNotDecoded (words_of its.program) some one why) answer t one log some accepts has
+      (λ holds. t.reason some why holds is)
 
   -- It is counted.
   pub takes_counts : (answer : Result (Unit {0}) CollectFault) → TakesIn message packet answer old new

@@ -5,3 +5,4 @@ pub mod TakesMessage
 pub mod Replaying
 pub mod Gathering
 pub mod Stopping
+pub mod Running

@@ -35,14 +35,8 @@ pub fn report<W: Write, A: Allocator, B: Allocator>(
         (W.contents sink.old) (W.contents sink.new) }
     ensures fault { IfErr result (λ fault. fault ≡ WriteFault.Write) }
 {
-    let whole = match write_harts(outcome.harts.as_slice(), logs, sink) {
-        Ok(whole) => whole,
-        Err(fault) => return Err(fault),
-    };
-    match write_stop(outcome.stop, sink) {
-        Ok(()) => {}
-        Err(fault) => return Err(fault),
-    }
+    let whole = write_harts(outcome.harts.as_slice(), logs, sink)?;
+    write_stop(outcome.stop, sink)?;
     write_result(outcome.stop.is_none() & whole, sink)
 }
 
@@ -93,10 +87,7 @@ fn write_harts<W: Write, A: Allocator, B: Allocator>(
 {
     let mut whole = true;
     for hart in 0..harts.len() {
-        match write_hart(hart, &harts[hart], &logs[hart], sink) {
-            Ok(came_back) => whole &= came_back,
-            Err(fault) => return Err(fault),
-        }
+        whole &= write_hart(hart, &harts[hart], &logs[hart], sink)?;
     }
     Ok(whole)
 }

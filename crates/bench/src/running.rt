@@ -6,6 +6,7 @@ ghost use Rattle.funnel.specs.Limits.{most_ports};
 ghost use Rattle.bench.specs.Beginnings.{AreBeginnings, AreCarried, AreThoseTaken, LackSomeTaken};
 ghost use Rattle.bench.specs.Setting.{setup_fault};
 ghost use Rattle.bench.specs.Stopping.{IfHandedBack, LacksPayloads, NamesOpen, NoRefusedIsClosed};
+ghost use Rattle.bench.specs.steps.Running.{IsRun};
 ghost use Rattle.bench.specs.declared.setup.Setup.{Setup as AnySetup};
 
 use crate::collecting::Collector;
@@ -108,18 +109,7 @@ pub fn run_on<A: Allocator + Copy, G: Gate, R: Threads + Wait + Sync>(
             requires { (1 ≤ config.period) × AreNewPorts outlet.now.funnel (length logs.now) ports.items
                 × (outlet.now.taken ≡ []) × (outlet.now.made ≡ length logs.now) × (length logs.now ≤ most_ports) }
             ensures same { result.1.ghost_name ≡ outlet.entry.ghost_name }
-            ensures beginnings { IfOk result.0 (λ outcome. AreBeginnings config logs.entry.now outcome.harts.items) }
-            ensures taken { IfOk result.0
-                (λ outcome. AreThoseTaken config logs.entry.now result.1.now.taken outcome.harts.items) }
-            ensures carried { IfOk result.0
-                (λ outcome. AreCarried config logs.entry.now result.1.now.taken outcome.harts.items) }
-            ensures lacks { IfOk result.0 (λ outcome. LackSomeTaken result.1.now.taken outcome.harts.items) }
-            ensures stop { IfOk result.0 (λ outcome. NamesOpen outcome.stop outcome.harts.items) }
-            ensures refused_harts { IfOk result.0 (λ outcome. NoRefusedIsClosed outcome.harts.items) }
-            ensures handed_back { IfOk result.0 (λ outcome.
-                IfHandedBack (LacksPayloads config.period config.mode logs.entry.now result.1.now.taken) outcome.stop) }
-            ensures untouched { OnErr result.0 (result.1.now ≡ outlet.entry.now) }
-            ensures funnel { result.1.now ≡ record outlet.entry.now { taken = result.1.now.taken } }
+            ensures runs { IsRun config logs.entry.now outlet.entry.now result.1.now result.0 }
         {
             let plan = Plan {
                 logs,
@@ -147,19 +137,7 @@ fn conduct<'s, 'p, E, A: Allocator + Copy, G: Gate, R: Threads + Wait + Sync>(
     requires ports { AreNewPorts outlet.old.funnel (length plan.now.logs.now) ports.items }
     requires outlet { (outlet.old.taken ≡ []) × (outlet.old.made ≡ length plan.now.logs.now) }
     requires count { length plan.now.logs.now ≤ most_ports }
-    ensures beginnings { IfOk result (λ outcome. AreBeginnings plan.now.config plan.now.logs.now outcome.harts.items) }
-    ensures taken { IfOk result
-        (λ outcome. AreThoseTaken plan.now.config plan.now.logs.now outlet.new.taken outcome.harts.items) }
-    ensures carried { IfOk result
-        (λ outcome. AreCarried plan.now.config plan.now.logs.now outlet.new.taken outcome.harts.items) }
-    ensures lacks { IfOk result (λ outcome. LackSomeTaken outlet.new.taken outcome.harts.items) }
-    ensures stop { IfOk result (λ outcome. NamesOpen outcome.stop outcome.harts.items) }
-    ensures refused_harts { IfOk result (λ outcome. NoRefusedIsClosed outcome.harts.items) }
-    ensures handed_back { IfOk result (λ outcome.
-        IfHandedBack (LacksPayloads plan.now.config.period plan.now.config.mode plan.now.logs.now outlet.new.taken)
-        outcome.stop) }
-    ensures untouched { OnErr result (outlet.new ≡ outlet.old) }
-    ensures funnel { outlet.new ≡ record outlet.old { taken = outlet.new.taken } }
+    ensures { IsRun plan.now.config plan.now.logs.now outlet.old outlet.new result }
 {
     let mut collector = Collector::new(alloc, plan.logs, plan.config.keep)?;
     let mut handed_back = Vec::from_elem(alloc, false, plan.logs.len())?;

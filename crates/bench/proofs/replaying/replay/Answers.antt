@@ -8,7 +8,7 @@ use Rattle.bench.specs.steps.Taking.{CameUnlessRefused, LacksSome}
 use Rattle.bench.proofs.ReplayEnds.{are_beginnings, are_those_taken, lack_some, names_refused}
 use Rattle.bench.proofs.ReplayTurns.{after_collect, after_hart, as_many, is_ready, starts}
 use Rattle.bench.proofs.replaying.replay.Goals as goal
-use Rattle.bench.proofs.replaying.replay.Goals.{in-Hart, in-Collect}
+use Rattle.bench.proofs.replaying.replay.Goals.{After-finish-outcome, in-Hart, in-Collect}
 
 pub loop-turn-init : goal.loop-turn-init
 loop-turn-init g c =
@@ -58,18 +58,25 @@ returns-clause-beginnings g c =
     are_beginnings c.args.config c.args.logs.now _ c.loop-turn.collector c.finish-outcome.result.harts.items
     c.in-Ok-new.ensures.legal r.keep r.taken (record { count = e.count; came = e.came })
 
+-- What was taken by all turns came, unless memory for its hart was refused.
+taken : (g : _) (c : After-finish-outcome g)
+    → CameUnlessRefused c.args.config.period c.args.config.mode c.args.logs.now
+    (replayed c.args.config.period c.args.config.mode c.args.config.capacity c.args.logs.now c.args.turns.now).taken
+    c.loop-turn.collector
+taken g c =
+    let config = c.args.config in
+    let logs = c.args.logs.now in
+    subst (λ turns. CameUnlessRefused config.period config.mode logs
+    (replayed config.period config.mode config.capacity logs turns).taken c.loop-turn.collector)
+    (take_all c.loop-turn.turn-index c.args.turns.now c.loop-turn-test.false) c.loop-turn.invariant.taken
+
 pub returns-clause-taken : goal.returns-clause-taken
 returns-clause-taken g c =
     let e = c.finish-outcome.ensures in
-    let r = c.loop-turn.invariant in
-    let config = c.args.config in
-    let logs = c.args.logs.now in
-    let all = take_all c.loop-turn.turn-index c.args.turns.now c.loop-turn-test.false in
-    let taken = subst (λ turns. CameUnlessRefused config.period config.mode logs
-    (replayed config.period config.mode config.capacity logs turns).taken
-    c.loop-turn.collector) all r.taken in
-    are_those_taken config logs _ c.loop-turn.collector c.finish-outcome.result.harts.items
-    c.in-Ok-new.ensures.legal r.keep taken (record { count = e.count; came = e.came })
+    are_those_taken c.args.config c.args.logs.now _ c.loop-turn.collector c.finish-outcome.result.harts.items
+    c.in-Ok-new.ensures.legal c.loop-turn.invariant.keep
+    (taken g (goal.at.returns-clause-taken g c).After-finish-outcome)
+    (record { count = e.count; came = e.came })
 
 pub returns-clause-stop : goal.returns-clause-stop
 returns-clause-stop g c =
@@ -84,11 +91,8 @@ returns-clause-lacks g c =
     let r = c.loop-turn.invariant in
     let config = c.args.config in
     let logs = c.args.logs.now in
-    let all = take_all c.loop-turn.turn-index c.args.turns.now c.loop-turn-test.false in
-    let taken = subst (λ turns. CameUnlessRefused config.period config.mode logs
-    (replayed config.period config.mode config.capacity logs turns).taken
-    c.loop-turn.collector) all r.taken in
     let lacks = subst (λ turns. LacksSome (replayed config.period config.mode config.capacity logs turns).taken
-    c.loop-turn.collector) all r.lacks in
+    c.loop-turn.collector) (take_all c.loop-turn.turn-index c.args.turns.now c.loop-turn-test.false) r.lacks in
     lack_some config logs _ c.loop-turn.collector c.finish-outcome.result.harts.items
-    c.in-Ok-new.ensures.legal r.keep taken (record { count = e.count; came = e.came }) lacks
+    c.in-Ok-new.ensures.legal r.keep (taken g (goal.at.returns-clause-lacks g c).After-finish-outcome)
+    (record { count = e.count; came = e.came }) lacks

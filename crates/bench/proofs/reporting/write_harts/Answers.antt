@@ -28,12 +28,12 @@ loop-hart-preserved g c =
     let place : 0 + hart ≡ hart = omega arith in
     let here = subst (λ h. Appends (g.W.Write.contents c.loop-hart.sink) (g.W.Write.contents c.write_hart.new.sink)
     (report_line h one c.index-logs-hart.result))
-    (sym place) c.in-Ok.ensures.text in
+    (sym place) c.in_ok-whole.ensures.text in
     let written = Appends-trans (g.W.Write.contents c.args.sink.now) (g.W.Write.contents c.loop-hart.sink)
     (g.W.Write.contents c.write_hart.new.sink)
     first (report_line (0 + hart) one c.index-logs-hart.result) c.loop-hart.invariant.text here in
     record {
-      whole = rw (next, c.in-Ok.ensures.whole, c.loop-hart.invariant.whole) (sym more);
+      whole = rw (next, c.in_ok-whole.ensures.whole, c.loop-hart.invariant.whole) (sym more);
       text = rw next
           (subst (Appends (g.W.Write.contents c.args.sink.now) (g.W.Write.contents c.write_hart.new.sink))
           (sym lines) written);
@@ -57,8 +57,8 @@ returns-clause-text g c =
     subst (Appends (g.W.Write.contents c.args.sink.now) (g.W.Write.contents c.loop-hart.sink)) all
     c.loop-hart.invariant.text
 
-pub returns-in-Err-clause-begun : goal.returns-in-Err-clause-begun
-returns-in-Err-clause-begun g c =
+pub returns-in_err-whole-clause-begun : goal.returns-in_err-whole-clause-begun
+returns-in_err-whole-clause-begun g c =
     let harts = c.args.harts.now in
     let logs = c.args.logs.now in
     let hart = c.loop-hart.hart in

@@ -3,11 +3,12 @@ use Rattle.std.proofs.Common.{◌≡◌, ◌≤◌, ◌∙◌, ℕ, List, Some, 
 use Rattle.std.proofs.lemmas.Grind.{common_steps}
 use Rattle.funnel.specs.Ends.{OutletView}
 use Rattle.bench.specs.Beginnings.{AreCarried, AreThoseTaken, LackSomeTaken}
-use Rattle.bench.specs.Stopping.{LacksPayloads}
+use Rattle.bench.specs.Stopping.{LacksPayloads, NamesOpen}
 use Rattle.bench.specs.steps.Gathering.{AreGathered, harts_of}
 use Rattle.bench.specs.steps.Taking.{CameUnlessRefused}
-use Rattle.bench.proofs.ReplayEnds.{are_beginnings, are_those_taken, lack_some_taken, none_is_closed}
+use Rattle.bench.proofs.ReplayEnds.{Finishes, are_beginnings, are_those_taken, lack_some_taken, none_is_closed}
 use Rattle.bench.proofs.SettledHarts.{are_carried, gathered_taken, handed_back_as}
+use Rattle.bench.proofs.running.conduct.Goals.{After-settle_all}
 use Rattle.bench.proofs.running.conduct.Goals as goal
 
 pub start_all-workers-requires-clause-begun : goal.start_all-workers-requires-clause-begun
@@ -24,7 +25,7 @@ settle_all-requires-clause-workers g c κs within = λ k d low.
       mode = own.mode;
     }
 
-module _ (g : _) (c : goal.After-drop-handed_back-2 g) where
+module _ (g : _) (c : After-settle_all g) where
   -- The harts whose workers were started.
   abbrev started : List ℕ
   started = harts_of c.start_all-workers.result.items
@@ -49,12 +50,7 @@ module _ (g : _) (c : goal.After-drop-handed_back-2 g) where
 
 pub stop_of-outcome-requires : goal.stop_of-outcome-requires
 stop_of-outcome-requires g c =
-    let config = c.args.plan.now.config in
-    let started = harts_of c.start_all-workers.result.items in
-    let came =
-    c.collect.ensures.gathered config c.args.plan.now.logs.now started
-    (subst (λ taken. AreGathered config c.args.plan.now.logs.now started taken
-    c.start_all-workers.new.collector) (sym c.requires.outlet.0) c.start_all-workers.ensures.gathered) in
+    let came = gathered g (goal.at.stop_of-outcome-requires g c).After-settle_all in
     let harts = c.as_slice.ensures.len in
     let flags = c.as_slice-2.ensures.len in
     let count = c.finish-outcome.ensures.count in
@@ -67,57 +63,45 @@ stop_of-outcome-requires g c =
       subst (λ n. n ≤ 64) (sym (ap length c.as_slice.ensures.value ∙ count ∙ own)) few,
     )
 
-pub returns-clause-beginnings : goal.returns-clause-beginnings
-returns-clause-beginnings g c =
-    let ends = c.finish-outcome.ensures in
-    are_beginnings c.args.plan.now.config c.args.plan.now.logs.now c.collect.new.outlet.taken c.collect.new.collector
-    c.finish-outcome.result.harts.items c.in_ok-collector.ensures.legal (keep g c) (taken g c)
-    (record { count = ends.count; came = ends.came })
-
-pub returns-clause-refused_harts : goal.returns-clause-refused_harts
-returns-clause-refused_harts g c =
-    let ends = c.finish-outcome.ensures in
-    none_is_closed c.args.plan.now.config c.args.plan.now.logs.now c.collect.new.outlet.taken c.collect.new.collector
-    c.finish-outcome.result.harts.items c.in_ok-collector.ensures.legal (keep g c) (taken g c)
-    (record { count = ends.count; came = ends.came })
-
-pub returns-clause-taken : goal.returns-clause-taken
-returns-clause-taken g c =
-    let ends = c.finish-outcome.ensures in
-    subst (λ (outlet : OutletView).
-    AreThoseTaken c.args.plan.now.config c.args.plan.now.logs.now outlet.taken c.finish-outcome.result.harts.items)
-    (sym c.settle_all.ensures.outlet)
-    (are_those_taken c.args.plan.now.config c.args.plan.now.logs.now c.collect.new.outlet.taken c.collect.new.collector
-    c.finish-outcome.result.harts.items c.in_ok-collector.ensures.legal (keep g c) (taken g c)
-    (record { count = ends.count; came = ends.came }))
-
-pub returns-clause-carried : goal.returns-clause-carried
-returns-clause-carried g c =
-    let ends = c.finish-outcome.ensures in
-    subst (λ (outlet : OutletView).
-    AreCarried c.args.plan.now.config c.args.plan.now.logs.now outlet.taken c.finish-outcome.result.harts.items)
-    (sym c.settle_all.ensures.outlet)
-    (are_carried c.args.plan.now.config c.args.plan.now.logs.now (started g c) c.collect.new.outlet.taken
-    c.collect.new.collector (gathered g c) c.settle_all.ensures.carried c.finish-outcome.result.harts.items
-    (record { count = ends.count; came = ends.came }))
-
-pub returns-clause-lacks : goal.returns-clause-lacks
-returns-clause-lacks g c =
-    let ends = c.finish-outcome.ensures in
-    subst (λ (outlet : OutletView). LackSomeTaken outlet.taken c.finish-outcome.result.harts.items)
-    (sym c.settle_all.ensures.outlet)
-    (lack_some_taken c.args.plan.now.config c.args.plan.now.logs.now c.collect.new.outlet.taken c.collect.new.collector
-    c.finish-outcome.result.harts.items c.in_ok-collector.ensures.legal (keep g c) (taken g c)
-    (record { count = ends.count; came = ends.came }))
-
-pub returns-clause-handed_back : goal.returns-clause-handed_back
-returns-clause-handed_back g c =
+pub returns : goal.returns
+returns g c =
     let config = c.args.plan.now.config in
     let logs = c.args.plan.now.logs.now in
+    let collected = c.collect.new.collector in
+    let harts = c.finish-outcome.result.harts.items in
+    let legal = c.in_ok-collector.ensures.legal in
+    let ends : Finishes collected harts =
+    record { count = c.finish-outcome.ensures.count; came = c.finish-outcome.ensures.came } in
+    let settled = (goal.at.returns g c).After-settle_all in
+    let kept = keep g settled in
+    let came = taken g settled in
     let flags : c.as_slice-2.result.now ≡ c.settle_all.new.handed_back = grind (arith, common_steps) in
-    handed_back_as _ (LacksPayloads config.period config.mode logs c.settle_all.new.outlet.taken)
-    c.stop_of-outcome.result
-    (λ hart at. subst (λ (outlet : OutletView). LacksPayloads config.period config.mode logs outlet.taken hart)
-    (sym c.settle_all.ensures.outlet)
-    (c.settle_all.ensures.lacks hart (subst (λ some. slice_get some hart ≡ Some true) flags at)))
-    c.stop_of-outcome.ensures.back
+    let same = sym c.settle_all.ensures.outlet in
+    record {
+      beginnings =
+          are_beginnings config logs c.collect.new.outlet.taken collected harts legal kept came ends;
+      taken =
+          subst (λ (outlet : OutletView). AreThoseTaken config logs outlet.taken harts) same
+          (are_those_taken config logs c.collect.new.outlet.taken collected harts legal kept came ends);
+      carried =
+          subst (λ (outlet : OutletView). AreCarried config logs outlet.taken harts) same
+          (are_carried config logs (started g settled) c.collect.new.outlet.taken collected (gathered g settled)
+          c.settle_all.ensures.carried harts ends);
+      lacks =
+          subst (λ (outlet : OutletView). LackSomeTaken outlet.taken harts) same
+          (lack_some_taken config logs c.collect.new.outlet.taken collected harts legal kept came ends);
+      stop =
+          subst (NamesOpen c.stop_of-outcome.result) c.as_slice.ensures.value c.stop_of-outcome.ensures.names;
+      refused_harts =
+          none_is_closed config logs c.collect.new.outlet.taken collected harts legal kept came ends;
+      handed_back =
+          handed_back_as _ (LacksPayloads config.period config.mode logs c.settle_all.new.outlet.taken)
+          c.stop_of-outcome.result
+          (λ hart at. subst (λ (outlet : OutletView). LacksPayloads config.period config.mode logs outlet.taken hart)
+          same (c.settle_all.ensures.lacks hart (subst (λ some. slice_get some hart ≡ Some true) flags at)))
+          c.stop_of-outcome.ensures.back;
+      untouched = tt;
+      funnel =
+          c.settle_all.ensures.outlet ∙ c.collect.ensures.outlet
+          ∙ ap (λ (outlet : OutletView). record c.args.outlet.now { taken = outlet.taken }) same;
+    }

@@ -1,7 +1,7 @@
 -- The workers that were started, by lemmas on lists, which no tactic finds.
 use Rattle.std.proofs.Common.{◌≡◌, ◌∙◌, ◌++◌, [], ◌∷◌, Some, length, slice_get, refl, sym, ap, subst, arith}
 use Rattle.std.proofs.lemmas.List.{map-append}
-use Rattle.std.proofs.lemmas.Option.{slice_get_read}
+use Rattle.std.proofs.lemmas.Option.{slice_get-get_or}
 use Rattle.encoder.specs.SourceAt.{SourceAt}
 use Rattle.funnel.specs.Ends.{AreNewPorts, PortView}
 use Rattle.bench.specs.steps.Gathering.{IsWorkerOf, harts_of}
@@ -49,8 +49,7 @@ loop-port-preserved-in-Some-start g c =
     let grown = pushed.len in
     let same = pushed.capacity in
     let known =
-    slice_get_read c.args.plan.now.logs.now _ c.len-hart.result c.index-plan-hart.result refl
-    (omega (arith, count, few)) c.index-plan-hart.is in
+    slice_get-get_or c.args.plan.now.logs.now c.len-hart.result c.index-plan-hart.result (omega (arith, count, few)) in
     let at : SourceAt → SourceAt = λ source. source in
     let new =
     new_worker at c.args.outlet.now.funnel c.args.plan.now.config c.args.plan.now.logs.now worker _ _ _ _
