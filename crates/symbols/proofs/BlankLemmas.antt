@@ -13,7 +13,8 @@ pub blank_here : (text : List ℕ) (place : ℕ) → place < length text
 blank_here text place inside before here =
     let few : place ≤ length text = omega (arith, inside) in
     position_or_len_is is_blank text place 0 few
-    (λ k low. let other = before k low in let test : (slice_index text k == 32) ≡ false = grind (arith, nat_tests) in test)
+    (λ k low. let other = before k low in
+    let test : (slice_index text k == 32) ≡ false = grind (arith, nat_tests) in test)
     (λ low. let test : (slice_index text place == 32) ≡ true = grind (arith, nat_tests) in test)
 
 -- No byte is a blank.

@@ -11,7 +11,7 @@ use Rattle.retire.specs.Number.{digits_number}
 use Rattle.symbols.specs.File.{Symbol, is_blank, is_code_type, lines_of, name_behind, symbol_of, symbol_with}
 use Rattle.symbols.specs.File.{symbols_of, without_return}
 use Rattle.symbols.specs.declared.entry.Entry.{Entry}
-use Rattle.symbols.specs.steps.Entries.{entries_from, entries_of, entry_in, entry_of, entry_with, symbol_in}
+use Rattle.symbols.specs.steps.Entries.{entries_from, entries_of, entry_of, entry_with, symbol_in}
 use Rattle.symbols.proofs.NearestLemmas.{AreRising}
 
 -- A line is what is left of it without its carriage return, and perhaps that.

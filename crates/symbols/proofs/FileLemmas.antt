@@ -1,9 +1,9 @@
 -- What a search among the entries of a file finds is what a place is named.
-use Rattle.std.proofs.Common.{◌≡◌, ◌⊎◌, ℕ, ◌+◌, ◌-◌, ◌<◌, ◌≤◌, List, All, Contains, Option, Some, None, length, map}
+use Rattle.std.proofs.Common.{◌≡◌, ◌⊎◌, ℕ, ◌+◌, ◌-◌, ◌<◌, ◌≤◌, List, Option, Some, None, length, map}
 use Rattle.std.proofs.Common.{option_map, take, drop, ap, sym, ◌∙◌, subst}
 use Rattle.std.proofs.lemmas.List.Elements.{All-contains}
 use Rattle.std.proofs.lemmas.List.Sorted.{All-permutation, Contains-permutation, IsPermutation-sym}
-use Rattle.symbols.specs.File.{Symbol, symbols_of}
+use Rattle.symbols.specs.File.{symbols_of}
 use Rattle.symbols.specs.Nearest.{Naming, named_by, nearest, symbol_at}
 use Rattle.symbols.specs.declared.entry.Entry.{Entry}
 use Rattle.symbols.specs.steps.Entries.{AreInOrder, IsUpTo, entries_of, symbol_in}

@@ -1,6 +1,6 @@
 -- Entries that a sort put in order, and where a search among them ends.
-use Rattle.std.proofs.Common.{◌≡◌, ◌⊎◌, ℕ, zero, suc, ◌+◌, ◌-◌, ◌<◌, ◌≤◌, Bool, true, false, List, All, Option, Some, None}
-use Rattle.std.proofs.Common.{length, slice_index_or, nat_le, subst, refl, ap, sym, inl, inr, arith}
+use Rattle.std.proofs.Common.{◌≡◌, ℕ, zero, suc, ◌+◌, ◌-◌, ◌<◌, ◌≤◌, Bool, true, false, List, Some, None}
+use Rattle.std.proofs.Common.{length, slice_index_or, nat_le, subst, refl, inl, inr, arith}
 use Rattle.std.proofs.lemmas.Bool.{cases_Bool}
 use Rattle.std.proofs.lemmas.Bool.Decides.{nat_tests}
 use Rattle.std.proofs.lemmas.List.{get_or_default}
@@ -40,7 +40,8 @@ upto_far xs sorted i (suc n) d inside =
     subst P next
     (upto_trans (slice_index_or xs i d) (slice_index_or xs (i + n) d) (slice_index_or xs (i + n + 1) d)
     (upto_far xs sorted i n d low)
-    (upto_tested (slice_index_or xs (i + n) d) (slice_index_or xs (i + n + 1) d) (sorted (i + n) d (omega arith) within)))
+    (upto_tested (slice_index_or xs (i + n) d) (slice_index_or xs (i + n + 1) d)
+    (sorted (i + n) d (omega arith) within)))
 
 -- Sorted entries are in order.
 pub in_order : (xs : List Entry) → IsSortedBy is_before xs → IsInOrder xs

@@ -1,7 +1,6 @@
 -- Names that were worked by hand, as the definition gives them.
 use Rattle.std.proofs.Common.{◌≡◌, ℕ, List, [], ◌∷◌, ◌++◌, refl}
 use Rattle.std.specs.Prelude.{codes}
-use Rattle.std.specs.Char.{is_digit}
 use Rattle.std.specs.Fmt.{digits}
 use Rattle.symbols.specs.SymbolText.{symbol_text}
 

@@ -1,5 +1,4 @@
 -- What a place is named, as the code holds it.
-use Rattle.std.specs.Prelude.{ℕ, List}
 use Rattle.symbols.specs.Nearest.{Naming}
 use Rattle.symbols.specs.declared.named.Named.{Named}
 

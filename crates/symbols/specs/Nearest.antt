@@ -1,5 +1,6 @@
 -- The symbol that a place stands behind.
-use Rattle.std.specs.Prelude.{ℕ, ◌-◌, ◌&&◌, nat_le, nat_lt, if◌then◌else◌, List, [], ◌∷◌, Option, Some, None, option_map}
+use Rattle.std.specs.Prelude.{ℕ, ◌-◌, ◌&&◌, nat_le, nat_lt, if◌then◌else◌, List, []}
+use Rattle.std.specs.Prelude.{◌∷◌, Option, Some, None, option_map}
 use Rattle.symbols.specs.File.{Symbol, symbols_of}
 
 -- The nearer to a place of an item and the nearest of those behind it, if there is one: the item, where it stands at or

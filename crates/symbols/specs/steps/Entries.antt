@@ -1,5 +1,6 @@
 -- Where the names of a file's symbols stand in its bytes.
-use Rattle.std.specs.Prelude.{ℕ, ◌≡◌, ◌<◌, ◌≤◌, ◌+◌, ◌⊎◌, List, [], ◌∷◌, Option, Some, None, length, slice_index_or, take, drop}
+use Rattle.std.specs.Prelude.{ℕ, ◌≡◌, ◌<◌, ◌≤◌, ◌+◌, ◌⊎◌, List, [], ◌∷◌, Option}
+use Rattle.std.specs.Prelude.{Some, None, length, slice_index_or, take, drop}
 use Rattle.std.specs.List.{after_first, before_first, cons_option, position_or_len}
 use Rattle.std.specs.List.Sorted.{IsPermutation}
 use Rattle.retire.specs.Number.{digits_number}

@@ -1,5 +1,5 @@
 -- What a search among entries in order finds.
-use Rattle.std.specs.Prelude.{ℕ, ◌≡◌, ◌<◌, ◌≤◌, ◌⊎◌, List, All, Contains, Option, Some, None}
+use Rattle.std.specs.Prelude.{ℕ, ◌<◌, ◌≤◌, ◌⊎◌, List, All, Contains, Option, Some, None}
 use Rattle.symbols.specs.steps.Entries.{IsUpTo}
 use Rattle.symbols.specs.declared.entry.Entry.{Entry}
 

@@ -1,5 +1,5 @@
 -- The lines so far, and the one that ends here, are a lemma on lists.
-use Rattle.std.proofs.Common.{◌≡◌, ◌≤◌, ◌<◌, ◌+◌, ◌-◌, ◌++◌, length, option_to_list, take, drop, arith, ap, ◌∙◌, sym}
+use Rattle.std.proofs.Common.{◌+◌, ◌-◌, ◌++◌, length, option_to_list, take, drop, arith, ap, ◌∙◌, sym}
 use Rattle.std.proofs.Common.{length-append}
 use Rattle.symbols.specs.steps.Entries.{entry_of}
 use Rattle.symbols.proofs.LineLemmas.{byte_passed, last_read, line_read}

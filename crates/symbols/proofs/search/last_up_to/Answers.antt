@@ -1,7 +1,6 @@
 -- Where the search ends is said by a test of each entry: a lemma reads the last of them from it.
-use Rattle.std.proofs.Common.{ℕ, List, rules}
+use Rattle.std.proofs.Common.{rules}
 use Rattle.std.proofs.lemmas.List.Sorted.{IsPartitionPoint-from_clause}
-use Rattle.symbols.specs.declared.entry.Entry.{Entry}
 use Rattle.symbols.proofs.OrderLemmas.{is_up_to, last_of_them, none_up_to, order_parted}
 use Rattle.symbols.proofs.search.last_up_to.Goals as goal
 

@@ -16,8 +16,8 @@ returns-in-Err-write_bytes-clause-begun g c =
     let named = c.args.named.now in
     let mid = g.W.Write.contents c.write_bytes.new.out in
     let new = g.W.Write.contents c.write_bytes-2.new.out in
-    begun_behind (codes " <") (named.name.now ++ distance_text named.distance) (g.W.Write.contents c.args.sink.now) mid new
-    c.in-Ok.ensures.whole
+    begun_behind (codes " <") (named.name.now ++ distance_text named.distance) (g.W.Write.contents c.args.sink.now) mid
+    new c.in-Ok.ensures.whole
     (begun_in_front named.name.now (distance_text named.distance) mid new c.write_bytes-2.ensures.begun)
 
 pub returns-in-Ok-write_text-clause-begun : goal.returns-in-Ok-write_text-clause-begun
