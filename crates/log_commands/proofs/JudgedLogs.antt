@@ -27,7 +27,7 @@ use Rattle.command_inputs.specs.declared.fault.Fault.TheVariants as fault
 use Rattle.command_inputs.specs.declared.status.Status.{Status}
 use Rattle.command_inputs.specs.declared.status.Status.TheVariants.{Refused}
 use Rattle.log_commands.specs.Checking.{AppendsFirstLines, WritesFirstLines, IsJudgedAt, IsVerdict, Judged, WritesLines}
-use Rattle.log_commands.specs.Checking.{check_line, is_illegal, status_with, verdict_line}
+use Rattle.log_commands.specs.Checking.{check_lines, is_illegal, log_lines, status_with}
 
 -- The status with one log more.
 status_more : (before now : Bool) → status_with (before || now) ≡ (if now then Refused else status_with before)
@@ -37,11 +37,11 @@ status_more false true = refl
 status_more false false = refl
 
 -- The lines of first logs were written.
-pub first_lines : (content : Content) (program : Image) (paths : List Path) (i : ℕ) (status : Status)
+pub first_lines : (content : Content) (explain : Bool) (program : Image) (paths : List Path) (i : ℕ) (status : Status)
     (old new : Option (List ℕ))
-    → IsPrinted (WritesLines content program (take i paths)) (Ok status) old new
-    → BeginsPrinted (WritesFirstLines content program paths) old new
-first_lines content program paths i status old new before = record {
+    → IsPrinted (WritesLines content explain program (take i paths)) (Ok status) old new
+    → BeginsPrinted (WritesFirstLines content explain program paths) old new
+first_lines content explain program paths i status old new before = record {
   printed = record { text = before.text; ended = Ok status };
   prints = record {
     front = take i paths;
@@ -52,14 +52,14 @@ first_lines content program paths i status old new before = record {
   begun = whole_begun before.text old new before.appended;
 }
 
-module _ (content : Content) (program : Image) (paths : List Path) (i : ℕ) (d : Path) (status : Status)
+module _ (content : Content) (explain : Bool) (program : Image) (paths : List Path) (i : ℕ) (d : Path) (status : Status)
     (old mid : Option (List ℕ)) (within : i < length paths)
-    (before : IsPrinted (WritesLines content program (take i paths)) (Ok status) old mid) where
-  -- The line of one log more is written behind.
+    (before : IsPrinted (WritesLines content explain program (take i paths)) (Ok status) old mid) where
+  -- The lines of one log more are written behind.
   line_joins : (events : List Event) (illegal : Option PathFault)
       → IsLog content (get_or paths i d) (Ok events) → IsVerdict (words_of program) events illegal
-      → WritesLines content program (take (i + 1) paths) (record {
-        text = before.text ++ verdict_line (get_or paths i d).now (length events) illegal;
+      → WritesLines content explain program (take (i + 1) paths) (record {
+        text = before.text ++ log_lines explain program (get_or paths i d).now events illegal;
         ended = Ok (if is_some illegal then Refused else status);
       })
   line_joins events illegal read verdict =
@@ -76,34 +76,36 @@ module _ (content : Content) (program : Image) (paths : List Path) (i : ℕ) (d 
             (sym (take_more paths i d within))
             (all_zipped_more (IsJudgedAt content program) (take i paths) logs (get_or paths i d) log
             before.prints.judged is);
-        lines = ap (λ text. text ++ check_line log) before.prints.lines ∙ flat_map_more check_line [] logs log;
+        lines = ap (λ text. text ++ check_lines explain program log) before.prints.lines
+            ∙ flat_map_more (check_lines explain program) [] logs log;
         ended = ap (λ status. if is_some illegal then Refused else status) before.prints.ended
             ∙ sym (status_more (list_any is_illegal logs) (is_some illegal))
             ∙ ap status_with (ap (λ b. list_any is_illegal logs || b) (sym (or-false (is_some illegal)))
             ∙ sym (list_any-append is_illegal logs (log ∷ [])));
       }
 
-  -- The line of one log more.
+  -- The lines of one log more.
   pub lines_more : (events : List Event) (illegal : Option PathFault) (new : Option (List ℕ))
       → IsLog content (get_or paths i d) (Ok events) → IsVerdict (words_of program) events illegal
-      → Appends mid new (verdict_line (get_or paths i d).now (length events) illegal)
-      → IsPrinted (WritesLines content program (take (i + 1) paths)) (Ok (if is_some illegal then Refused else status))
+      → Appends mid new (log_lines explain program (get_or paths i d).now events illegal)
+      → IsPrinted (WritesLines content explain program (take (i + 1) paths))
+      (Ok (if is_some illegal then Refused else status))
       old new
   lines_more events illegal new read verdict line =
-      let more = verdict_line (get_or paths i d).now (length events) illegal in
+      let more = log_lines explain program (get_or paths i d).now events illegal in
       record {
         text = before.text ++ more;
         prints = line_joins events illegal read verdict;
         appended = Appends-trans old mid new before.text more before.appended line;
       }
 
-  -- A beginning of the line of one log more.
+  -- A beginning of the lines of one log more.
   pub line_begun : (events : List Event) (illegal : Option PathFault) (new : Option (List ℕ))
       → IsLog content (get_or paths i d) (Ok events) → IsVerdict (words_of program) events illegal
-      → AppendsBeginning (verdict_line (get_or paths i d).now (length events) illegal) mid new
-      → BeginsPrinted (WritesFirstLines content program paths) old new
+      → AppendsBeginning (log_lines explain program (get_or paths i d).now events illegal) mid new
+      → BeginsPrinted (WritesFirstLines content explain program paths) old new
   line_begun events illegal new read verdict begun =
-      let more = verdict_line (get_or paths i d).now (length events) illegal in
+      let more = log_lines explain program (get_or paths i d).now events illegal in
       record {
         printed = record { text = before.text ++ more; ended = Ok (if is_some illegal then Refused else status) };
         prints = record {
@@ -117,7 +119,7 @@ module _ (content : Content) (program : Image) (paths : List Path) (i : ℕ) (d 
 
   -- The log at this path is not read.
   pub lines_end : (why : Fault) → (why ≡ fault.Memory) ⊎ IsLog content (get_or paths i d) (Err why)
-      → PrintsUnlessDenied (WritesLines content program paths) ⊤ (Err why) old mid
+      → PrintsUnlessDenied (WritesLines content explain program paths) ⊤ (Err why) old mid
   lines_end why (inl denied) = inl (inl denied)
   lines_end why (inr unread) = inr (record {
     text = before.text;
@@ -135,9 +137,11 @@ module _ (content : Content) (program : Image) (paths : List Path) (i : ℕ) (d 
   })
 
 -- First lines were appended, and then nothing more.
-pub lines_kept : (content : Content) (program : Image) (paths : List Path) (old mid new : Option (List ℕ))
-    → AppendsFirstLines content program paths old mid → Keeps mid new → AppendsFirstLines content program paths old new
-lines_kept content program paths old mid new begun kept = record {
+pub lines_kept : (content : Content) (explain : Bool) (program : Image) (paths : List Path)
+    (old mid new : Option (List ℕ))
+    → AppendsFirstLines content explain program paths old mid → Keeps mid new → AppendsFirstLines content explain
+    program paths old new
+lines_kept content explain program paths old mid new begun kept = record {
   front = begun.front;
   rest = begun.rest;
   status = begun.status;

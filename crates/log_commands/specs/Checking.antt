@@ -1,9 +1,10 @@
 -- What `check` prints, and how it ends.
-use Rattle.std.specs.Prelude.{⊤, ◌⊎◌, ◌≡◌, ℕ, ◌++◌, ◌∷◌, Bool, codes, List, Option, Some, None, Result, Ok, Err}
+use Rattle.std.specs.Prelude.{⊤, ◌⊎◌, ◌≡◌, ℕ, ◌++◌, [], ◌∷◌, Bool, codes, List, Option, Some, None, Result, Ok, Err}
 use Rattle.std.specs.Prelude.{if◌then◌else◌, is_some, length}
 use Rattle.std.specs.Fmt.{decimal}
 use Rattle.std.specs.Io.KnownBytes.{Keeps}
 use Rattle.std.specs.List.{AllZip, flat_map, list_any}
+use Rattle.explaining.specs.Explanation.{explanation}
 use Rattle.legalpath.specs.FaultText.{path_fault_text}
 use Rattle.legalpath.specs.FirstFault.{IsFirstFault}
 use Rattle.legalpath.specs.Legal.{Legal}
@@ -50,9 +51,19 @@ abbrev pub verdict_line : List ℕ → ℕ → Option PathFault → List ℕ
 verdict_line path count None = path ++ (codes ": legal, " ++ (decimal count ++ codes " events\n"))
 verdict_line path count (Some illegal) = path ++ (codes ": " ++ (path_fault_text illegal ++ codes "\n"))
 
--- The line of a log that was judged.
-abbrev pub check_line : Judged → List ℕ
-check_line log = verdict_line log.path (length log.events) log.illegal
+-- The line below that of a log: it explains the first illegal row, if there is one and that is asked for.
+abbrev pub explained_line : Bool → Image → List Event → Option PathFault → List ℕ
+explained_line explain program events None = []
+explained_line explain program events (Some illegal) = if explain then explanation program events illegal else []
+
+-- What is written of a log at a path: its line, and the one below.
+abbrev pub log_lines : Bool → Image → List ℕ → List Event → Option PathFault → List ℕ
+log_lines explain program path events illegal =
+    verdict_line path (length events) illegal ++ explained_line explain program events illegal
+
+-- What is written of a log that was judged.
+abbrev pub check_lines : Bool → Image → Judged → List ℕ
+check_lines explain program log = log_lines explain program log.path log.events log.illegal
 
 -- A log that was judged is illegal.
 abbrev pub is_illegal : Judged → Bool
@@ -62,42 +73,42 @@ is_illegal log = is_some log.illegal
 abbrev pub status_with : Bool → Status
 status_with some_illegal = if some_illegal then Refused else Whole
 
--- Every log was read. Each has its line, and the status says whether one is illegal.
-pub record ChecksAll (content : Content) (program : Image) (paths : List Path) (text : List ℕ) (status : Status)
-    : Type 0 where
+-- Every log was read. Each has its lines, and the status says whether one is illegal.
+pub record ChecksAll (content : Content) (explain : Bool) (program : Image) (paths : List Path) (text : List ℕ)
+    (status : Status) : Type 0 where
   pub logs : List Judged
   pub judged : AllZip (IsJudgedAt content program) paths logs
-  pub lines : text ≡ flat_map check_line logs
+  pub lines : text ≡ flat_map (check_lines explain program) logs
   pub ended : status ≡ status_with (list_any is_illegal logs)
 
--- The logs before some path were read, and each has its line. The log at that path was not read, for this reason.
-pub record ChecksUpTo (content : Content) (program : Image) (paths : List Path) (text : List ℕ) (why : Fault)
-    : Type 0 where
+-- The logs before some path were read, and each has its lines. The log at that path was not read, for this reason.
+pub record ChecksUpTo (content : Content) (explain : Bool) (program : Image) (paths : List Path) (text : List ℕ)
+    (why : Fault) : Type 0 where
   pub front : List Path
   pub path : Path
   pub rest : List Path
   pub logs : List Judged
   pub whole : paths ≡ front ++ path ∷ rest
   pub judged : AllZip (IsJudgedAt content program) front logs
-  pub lines : text ≡ flat_map check_line logs
+  pub lines : text ≡ flat_map (check_lines explain program) logs
   pub unread : IsLog content path (Err why)
 
 -- The text is the lines of the logs at these paths, up to the first that is not read, and this is the end that goes
 -- with it.
-abbrev pub EndsLines : Content → Image → List Path → List ℕ → Result Status Fault → Type 0
-EndsLines content program paths text (Ok status) = ChecksAll content program paths text status
-EndsLines content program paths text (Err why) = ChecksUpTo content program paths text why
+abbrev pub EndsLines : Content → Bool → Image → List Path → List ℕ → Result Status Fault → Type 0
+EndsLines content explain program paths text (Ok status) = ChecksAll content explain program paths text status
+EndsLines content explain program paths text (Err why) = ChecksUpTo content explain program paths text why
 
 -- The lines of the logs at these paths are written.
-abbrev pub WritesLines : Content → Image → List Path → Printed → Type 0
-WritesLines content program paths printed = EndsLines content program paths printed.text printed.ended
+abbrev pub WritesLines : Content → Bool → Image → List Path → Printed → Type 0
+WritesLines content explain program paths printed = EndsLines content explain program paths printed.text printed.ended
 
 -- The program is found first, by the base, the count of logs and the image. Where there is no fault, the lines of the
 -- logs are written.
 abbrev pub Checks : Content → Check → Printed → Type 0
 Checks content asked =
     First (IsAskedProgram content (most_harts Two) asked.base.now asked.image asked.logs.items) (λ program.
-    WritesLines content program asked.logs.items)
+    WritesLines content asked.explain program asked.logs.items)
 
 -- `check` writes once it has the program.
 abbrev pub CanCheck : Content → Check → Type 0
@@ -105,32 +116,33 @@ CanCheck content asked =
     Once (IsAskedProgram content (most_harts Two) asked.base.now asked.image asked.logs.items) (λ _. ⊤)
 
 -- All logs at a front part of these paths were read, perhaps at none or at all of them, and their lines were appended.
-pub record AppendsFirstLines (content : Content) (program : Image) (paths : List Path) (old new : Option (List ℕ))
-    : Type 0 where
+pub record AppendsFirstLines (content : Content) (explain : Bool) (program : Image) (paths : List Path)
+    (old new : Option (List ℕ)) : Type 0 where
   pub front : List Path
   pub rest : List Path
   pub status : Status
   pub whole : paths ≡ front ++ rest
-  pub lines : IsPrinted (WritesLines content program front) (Ok status) old new
+  pub lines : IsPrinted (WritesLines content explain program front) (Ok status) old new
 
 -- The program was found, and the lines of the first logs were appended, perhaps of none.
 abbrev pub BeginsLines : Content → Check → Option (List ℕ) → Option (List ℕ) → Type 0
 BeginsLines content asked old new =
     Once (IsAskedProgram content (most_harts Two) asked.base.now asked.image asked.logs.items) (λ program.
-    AppendsFirstLines content program asked.logs.items old new)
+    AppendsFirstLines content asked.explain program asked.logs.items old new)
 
 -- The lines of the logs at a front part of these paths are written.
-pub record WritesFirstLines (content : Content) (program : Image) (paths : List Path) (printed : Printed) : Type 0 where
+pub record WritesFirstLines (content : Content) (explain : Bool) (program : Image) (paths : List Path)
+    (printed : Printed) : Type 0 where
   pub front : List Path
   pub rest : List Path
   pub whole : paths ≡ front ++ rest
-  pub lines : WritesLines content program front printed
+  pub lines : WritesLines content explain program front printed
 
 -- The program was found, and the lines of the first logs are written.
 abbrev pub ChecksFirst : Content → Check → Printed → Type 0
 ChecksFirst content asked printed =
     Once (IsAskedProgram content (most_harts Two) asked.base.now asked.image asked.logs.items) (λ program.
-    WritesFirstLines content program asked.logs.items printed)
+    WritesFirstLines content asked.explain program asked.logs.items printed)
 
 -- What `check` means. It writes the line of a log before it reads the next.
 abbrev pub check_meaning : Check → Meaning

@@ -28,13 +28,15 @@ pub returns-in_err-flush-clause-early : goal.returns-in_err-flush-clause-early
 returns-in_err-flush-clause-early g c =
     let asked = c.args.asked.now in
     passes (most_harts Two) asked.base.now asked.logs.items c.as_slice-paths.result.now c.asked_program.result
-    c.in_ok-program.program c.from_residual-in_err-flush.result c.as_slice-paths.ensures.value c.in_ok-program.was c.asked_program.ensures.early
+    c.in_ok-program.program c.from_residual-in_err-flush.result c.as_slice-paths.ensures.value c.in_ok-program.was
+    c.asked_program.ensures.early
 
 pub returns-clause-early : goal.returns-clause-early
 returns-clause-early g c =
     let asked = c.args.asked.now in
     passes (most_harts Two) asked.base.now asked.logs.items c.as_slice-paths.result.now c.asked_program.result
-    c.in_ok-program.program c.judge_all-ended.result c.as_slice-paths.ensures.value c.in_ok-program.was c.asked_program.ensures.early
+    c.in_ok-program.program c.judge_all-ended.result c.as_slice-paths.ensures.value c.in_ok-program.was
+    c.asked_program.ensures.early
 
 pub returns-in_err-program-clause-printed : goal.returns-in_err-program-clause-printed
 returns-in_err-program-clause-printed g c =
@@ -44,7 +46,7 @@ returns-in_err-program-clause-printed g c =
     let is : c.from_residual.result ≡ Err why = grind (arith, common_steps) in
     program_ends content (most_harts Two) asked.base.now asked.image asked.logs.items c.as_slice-paths.result.now
     c.as_slice-paths.ensures.value (CanCheck content asked) (g.O.Write.contents c.args.out.now) why
-    c.from_residual.result is (λ program. WritesLines content program asked.logs.items)
+    c.from_residual.result is (λ program. WritesLines content asked.explain program asked.logs.items)
     c.in_err-program.ensures.fault
 
 -- The program that was found.
@@ -77,12 +79,14 @@ returns-clause-printed g c =
     let there = there g (goal.at.returns-clause-printed g c).After-flush in
     let ended = c.judge_all-ended.result in
     let mid = contents c.judge_all-ended.new.out in
-    let lines = subst (λ logs. PrintsUnlessDenied (WritesLines content program logs) ⊤ ended (contents c.args.out.now)
+    let lines = subst (λ logs. PrintsUnlessDenied (WritesLines content asked.explain program logs) ⊤ ended
+    (contents c.args.out.now)
     mid) c.as_slice-paths.ensures.value
-    (subst (λ known. PrintsUnlessDenied (WritesLines known program c.as_slice-paths.result.now) ⊤ ended
+    (subst (λ known. PrintsUnlessDenied (WritesLines known asked.explain program c.as_slice-paths.result.now) ⊤ ended
     (contents c.args.out.now) mid)
     c.in_ok-program.ensures.kept c.judge_all-ended.ensures.printed) in
-    goes_on (WritesLines content program asked.logs.items) (Checks content asked) ⊤ (CanCheck content asked) ended
+    goes_on (WritesLines content asked.explain program asked.logs.items) (Checks content asked) ⊤
+    (CanCheck content asked) ended
     (contents c.args.out.now) mid (contents c.flush.new.self)
     (λ printed lines. (Ok program, there, lines)) (program, there, tt)
     lines c.flush.ensures.bytes
@@ -95,13 +99,15 @@ returns-clause-begun g c = λ memory.
     let program = c.in_ok-program.program in
     let old = contents c.args.out.now in
     let mid = contents c.judge_all-ended.new.out in
-    let lines = subst (λ logs. AppendsFirstLines content program logs old mid) c.as_slice-paths.ensures.value
-    (subst (λ known. AppendsFirstLines known program c.as_slice-paths.result.now old mid)
+    let lines = subst (λ logs. AppendsFirstLines content asked.explain program logs old mid)
+    c.as_slice-paths.ensures.value
+    (subst (λ known. AppendsFirstLines known asked.explain program c.as_slice-paths.result.now old mid)
     c.in_ok-program.ensures.kept (c.judge_all-ended.ensures.begun memory)) in
     inr (
       program,
       there g (goal.at.returns-clause-begun g c).After-flush,
-      lines_kept content program asked.logs.items old mid (contents c.flush.new.self) lines c.flush.ensures.bytes,
+      lines_kept content asked.explain program asked.logs.items old mid (contents c.flush.new.self) lines
+          c.flush.ensures.bytes,
     )
 
 -- Whatever the flush answers, a beginning of the lines of some first logs was written.
@@ -115,11 +121,12 @@ cut g c =
     let old = contents c.args.out.now in
     let mid = contents c.judge_all-ended.new.out in
     let new = contents c.flush.new.self in
-    let lines = subst (λ logs. BeginsPrinted (WritesFirstLines content program logs) old mid)
+    let lines = subst (λ logs. BeginsPrinted (WritesFirstLines content asked.explain program logs) old mid)
     c.as_slice-paths.ensures.value
-    (subst (λ known. BeginsPrinted (WritesFirstLines known program c.as_slice-paths.result.now) old mid)
+    (subst (λ known. BeginsPrinted (WritesFirstLines known asked.explain program c.as_slice-paths.result.now) old mid)
     c.in_ok-program.ensures.kept c.judge_all-ended.ensures.cut) in
-    inr (cut_kept (WritesFirstLines content program asked.logs.items) (ChecksFirst content asked) old mid new
+    inr (cut_kept (WritesFirstLines content asked.explain program asked.logs.items) (ChecksFirst content asked) old
+    mid new
     (λ printed lines. (program, there g c, lines)) lines c.flush.ensures.bytes)
 
 pub returns-in_err-flush-clause-cut : goal.returns-in_err-flush-clause-cut

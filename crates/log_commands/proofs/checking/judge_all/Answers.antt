@@ -11,7 +11,7 @@ use Rattle.command_inputs.specs.Found.{IsLog}
 use Rattle.command_inputs.specs.Printed.{IsPrinted, PrintsUnlessDenied}
 use Rattle.command_inputs.specs.declared.fault.Fault.TheVariants as fault
 use Rattle.command_inputs.specs.declared.status.Status.TheVariants.{Refused}
-use Rattle.log_commands.specs.Checking.{IsVerdict, WritesLines, verdict_line}
+use Rattle.log_commands.specs.Checking.{IsVerdict, WritesLines, log_lines}
 use Rattle.log_commands.proofs.JudgedLogs.{first_lines, line_begun, lines_end, lines_more}
 use Rattle.log_commands.proofs.checking.judge_all.Goals as goal
 use Rattle.log_commands.proofs.checking.judge_all.Goals.{then-is_some, else-is_some}
@@ -27,9 +27,10 @@ returns-in_err-events-clause-printed g c =
     let is : c.from_residual.result ≡ Err why = grind (arith, common_steps) in
     let unread = subst (λ known. (why ≡ fault.Memory) ⊎ IsLog known (get_or paths i d) (Err why))
     c.loop-path.invariant.kept c.in_err-events.ensures.fault in
-    subst (λ r. PrintsUnlessDenied (WritesLines content c.args.program.now paths) ⊤ r (contents c.args.out.now)
+    subst (λ r. PrintsUnlessDenied (WritesLines content c.args.explain c.args.program.now paths) ⊤ r
+    (contents c.args.out.now)
     (contents c.loop-path.out)) (sym is)
-    (lines_end content c.args.program.now paths i d c.loop-path.status (contents c.args.out.now)
+    (lines_end content c.args.explain c.args.program.now paths i d c.loop-path.status (contents c.args.out.now)
     (contents c.loop-path.out) c.loop-path-test.true c.loop-path.invariant.printed why unread)
 
 pub returns-in_err-events-clause-begun : goal.returns-in_err-events-clause-begun
@@ -51,37 +52,40 @@ loop-path-preserved g c =
     let d : Path = record { ref_ptr = (0, 0); now = [] } in
     let old = contents c.args.out.now in
     let mid = contents c.loop-path.out in
-    let new = contents c.write_line.new.out in
+    let new = contents c.write_lines.new.out in
     let status = c.loop-path.status in
     let events = c.in_ok-events.events.items in
     let illegal = c.illegal_row-illegal.result in
     let read = subst (λ known. IsLog known (get_or paths i d) (Ok events)) c.loop-path.invariant.kept
     c.in_ok-events.ensures.log in
-    let verdict = subst (λ log. IsVerdict (words_of program) log illegal) c.as_slice.ensures.value
+    let verdict = subst (λ log. IsVerdict (words_of program) log illegal) c.as_slice-rows.ensures.value
     c.illegal_row-illegal.ensures in
-    let count : c.len.result ≡ length events = grind (arith, common_steps) in
-    let line = subst (λ count. Appends mid new (verdict_line (get_or paths i d).now count illegal)) count
-    c.in_ok-write_line.ensures.text in
+    let line = subst (λ log. Appends mid new (log_lines c.args.explain program (get_or paths i d).now log illegal))
+    c.as_slice-rows.ensures.value
+    c.in_ok-write_lines.ensures.text in
     let found : c.is_some.result ≡ is_some illegal = c.is_some.ensures in
     let now_is : c.if-is_some.status ≡ (if is_some illegal then Refused else status) = elim c.if-is_some.branch [
       | then-is_some w ↦ w.status-is ∙ ap (λ b. if b then Refused else status) (sym w.if-is_some.true ∙ found)
       | else-is_some w ↦ w.status-is ∙ ap (λ b. if b then Refused else status) (sym w.if-is_some.false ∙ found)
     ] in record {
-      printed = subst (λ status. IsPrinted (WritesLines content program (take (i + 1) paths)) (Ok status) old new)
+      printed = subst (λ status. IsPrinted (WritesLines content c.args.explain program (take (i + 1) paths))
+          (Ok status) old new)
           (sym now_is)
-          (lines_more content program paths i d status old mid c.loop-path-test.true c.loop-path.invariant.printed
+          (lines_more content c.args.explain program paths i d status old mid c.loop-path-test.true
+          c.loop-path.invariant.printed
           events illegal new read verdict line);
       kept = grind (arith, common_steps);
     }
 
 pub returns-in_err-events-clause-cut : goal.returns-in_err-events-clause-cut
 returns-in_err-events-clause-cut g c =
-    first_lines (g.F.Files.content c.args.files.now) c.args.program.now c.args.logs.now c.loop-path.path-index
+    first_lines (g.F.Files.content c.args.files.now) c.args.explain c.args.program.now c.args.logs.now
+    c.loop-path.path-index
     c.loop-path.status
     (g.O.Write.contents c.args.out.now) (g.O.Write.contents c.loop-path.out) c.loop-path.invariant.printed
 
-pub returns-in_err-write_line-clause-cut : goal.returns-in_err-write_line-clause-cut
-returns-in_err-write_line-clause-cut g c =
+pub returns-in_err-write_lines-clause-cut : goal.returns-in_err-write_lines-clause-cut
+returns-in_err-write_lines-clause-cut g c =
     let contents = g.O.Write.contents in
     let content = g.F.Files.content c.args.files.now in
     let program = c.args.program.now in
@@ -90,22 +94,25 @@ returns-in_err-write_line-clause-cut g c =
     let d : Path = record { ref_ptr = (0, 0); now = [] } in
     let old = contents c.args.out.now in
     let mid = contents c.loop-path.out in
-    let new = contents c.write_line.new.out in
+    let new = contents c.write_lines.new.out in
     let events = c.in_ok-events.events.items in
     let illegal = c.illegal_row-illegal.result in
     let read = subst (λ known. IsLog known (get_or paths i d) (Ok events)) c.loop-path.invariant.kept
     c.in_ok-events.ensures.log in
-    let verdict = subst (λ log. IsVerdict (words_of program) log illegal) c.as_slice.ensures.value
+    let verdict = subst (λ log. IsVerdict (words_of program) log illegal) c.as_slice-rows.ensures.value
     c.illegal_row-illegal.ensures in
-    let count : c.len.result ≡ length events = grind (arith, common_steps) in
-    let begun = subst (λ count. AppendsBeginning (verdict_line (get_or paths i d).now count illegal) mid new) count
-    c.write_line.ensures.begun in
-    line_begun content program paths i d c.loop-path.status old mid c.loop-path-test.true c.loop-path.invariant.printed
+    let begun = subst (λ log. AppendsBeginning (log_lines c.args.explain program (get_or paths i d).now log illegal)
+    mid new)
+    c.as_slice-rows.ensures.value
+    c.write_lines.ensures.begun in
+    line_begun content c.args.explain program paths i d c.loop-path.status old mid c.loop-path-test.true
+    c.loop-path.invariant.printed
     events
     illegal new read verdict begun
 
 pub returns-clause-cut : goal.returns-clause-cut
 returns-clause-cut g c =
-    first_lines (g.F.Files.content c.args.files.now) c.args.program.now c.args.logs.now c.loop-path.path-index
+    first_lines (g.F.Files.content c.args.files.now) c.args.explain c.args.program.now c.args.logs.now
+    c.loop-path.path-index
     c.loop-path.status
     (g.O.Write.contents c.args.out.now) (g.O.Write.contents c.loop-path.out) c.loop-path.invariant.printed
