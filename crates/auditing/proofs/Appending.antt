@@ -1,15 +1,15 @@
 -- One more message of RECEIVED: the true ones, and the fates.
-use Rattle.std.proofs.Common.{◌≡◌, ◌≢◌, inl, inr, ℕ, ◌+◌, Bool, true, false, cond, eqb, ltb, List, [], ◌∷◌, ◌++◌, length, refl, sym}
-use Rattle.std.proofs.Common.{ap, ◌∙◌, arith}
+use Rattle.std.proofs.Common.{◌≡◌, inl, inr, ◌+◌, Bool, true, false, cond, List, [], ◌∷◌, ◌++◌, refl, sym}
+use Rattle.std.proofs.Common.{ap, ◌∙◌}
 use Rattle.std.specs.Prelude.{◌&&◌, ◌||◌}
-use Rattle.std.specs.List.{count_by, filter, list_any}
-use Rattle.std.proofs.lemmas.Bool.{ne_eqb, and_parts, or_cases, or_left, or_right}
+use Rattle.std.specs.List.{count_by, list_any}
+use Rattle.std.proofs.lemmas.Bool.{or_cases, or_left, or_right}
 use Rattle.std.proofs.lemmas.List.{append_assoc, append-nil}
 use Rattle.std.proofs.lemmas.List.Elements.{filter-append}
 use Rattle.std.proofs.lemmas.List.Folds.{list_any-append}
 use Rattle.std.proofs.lemmas.List.Sums.{sum_by_push}
 use Rattle.message.specs.declared.message.Message.{Message}
-use Rattle.auditing.specs.Fates.{fate_of, has_greater, has_number, is_numbered, is_true, true_ones}
+use Rattle.auditing.specs.Fates.{is_true, true_ones}
 use Rattle.auditing.specs.Judged.{Judged, judged, judged_behind, judged_one}
 
 pub or_false : (b : Bool) → (b || false) ≡ b

@@ -1,7 +1,7 @@
 -- The counts of a hart, where one more message came.
-use Rattle.std.proofs.Common.{◌≡◌, ◌≢◌, ℕ, ◌+◌, ◌-◌, ◌^◌, Bool, true, false, cond, eqb, List, [], ◌∷◌, ◌++◌, length, refl}
-use Rattle.std.proofs.Common.{sym, ap, subst, ◌∙◌, arith, add-zero}
-use Rattle.std.specs.Prelude.{◌&&◌, min}
+use Rattle.std.proofs.Common.{◌≡◌, ◌≢◌, ℕ, ◌+◌, true, false, cond, eqb, List, [], ◌∷◌, ◌++◌, length, refl}
+use Rattle.std.proofs.Common.{sym, ap, ◌∙◌, arith, add-zero}
+use Rattle.std.specs.Prelude.{◌&&◌}
 use Rattle.std.proofs.lemmas.Bool.{eq-eqb, ne_eqb}
 use Rattle.std.proofs.lemmas.List.{length_push}
 use Rattle.message.proofs.OfHartLemmas.{of_hart-next, of_hart-other}
@@ -13,7 +13,6 @@ use Rattle.auditing.specs.Fates.{fate_of}
 use Rattle.auditing.specs.Judged.{Judged, fates_counted, is_fate, strangers_in}
 use Rattle.auditing.specs.declared.fate.Fate.{Fate}
 use Rattle.auditing.specs.declared.fate.Fate.TheVariants as fate
-use Rattle.auditing.specs.declared.tally.Counts.{Counts}
 use Rattle.auditing.specs.steps.Taking.{counted, one_more, strangers_after}
 
 -- One more, where the greatest count stays.

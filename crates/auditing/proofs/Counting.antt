@@ -1,10 +1,10 @@
 -- Counting the messages of SENT.
-use Rattle.std.proofs.Common.{◌≡◌, ◌≢◌, ◌⊎◌, inl, inr, ℕ, zero, suc, ◌+◌, ◌-◌, ◌^◌, ◌<◌, ◌≤◌, All, Bool, true, false, cond}
+use Rattle.std.proofs.Common.{◌≡◌, ◌≢◌, ◌⊎◌, inl, inr, ℕ, zero, suc, ◌+◌, ◌-◌, ◌^◌, ◌<◌, ◌≤◌, cond}
 use Rattle.std.proofs.Common.{eqb, ltb, List, [], ◌∷◌, ◌++◌, Option, Some, None, Ok, length, replicate, set, slice_get, get_or, refl}
-use Rattle.std.proofs.Common.{sym, ap, subst, ◌∙◌, arith, append-nil}
+use Rattle.std.proofs.Common.{sym, ap, subst, ◌∙◌, arith}
 use Rattle.std.specs.Prelude.{max, min}
 use Rattle.std.proofs.lemmas.Bool.{cases_eq, cases_lt, le-ltb, lt-ltb}
-use Rattle.std.proofs.lemmas.List.{append_assoc, length-append, length_push, length-replicate, get_or-replicate}
+use Rattle.std.proofs.lemmas.List.{length_push, length-replicate, get_or-replicate}
 use Rattle.std.proofs.lemmas.List.Elements.{All-nil, All-push}
 use Rattle.std.proofs.lemmas.List.Sums.{count_by-le-length, length-filter}
 use Rattle.std.proofs.lemmas.Option.{slice_get-get_or, slice_get_past, slice_get_within}
@@ -19,8 +19,8 @@ use Rattle.message.specs.declared.fault.MessageFault.{MessageFault}
 use Rattle.message.specs.declared.fault.MessageFault.TheVariants as message
 use Rattle.message.specs.declared.message.Message.{Message}
 use Rattle.auditing.proofs.SentLemmas.{harts_in-next, in_turn-next, next_is, next_of_hart}
-use Rattle.auditing.specs.Sent.{AreInTurn, BeginsMisplaced, harts_in, misplaced, misplaced_at, next_number}
-use Rattle.auditing.specs.steps.Indexing.{HasCounted, IsCountFault, StopsCounting, placed}
+use Rattle.auditing.specs.Sent.{harts_in, misplaced, misplaced_at, next_number}
+use Rattle.auditing.specs.steps.Indexing.{HasCounted, IsCountFault, placed}
 use Rattle.auditing.specs.declared.fault.SentFault.TheVariants as fault
 
 -- An element that was written, and another.
@@ -142,7 +142,7 @@ counted_more harts bytes left next counts more highest higher number m has few s
             (sym (of_hart-other hart has.messages m other))
 
 -- Why no whole message stands there.
-begins_none : (bytes : List ℕ) (why : MessageFault) → (why ≡ message.Short) ⊎ (why ≡ message.BadLength)
+pub begins_none : (bytes : List ℕ) (why : MessageFault) → (why ≡ message.Short) ⊎ (why ≡ message.BadLength)
     → (why ≡ message.Short → IsCut bytes) → (why ≡ message.BadLength → HasBadLength bytes) → BeginsNone bytes why
 begins_none bytes message.Short either short bad = short refl
 begins_none bytes message.BadLength either short bad = bad refl

@@ -1,11 +1,10 @@
 -- A capture with the same messages of each hart decodes to the same logs.
-use Rattle.std.proofs.Common.{◌≡◌, ◌≢◌, ◌⊎◌, inl, inr, ℕ, zero, suc, ◌+◌, ◌<◌, ◌≤◌, All, Bool, true, false, cond, eqb, List, []}
-use Rattle.std.proofs.Common.{◌∷◌, ◌++◌, Option, Some, None, Result, Ok, Err, length, slice_get, get_or, refl, sym, ap, subst}
+use Rattle.std.proofs.Common.{◌≡◌, ◌⊎◌, inl, inr, ℕ, suc, ◌<◌, All, Bool, true, false, cond, eqb, List, []}
+use Rattle.std.proofs.Common.{◌∷◌, ◌++◌, Option, Some, None, Result, Ok, Err, length, slice_get, refl, sym, ap, subst}
 use Rattle.std.proofs.Common.{◌∙◌, arith, append-nil}
 use Rattle.std.specs.Prelude.{IsOk}
-use Rattle.std.proofs.lemmas.Bool.{eq-eqb, eqb-true, eqb-false, ne_eqb, true≢false}
+use Rattle.std.proofs.lemmas.Bool.{true≢false}
 use Rattle.std.proofs.lemmas.List.{append_assoc, append_cancel_left}
-use Rattle.std.proofs.lemmas.List.Elements.{All-append}
 use Rattle.std.proofs.lemmas.Option.{slice_get_within}
 use Rattle.retire.specs.declared.event.Event.{Event}
 use Rattle.rvclass.specs.Words.{Words, IsProgram}
@@ -20,16 +19,16 @@ use Rattle.decoder.specs.declared.fault.DecodeFault.{DecodeFault}
 use Rattle.decoder.specs.declared.fault.DecodeFault.TheVariants.{Memory}
 use Rattle.message.proofs.AcceptedLemmas.{accepted_counted, answered}
 use Rattle.message.proofs.Answering.{answer-unpacked}
-use Rattle.message.proofs.Elements.{All-slice_get, slice_get-some}
-use Rattle.message.proofs.HartMessages.{expected_of, packets_in-append, packets_in-cons, packets_of-append}
-use Rattle.message.proofs.OfHartLemmas.{of_hart-append, of_hart-own, of_hart-others}
+use Rattle.message.proofs.Elements.{slice_get-some}
+use Rattle.message.proofs.HartMessages.{expected_of, packets_in-append, packets_in-cons}
+use Rattle.message.proofs.OfHartLemmas.{of_hart-append, of_hart-own}
 use Rattle.message.proofs.StartsRead.{header_only}
 use Rattle.message.specs.Accepted.{AreAccepted, expected_after, newcomers}
 use Rattle.message.specs.Accepting.{accepting, answer, answer_of, harts_after}
-use Rattle.message.specs.Capture.{capture, message_bytes}
+use Rattle.message.specs.Capture.{capture}
 use Rattle.message.specs.Cut.{IsMessage}
 use Rattle.message.specs.Harts.{Harts}
-use Rattle.message.specs.Header.{IsHeader, IsMarked, header_bytes, setting_bytes}
+use Rattle.message.specs.Header.{header_bytes, setting_bytes}
 use Rattle.message.specs.OfHart.{of_hart, packets_in, packets_of}
 use Rattle.message.specs.declared.fault.DemuxFault.{DemuxFault}
 use Rattle.message.specs.declared.fault.MessageFault.{MessageFault}
@@ -37,9 +36,9 @@ use Rattle.message.specs.declared.fault.MessageFault.TheVariants as message_faul
 use Rattle.message.specs.declared.hart.Hart.{Hart}
 use Rattle.message.specs.declared.header.Header.{Header}
 use Rattle.message.specs.declared.message.Message.{Message}
-use Rattle.receiver.specs.Agreeing.{Agrees, opens_another}
+use Rattle.receiver.specs.Agreeing.{Agrees}
 use Rattle.receiver.specs.Holds.{AreDecoded}
-use Rattle.receiver.specs.NotReceived.{IsNotReceived, IsUndecoded}
+use Rattle.receiver.specs.NotReceived.{IsNotReceived}
 use Rattle.receiver.specs.declared.fault.ReceiveFault.{ReceiveFault}
 use Rattle.receiver.specs.declared.fault.ReceiveFault.TheVariants as receiving
 use Rattle.captures.proofs.CapturesSplit.{capture_first, capture_none, capture_not_bad, capture_not_cut}
@@ -50,7 +49,7 @@ use Rattle.captures.specs.Decoded.{AreMessagesDecoded, BeginsRefused, IsDecoded,
 use Rattle.captures.specs.Decoded.{Version1, Version2}
 use Rattle.captures.specs.NoMessage.{BeginsNone}
 use Rattle.captures.specs.Returned.{IsMemory}
-use Rattle.captures.specs.Whole.{BeginsWith, IsWhole}
+use Rattle.captures.specs.Whole.{IsWhole}
 use Rattle.captures.specs.declared.outcome.CaptureFault.{CaptureFault}
 use Rattle.captures.specs.declared.outcome.CaptureFault.TheVariants as fault
 use Rattle.auditing.specs.DecodedAgain.{AreDecodedAgain}

@@ -1,14 +1,11 @@
 -- Indexing the payloads of SENT.
-use Rattle.std.proofs.Common.{◌≡◌, ◌≢◌, ◌⊎◌, inl, inr, ℕ, zero, suc, ◌+◌, ◌<◌, ◌≤◌, All, Bool, true, false, List, []}
-use Rattle.std.proofs.Common.{◌∷◌, ◌++◌, Option, Some, None, length, map, replicate, set, slice_get, get_or, refl, sym, ap}
+use Rattle.std.proofs.Common.{◌≡◌, ◌≢◌, ◌⊎◌, inl, inr, ℕ, All, false, List, []}
+use Rattle.std.proofs.Common.{◌∷◌, ◌++◌, Option, Some, None, length, replicate, slice_get, refl, sym, ap}
 use Rattle.std.proofs.Common.{subst, ◌∙◌, arith, append-nil}
-use Rattle.std.specs.Prelude.{IsSomeAnd}
-use Rattle.std.proofs.lemmas.Bool.{cases_lt}
 use Rattle.std.proofs.lemmas.List.{append_assoc, length-replicate, length-set, get_or-replicate, map-append}
 use Rattle.std.proofs.lemmas.List.Elements.{All-head, All-tail}
 use Rattle.std.proofs.lemmas.Option.{slice_get-get_or, slice_get_within}
 use Rattle.message.proofs.AcceptedLemmas.{slice_get-set}
-use Rattle.message.proofs.Elements.{slice_get-some}
 use Rattle.message.proofs.OfHartLemmas.{of_hart-next, of_hart-other}
 use Rattle.message.specs.Capture.{capture, message_bytes}
 use Rattle.message.specs.Cut.{IsMessage}

@@ -1,8 +1,8 @@
 -- SENT is whole, or it is refused.
-use Rattle.std.proofs.Common.{◌≡◌, ◌⊎◌, inl, inr, ℕ, All, List, [], ◌∷◌, ◌++◌, Option, Some, None, refl, sym, ap, subst, ◌∙◌}
+use Rattle.std.proofs.Common.{◌≡◌, inl, inr, ℕ, All, List, [], ◌∷◌, ◌++◌, Option, Some, None, refl, sym, ap, subst, ◌∙◌}
 use Rattle.std.proofs.lemmas.List.{append-nil, append_assoc, append_cancel_left}
 use Rattle.message.proofs.StartsRead.{header_only}
-use Rattle.message.specs.Capture.{capture, message_bytes}
+use Rattle.message.specs.Capture.{capture}
 use Rattle.message.specs.Cut.{IsMessage}
 use Rattle.message.specs.Header.{header_bytes, setting_bytes}
 use Rattle.message.specs.declared.fault.DemuxFault.{DemuxFault}

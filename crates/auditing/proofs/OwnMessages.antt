@@ -1,10 +1,10 @@
 -- The messages of a hart in SENT, numbered from 0.
 use Rattle.std.proofs.Common.{◌≡◌, ◌≢◌, ℕ, zero, suc, ◌+◌, ◌<◌, ◌≤◌, Bool, true, false, eqb, List, [], ◌∷◌, Option, Some}
-use Rattle.std.proofs.Common.{None, get_or, length, map, set, slice_get, refl, sym, ap, subst, ◌∙◌, arith}
+use Rattle.std.proofs.Common.{None, get_or, map, set, slice_get, refl, sym, ap, ◌∙◌, arith}
 use Rattle.std.specs.Prelude.{◌&&◌, ◌||◌, is_some}
 use Rattle.std.specs.List.{list_any}
 use Rattle.std.specs.Str.{bytes_eq}
-use Rattle.std.proofs.lemmas.Bool.{and_from, and_left, and_parts, and_right, eq-eqb, eqb-true, ne_eqb, or_left}
+use Rattle.std.proofs.lemmas.Bool.{and_from, and_left, and_right, eq-eqb, ne_eqb, or_left}
 use Rattle.std.proofs.lemmas.Map.Views.{any-filter_same}
 use Rattle.message.specs.Numbered.{messages_from}
 use Rattle.message.specs.OfHart.{of_hart}

@@ -1,9 +1,9 @@
 -- The runs of the numbers of flags that are not set.
-use Rattle.std.proofs.Common.{◌≡◌, ◌≢◌, ◌⊎◌, inl, inr, ℕ, zero, suc, ◌+◌, ◌-◌, ◌<◌, ◌≤◌, Bool, true, false, cond, eqb, List, [], ◌∷◌}
-use Rattle.std.proofs.Common.{◌++◌, length, take, drop, refl, sym, ap, subst, ◌∙◌, arith, add-zero}
+use Rattle.std.proofs.Common.{◌≡◌, ◌≢◌, ◌⊎◌, inl, inr, ℕ, suc, ◌+◌, ◌-◌, ◌≤◌, Bool, true, false, cond, eqb, List, [], ◌∷◌}
+use Rattle.std.proofs.Common.{length, take, drop, refl, sym, ap, subst, ◌∙◌, arith, add-zero}
 use Rattle.std.specs.Prelude.{not}
 use Rattle.std.specs.List.{position_or_len}
-use Rattle.std.proofs.lemmas.Bool.{eq-eqb, ne_eqb}
+use Rattle.std.proofs.lemmas.Bool.{eq-eqb, eqb-true, ne_eqb}
 use Rattle.std.proofs.lemmas.List.{length-drop, length-take}
 use Rattle.std.proofs.lemmas.List.Sums.{prefix_len-le-length}
 use Rattle.auditing.specs.Losing.{run_before, runs_of}
@@ -109,6 +109,30 @@ behind_set (true ∷ flags) =
     subst (λ j. (drop j (true ∷ flags) ≡ []) ⊎ ((rest : List Bool) × (drop j (true ∷ flags) ≡ false ∷ rest))) one
     (behind_set flags)
 
+-- A run of flags that are not set has one more than those behind its first.
+run_long : (left run rest : List Bool) → left ≡ false ∷ rest → run ≡ take (position_or_len (λ flag. flag) left) left
+    → length run ≡ suc (position_or_len (λ flag. flag) rest)
+run_long left run rest left_as run_is =
+    let more = position_or_len (λ flag. flag) rest in
+    let within : more ≤ length rest = prefix_len-le-length (λ flag. not flag) rest in
+    ap length (run_is ∙ ap (λ l. take (position_or_len (λ flag. flag) l) l) left_as)
+    ∙ omega (arith, within, length-take (1 + more) (false ∷ rest))
+
+-- Where the next run has no flag, no run is left.
+pub none_left : (number : ℕ) (flags left run : List Bool) → left ≡ drop (position_or_len not flags) flags
+    → run ≡ take (position_or_len (λ flag. flag) left) left → eqb (length run) 0 ≡ true
+    → runs_of (lost_in number flags) ≡ []
+none_left number flags left run left_is run_is none = go (behind_set flags)
+  where
+    go : (drop (position_or_len not flags) flags ≡ [])
+        ⊎ ((rest : List Bool) × (drop (position_or_len not flags) flags ≡ false ∷ rest))
+        → runs_of (lost_in number flags) ≡ []
+    go (inl end) = ap runs_of (skipped number flags ∙ ap (lost_in (number + position_or_len not flags)) end)
+    go (inr (rest, begins)) =
+        let long = run_long left run rest (left_is ∙ begins) run_is in
+        let short = eqb-true (length run) 0 none in
+        absurd (omega (arith, long, short))
+
 -- What is left once the next run is passed over, and that run, if there is one.
 pub next_run : (number : ℕ) (flags left run behind : List Bool) (first next : ℕ) (none : Bool)
     → left ≡ drop (position_or_len not flags) flags → run ≡ take (position_or_len (λ flag. flag) left) left
@@ -143,10 +167,7 @@ next_run number flags left run behind first next none left_is run_is behind_is f
     go (inr (rest, begins)) =
         let left_as : left ≡ false ∷ rest = left_is ∙ begins in
         let more = position_or_len (λ flag. flag) rest in
-        let within : more ≤ length rest = prefix_len-le-length (λ flag. not flag) rest in
-        let run_as : length run ≡ suc more =
-        ap length (run_is ∙ ap (λ l. take (position_or_len (λ flag. flag) l) l) left_as)
-        ∙ omega (arith, within, length-take (1 + more) (false ∷ rest)) in
+        let run_as : length run ≡ suc more = run_long left run rest left_as run_is in
         let behind_as : behind ≡ drop more rest =
         behind_is ∙ ap (λ l. drop (position_or_len (λ flag. flag) l) l) left_as
         ∙ sym (ap (λ j. drop j (false ∷ rest)) one_more) in

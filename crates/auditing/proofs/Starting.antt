@@ -1,12 +1,11 @@
 -- The audit of SENT before the first message of RECEIVED.
-use Rattle.std.proofs.Common.{◌≡◌, ◌⊎◌, inl, inr, ℕ, All, List, [], ◌∷◌, ◌++◌, Option, Some, None, refl, sym, ap, subst}
+use Rattle.std.proofs.Common.{◌≡◌, inr, ℕ, All, List, [], ◌++◌, Option, Some, None, refl, sym, ap, subst}
 use Rattle.std.proofs.Common.{◌∙◌, ◌-◌, Result, Ok, Err, IfOk, drop, length, take, append-nil}
 use Rattle.std.proofs.lemmas.List.{take_rest}
 use Rattle.std.specs.Prelude.{IfErr}
 use Rattle.message.specs.Capture.{capture}
 use Rattle.message.specs.Cut.{IsMessage}
 use Rattle.message.specs.Header.{IsHeader, header_bytes}
-use Rattle.message.specs.declared.fault.MessageFault.{MessageFault}
 use Rattle.message.specs.declared.header.Header.{Header}
 use Rattle.message.specs.declared.message.Message.{Message}
 use Rattle.captures.specs.NoMessage.{BeginsNone}
@@ -18,7 +17,7 @@ use Rattle.auditing.specs.Sent.{AreInTurn, BeginsMisplaced, IsSent, IsSentFault,
 use Rattle.auditing.specs.Sent.{known_harts}
 use Rattle.auditing.specs.declared.fault.SentFault.{SentFault}
 use Rattle.auditing.specs.declared.fault.SentFault.TheVariants as fault
-use Rattle.auditing.specs.steps.Indexing.{AreIndexed, HasCounted, IsCountFault, StopsCounting, harts_by}
+use Rattle.auditing.specs.steps.Indexing.{AreIndexed, HasCounted, IsCountFault, harts_by}
 
 -- The messages of these bytes are audited.
 abbrev pub IsStarted : List ℕ → ℕ → Ledger → Type 0

@@ -1,13 +1,12 @@
 -- One more message of RECEIVED, by what is kept of all harts.
-use Rattle.std.proofs.Common.{◌≡◌, ◌≢◌, ◌⊎◌, inl, inr, ℕ, ◌<◌, ◌≤◌, Bool, true, false, List, [], ◌∷◌, ◌++◌, Option, Some, None}
-use Rattle.std.proofs.Common.{length, set, slice_get, refl, sym, ap, subst, ◌∙◌, arith}
+use Rattle.std.proofs.Common.{◌≡◌, ◌≢◌, ◌⊎◌, inl, inr, ℕ, ◌<◌, ◌≤◌, List, [], ◌∷◌, ◌++◌, Option, Some, None}
+use Rattle.std.proofs.Common.{length, slice_get, refl, sym, ap, subst, ◌∙◌, arith}
 use Rattle.std.specs.List.{list_any}
 use Rattle.std.proofs.lemmas.Bool.{cases_lt}
 use Rattle.std.proofs.lemmas.List.{length-set}
 use Rattle.std.proofs.lemmas.Option.{slice_get_within}
 use Rattle.message.proofs.AcceptedLemmas.{slice_get-set}
 use Rattle.message.proofs.Elements.{slice_get-some}
-use Rattle.message.specs.OfHart.{of_hart}
 use Rattle.message.specs.declared.message.Message.{Message}
 use Rattle.auditing.proofs.CountLemmas.{strangers-next}
 use Rattle.auditing.proofs.OwnMessages.{any_of_hart}
@@ -16,7 +15,6 @@ use Rattle.auditing.specs.Audits.{Audits, AuditsHart, capped}
 use Rattle.auditing.specs.Fates.{fate_of, has_greater, has_number, is_numbered, is_true, true_ones}
 use Rattle.auditing.specs.Judged.{strangers_in}
 use Rattle.auditing.specs.Ledger.{HartLedger, Ledger}
-use Rattle.auditing.specs.declared.fate.Fate.{Fate}
 use Rattle.auditing.specs.declared.fate.Fate.TheVariants as fate
 use Rattle.auditing.specs.steps.Taking.{fate_found, fate_from, hart_after, harts_found, ledger_after, strangers_after}
 

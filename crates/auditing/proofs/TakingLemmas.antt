@@ -1,19 +1,18 @@
 -- What is kept of a hart, where one more message came.
-use Rattle.std.proofs.Common.{◌≡◌, ◌≢◌, ◌⊎◌, inl, inr, ℕ, zero, suc, ◌+◌, ◌<◌, ◌≤◌, Bool, true, false, cond, eqb, ltb, List, []}
-use Rattle.std.proofs.Common.{◌∷◌, ◌++◌, Option, Some, None, get_or, length, map, set, slice_get, refl, sym, ap, subst, ◌∙◌}
+use Rattle.std.proofs.Common.{◌≡◌, ◌≢◌, ℕ, ◌+◌, ◌<◌, ◌≤◌, Bool, true, false, eqb, ltb, List, []}
+use Rattle.std.proofs.Common.{◌∷◌, ◌++◌, Option, Some, None, get_or, map, set, slice_get, refl, sym, ap, subst, ◌∙◌}
 use Rattle.std.proofs.Common.{arith, zero-add}
 use Rattle.std.specs.Prelude.{◌&&◌, ◌||◌, if◌then◌else◌, is_some, not}
 use Rattle.std.specs.List.{list_any}
 use Rattle.std.specs.Str.{bytes_eq}
 use Rattle.std.proofs.lemmas.Bool.{and_from, and_parts, eq-eqb, eqb-true, le-ltb, lt-ltb, ltb-false, ltb-true, ne_eqb}
 use Rattle.std.proofs.lemmas.Bool.{true≢false}
-use Rattle.message.specs.Numbered.{messages_from}
 use Rattle.message.specs.OfHart.{of_hart}
 use Rattle.message.specs.declared.message.Message.{Message}
 use Rattle.auditing.proofs.Appending.{any-next, any-other, any_weaker, or_false, true_ones-same}
 use Rattle.auditing.proofs.CountLemmas.{counts-next, counts-other}
 use Rattle.auditing.proofs.OwnMessages.{any_of_hart, fits, flag_at, flags, numbered_in, same_in, set_flag}
-use Rattle.auditing.specs.Audits.{AuditsHart, counts_of}
+use Rattle.auditing.specs.Audits.{AuditsHart}
 use Rattle.auditing.specs.Fates.{fate_of, has_greater, has_number, is_numbered, is_same, is_true, true_ones}
 use Rattle.auditing.specs.Ledger.{HartLedger}
 use Rattle.auditing.specs.declared.fate.Fate.{Fate}

@@ -1,10 +1,9 @@
 -- What an audit has before the first message of RECEIVED, and what it counts.
-use Rattle.std.proofs.Common.{◌≡◌, ◌≢◌, ℕ, zero, suc, ◌+◌, ◌-◌, ◌^◌, ◌<◌, ◌≤◌, Bool, true, false, cond, eqb, ltb, List, []}
-use Rattle.std.proofs.Common.{◌∷◌, ◌++◌, Option, Some, None, length, map, slice_get, refl, sym, ap, subst, ◌∙◌, arith}
-use Rattle.std.specs.Prelude.{◌&&◌, min, not}
-use Rattle.std.specs.List.{count_by, filter, list_any}
+use Rattle.std.proofs.Common.{◌≡◌, ℕ, suc, ◌+◌, ◌^◌, ◌<◌, ◌≤◌, Bool, true, false, cond, eqb, List, []}
+use Rattle.std.proofs.Common.{◌∷◌, ◌++◌, Option, Some, None, length, map, refl, sym, ap, subst, ◌∙◌, arith}
+use Rattle.std.specs.Prelude.{◌&&◌, not}
+use Rattle.std.specs.List.{count_by, filter}
 use Rattle.std.proofs.lemmas.Bool.{le-ltb}
-use Rattle.std.proofs.lemmas.List.{length-map}
 use Rattle.std.proofs.lemmas.List.Sums.{count_by-le-length, length-filter, sum_by-cons}
 use Rattle.message.specs.Numbered.{messages_from}
 use Rattle.message.specs.OfHart.{of_hart}
@@ -15,8 +14,8 @@ use Rattle.auditing.proofs.SentLemmas.{none_above, none_beyond, numbered}
 use Rattle.auditing.specs.Audits.{Audits, AuditsHart, capped}
 use Rattle.auditing.specs.Fates.{has_number, true_ones}
 use Rattle.auditing.specs.Judged.{Judged, fates_counted, is_fate, judged, judged_behind, strangers_in}
-use Rattle.auditing.specs.Ledger.{HartLedger, Ledger}
-use Rattle.auditing.specs.Losing.{is_lost, lost_numbers, lost_runs, runs_of}
+use Rattle.auditing.specs.Ledger.{HartLedger}
+use Rattle.auditing.specs.Losing.{lost_numbers, lost_runs, runs_of}
 use Rattle.auditing.specs.Sent.{AreInTurn, harts_of, known_harts}
 use Rattle.auditing.specs.declared.fate.Fate.{Fate}
 use Rattle.auditing.specs.declared.fate.Fate.TheVariants as fate

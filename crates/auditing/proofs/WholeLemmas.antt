@@ -1,30 +1,28 @@
 -- A hart is whole exactly where nothing befell its messages.
-use Rattle.std.proofs.Common.{◌≡◌, ◌≢◌, ◌⊎◌, inl, inr, ℕ, zero, suc, ◌+◌, ◌<◌, ◌≤◌, Bool, true, false, cond, eqb, ltb, List, []}
-use Rattle.std.proofs.Common.{◌∷◌, ◌++◌, Option, Some, None, length, map, take, drop, slice_get, refl, sym, ap, subst, ◌∙◌}
+use Rattle.std.proofs.Common.{◌≡◌, ◌⊎◌, inl, inr, ℕ, zero, suc, ◌+◌, ◌<◌, ◌≤◌, Bool, true, false, cond, eqb, ltb, List, []}
+use Rattle.std.proofs.Common.{◌∷◌, ◌++◌, Option, Some, None, length, map, drop, slice_get, refl, sym, ap, subst, ◌∙◌}
 use Rattle.std.proofs.Common.{arith, zero-add}
-use Rattle.std.specs.Prelude.{◌&&◌, ◌||◌, is_some, not}
+use Rattle.std.specs.Prelude.{◌&&◌, ◌||◌, not}
 use Rattle.std.specs.List.{filter, list_any}
 use Rattle.std.specs.Str.{bytes_eq}
 use Rattle.std.proofs.lemmas.Bool.{and_from, and_left, and_parts, and_right, cases_eq, cases_lt, eq-eqb, eqb-true, false_from_ne_true}
-use Rattle.std.proofs.lemmas.Bool.{le-ltb, lt-ltb, ltb-true, ne_eqb, not-false, or_cases, or_from, or_left, or_parts}
+use Rattle.std.proofs.lemmas.Bool.{le-ltb, lt-ltb, ne_eqb, not-false, or_cases, or_from, or_left, or_parts}
 use Rattle.std.proofs.lemmas.Bool.{or_right, true≢false}
-use Rattle.std.proofs.lemmas.List.{append-nil, append_assoc}
+use Rattle.std.proofs.lemmas.List.{append_assoc}
 use Rattle.std.proofs.lemmas.List.Folds.{list_any-append}
 use Rattle.std.proofs.lemmas.Option.{slice_get_within}
 use Rattle.std.proofs.lemmas.Slice.Eq.{bytes_eq-Decides}
 use Rattle.std.proofs.Math.ListN.{drop_of_length-le}
-use Rattle.message.proofs.OfHartLemmas.{of_hart-append, of_hart-next, of_hart-other, of_hart-others, of_hart-own}
+use Rattle.message.proofs.OfHartLemmas.{of_hart-append, of_hart-others, of_hart-own}
 use Rattle.message.specs.Numbered.{messages_from}
 use Rattle.message.specs.OfHart.{of_hart}
 use Rattle.message.specs.declared.message.Message.{Message}
-use Rattle.auditing.proofs.Appending.{any-next, any_weaker}
-use Rattle.auditing.proofs.OwnMessages.{any_of_hart, fits, numbered_in, same_in}
+use Rattle.auditing.proofs.Appending.{any-next}
+use Rattle.auditing.proofs.OwnMessages.{any_of_hart, fits, same_in}
 use Rattle.auditing.proofs.TakingLemmas.{chosen, has_its_number, of_its_hart, true_is_known}
 use Rattle.auditing.specs.Fates.{fate_of, has_greater, has_number, is_numbered, is_same, is_true, true_ones}
-use Rattle.auditing.specs.Judged.{Judged, is_fate, judged, judged_behind, judged_one}
-use Rattle.auditing.specs.Losing.{lost_numbers}
+use Rattle.auditing.specs.Judged.{Judged, is_fate, judged_behind, judged_one}
 use Rattle.auditing.specs.Untouched.{IsUntouched, is_touched}
-use Rattle.auditing.specs.declared.fate.Fate.{Fate}
 use Rattle.auditing.specs.declared.fate.Fate.TheVariants as fate
 
 -- What some that a filter keeps pass, some pass.

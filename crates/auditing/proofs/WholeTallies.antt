@@ -1,12 +1,11 @@
 -- Whether a hart is whole, as an audit counts it.
-use Rattle.std.proofs.Common.{◌≡◌, ◌≢◌, ℕ, zero, suc, ◌+◌, ◌-◌, ◌^◌, ◌<◌, ◌≤◌, Bool, true, false, cond, eqb, List, [], ◌∷◌}
-use Rattle.std.proofs.Common.{◌++◌, length, map, refl, sym, ap, subst, ◌∙◌, arith}
+use Rattle.std.proofs.Common.{◌≡◌, ℕ, ◌+◌, ◌^◌, ◌<◌, Bool, true, false, cond, eqb, List, [], ◌∷◌}
+use Rattle.std.proofs.Common.{length, refl, sym, ap, ◌∙◌, arith}
 use Rattle.std.specs.Bool.{Decides}
-use Rattle.std.specs.Cmp.Lexicographic.{pointwise}
-use Rattle.std.specs.Prelude.{◌&&◌, ◌||◌, not}
+use Rattle.std.specs.Prelude.{◌&&◌, not}
 use Rattle.std.specs.List.{count_by, list_any}
 use Rattle.std.specs.Str.{bytes_eq}
-use Rattle.std.proofs.lemmas.Bool.{and_from, and_left, and_parts, eq-eqb, eqb-true, or_from, or_parts, true≢false}
+use Rattle.std.proofs.lemmas.Bool.{and_from, and_parts, eq-eqb, eqb-true, or_from, or_parts, true≢false}
 use Rattle.std.proofs.lemmas.Bool.Decides.{same_from_decides}
 use Rattle.std.proofs.lemmas.List.{length-map, nil_from_length}
 use Rattle.std.proofs.lemmas.List.Sums.{sum_by-cons}
@@ -15,7 +14,7 @@ use Rattle.message.specs.OfHart.{of_hart}
 use Rattle.message.specs.declared.message.Message.{Message}
 use Rattle.auditing.proofs.TallyLemmas.{came_exact, fates_exact, lost_counted}
 use Rattle.auditing.proofs.WholeLemmas.{same_again, untouched}
-use Rattle.auditing.specs.Audits.{AuditsHart, capped, counts_of}
+use Rattle.auditing.specs.Audits.{AuditsHart, counts_of}
 use Rattle.auditing.specs.Fates.{is_same}
 use Rattle.auditing.specs.Judged.{Judged, fates_counted, is_fate, judged}
 use Rattle.auditing.specs.Ledger.{HartLedger}
@@ -25,7 +24,6 @@ use Rattle.auditing.specs.Untouched.{IsUntouched, is_touched}
 use Rattle.auditing.specs.declared.fate.Fate.{Fate}
 use Rattle.auditing.specs.declared.fate.Fate.TheVariants as fate
 use Rattle.auditing.specs.declared.tally.Counts.{Counts}
-use Rattle.auditing.specs.declared.tally.Tally.{Tally}
 use Rattle.auditing.specs.steps.Taking.{is_whole_by, tally_in}
 
 -- Messages with the same hart, number and payload are equal.

@@ -1,5 +1,5 @@
 -- What became of the messages of a hart.
-use Rattle.std.specs.Prelude.{ℕ, ◌≡◌, Bool, List, length}
+use Rattle.std.specs.Prelude.{ℕ, Bool, List, length}
 use Rattle.std.specs.Cmp.Lexicographic.{pointwise}
 use Rattle.message.specs.OfHart.{of_hart}
 use Rattle.message.specs.declared.message.Message.{Message}

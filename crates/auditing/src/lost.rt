@@ -1,6 +1,6 @@
 //! The numbers of a hart that were lost.
 
-ghost use Rattle.std.specs.Prelude.{◌≡◌, ◌++◌, ◌+◌, ◌<◌, ◌^◌, List, length, not};
+ghost use Rattle.std.specs.Prelude.{◌≡◌, ◌++◌, ◌+◌, ◌<◌, ◌^◌, List, [], None, length, not};
 ghost use Rattle.std.specs.List.{position_or_len};
 ghost use Rattle.std.specs.Option.{option_to_list};
 ghost use Rattle.auditing.specs.Losing.{runs_of};
@@ -45,7 +45,8 @@ impl<'a> LostRuns<'a> {
 
     /// The next run; `None` behind the last. Takes no memory.
     pub fn next(&mut self) -> Option<Lost>
-        ensures { self.old ≡ option_to_list result ++ self.new }
+        ensures next { self.old ≡ option_to_list result ++ self.new }
+        ensures end { result ≡ None → self.old ≡ [] }
     {
         let came = self.came;
         let (_, left) = came.split_at(first_lost(came));

@@ -1,6 +1,7 @@
 -- The texts of faults.
 use Rattle.std.specs.Prelude.{ℕ, ◌++◌, List, [], codes}
 use Rattle.std.specs.Fmt.{decimal}
+use Rattle.auditing.specs.FateText.{sent_fault_text}
 use Rattle.bench.specs.SetupText.{setup_text}
 use Rattle.captures.specs.FaultText.{capture_fault_text}
 use Rattle.legalpath.specs.FaultText.{path_fault_text}
@@ -17,6 +18,7 @@ abbrev pub fault_place_text : Fault → List ℕ
 fault_place_text (fault.Unreadable path) = path.now ++ codes ": "
 fault_place_text (fault.Log path why) = path.now ++ codes ": "
 fault_place_text (fault.Illegal path why) = path.now ++ codes ": "
+fault_place_text (fault.Sent path why) = path.now ++ codes ": "
 fault_place_text _ = []
 
 -- What is wrong, without the file's path.
@@ -29,6 +31,7 @@ reason_text (fault.Unreadable path) = codes "cannot be read"
 reason_text (fault.Image why) = program_fault_text why
 reason_text (fault.Log path why) = log_fault_text why
 reason_text (fault.Illegal path why) = path_fault_text why
+reason_text (fault.Sent path why) = sent_fault_text why
 reason_text (fault.Schedule why) = codes "schedule: " ++ schedule_fault_text why
 reason_text (fault.Unsent why) = setup_text why
 reason_text fault.Header = message_fault_text BadHeader

@@ -1,6 +1,8 @@
 -- The fault of a command for each fault of what it calls, and how the command ends at it.
 use Rattle.std.specs.Prelude.{ℕ, List, Result, Ok, Err}
 use Rattle.std.specs.Borrow.{Bor}
+use Rattle.auditing.specs.declared.fault.SentFault.{SentFault}
+use Rattle.auditing.specs.declared.fault.SentFault.TheVariants as sent
 use Rattle.bench.specs.declared.setup.Setup.{Setup}
 use Rattle.bench.specs.declared.setup.Setup.TheVariants as setup
 use Rattle.captures.specs.declared.capture_reading.ReadFault.{ReadFault}
@@ -38,6 +40,11 @@ abbrev pub log_fault : Path → LogFault → Fault
 log_fault path log.Read = fault.Unreadable path
 log_fault path log.Memory = fault.Memory
 log_fault path why = fault.Log path why
+
+-- The fault of a capture that does not hold, whole and in order, what was sent.
+abbrev pub sent_fault : Path → SentFault → Fault
+sent_fault path sent.Memory = fault.Memory
+sent_fault path why = fault.Sent path why
 
 -- The fault of a text that is no schedule.
 abbrev pub schedule_fault : ScheduleFault → Fault

@@ -3,11 +3,12 @@
 ghost use Rattle.std.specs.Prelude.{◌≡◌, ◌≢◌, Some};
 ghost use Rattle.command_inputs.specs.FaultText.{fault_text, reason_text};
 ghost use Rattle.command_inputs.specs.declared.fault.Fault.TheVariants as fault;
-ghost use Rattle.command_inputs.specs.Faults.{capture_fault, file_fault, log_fault, lossy_fault, reading_fault};
+ghost use Rattle.command_inputs.specs.Faults.{capture_fault, file_fault, log_fault, lossy_fault, reading_fault, sent_fault};
 ghost use Rattle.command_inputs.specs.Faults.{schedule_fault, status_of, unsent_fault, write_fault};
 
 use crate::files::FileFault;
 use crate::status::Status;
+use auditing::SentFault;
 use bench::Setup;
 use captures::{CaptureFault, ReadFault};
 use decoder::DecodeFault;
@@ -46,6 +47,8 @@ pub enum Fault<'a> {
     Unsent(Setup),
     /// The capture begins as one of version 2 does, and its header is not valid.
     Header,
+    /// The capture at this path does not hold, whole and in order, what was sent.
+    Sent(&'a str, SentFault),
     /// Reading or decoding a capture stopped at the message with this number, counted from 0 over all harts.
     Message(u64, CaptureFault),
     /// The closing packet of this hart did not come.
@@ -119,6 +122,16 @@ impl<'a> Fault<'a> {
         }
     }
 
+    /// Why the capture at a path does not hold, whole and in order, what was sent.
+    pub fn of_sent(path: &'a str, why: SentFault) -> Fault<'a>
+        ensures { result ≡ sent_fault path.entry why }
+    {
+        match why {
+            SentFault::Memory => Fault::Memory,
+            _ => Fault::Sent(path, why),
+        }
+    }
+
     /// Why a text is no schedule.
     pub fn of_schedule(why: ScheduleFault) -> Fault<'a>
         ensures { result ≡ schedule_fault why }
@@ -151,6 +164,7 @@ impl<'a> Fault<'a> {
             | Fault::Image(_)
             | Fault::Log(..)
             | Fault::Illegal(..)
+            | Fault::Sent(..)
             | Fault::Schedule(_)
             | Fault::Unsent(_) => Status::Refused,
             Fault::Header | Fault::Message(..) | Fault::Unclosed(_) => Status::NotWhole,
@@ -178,6 +192,7 @@ impl fmt::Display for Reason<'_, '_> {
             Fault::Image(why) => write!(f, "{why}"),
             Fault::Log(_, why) => write!(f, "{why}"),
             Fault::Illegal(_, why) => write!(f, "{why}"),
+            Fault::Sent(_, why) => write!(f, "{why}"),
             Fault::Schedule(why) => write!(f, "schedule: {why}"),
             Fault::Unsent(why) => write!(f, "{why}"),
             Fault::Header => write!(f, "{}", MessageFault::BadHeader),
@@ -194,9 +209,10 @@ impl fmt::Display for Fault<'_> {
 
     fn fmt<W: fmt::Write>(&self, f: &mut fmt::Formatter<W>) -> fmt::Result {
         match self {
-            Fault::Unreadable(path) | Fault::Log(path, _) | Fault::Illegal(path, _) => {
-                write!(f, "{path}: {}", Reason { of: self })
-            }
+            Fault::Unreadable(path)
+            | Fault::Log(path, _)
+            | Fault::Illegal(path, _)
+            | Fault::Sent(path, _) => write!(f, "{path}: {}", Reason { of: self }),
             _ => write!(f, "{}", Reason { of: self }),
         }
     }

@@ -1,6 +1,7 @@
 -- What each subcommand means.
 use Rattle.subcommands.specs.declared.words.Asked.{Asked}
-use Rattle.subcommands.specs.declared.words.Asked.TheVariants.{Bench, Check, Decode, Dump, Encode, Measure, Replay}
+use Rattle.subcommands.specs.declared.words.Asked.TheVariants.{Audit, Bench, Check, Decode, Dump, Encode, Measure}
+use Rattle.subcommands.specs.declared.words.Asked.TheVariants.{Replay}
 use Rattle.command_inputs.specs.Meaning.{Meaning}
 use Rattle.log_commands.specs.Benching.{bench_meaning}
 use Rattle.log_commands.specs.Checking.{check_meaning}
@@ -9,6 +10,7 @@ use Rattle.log_commands.specs.Measuring.{measure_meaning}
 use Rattle.log_commands.specs.Replaying.{replay_meaning}
 use Rattle.capture_commands.specs.Decoded.{decode_meaning}
 use Rattle.capture_commands.specs.Dumping.{dump_meaning}
+use Rattle.path_commands.specs.Audited.{audit_meaning}
 
 -- What the subcommand means that is asked for, with what is asked of it.
 abbrev pub meaning_of : Asked → Meaning
@@ -18,4 +20,5 @@ meaning_of (Dump asked) = dump_meaning asked
 meaning_of (Decode asked) = decode_meaning asked
 meaning_of (Replay asked) = replay_meaning asked
 meaning_of (Bench asked) = bench_meaning asked
+meaning_of (Audit asked) = audit_meaning asked
 meaning_of (Measure asked) = measure_meaning asked

@@ -11,6 +11,7 @@ ghost use Rattle.commands.specs.Order.{early_fault};
 use capture_commands::{decode, dump};
 use command_inputs::{Fault, Files, Status};
 use log_commands::{bench, check, encode, measure, replay};
+use path_commands::audit;
 use std::alloc::Global;
 use std::io::Write;
 use std::sync::Wait;
@@ -48,6 +49,7 @@ pub fn carry_out<'a, F: Files, O: Write, R: Threads + Wait + Sync>(
         Asked::Decode(asked) => decode(alloc, files, asked, out),
         Asked::Replay(asked) => replay(alloc, files, asked, out),
         Asked::Bench(asked) => bench(alloc, rt, files, asked, out),
+        Asked::Audit(asked) => audit(alloc, files, asked, out),
         Asked::Measure(asked) => measure(alloc, files, asked, out),
     }
 }

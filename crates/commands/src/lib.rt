@@ -2,7 +2,7 @@
 //!
 //! [`carry_out`] does what is asked, whichever subcommand that is. [`report_error`] writes the line of the fault that
 //! ended it. How words ask for a subcommand is no matter of this crate. The subcommands themselves stand in
-//! `log_commands` and `capture_commands`, what they share in `command_inputs`.
+//! `log_commands`, `capture_commands` and `path_commands`, what they share in `command_inputs`.
 #![tactic(auto)]
 
 mod dispatch;
@@ -11,3 +11,4 @@ pub use capture_commands::{decode, dump};
 pub use command_inputs::{Fault, FileFault, Files, Status, report_error};
 pub use dispatch::carry_out;
 pub use log_commands::{bench, check, encode, measure, replay};
+pub use path_commands::audit;

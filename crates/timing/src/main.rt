@@ -5,6 +5,7 @@
 //! Nothing goes to standard output. The status is 0, or 1 where the words, a file or a log is refused.
 #![tactic(auto)]
 
+mod auditing_captures;
 mod coding;
 mod fault;
 mod input;

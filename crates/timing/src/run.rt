@@ -1,5 +1,6 @@
 //! All phases, one after the other.
 
+use crate::auditing_captures::{Auditing, DENSE_PERIOD, messages_in};
 use crate::coding::{Decoding, Encoding};
 use crate::fault::Fault;
 use crate::input::Input;
@@ -177,5 +178,22 @@ fn measure_captures<'a, 'p, R: Clock + AllocGlobal, E: Write>(
         program,
         capture: capture.as_slice(),
     };
-    measure(rt, err, "lossy decoding", count, lossy)
+    measure(rt, err, "lossy decoding", count, lossy)?;
+    measure_audit(rt, err, logs)
+}
+
+/// Measures the audit of a log's capture with many synchronisations, where just its messages came.
+fn measure_audit<'a, 'p, R: Clock + AllocGlobal, E: Write>(
+    rt: &R,
+    err: &mut E,
+    logs: &'a [LegalLog<'p>; 1],
+) -> Result<(), Fault> {
+    let alloc = rt.alloc();
+    let mut capture = Vec::new(alloc);
+    if encode_capture(logs, DENSE_PERIOD, MODE, VERSION, &mut capture).is_err() {
+        return Err(Fault::Log);
+    }
+    let capture = capture.as_slice();
+    let count = messages_in(capture);
+    measure(rt, err, "audit", count, Auditing { alloc, capture })
 }

@@ -1,5 +1,5 @@
 -- Counting and indexing the messages of SENT.
-use Rattle.std.specs.Prelude.{ℕ, ◌≡◌, ◌++◌, ◌<◌, All, Bool, false, List, [], Option, Some, None, Result, Ok, Err, length, map}
+use Rattle.std.specs.Prelude.{ℕ, ◌≡◌, ◌++◌, All, false, List, [], Option, Some, None, Result, Ok, Err, length, map}
 use Rattle.std.specs.Prelude.{◌∷◌, slice_get, slice_set}
 use Rattle.message.specs.Capture.{capture}
 use Rattle.message.specs.Cut.{IsMessage}

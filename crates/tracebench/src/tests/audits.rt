@@ -396,6 +396,31 @@ $ tracebench audit gap.capture received.capture
 > result: not whole
 ! tracebench: message 0: the capture ends inside a message
 ? 1
+# As many harts as there may be.
+file many.capture
+|= ffff727674726163653200 00 0004 0004
+|*1024~ @ 0 1f\n@ 1 4f
+$ tracebench audit many.capture many.capture
+>*1024 hart @: 2 sent, 2 came, 0 lost, 0 repeated, 0 late, 0 changed, whole
+> result: whole
+$ tracebench audit many.capture empty.capture
+>*1024 hart @: numbers 0 to 1 lost
+>*1024 hart @: 2 sent, 0 came, 2 lost, 0 repeated, 0 late, 0 changed, not whole
+> result: not whole
+? 1
+file highest.capture
+|~ 1023 0 4f
+$ tracebench audit highest.capture highest.capture
+>*1023 hart @: 0 sent, 0 came, 0 lost, 0 repeated, 0 late, 0 changed, whole
+> hart 1023: 1 sent, 1 came, 0 lost, 0 repeated, 0 late, 0 changed, whole
+> result: whole
+# Memory is refused for a file: nothing is printed.
+$ tracebench audit full sent.capture
+! tracebench: out of memory
+? 3
+$ tracebench audit sent.capture full
+! tracebench: out of memory
+? 3
 # Files that are not there.
 $ tracebench audit nothing.capture sent.capture
 ! tracebench: nothing.capture: cannot be read

@@ -1,6 +1,5 @@
 -- The place is the first that passes the test, by its lemma on lists.
-use Rattle.std.proofs.Common.{length, true, false, ap, sym, arith}
-use Rattle.std.specs.Prelude.{not}
+use Rattle.std.proofs.Common.{length, false, sym, arith}
 use Rattle.std.proofs.lemmas.List.Sums.{position_or_len_is}
 use Rattle.auditing.proofs.lost.first_come.Goals as goal
 

@@ -1,5 +1,5 @@
 -- The flags so far are not what is looked for.
-use Rattle.std.proofs.Common.{◌≡◌, ℕ, ◌<◌, Bool, true, false, get_or}
+use Rattle.std.proofs.Common.{◌≡◌, ℕ, ◌<◌, false, get_or}
 use Rattle.auditing.proofs.lost.first_come.Given as goal
 
 abbrev pub invariant-loop-place : goal.invariant-loop-place

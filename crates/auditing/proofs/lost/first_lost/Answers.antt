@@ -1,5 +1,5 @@
 -- The place is the first that passes the test, by its lemma on lists.
-use Rattle.std.proofs.Common.{length, true, false, ap, sym, arith}
+use Rattle.std.proofs.Common.{length, false, ap, sym, arith}
 use Rattle.std.specs.Prelude.{not}
 use Rattle.std.proofs.lemmas.Grind.{common_steps}
 use Rattle.std.proofs.lemmas.List.Sums.{position_or_len_is}

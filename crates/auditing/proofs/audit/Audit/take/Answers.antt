@@ -1,8 +1,7 @@
 -- What is kept and the fate are those of the definitions, by the laws on one more message.
-use Rattle.std.proofs.Common.{◌∙◌, ap, subst, sym}
-use Rattle.auditing.proofs.Taken.{as_many, fate_is_from, takes_all}
+use Rattle.std.proofs.Common.{◌∙◌, subst, sym}
+use Rattle.auditing.proofs.Taken.{fate_is_from, takes_all}
 use Rattle.auditing.specs.Audits.{Audits}
-use Rattle.auditing.specs.Ledger.{Ledger}
 use Rattle.auditing.proofs.audit.Audit.take.Goals as goal
 
 pub returns-clause-fate : goal.returns-clause-fate

@@ -1,0 +1,5 @@
+pub mod Parts
+pub mod FateLines
+pub mod HartLines
+pub mod Rests
+pub mod AuditRuns

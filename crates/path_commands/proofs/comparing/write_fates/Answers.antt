@@ -1,0 +1,53 @@
+-- The messages are taken one after the other: by lemmas on parts of a text, which no tactic finds.
+use Rattle.std.proofs.Common.{◌≡◌, ◌<◌, ◌++◌, Ok, Err, length, refl, ap, subst, sym, ◌∙◌, arith}
+use Rattle.std.specs.Prelude.{IfSome}
+use Rattle.message.specs.Capture.{message_bytes}
+use Rattle.message.specs.Cut.{IsMessage}
+use Rattle.message.specs.declared.message.Message.{Message}
+use Rattle.auditing.proofs.Counting.{begins_none}
+use Rattle.output.proofs.Beginnings.{whole_begun}
+use Rattle.path_commands.proofs.FateLines.{at_end, at_fault, taken_begun, taken_more, taken_none}
+use Rattle.path_commands.proofs.comparing.write_fates.Goals.{After-next}
+use Rattle.path_commands.proofs.comparing.write_fates.Goals as goal
+
+pub loop-message-init : goal.loop-message-init
+loop-message-init g c = (
+  λ sent received stop audits heard.
+      taken_none sent received stop c.args.messages c.args.path.now (g.O.Write.contents c.args.out.now) heard audits,
+  refl,
+  omega arith,
+)
+
+pub loop-message-preserved : goal.loop-message-preserved
+loop-message-preserved g c =
+    let found = c.in-Ok-Some.field-0-is in
+    let left = c.loop-message.left in
+    let next = c.next.new.self in
+    let is = subst (λ o. IfSome o (λ m. IsMessage m)) found c.in-Ok-Some.ensures.ranges in
+    let begins =
+    subst (λ o. IfSome o (λ (m : Message). left ≡ message_bytes m ++ next)) found c.in-Ok-Some.ensures.message in
+    let shorter =
+    subst (λ o. IfSome o (λ (m : Message). length next < length left)) found c.in-Ok-Some.ensures.shorter in
+    let most = c.loop-message.invariant.2 in (
+      λ sent received stop audits heard.
+          taken_more sent received stop left c.loop-message.path c.loop-message.place (g.O.Write.contents c.args.out.now)
+          (g.O.Write.contents c.loop-message.out) (c.loop-message.invariant.0 sent received stop audits heard)
+          c.in-Ok-Some.message next c.take-fate.result c.take-fate.new.self (g.O.Write.contents c.write_fate.new.out) is
+          begins (c.take-fate.ensures.fate sent) (c.take-fate.ensures.taken sent) c.in-Ok.ensures.text,
+      c.take-fate.ensures.header ∙ c.loop-message.invariant.1,
+      omega (arith, most, shorter),
+    )
+
+pub returns-in-Err-write_fate-clause-begun : goal.returns-in-Err-write_fate-clause-begun
+returns-in-Err-write_fate-clause-begun g c =
+    let found = c.in-Ok-Some.field-0-is in
+    let left = c.loop-message.left in
+    let next = c.next.new.self in
+    let is = subst (λ o. IfSome o (λ m. IsMessage m)) found c.in-Ok-Some.ensures.ranges in
+    let begins =
+    subst (λ o. IfSome o (λ (m : Message). left ≡ message_bytes m ++ next)) found c.in-Ok-Some.ensures.message in
+    λ sent received stop audits heard.
+    taken_begun sent received stop left c.loop-message.path c.loop-message.place (g.O.Write.contents c.args.out.now)
+    (g.O.Write.contents c.loop-message.out) (c.loop-message.invariant.0 sent received stop audits heard)
+    c.in-Ok-Some.message next c.take-fate.result (g.O.Write.contents c.write_fate.new.out) is begins
+    (c.take-fate.ensures.fate sent) c.write_fate.ensures.begun

@@ -1,0 +1,43 @@
+-- The lines are written one after the other: by lemmas on parts of a text, which no tactic finds.
+use Rattle.std.proofs.Common.{◌<◌, ◌≤◌, length, arith}
+use Rattle.output.proofs.Beginnings.{whole_begun}
+use Rattle.auditing.specs.Losing.{lost_runs}
+use Rattle.path_commands.proofs.HartLines.{hart_begun, hart_more, harts_all}
+use Rattle.path_commands.proofs.Parts.{part_none}
+use Rattle.path_commands.specs.AuditText.{all_lost_lines, lost_lines}
+use Rattle.path_commands.proofs.comparing.write_losses.Goals as goal
+
+pub loop-hart-init : goal.loop-hart-init
+loop-hart-init g c = λ sent received audits.
+    part_none (all_lost_lines sent received (length c.args.path.now.harts)) (g.O.Write.contents c.args.out.now)
+
+pub loop-hart-preserved : goal.loop-hart-preserved
+loop-hart-preserved g c = λ sent received audits.
+    let count = length c.args.path.now.harts in
+    let within : c.loop-hart.hart < count = omega arith in
+    hart_more (λ hart. lost_lines hart (lost_runs sent received hart)) (all_lost_lines sent received count) count
+    (g.O.Write.contents c.args.out.now) (g.O.Write.contents c.loop-hart.out) c.loop-hart.hart
+    (g.O.Write.contents c.write_lost.new.out) within (c.loop-hart.invariant sent received audits)
+    (c.in-Ok.ensures.text sent received audits)
+
+pub returns-in-Err-clause-begun : goal.returns-in-Err-clause-begun
+returns-in-Err-clause-begun g c = λ sent received audits.
+    let count = length c.args.path.now.harts in
+    let within : c.loop-hart.hart < count = omega arith in
+    hart_begun (λ hart. lost_lines hart (lost_runs sent received hart)) (all_lost_lines sent received count) count
+    (g.O.Write.contents c.args.out.now) (g.O.Write.contents c.loop-hart.out) c.loop-hart.hart
+    (g.O.Write.contents c.write_lost.new.out) within (c.loop-hart.invariant sent received audits)
+    (c.write_lost.ensures.begun sent received audits)
+
+pub returns-clause-text : goal.returns-clause-text
+returns-clause-text g c = λ sent received audits.
+    let count = length c.args.path.now.harts in
+    let past : count ≤ c.loop-hart.hart = omega arith in
+    harts_all (λ hart. lost_lines hart (lost_runs sent received hart)) (all_lost_lines sent received count) count
+    (g.O.Write.contents c.args.out.now) (g.O.Write.contents c.loop-hart.out) c.loop-hart.hart past
+    (c.loop-hart.invariant sent received audits)
+
+pub returns-clause-begun : goal.returns-clause-begun
+returns-clause-begun g c = λ sent received audits.
+    whole_begun (all_lost_lines sent received (length c.args.path.now.harts)) (g.O.Write.contents c.args.out.now)
+    (g.O.Write.contents c.loop-hart.out) (returns-clause-text g c sent received audits)

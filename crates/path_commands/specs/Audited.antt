@@ -1,0 +1,105 @@
+-- What `audit` prints, and how it ends.
+use Rattle.std.specs.Prelude.{◌≡◌, ◌⊎◌, ⊤, ℕ, ◌==◌, ◌&&◌, ◌++◌, not, All, Bool, true, false, is_none, List, [], Option}
+use Rattle.std.specs.Prelude.{Some, None, Result, Ok, Err, length}
+use Rattle.message.specs.Capture.{capture}
+use Rattle.message.specs.Cut.{IsMessage}
+use Rattle.message.specs.declared.fault.MessageFault.{MessageFault}
+use Rattle.message.specs.declared.header.Header.{Header}
+use Rattle.message.specs.declared.message.Message.{Message}
+use Rattle.captures.specs.Dump.{Ends}
+use Rattle.captures.specs.NoMessage.{BeginsNoHeader}
+use Rattle.captures.specs.Whole.{BeginsWith}
+use Rattle.captures.specs.declared.outcome.CaptureFault.TheVariants as capture
+use Rattle.subcommands.specs.declared.words.Audit.{Audit}
+use Rattle.auditing.specs.Judged.{judged, strangers_in}
+use Rattle.auditing.specs.Sent.{IsSent, IsSentFault, harts_of}
+use Rattle.auditing.specs.declared.fault.SentFault.{SentFault}
+use Rattle.command_inputs.specs.Faults.{Path, capture_fault, sent_fault}
+use Rattle.command_inputs.specs.Finding.{Once}
+use Rattle.command_inputs.specs.Found.{IsRead}
+use Rattle.command_inputs.specs.Known.{Content}
+use Rattle.command_inputs.specs.Meaning.{Meaning, writing_at_once}
+use Rattle.command_inputs.specs.Printed.{First, Printed}
+use Rattle.command_inputs.specs.declared.fault.Fault.{Fault}
+use Rattle.command_inputs.specs.declared.status.Status.{Status}
+use Rattle.command_inputs.specs.declared.status.Status.TheVariants.{NotWhole, Whole}
+use Rattle.path_commands.specs.AuditText.{all_lost_lines, are_whole, ending_text, fate_lines, headers_differ, tally_lines}
+
+-- The bytes of RECEIVED hold these messages, behind which they end, or no whole message stands.
+pub record AreHeard (bytes : List ℕ) (messages : List Message) (stop : Option (ℕ × MessageFault)) : Type 0 where
+  pub rest : List ℕ
+  pub ranges : All IsMessage messages
+  pub whole : bytes ≡ capture messages ++ rest
+  pub ends : Ends (length messages) rest stop
+
+-- RECEIVED holds a header, or none, and these messages, behind which it ends, or no whole message stands. Where its
+-- header is cut short or bad, it holds nothing.
+pub data IsHeard (bytes : List ℕ) (header : Option Header) (messages : List Message)
+    (stop : Option (ℕ × MessageFault)) : Type 0 where
+  Behind : (rest : List ℕ) → BeginsWith header bytes rest → AreHeard rest messages stop
+      → IsHeard bytes header messages stop
+  NoHeader : (why : MessageFault) → BeginsNoHeader bytes why → header ≡ None → messages ≡ []
+      → stop ≡ Some (0, why) → IsHeard bytes header messages stop
+
+-- SENT: its header, if it has one, and its messages.
+pub record Sent : Type 0 where
+  pub header : Option Header
+  pub messages : List Message
+
+-- SENT is found to be whole, or it is refused.
+abbrev pub IsFoundSent : Path → List ℕ → Result Sent Fault → Type 0
+IsFoundSent path bytes (Ok sent) = IsSent bytes sent.header sent.messages
+IsFoundSent path bytes (Err why) = (fault : SentFault) × IsSentFault bytes fault × (why ≡ sent_fault path fault)
+
+-- The result is whole: every hart is whole, no stranger came, headers do not differ, and RECEIVED comes to its end.
+abbrev pub is_whole_result : Sent → Option Header → List Message → Option (ℕ × MessageFault) → Bool
+is_whole_result sent header received stop =
+    are_whole sent.messages received (harts_of sent.header sent.messages)
+    && (strangers_in sent.messages received == 0) && not (headers_differ sent.header header) && is_none stop
+
+-- What stands behind the lines of the messages.
+abbrev pub behind_fates : Sent → Option Header → List Message → Option (ℕ × MessageFault) → List ℕ
+behind_fates sent header received stop =
+    all_lost_lines sent.messages received (harts_of sent.header sent.messages)
+    ++ (tally_lines sent.messages received (harts_of sent.header sent.messages)
+    ++ ending_text (strangers_in sent.messages received) (headers_differ sent.header header)
+    (is_whole_result sent header received stop))
+
+-- The text of an audit: a line for each message of RECEIVED that is not in order, one for each longest run of lost
+-- numbers of each hart, and one for each hart; then how many strangers came, whether headers differ, and the result.
+abbrev pub audit_text : Sent → Option Header → List Message → Option (ℕ × MessageFault) → List ℕ
+audit_text sent header received stop =
+    fate_lines 0 (judged sent.messages received) ++ behind_fates sent header received stop
+
+-- The fault at which RECEIVED stops, if there is one; else the end by whether the result is whole.
+abbrev pub end_of_audit : Option (ℕ × MessageFault) → Bool → Result Status Fault
+end_of_audit (Some stop) whole = Err (capture_fault stop.0 (capture.Message stop.1))
+end_of_audit None true = Ok Whole
+end_of_audit None false = Ok NotWhole
+
+-- What became of the messages of SENT in these bytes of RECEIVED is written.
+pub record WritesAudit (sent : Sent) (bytes : List ℕ) (printed : Printed) : Type 0 where
+  pub header : Option Header
+  pub received : List Message
+  pub stop : Option (ℕ × MessageFault)
+  pub heard : IsHeard bytes header received stop
+  pub text : printed.text ≡ audit_text sent header received stop
+  pub ended : printed.ended ≡ end_of_audit stop (is_whole_result sent header received stop)
+
+-- SENT is read and judged, and then RECEIVED is read. Where there is no fault, what became of the messages is written.
+abbrev pub Audits : Content → Audit → Printed → Type 0
+Audits content asked =
+    First (IsRead content asked.sent) (λ bytes.
+    First (IsFoundSent asked.sent bytes) (λ sent.
+    First (IsRead content asked.received) (WritesAudit sent)))
+
+-- `audit` writes once it has SENT, which is whole, and RECEIVED.
+abbrev pub CanAudit : Content → Audit → Type 0
+CanAudit content asked =
+    Once (IsRead content asked.sent) (λ bytes.
+    Once (IsFoundSent asked.sent bytes) (λ _.
+    Once (IsRead content asked.received) (λ _. ⊤)))
+
+-- What `audit` means. No fault of it is found without the files.
+abbrev pub audit_meaning : Audit → Meaning
+audit_meaning asked = writing_at_once None (λ content. Audits content asked) (λ content. CanAudit content asked)

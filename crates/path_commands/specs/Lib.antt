@@ -1,0 +1,3 @@
+pub mod AuditText
+pub mod Audited
+pub mod steps

@@ -1,0 +1,284 @@
+//! The subcommand `audit`.
+
+ghost use Rattle.std.specs.Prelude.{⊤, ◌≡◌, ◌≢◌, ◌<◌, ◌^◌, ◌==◌, ◌&&◌, not, List, [], Err, IfOk, OnOk, Option, ℕ, length};
+ghost use Rattle.std.specs.Io.KnownBytes.{Appends};
+ghost use Rattle.output.specs.Begun.{AppendsBeginning};
+ghost use Rattle.message.specs.declared.fault.MessageFault.{MessageFault as AnyMessageFault};
+ghost use Rattle.message.specs.declared.message.Message.{Message as AnyMessage};
+ghost use Rattle.auditing.specs.Audits.{Audits as IsAudit};
+ghost use Rattle.auditing.specs.Judged.{judged};
+ghost use Rattle.auditing.specs.Losing.{lost_runs};
+ghost use Rattle.command_inputs.specs.Begun.{IsCutOf};
+ghost use Rattle.command_inputs.specs.Faults.{final_status};
+ghost use Rattle.command_inputs.specs.Printed.{PrintsUnlessDenied};
+ghost use Rattle.path_commands.specs.AuditText.{all_lost_lines, are_whole, fate_lines, headers_differ, line_or_none};
+ghost use Rattle.path_commands.specs.AuditText.{lost_lines, tally_lines};
+ghost use Rattle.path_commands.specs.Audited.{AreHeard, Audits, CanAudit, WritesAudit};
+ghost use Rattle.path_commands.specs.Audited.{behind_fates, end_of_audit};
+ghost use Rattle.path_commands.specs.steps.Ending.{EndsRest};
+
+use crate::ending::Ending;
+use crate::lines::{LostLine, TallyLine};
+use auditing::{Audit, Fate};
+use captures::CaptureFault;
+use command_inputs::{Fault, Files, Status, content_of};
+use message::{Header, Message, MessageFault, Messages};
+use output::write_text;
+use std::alloc::Global;
+use std::io;
+use std::io::Write;
+use subcommands::Audit as Asked;
+
+/// Writes what became of the messages of SENT in RECEIVED: a line for each message of RECEIVED that is not in order,
+/// one for each longest run of numbers of a hart that were lost, one for each hart, and the result. Returns that all is
+/// done where the result is whole.
+///
+/// SENT is judged to its end before RECEIVED is read. Where it is refused, nothing is written. Where RECEIVED ends in a
+/// fault of its own, what stands before that place is audited and written, and then the fault is returned.
+pub fn audit<'a, F: Files, O: Write>(
+    alloc: Global,
+    files: &mut F,
+    asked: &Asked<'a>,
+    out: &mut O,
+) -> Result<Status, Fault<'a>>
+    ensures refused { final_status result ≡ Status.Refused → out.new ≡ out.old }
+    ensures untouched { result ≡ Err Fault.Memory → out.new ≡ out.old }
+    ensures printed { PrintsUnlessDenied (Audits (F.content files.old) asked.now)
+        (CanAudit (F.content files.old) asked.now) result
+        (O.contents out.old) (O.contents out.new) }
+    ensures cut { IsCutOf (Audits (F.content files.old) asked.now) (O.contents out.old) (O.contents out.new) }
+{
+    let sent = match content_of(files, asked.sent) {
+        Ok(sent) => sent,
+        Err(why) => return Err(why),
+    };
+    let mut path = match Audit::new(alloc, sent.as_slice()) {
+        Ok(path) => path,
+        Err(why) => return Err(Fault::of_sent(asked.sent, why)),
+    };
+    let received = match content_of(files, asked.received) {
+        Ok(received) => received,
+        Err(why) => return Err(why),
+    };
+    write_audit(&mut path, received.as_slice(), out)
+}
+
+/// Writes what became of the messages of SENT in these bytes of RECEIVED.
+fn write_audit<'a, O: Write>(
+    path: &mut Audit<'_>,
+    bytes: &[u8],
+    out: &mut O,
+) -> Result<Status, Fault<'a>>
+    ensures ended { final_status result ≢ Status.Refused }
+    ensures memory { result ≢ Err Fault.Memory }
+    ensures printed { (sent : List AnyMessage) → IsAudit sent [] path.old
+        → PrintsUnlessDenied (WritesAudit (record { header = path.old.header; messages = sent }) bytes.now) ⊤ result
+        (O.contents out.old) (O.contents out.new) }
+    ensures cut { (sent : List AnyMessage) → IsAudit sent [] path.old
+        → IsCutOf (WritesAudit (record { header = path.old.header; messages = sent }) bytes.now)
+        (O.contents out.old) (O.contents out.new) }
+{
+    let mut left = Messages::new(bytes);
+    match left.header() {
+        Ok(header) => {
+            let stop = match write_fates(path, left, out) {
+                Ok(stop) => stop,
+                Err(error) => return Err(Fault::from(error)),
+            };
+            write_rest(path, header, stop, out)
+        }
+        Err(why) => write_rest(path, None, Some((0, why)), out),
+    }
+}
+
+/// Takes all messages of these bytes, and writes a line for each that is not in order. Returns where they end before
+/// the bytes do, and why.
+fn write_fates<O: Write>(
+    path: &mut Audit<'_>,
+    messages: Messages<'_>,
+    out: &mut O,
+) -> io::Result<Option<(u64, MessageFault)>>
+    ensures heard { (sent received : List AnyMessage) (stop : Option (ℕ × AnyMessageFault)) → IsAudit sent [] path.old
+        → AreHeard messages.entry received stop
+        → IfOk result (λ found. (found ≡ stop) × IsAudit sent received path.new) }
+    ensures header { path.new.header ≡ path.old.header }
+    ensures text { (sent received : List AnyMessage) (stop : Option (ℕ × AnyMessageFault)) → IsAudit sent [] path.old
+        → AreHeard messages.entry received stop
+        → OnOk result (Appends (O.contents out.old) (O.contents out.new) (fate_lines 0 (judged sent received))) }
+    ensures begun { (sent received : List AnyMessage) (stop : Option (ℕ × AnyMessageFault)) → IsAudit sent [] path.old
+        → AreHeard messages.entry received stop
+        → AppendsBeginning (fate_lines 0 (judged sent received)) (O.contents out.old) (O.contents out.new) }
+{
+    let mut left = messages;
+    let mut place = 0;
+    loop {
+        let message = match left.next() {
+            Ok(Some(message)) => message,
+            Ok(None) => return Ok(None),
+            Err(why) => return Ok(Some((place, why))),
+        };
+        let fate = path.take(&message);
+        match write_fate(place, &message, fate, out) {
+            Ok(()) => place += 1,
+            Err(error) => return Err(error),
+        }
+    }
+}
+
+/// Writes the line of a message at this place, where it is not in order.
+fn write_fate<O: Write>(place: u64, message: &Message, fate: Fate, out: &mut O) -> io::Result<()>
+    ensures text { OnOk result (Appends (O.contents out.old) (O.contents out.new)
+        (line_or_none place (record { message = message.now; fate = fate }))) }
+    ensures begun { AppendsBeginning (line_or_none place (record { message = message.now; fate = fate }))
+        (O.contents out.old) (O.contents out.new) }
+{
+    if let Fate::InOrder = fate {
+        return Ok(());
+    }
+    let hart = message.hart;
+    let number = message.number;
+    write_text(
+        out,
+        format_args!("message {place}: hart {hart} number {number}: {fate}\n"),
+    )
+}
+
+/// Writes what stands behind the lines of the messages, and returns how the run ends, where RECEIVED has this header,
+/// or none, and stops there.
+fn write_rest<'a, O: Write>(
+    path: &Audit<'_>,
+    header: Option<Header>,
+    stop: Option<(u64, MessageFault)>,
+    out: &mut O,
+) -> Result<Status, Fault<'a>>
+    ensures ended { final_status result ≢ Status.Refused }
+    ensures memory { result ≢ Err Fault.Memory }
+    ensures written { (sent received : List AnyMessage) → IsAudit sent received path.now → length received < 2 ^ 64
+        → EndsRest (record { header = path.now.header; messages = sent }) header received stop result
+        (O.contents out.old) (O.contents out.new) }
+    ensures begun { (sent received : List AnyMessage) → IsAudit sent received path.now → length received < 2 ^ 64
+        → AppendsBeginning (behind_fates (record { header = path.now.header; messages = sent }) header received stop)
+        (O.contents out.old) (O.contents out.new) }
+{
+    match write_losses(path, out) {
+        Ok(()) => {}
+        Err(error) => return Err(Fault::from(error)),
+    }
+    let all_whole = match write_tallies(path, out) {
+        Ok(all_whole) => all_whole,
+        Err(error) => return Err(Fault::from(error)),
+    };
+    let count = path.strangers();
+    let unlike = are_unlike(path.header(), header);
+    let whole = is_whole(all_whole, count, unlike, stop.is_none());
+    let ending = Ending {
+        strangers: count,
+        unlike,
+        whole,
+    };
+    match write_text(out, ending) {
+        Ok(()) => {}
+        Err(error) => return Err(Fault::from(error)),
+    }
+    match out.flush() {
+        Ok(()) => {}
+        Err(error) => return Err(Fault::from(error)),
+    }
+    ended(stop, whole)
+}
+
+/// Whether the result is whole, by whether all harts are, how many strangers came, whether headers differ, and whether
+/// RECEIVED comes to its end.
+fn is_whole(all_whole: bool, strangers: u64, unlike: bool, ends: bool) -> bool
+    ensures { result ≡ (all_whole && (strangers == 0) && not unlike && ends) }
+{
+    all_whole && strangers == 0 && !unlike && ends
+}
+
+/// How the run ends: at the place where RECEIVED stops, if there is one, or else by whether the result is whole.
+fn ended<'a>(stop: Option<(u64, MessageFault)>, whole: bool) -> Result<Status, Fault<'a>>
+    ensures value { result ≡ end_of_audit stop whole }
+    ensures never_refused { final_status result ≢ Status.Refused }
+{
+    match stop {
+        Some((number, why)) => Err(Fault::of_capture(number, CaptureFault::Message(why))),
+        None if whole => Ok(Status::Whole),
+        None => Ok(Status::NotWhole),
+    }
+}
+
+/// Whether both captures have a header, and these differ.
+fn are_unlike(sent: Option<Header>, received: Option<Header>) -> bool
+    ensures { result ≡ headers_differ sent received }
+{
+    match (sent, received) {
+        (Some(sent), Some(received)) => {
+            sent.mode != received.mode
+                || sent.period != received.period
+                || sent.harts != received.harts
+        }
+        _ => false,
+    }
+}
+
+/// Writes the lines of the numbers of each hart that were lost.
+fn write_losses<O: Write>(path: &Audit<'_>, out: &mut O) -> io::Result<()>
+    ensures text { (sent received : List AnyMessage) → IsAudit sent received path.now
+        → OnOk result (Appends (O.contents out.old) (O.contents out.new)
+        (all_lost_lines sent received (length path.now.harts))) }
+    ensures begun { (sent received : List AnyMessage) → IsAudit sent received path.now
+        → AppendsBeginning (all_lost_lines sent received (length path.now.harts))
+        (O.contents out.old) (O.contents out.new) }
+{
+    for hart in 0..path.harts() {
+        match write_lost(path, hart, out) {
+            Ok(()) => {}
+            Err(error) => return Err(error),
+        }
+    }
+    Ok(())
+}
+
+/// Writes the lines of the numbers of a hart that were lost.
+fn write_lost<O: Write>(path: &Audit<'_>, hart: usize, out: &mut O) -> io::Result<()>
+    requires known { hart < length path.now.harts }
+    ensures text { (sent received : List AnyMessage) → IsAudit sent received path.now
+        → OnOk result (Appends (O.contents out.old) (O.contents out.new)
+        (lost_lines hart (lost_runs sent received hart))) }
+    ensures begun { (sent received : List AnyMessage) → IsAudit sent received path.now
+        → AppendsBeginning (lost_lines hart (lost_runs sent received hart)) (O.contents out.old) (O.contents out.new) }
+{
+    let mut runs = path.lost(hart);
+    while let Some(run) = runs.next() {
+        let line = LostLine { hart, run };
+        match write_text(out, line) {
+            Ok(()) => {}
+            Err(error) => return Err(error),
+        }
+    }
+    Ok(())
+}
+
+/// Writes the line of each hart, and returns whether all are whole.
+fn write_tallies<O: Write>(path: &Audit<'_>, out: &mut O) -> io::Result<bool>
+    ensures whole { (sent received : List AnyMessage) → IsAudit sent received path.now → length received < 2 ^ 64
+        → IfOk result (λ whole. whole ≡ are_whole sent received (length path.now.harts)) }
+    ensures text { (sent received : List AnyMessage) → IsAudit sent received path.now → length received < 2 ^ 64
+        → OnOk result (Appends (O.contents out.old) (O.contents out.new)
+        (tally_lines sent received (length path.now.harts))) }
+    ensures begun { (sent received : List AnyMessage) → IsAudit sent received path.now → length received < 2 ^ 64
+        → AppendsBeginning (tally_lines sent received (length path.now.harts))
+        (O.contents out.old) (O.contents out.new) }
+{
+    let mut whole = true;
+    for hart in 0..path.harts() {
+        let tally = path.tally(hart);
+        whole &= tally.whole;
+        let line = TallyLine { hart, tally };
+        match write_text(out, line) {
+            Ok(()) => {}
+            Err(error) => return Err(error),
+        }
+    }
+    Ok(whole)
+}

@@ -1,0 +1,8 @@
+//! The subcommand of `tracebench` that audits a path: [`audit`] writes what became of the messages of a capture.
+#![tactic(auto)]
+
+mod comparing;
+mod ending;
+mod lines;
+
+pub use comparing::audit;
