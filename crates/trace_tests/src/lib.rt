@@ -5,6 +5,8 @@
 #![tactic(auto)]
 
 #[cfg(test)]
+mod audits;
+#[cfg(test)]
 mod decoding;
 #[cfg(test)]
 mod fixtures;

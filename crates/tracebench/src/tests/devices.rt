@@ -53,6 +53,23 @@ $ tracebench dump gap.capture
 > 0 0 open
 > 0 1 sync addr=80000000 priv=3 branch=1
 > 0 3 close ended_rep
+$ tracebench audit open.capture gap.capture
+> message 1: hart 0 number 1: stranger
+> message 2: hart 0 number 3: stranger
+> hart 0: 1 sent, 3 came, 0 lost, 0 repeated, 0 late, 0 changed, not whole
+> strangers: 2 messages
+> result: not whole
+? 1
+$ tracebench audit open.capture unopened.capture
+> message 0: hart 0 number 1: stranger
+> hart 0: number 0 lost
+> hart 0: 1 sent, 1 came, 1 lost, 0 repeated, 0 late, 0 changed, not whole
+> strangers: 1 messages
+> result: not whole
+? 1
+$ tracebench audit gap.capture open.capture
+! tracebench: gap.capture: message 2: gap, expected number 2
+? 2
 $ tracebench decode --base 80000000 image.bin open.capture
 > hart 0
 > addr,itype,priv,cause,tval
