@@ -1,6 +1,6 @@
 //! The subcommand `measure`.
 
-ghost use Rattle.std.specs.Prelude.{◌≡◌, ◌≤◌, Err, IfErr, IfOk, IfSome, OnOk, length};
+ghost use Rattle.std.specs.Prelude.{⊤, ◌≡◌, ◌≤◌, Err, IfErr, IfOk, IfSome, OnOk, length};
 ghost use Rattle.std.specs.Io.KnownBytes.{Appends};
 ghost use Rattle.retire.specs.Number.{number_of};
 ghost use Rattle.message.specs.Version.{most_harts};
@@ -11,9 +11,10 @@ ghost use Rattle.command_inputs.specs.Begun.{IsCutOf};
 ghost use Rattle.command_inputs.specs.Faults.{final_status};
 ghost use Rattle.command_inputs.specs.Order.{logs_fault};
 ghost use Rattle.command_inputs.specs.Printed.{PrintsUnlessDenied};
-ghost use Rattle.log_commands.specs.Measuring.{CanMeasure, Measures};
+ghost use Rattle.log_commands.specs.Measuring.{CanMeasure, Measures, WritesTable};
 
-use command_inputs::{Fault, Files, Status, asked_program, legal_logs_of};
+use crate::legal_logs::{AskedLogs, OnLogs, over_legal_logs};
+use command_inputs::{Fault, Files, Status};
 use legalpath::LegalLog;
 use measuring::write_measures;
 use message::MOST_HARTS;
@@ -39,14 +40,30 @@ pub fn measure<'a, F: Files, O: Write>(
         (O.contents out.old) (O.contents out.new) }
     ensures cut { IsCutOf (Measures (F.content files.old) asked.now) (O.contents out.old) (O.contents out.new) }
 {
-    let paths = asked.logs.as_slice();
-    let program = match asked_program(files, MOST_HARTS, asked.base, asked.image, paths) {
-        Ok(program) => program,
-        Err(why) => return Err(why),
+    let logs = AskedLogs {
+        most: MOST_HARTS,
+        base: asked.base,
+        image: asked.image,
+        paths: &asked.logs,
     };
-    match legal_logs_of(alloc, files, &program, paths) {
-        Ok(logs) => measure_logs(asked, logs.as_slice(), out),
-        Err(why) => Err(why),
+    over_legal_logs(alloc, files, &logs, asked, out)
+}
+
+impl<'a> OnLogs<'a> for Measure<'a> {
+    ghost Takes = { λ asked count. (1 ≤ asked.period) × (count ≤ most_harts Two) };
+
+    ghost Prints = { λ asked content logs. WritesTable asked logs };
+
+    ghost CanWrite = { λ asked content logs. ⊤ };
+
+    fn go_on<F: Files, O: Write>(
+        &self,
+        _: Global,
+        _: &mut F,
+        logs: &[LegalLog<'_>],
+        out: &mut O,
+    ) -> Result<Status, Fault<'a>> {
+        measure_logs(self, logs, out)
     }
 }
 

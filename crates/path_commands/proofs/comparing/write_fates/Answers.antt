@@ -7,7 +7,8 @@ use Rattle.message.specs.declared.message.Message.{Message}
 use Rattle.auditing.proofs.Counting.{begins_none}
 use Rattle.output.proofs.Beginnings.{whole_begun}
 use Rattle.path_commands.proofs.FateLines.{at_end, at_fault, taken_begun, taken_more, taken_none}
-use Rattle.path_commands.proofs.comparing.write_fates.Goals.{After-next}
+use Rattle.auditing.specs.Judged.{judged}
+use Rattle.path_commands.specs.AuditText.{fate_lines}
 use Rattle.path_commands.proofs.comparing.write_fates.Goals as goal
 
 pub loop-message-init : goal.loop-message-init
@@ -51,3 +52,68 @@ returns-in-Err-write_fate-clause-begun g c =
     (g.O.Write.contents c.loop-message.out) (c.loop-message.invariant.0 sent received stop audits heard)
     c.in-Ok-Some.message next c.take-fate.result (g.O.Write.contents c.write_fate.new.out) is begins
     (c.take-fate.ensures.fate sent) c.write_fate.ensures.begun
+
+pub returns-in-Ok-None-clause-heard : goal.returns-in-Ok-None-clause-heard
+returns-in-Ok-None-clause-heard g c =
+    let empty = c.in-Ok-None.ensures.end.0 (ap Ok c.in-Ok-None.field-0-is) in
+    λ sent received stop audits heard.
+    let all =
+    at_end sent received stop c.loop-message.left c.loop-message.path c.loop-message.place
+    (g.O.Write.contents c.args.out.now) (g.O.Write.contents c.loop-message.out)
+    (c.loop-message.invariant.0 sent received stop audits heard) empty in
+    (all.0, all.1.audits)
+
+pub returns-in-Ok-None-clause-text : goal.returns-in-Ok-None-clause-text
+returns-in-Ok-None-clause-text g c =
+    let empty = c.in-Ok-None.ensures.end.0 (ap Ok c.in-Ok-None.field-0-is) in
+    λ sent received stop audits heard.
+    (at_end sent received stop c.loop-message.left c.loop-message.path c.loop-message.place
+    (g.O.Write.contents c.args.out.now) (g.O.Write.contents c.loop-message.out)
+    (c.loop-message.invariant.0 sent received stop audits heard) empty).1.text
+
+pub returns-in-Ok-None-clause-begun : goal.returns-in-Ok-None-clause-begun
+returns-in-Ok-None-clause-begun g c =
+    let empty = c.in-Ok-None.ensures.end.0 (ap Ok c.in-Ok-None.field-0-is) in
+    λ sent received stop audits heard.
+    whole_begun (fate_lines 0 (judged sent received)) (g.O.Write.contents c.args.out.now)
+    (g.O.Write.contents c.loop-message.out)
+    (at_end sent received stop c.loop-message.left c.loop-message.path c.loop-message.place
+    (g.O.Write.contents c.args.out.now) (g.O.Write.contents c.loop-message.out)
+    (c.loop-message.invariant.0 sent received stop audits heard) empty).1.text
+
+pub returns-in-Err-clause-heard : goal.returns-in-Err-clause-heard
+returns-in-Err-clause-heard g c =
+    let left = c.loop-message.left in
+    let says = c.in-Err.ensures in
+    let none =
+    begins_none left c.in-Err.why says.fault (λ is. says.short.0 (ap Err is)) (λ is. says.bad_length.0 (ap Err is)) in
+    λ sent received stop audits heard.
+    let all =
+    at_fault sent received stop left c.loop-message.path c.loop-message.place (g.O.Write.contents c.args.out.now)
+    (g.O.Write.contents c.loop-message.out) (c.loop-message.invariant.0 sent received stop audits heard) c.in-Err.why
+    (Err c.in-Err.why) refl none says.short.1 says.bad_length.1 in
+    (all.0, all.1.audits)
+
+pub returns-in-Err-clause-text : goal.returns-in-Err-clause-text
+returns-in-Err-clause-text g c =
+    let left = c.loop-message.left in
+    let says = c.in-Err.ensures in
+    let none =
+    begins_none left c.in-Err.why says.fault (λ is. says.short.0 (ap Err is)) (λ is. says.bad_length.0 (ap Err is)) in
+    λ sent received stop audits heard.
+    (at_fault sent received stop left c.loop-message.path c.loop-message.place (g.O.Write.contents c.args.out.now)
+    (g.O.Write.contents c.loop-message.out) (c.loop-message.invariant.0 sent received stop audits heard) c.in-Err.why
+    (Err c.in-Err.why) refl none says.short.1 says.bad_length.1).1.text
+
+pub returns-in-Err-clause-begun : goal.returns-in-Err-clause-begun
+returns-in-Err-clause-begun g c =
+    let left = c.loop-message.left in
+    let says = c.in-Err.ensures in
+    let none =
+    begins_none left c.in-Err.why says.fault (λ is. says.short.0 (ap Err is)) (λ is. says.bad_length.0 (ap Err is)) in
+    λ sent received stop audits heard.
+    whole_begun (fate_lines 0 (judged sent received)) (g.O.Write.contents c.args.out.now)
+    (g.O.Write.contents c.loop-message.out)
+    (at_fault sent received stop left c.loop-message.path c.loop-message.place (g.O.Write.contents c.args.out.now)
+    (g.O.Write.contents c.loop-message.out) (c.loop-message.invariant.0 sent received stop audits heard) c.in-Err.why
+    (Err c.in-Err.why) refl none says.short.1 says.bad_length.1).1.text
