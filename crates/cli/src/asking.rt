@@ -4,7 +4,7 @@ ghost use Rattle.std.specs.Prelude.{◌≡◌, ◌⊎◌, IfErr, IfOk, [], codes
 ghost use Rattle.clap.specs.Words.{FailsBy, fault_of, first_value, found_of, kind_of, one_of, rows_of};
 ghost use Rattle.clap.specs.declared.error.kind.ErrorKind.TheVariants as kind;
 ghost use Rattle.cli.specs.Asking.{AreRefused, Asks, IsCapacity, IsFlag, IsHarts, IsMode, IsPeriod, IsVersion};
-ghost use Rattle.cli.specs.Asking.{WordsAsk, texts_of};
+ghost use Rattle.cli.specs.Asking.{WordsAsk, text_of, texts_of};
 ghost use Rattle.cli.specs.Grammar.{IsSubcommand, program_app};
 ghost use Rattle.subcommands.specs.Limits.{IsWithinLimits};
 
@@ -29,6 +29,13 @@ const DEFAULT_HARTS: u16 = 1;
 
 /// The value of an argument. A parse that succeeds has one where the argument is required.
 fn text<'a>(given: &ArgMatches<'a>, id: &str) -> &'a str
+    ensures { result.now ≡ text_of id.now (rows_of (found_of given.now)) }
+{
+    text_found(given, id)
+}
+
+/// The value that was found of an argument, or none.
+fn text_found<'a>(given: &ArgMatches<'a>, id: &str) -> &'a str
     ensures { result.now ≡ unwrap_or (first_value (found_of given.now) id.now) [] }
 {
     given.get_str(id).unwrap_or("")
