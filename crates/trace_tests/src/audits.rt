@@ -2,7 +2,7 @@
 
 mod reading;
 
-use auditing::{Audit, Tally};
+use auditing::{Audit, Lost, LostRuns, Tally};
 use message::{Message, write_message};
 use payload::Payload;
 use std::alloc::{AllocError, Global};
@@ -62,7 +62,7 @@ fn draw_sent(alloc: Global, draw: &mut Draw) -> Result<Vec<Row>, AllocError> {
 }
 
 /// A row that came where this one is the next: mostly that one; or another one of SENT, or the same with another
-/// payload, or one with another number.
+/// payload, or one with another number or another hart.
 fn draw_row(draw: &mut Draw, sent: &[Row], next: Row) -> Row {
     let other = match sent.get(draw.below(sent.len() as u64) as usize) {
         Some(row) => *row,
@@ -76,6 +76,10 @@ fn draw_row(draw: &mut Draw, sent: &[Row], next: Row) -> Row {
         },
         3 => Row {
             number: draw.below(6),
+            ..other
+        },
+        4 => Row {
+            hart: draw.below(5) as u16,
             ..other
         },
         _ => next,
@@ -124,8 +128,20 @@ fn audits_a_pair(rt: &impl Abort, alloc: Global, draw: &mut Draw) -> Result<(), 
     for hart in 0..audit.harts() {
         let wanted = tally_of(alloc, sent.as_slice(), received.as_slice(), hart as u16)?;
         assert!(rt; audit.tally(hart) == wanted);
+        let wanted = reading::lost_runs(alloc, sent.as_slice(), received.as_slice(), hart as u16)?;
+        are_lost(rt, audit.lost(hart), wanted.as_slice());
     }
+    assert!(rt; audit.strangers() == reading::strangers(sent.as_slice(), received.as_slice()));
     Ok(())
+}
+
+/// Just these runs of numbers were lost, in this order.
+fn are_lost(rt: &impl Abort, left: LostRuns<'_>, wanted: &[Lost]) {
+    let mut left = left;
+    for run in wanted {
+        assert!(rt; left.next() == Some(*run));
+    }
+    assert!(rt; left.next().is_none());
 }
 
 #[test]

@@ -1,7 +1,7 @@
 //! The table of fates, read row by row. Nothing is kept from one message to the next but the list of messages.
 
 use super::Row;
-use auditing::Fate;
+use auditing::{Fate, Lost};
 use std::alloc::{AllocError, Global};
 
 /// How many messages of a hart have each of these fates.
@@ -73,6 +73,36 @@ pub(crate) fn lost(sent: &[Row], received: &[Row], hart: u16) -> u64 {
         }
     }
     lost
+}
+
+/// The longest runs of a hart's numbers that no true row has.
+pub(crate) fn lost_runs(
+    alloc: Global,
+    sent: &[Row],
+    received: &[Row],
+    hart: u16,
+) -> Result<Vec<Lost>, AllocError> {
+    let mut runs: Vec<Lost> = Vec::new(alloc);
+    for row in sent {
+        if row.hart == hart && !is_true(received, *row) {
+            match runs.last_mut() {
+                Some(run) if run.last.wrapping_add(1) == row.number => run.last = row.number,
+                _ => runs.push(Lost {
+                    first: row.number,
+                    last: row.number,
+                })?,
+            }
+        }
+    }
+    Ok(runs)
+}
+
+/// How many rows came, of whatever hart, that have no hart and number of SENT.
+pub(crate) fn strangers(sent: &[Row], received: &[Row]) -> u64 {
+    received
+        .iter()
+        .filter(|row| !has_number(sent, **row))
+        .count() as u64
 }
 
 /// Whether the rows of a hart that came are just those that were sent, in order.
