@@ -1,5 +1,5 @@
 -- What stands behind the lines of the messages, part by part.
-use Rattle.std.proofs.Common.{◌≡◌, ◌⊎◌, inl, inr, ℕ, ◌++◌, Bool, List, Option, Result, Ok, Err, refl, sym, ap, subst, ◌∙◌}
+use Rattle.std.proofs.Common.{◌≡◌, ◌⊎◌, inl, inr, ℕ, ◌++◌, Bool, true, false, List, Option, Result, Ok, Err, refl, sym, ap, subst, ◌∙◌}
 use Rattle.std.specs.Prelude.{◌&&◌, ◌==◌, is_none, not}
 use Rattle.std.proofs.KnownBytes.{Appends-trans}
 use Rattle.std.specs.Io.KnownBytes.{Appends}
@@ -12,6 +12,11 @@ use Rattle.auditing.specs.Judged.{strangers_in}
 use Rattle.auditing.specs.Sent.{harts_of}
 use Rattle.path_commands.specs.AuditText.{all_lost_lines, are_whole, ending_text, headers_differ, tally_lines}
 use Rattle.path_commands.specs.Audited.{Sent, behind_fates, is_whole_result}
+
+-- What is the other of a value has that value for its other.
+pub turned : (a b : Bool) → a ≡ not b → b ≡ not a
+turned a true is = sym (ap not is)
+turned a false is = sym (ap not is)
 
 module _ (sent : Sent) (header : Option Header) (received : List Message) (stop : Option (ℕ × MessageFault)) (count : ℕ)
     (counted : count ≡ harts_of sent.header sent.messages) where

@@ -1,7 +1,7 @@
 //! What stands behind the lines of the harts.
 
-ghost use Rattle.std.specs.Prelude.{◌≡◌, Some};
-ghost use Rattle.path_commands.specs.AuditText.{ending_text, verdict_text};
+ghost use Rattle.std.specs.Prelude.{◌≡◌, ◌++◌, Some};
+ghost use Rattle.path_commands.specs.AuditText.{ending_text, headers_line, result_line, verdict_text};
 
 use std::fmt;
 
@@ -20,15 +20,38 @@ impl fmt::Display for Ending {
     ghost output = { λ ending. Some (ending_text ending.strangers ending.unlike ending.whole) };
 
     fn fmt<W: fmt::Write>(&self, f: &mut fmt::Formatter<W>) -> fmt::Result {
-        if self.strangers != 0 {
-            let strangers = self.strangers;
+        let strangers = self.strangers;
+        let closing = Closing {
+            unlike: self.unlike,
+            whole: self.whole,
+        };
+        if strangers == 0 {
+            write!(f, "{closing}")
+        } else {
             write!(f, "strangers: {strangers} messages\n")?;
+            write!(f, "{closing}")
         }
+    }
+}
+
+/// What stands behind the line of the strangers.
+#[derive(Clone, Copy)]
+struct Closing {
+    unlike: bool,
+    whole: bool,
+}
+
+impl fmt::Display for Closing {
+    ghost output = { λ closing. Some (headers_line closing.unlike ++ result_line closing.whole) };
+
+    fn fmt<W: fmt::Write>(&self, f: &mut fmt::Formatter<W>) -> fmt::Result {
+        let verdict = verdict_text(self.whole);
         if self.unlike {
             f.write_str("headers differ\n")?;
+            write!(f, "result: {verdict}\n")
+        } else {
+            write!(f, "result: {verdict}\n")
         }
-        let verdict = verdict_text(self.whole);
-        write!(f, "result: {verdict}\n")
     }
 }
 

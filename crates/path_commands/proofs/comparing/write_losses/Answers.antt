@@ -1,15 +1,21 @@
 -- The lines are written one after the other: by lemmas on parts of a text, which no tactic finds.
-use Rattle.std.proofs.Common.{◌<◌, ◌≤◌, length, arith}
+use Rattle.std.proofs.Common.{◌≡◌, ◌-◌, ◌<◌, ◌≤◌, length, subst, arith}
+use Rattle.std.specs.List.{flat_map, range_with_len}
 use Rattle.output.proofs.Beginnings.{whole_begun}
 use Rattle.auditing.specs.Losing.{lost_runs}
 use Rattle.path_commands.proofs.HartLines.{hart_begun, hart_more, harts_all}
-use Rattle.path_commands.proofs.Parts.{part_none}
+use Rattle.path_commands.proofs.Parts.{HasWritten, part_none}
 use Rattle.path_commands.specs.AuditText.{all_lost_lines, lost_lines}
 use Rattle.path_commands.proofs.comparing.write_losses.Goals as goal
 
 pub loop-hart-init : goal.loop-hart-init
 loop-hart-init g c = λ sent received audits.
-    part_none (all_lost_lines sent received (length c.args.path.now.harts)) (g.O.Write.contents c.args.out.now)
+    let count = length c.args.path.now.harts in
+    let whole = all_lost_lines sent received count in
+    let out = g.O.Write.contents c.args.out.now in
+    let all : count ≡ count - 0 = omega arith in
+    subst (λ n. HasWritten whole (flat_map (λ hart. lost_lines hart (lost_runs sent received hart)) (range_with_len 0 n))
+    out out) all (part_none whole out)
 
 pub loop-hart-preserved : goal.loop-hart-preserved
 loop-hart-preserved g c = λ sent received audits.

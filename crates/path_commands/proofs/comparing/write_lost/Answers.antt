@@ -20,7 +20,7 @@ loop-run-preserved g c = λ sent received audits.
     let mid = g.O.Write.contents c.loop-run.out in
     let new = g.O.Write.contents c.write_text.new.out in
     let whole = lost_lines hart (lost_runs sent received hart) in
-    part_more whole (lost_line hart c.in-Some.run) (lost_lines hart c.next.new.self) old mid new
+    part_more whole (lost_line hart c.in-Some.run') (lost_lines hart c.next.new.self) old mid new
     (subst (λ runs. HasWritten whole (lost_lines hart runs) old mid) c.in-Some.ensures.next
     (c.loop-run.invariant sent received audits)) c.in-Ok.ensures.whole
 
@@ -31,7 +31,7 @@ returns-in-Err-clause-begun g c = λ sent received audits.
     let mid = g.O.Write.contents c.loop-run.out in
     let new = g.O.Write.contents c.write_text.new.out in
     let whole = lost_lines hart (lost_runs sent received hart) in
-    part_begun whole (lost_line hart c.in-Some.run) (lost_lines hart c.next.new.self) old mid new
+    part_begun whole (lost_line hart c.in-Some.run') (lost_lines hart c.next.new.self) old mid new
     (subst (λ runs. HasWritten whole (lost_lines hart runs) old mid) c.in-Some.ensures.next
     (c.loop-run.invariant sent received audits)) c.write_text.ensures.begun
 

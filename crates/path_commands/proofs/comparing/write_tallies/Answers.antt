@@ -1,29 +1,34 @@
 -- The lines are written one after the other: by lemmas on parts of a text, which no tactic finds.
-use Rattle.std.proofs.Common.{◌+◌, ◌-◌, ◌<◌, ◌≤◌, ◌∙◌, length, ap, refl, subst, sym, arith}
+use Rattle.std.proofs.Common.{◌≡◌, ◌+◌, ◌-◌, ◌<◌, ◌≤◌, ◌∙◌, length, ap, subst, sym, arith}
 use Rattle.std.specs.Prelude.{◌&&◌}
 use Rattle.std.specs.Io.KnownBytes.{Appends}
-use Rattle.std.specs.List.{list_all, range_with_len}
+use Rattle.std.specs.List.{flat_map, list_all, range_with_len}
 use Rattle.output.specs.Begun.{AppendsBeginning}
 use Rattle.output.proofs.Beginnings.{whole_begun}
 use Rattle.auditing.specs.Tallies.{tally_of}
 use Rattle.auditing.specs.declared.tally.Tally.{Tally}
 use Rattle.path_commands.proofs.HartLines.{hart_begun, hart_more, harts_all, tested_all, tested_more}
-use Rattle.path_commands.proofs.Parts.{part_none}
+use Rattle.path_commands.proofs.Parts.{HasWritten, part_none}
 use Rattle.path_commands.specs.AuditText.{tally_line, tally_lines}
 use Rattle.path_commands.proofs.comparing.write_tallies.Goals as goal
 
 pub loop-hart-init : goal.loop-hart-init
-loop-hart-init g c = λ sent received audits few. (
-  part_none (tally_lines sent received (length c.args.path.now.harts)) (g.O.Write.contents c.args.out.now),
-  refl,
-)
+loop-hart-init g c = λ sent received audits few.
+    let count = length c.args.path.now.harts in
+    let whole = tally_lines sent received count in
+    let out = g.O.Write.contents c.args.out.now in
+    let all : count ≡ count - 0 = omega arith in (
+      subst (λ n. HasWritten whole (flat_map (λ hart. tally_line hart (tally_of sent received hart)) (range_with_len 0 n))
+          out out) all (part_none whole out),
+      ap (λ n. list_all (λ hart. (tally_of sent received hart).whole) (range_with_len 0 n)) (sym all),
+    )
 
 pub loop-hart-preserved : goal.loop-hart-preserved
 loop-hart-preserved g c = λ sent received audits few.
     let count = length c.args.path.now.harts in
     let hart = c.loop-hart.hart in
     let within : hart < count = omega arith in
-    let is = c.tally.ensures sent received audits few in
+    let is = c.tally-tally.ensures sent received audits few in
     let mid = g.O.Write.contents c.loop-hart.out in
     let new = g.O.Write.contents c.write_text.new.out in
     let line = subst (λ tally. Appends mid new (tally_line hart tally)) is c.in-Ok.ensures.whole in
@@ -41,7 +46,7 @@ returns-in-Err-clause-begun g c = λ sent received audits few.
     let count = length c.args.path.now.harts in
     let hart = c.loop-hart.hart in
     let within : hart < count = omega arith in
-    let is = c.tally.ensures sent received audits few in
+    let is = c.tally-tally.ensures sent received audits few in
     let mid = g.O.Write.contents c.loop-hart.out in
     let new = g.O.Write.contents c.write_text.new.out in
     let line = subst (λ tally. AppendsBeginning (tally_line hart tally) mid new) is c.write_text.ensures.begun in

@@ -1,0 +1,62 @@
+-- What `audit` prints, from what each of its steps found.
+use Rattle.std.proofs.Common.{◌≡◌, ◌⊎◌, inr, ℕ, List, Option, Result, Ok, Err, refl}
+use Rattle.std.specs.Prelude.{⊤}
+use Rattle.message.specs.declared.header.Header.{Header}
+use Rattle.message.specs.declared.message.Message.{Message}
+use Rattle.subcommands.specs.declared.words.Audit.{Audit}
+use Rattle.auditing.specs.Sent.{IsSent, IsSentFault}
+use Rattle.auditing.specs.declared.fault.SentFault.{SentFault}
+use Rattle.command_inputs.proofs.Beginnings.{cut_leads}
+use Rattle.command_inputs.proofs.Runs.{ends_silently, leads_on}
+use Rattle.command_inputs.specs.Begun.{IsCutOf}
+use Rattle.command_inputs.specs.Faults.{sent_fault}
+use Rattle.command_inputs.specs.Found.{IsRead}
+use Rattle.command_inputs.specs.Known.{Content}
+use Rattle.command_inputs.specs.Printed.{Printed, PrintsUnlessDenied}
+use Rattle.command_inputs.specs.declared.fault.Fault.{Fault}
+use Rattle.command_inputs.specs.declared.fault.Fault.TheVariants as fault
+use Rattle.command_inputs.specs.declared.status.Status.{Status}
+use Rattle.path_commands.specs.Audited.{Audits, CanAudit, Sent, WritesAudit}
+
+module _ (content : Content) (asked : Audit) where
+  -- SENT is not read, or memory was refused.
+  pub sent_lacked : (why : Fault) (old : Option (List ℕ)) → (why ≡ fault.Memory) ⊎ IsRead content asked.sent (Err why)
+      → PrintsUnlessDenied (Audits content asked) (CanAudit content asked) (Err why) old old
+  sent_lacked why old lacked =
+      ends_silently (Audits content asked) (CanAudit content asked) (IsRead content asked.sent (Err why)) why old lacked
+      (λ none. (Err why, none, refl))
+
+  module _ (bytes : List ℕ) (read : IsRead content asked.sent (Ok bytes)) where
+    -- SENT is refused.
+    pub sent_is_refused : (found : SentFault) (why : Fault) (old : Option (List ℕ)) → IsSentFault bytes found
+        → why ≡ sent_fault asked.sent found
+        → PrintsUnlessDenied (Audits content asked) (CanAudit content asked) (Err why) old old
+    sent_is_refused found why old is why_is =
+        ends_silently (Audits content asked) (CanAudit content asked) (IsSentFault bytes found) why old (inr is)
+        (λ is. (Ok bytes, read, (Err why, (found, is, why_is), refl)))
+
+    module _ (sent : Sent) (is : IsSent bytes sent.header sent.messages) where
+      -- RECEIVED is not read, or memory was refused.
+      pub received_lacked : (why : Fault) (old : Option (List ℕ))
+          → (why ≡ fault.Memory) ⊎ IsRead content asked.received (Err why)
+          → PrintsUnlessDenied (Audits content asked) (CanAudit content asked) (Err why) old old
+      received_lacked why old lacked =
+          ends_silently (Audits content asked) (CanAudit content asked) (IsRead content asked.received (Err why)) why old
+          lacked (λ none. (Ok bytes, read, (Ok sent, is, (Err why, none, refl))))
+
+      module _ (received : List ℕ) (came : IsRead content asked.received (Ok received)) where
+        leads : (printed : Printed) → WritesAudit sent received printed → Audits content asked printed
+        leads printed writes = (Ok bytes, read, (Ok sent, is, (Ok received, came, writes)))
+
+        -- What is printed of both is what `audit` prints.
+        pub both_printed : (ended : Result Status Fault) (old new : Option (List ℕ))
+            → PrintsUnlessDenied (WritesAudit sent received) ⊤ ended old new
+            → PrintsUnlessDenied (Audits content asked) (CanAudit content asked) ended old new
+        both_printed ended old new printed =
+            leads_on (WritesAudit sent received) (Audits content asked) ⊤ (CanAudit content asked) ended old new leads
+            (λ _. (bytes, read, (sent, is, (received, came, tt)))) printed
+
+        -- And so is a cut of it.
+        pub both_cut : (old new : Option (List ℕ)) → IsCutOf (WritesAudit sent received) old new
+            → IsCutOf (Audits content asked) old new
+        both_cut old new cut = cut_leads (WritesAudit sent received) (Audits content asked) old new leads cut
