@@ -14,7 +14,10 @@ pub(crate) fn messages_in(capture: &[u8]) -> usize {
     let mut left = Messages::new(capture);
     let _ = left.header();
     let mut count: usize = 0;
-    while let Ok(Some(_)) = left.next() {
+    for _ in 0..capture.len() {
+        let Ok(Some(_)) = left.next() else {
+            break;
+        };
         count = count.wrapping_add(1);
     }
     count
@@ -37,7 +40,10 @@ impl Phase for Auditing<'_> {
         let mut left = Messages::new(self.capture);
         let _ = left.header();
         let mut in_order = 0u64;
-        while let Ok(Some(message)) = left.next() {
+        for _ in 0..self.capture.len() {
+            let Ok(Some(message)) = left.next() else {
+                break;
+            };
             if let Fate::InOrder = audit.take(&message) {
                 in_order = in_order.wrapping_add(1);
             }
