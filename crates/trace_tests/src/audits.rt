@@ -2,6 +2,8 @@
 
 mod reading;
 
+ghost use Rattle.std.specs.Prelude.{◌≤◌};
+
 use auditing::{Audit, Lost, LostRuns, Tally};
 use message::{Message, write_message};
 use payload::Payload;
@@ -23,13 +25,18 @@ struct Draw {
 }
 
 impl Draw {
-    /// The next number, below 1 where the bound is 0.
-    fn below(&mut self, bound: u64) -> u64 {
+    /// The next number below this bound; 0 where the bound is 0.
+    fn below(&mut self, bound: u64) -> u64
+        ensures { result ≤ bound }
+    {
         self.state = self
             .state
             .wrapping_mul(6364136223846793005)
             .wrapping_add(1442695040888963407);
-        (self.state >> 33).checked_rem(bound).unwrap_or(0)
+        if bound == 0 {
+            return 0;
+        }
+        (self.state >> 33) % bound
     }
 }
 
