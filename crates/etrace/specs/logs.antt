@@ -8,6 +8,7 @@ pub use Rattle.rvclass.specs.Word16
 pub use Rattle.rvclass.specs.Words
 pub use Rattle.rvclass.specs.Image
 pub use Rattle.rvclass.specs.Fetch
+pub use Rattle.rvclass.specs.Instruction
 pub use Rattle.rvclass.specs.Program
 pub use Rattle.rvclass.specs.FaultText as ProgramFaultText
 pub use Rattle.retire.specs.Itype
@@ -41,3 +42,7 @@ pub use Rattle.legalpath.specs.FollowOnLaws
 pub use Rattle.legalpath.specs.ReasonLaws
 pub use Rattle.legalpath.specs.ProgramLog
 pub use Rattle.legalpath.specs.Allowed
+pub use Rattle.explaining.specs.Digits as WordDigits
+pub use Rattle.explaining.specs.Standing
+pub use Rattle.explaining.specs.Following as WhatFollows
+pub use Rattle.explaining.specs.Explanation

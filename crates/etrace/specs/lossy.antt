@@ -1,4 +1,4 @@
--- What the contracts on losses cite.
+-- What the contracts on losses and audits cite.
 pub use Rattle.losses.specs.Blocks
 pub use Rattle.losses.specs.Parts
 pub use Rattle.losses.specs.PartsIn
@@ -11,3 +11,13 @@ pub use Rattle.losses.specs.WholeStretches
 pub use Rattle.losses.specs.FaultText as LossyFaultText
 pub use Rattle.losses.specs.Stops
 pub use Rattle.losses.specs.Collects
+pub use Rattle.auditing.specs.Fates
+pub use Rattle.auditing.specs.Judged
+pub use Rattle.auditing.specs.Losing
+pub use Rattle.auditing.specs.Tallies
+pub use Rattle.auditing.specs.Ledger
+pub use Rattle.auditing.specs.Audits
+pub use Rattle.auditing.specs.Sent
+pub use Rattle.auditing.specs.Untouched
+pub use Rattle.auditing.specs.DecodedAgain
+pub use Rattle.auditing.specs.FateText

@@ -1,6 +1,7 @@
 //! The laws: functions with empty bodies, whose contracts are theorems about the definitions that the other contracts
 //! cite.
 
+pub use auditing::{whole_decodes_again, whole_is_untouched};
 pub use bench::turns_let_beginnings_through;
 pub use decoder::{
     closed_where_last_closes, first_packets_describe_a_beginning,

@@ -1,5 +1,6 @@
 //! Programs, the logs of what harts retired of them, and which logs are legal.
 
+pub use explaining::explain;
 pub use isa::is_privilege;
 pub use legalpath::{
     LegalLog, Next, PathFault, Why, check, greatest_after, leads, may_retire_at, may_stand_at,
@@ -9,4 +10,4 @@ pub use retire::{
     Event, ITYPE_NOT_TAKEN, ITYPE_OTHER, ITYPE_TAKEN, ITYPE_TRAP_RETURN, ITYPE_UNINFERABLE,
     LogFault, MOST_ROWS, WriteFault, number, read_log, read_log_from_slice, write_log,
 };
-pub use rvclass::{Class, Program, ProgramFault, Return};
+pub use rvclass::{Class, Instruction, Program, ProgramFault, Return};
