@@ -132,11 +132,13 @@ fn audits_a_pair(rt: &impl Abort, alloc: Global, draw: &mut Draw) -> Result<(), 
         let fate = audit.take(&message_of(rt, *row));
         assert!(rt; fate == reading::fate_of(sent.as_slice(), before, *row));
     }
-    for hart in 0..audit.harts() {
-        let wanted = tally_of(alloc, sent.as_slice(), received.as_slice(), hart as u16)?;
-        assert!(rt; audit.tally(hart) == wanted);
-        let wanted = reading::lost_runs(alloc, sent.as_slice(), received.as_slice(), hart as u16)?;
-        are_lost(rt, audit.lost(hart), wanted.as_slice());
+    assert!(rt; audit.harts() == usize::from(reading::harts(sent.as_slice())));
+    for hart in 0..reading::harts(sent.as_slice()) {
+        let place = usize::from(hart);
+        let wanted = tally_of(alloc, sent.as_slice(), received.as_slice(), hart)?;
+        assert!(rt; place < audit.harts() && audit.tally(place) == wanted);
+        let wanted = reading::lost_runs(alloc, sent.as_slice(), received.as_slice(), hart)?;
+        are_lost(rt, audit.lost(place), wanted.as_slice());
     }
     assert!(rt; audit.strangers() == reading::strangers(sent.as_slice(), received.as_slice()));
     Ok(())

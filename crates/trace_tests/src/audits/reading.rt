@@ -97,6 +97,15 @@ pub(crate) fn lost_runs(
     Ok(runs)
 }
 
+/// The harts from 0 to the highest that has a row, counted.
+pub(crate) fn harts(rows: &[Row]) -> u16 {
+    let mut count = 0;
+    for row in rows {
+        count = row.hart.saturating_add(1).max(count);
+    }
+    count
+}
+
 /// How many rows came, of whatever hart, that have no hart and number of SENT.
 pub(crate) fn strangers(sent: &[Row], received: &[Row]) -> u64 {
     received
