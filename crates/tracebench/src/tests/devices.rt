@@ -67,9 +67,6 @@ $ tracebench audit open.capture unopened.capture
 > strangers: 1 messages
 > result: not whole
 ? 1
-$ tracebench audit gap.capture open.capture
-! tracebench: gap.capture: message 2: gap, expected number 2
-? 2
 $ tracebench decode --base 80000000 image.bin open.capture
 > hart 0
 > addr,itype,priv,cause,tval

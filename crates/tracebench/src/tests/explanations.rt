@@ -182,4 +182,19 @@ $ tracebench check --base 80000000 --explain image.bin trap.csv cut.csv legal.cs
 >   80000000: 00000463 is a branch, taken: 80000008 follows
 ! tracebench: cut.csv: row 1: wrong number of fields
 ? 2
+# C.EBREAK, and a word of more than 32 bits.
+file short.bin
+|= 0290 1f00
+file ebreak.csv
+| addr,itype,priv,cause,tval
+| 80000000,0,3,,
+file long.csv
+| addr,itype,priv,cause,tval
+| 80000002,0,3,,
+$ tracebench check --base 80000000 --explain short.bin ebreak.csv long.csv
+> ebreak.csv: row 1: NotRetirable
+>   80000000: 9002 does not retire
+> long.csv: row 1: NotRetirable
+>   80000002: 001f does not retire
+? 2
 ";
