@@ -1,5 +1,6 @@
 -- What is printed of the bytes of RECEIVED, from what each part of the work found.
 use Rattle.std.proofs.Common.{◌≡◌, ℕ, ◌<◌, ◌^◌, List, [], Option, Some, None, Result, length, refl, subst, arith}
+use Rattle.std.proofs.KnownBytes.{Appends-nil}
 use Rattle.std.specs.Prelude.{⊤}
 use Rattle.std.specs.Io.KnownBytes.{Appends}
 use Rattle.output.specs.Begun.{AppendsBeginning}
@@ -12,7 +13,6 @@ use Rattle.captures.specs.Whole.{BeginsWith}
 use Rattle.auditing.specs.Audits.{Audits}
 use Rattle.auditing.specs.Judged.{judged}
 use Rattle.auditing.specs.Ledger.{Ledger}
-use Rattle.command_inputs.proofs.Runs.{appends-nothing}
 use Rattle.command_inputs.specs.Begun.{IsCutOf}
 use Rattle.command_inputs.specs.Printed.{PrintsUnlessDenied}
 use Rattle.command_inputs.specs.declared.fault.Fault.{Fault}
@@ -77,10 +77,10 @@ module _ (sent : Sent) (bytes : List ℕ) (why : MessageFault) (none : BeginsNoH
       → PrintsUnlessDenied (WritesAudit sent bytes) ⊤ ended old new
   bare_printed ended rest =
       audit_printed sent bytes None [] (Some (0, why)) (NoHeader why none refl refl refl) ended old old new
-      (appends-nothing old) rest
+      (Appends-nil old) rest
 
   pub bare_cut : AppendsBeginning (behind_fates sent None [] (Some (0, why))) old new
       → IsCutOf (WritesAudit sent bytes) old new
   bare_cut begun =
       cut_in_rest sent bytes None [] (Some (0, why)) (NoHeader why none refl refl refl) old old new
-      (appends-nothing old) begun
+      (Appends-nil old) begun

@@ -23,8 +23,8 @@ module _ (content : Content) (asked : Audit) where
   pub sent_lacked : (why : Fault) (old : Option (List ℕ)) → (why ≡ fault.Memory) ⊎ IsRead content asked.sent (Err why)
       → PrintsUnlessDenied (Audits content asked) (CanAudit content asked) (Err why) old old
   sent_lacked why old lacked =
-      ends_silently (Audits content asked) (CanAudit content asked) (IsRead content asked.sent (Err why)) why old lacked
-      (λ none. (Err why, none, refl))
+      ends_silently (Audits content asked) (CanAudit content asked) (IsRead content asked.sent (Err why)) why (Err why)
+      old refl lacked (λ none. (Err why, none, refl))
 
   module _ (bytes : List ℕ) (read : IsRead content asked.sent (Ok bytes)) where
     -- SENT is refused.
@@ -32,8 +32,8 @@ module _ (content : Content) (asked : Audit) where
         → why ≡ sent_fault asked.sent found
         → PrintsUnlessDenied (Audits content asked) (CanAudit content asked) (Err why) old old
     sent_is_refused found why old is why_is =
-        ends_silently (Audits content asked) (CanAudit content asked) (IsSentFault bytes found) why old (inr is)
-        (λ is. (Ok bytes, read, (Err why, (found, is, why_is), refl)))
+        ends_silently (Audits content asked) (CanAudit content asked) (IsSentFault bytes found) why (Err why) old refl
+        (inr is) (λ is. (Ok bytes, read, (Err why, (found, is, why_is), refl)))
 
     module _ (sent : Sent) (is : IsSent bytes sent.header sent.messages) where
       -- RECEIVED is not read, or memory was refused.
@@ -41,8 +41,8 @@ module _ (content : Content) (asked : Audit) where
           → (why ≡ fault.Memory) ⊎ IsRead content asked.received (Err why)
           → PrintsUnlessDenied (Audits content asked) (CanAudit content asked) (Err why) old old
       received_lacked why old lacked =
-          ends_silently (Audits content asked) (CanAudit content asked) (IsRead content asked.received (Err why)) why old
-          lacked (λ none. (Ok bytes, read, (Ok sent, is, (Err why, none, refl))))
+          ends_silently (Audits content asked) (CanAudit content asked) (IsRead content asked.received (Err why)) why
+          (Err why) old refl lacked (λ none. (Ok bytes, read, (Ok sent, is, (Err why, none, refl))))
 
       module _ (received : List ℕ) (came : IsRead content asked.received (Ok received)) where
         leads : (printed : Printed) → WritesAudit sent received printed → Audits content asked printed

@@ -5,7 +5,7 @@ use Rattle.std.proofs.lemmas.List.{append_assoc}
 use Rattle.std.specs.Io.KnownBytes.{Appends}
 use Rattle.output.specs.Begun.{AppendsBeginning}
 use Rattle.output.proofs.Beginnings.{begun_between}
-use Rattle.command_inputs.proofs.Runs.{appends-nothing}
+use Rattle.std.proofs.KnownBytes.{Appends-nil}
 
 -- The front of a text was appended, and this is left of it.
 pub record HasWritten (whole rest : List ℕ) (old new : Option (List ℕ)) : Type 0 where
@@ -15,7 +15,7 @@ pub record HasWritten (whole rest : List ℕ) (old new : Option (List ℕ)) : Ty
 
 -- At first all is left.
 pub part_none : (whole : List ℕ) (old : Option (List ℕ)) → HasWritten whole whole old old
-part_none whole old = record { front = []; parted = refl; appended = appends-nothing old }
+part_none whole old = record { front = []; parted = refl; appended = Appends-nil old }
 
 -- One part more is written.
 pub part_more : (whole part rest : List ℕ) (old mid new : Option (List ℕ)) → HasWritten whole (part ++ rest) old mid
