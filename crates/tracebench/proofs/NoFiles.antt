@@ -2,7 +2,8 @@
 use Rattle.std.proofs.Common.{◌≡◌, ◌≢◌, ◌∙◌, ◌⊎◌, ℕ, List, [], Option, Result, Ok, Err, ap, arith, inl, inr, map, refl}
 use Rattle.std.proofs.Common.{subst, sym}
 use Rattle.subcommands.specs.declared.words.Asked.{Asked}
-use Rattle.subcommands.specs.declared.words.Asked.TheVariants.{Bench, Check, Decode, Dump, Encode, Replay}
+use Rattle.subcommands.specs.declared.words.Asked.TheVariants.{Audit, Bench, Check, Decode, Dump, Encode, Measure}
+use Rattle.subcommands.specs.declared.words.Asked.TheVariants.{Replay}
 use Rattle.log_commands.specs.Benching.{BenchesLogs}
 use Rattle.commands.specs.CarriedOut.{IsCarriedOut}
 use Rattle.log_commands.specs.Checking.{WritesLines}
@@ -15,7 +16,9 @@ use Rattle.command_inputs.specs.Found.{AreAskedLogs, AreFew, AreLegalLogs, IsAsk
 use Rattle.command_inputs.specs.Found.{program_at}
 use Rattle.command_inputs.specs.Known.{Content, content_in}
 use Rattle.command_inputs.specs.Printed.{First, GoesOn, Printed}
+use Rattle.log_commands.specs.Measuring.{WritesTable}
 use Rattle.log_commands.specs.Replaying.{ReplaysLogs}
+use Rattle.path_commands.specs.Audited.{IsFoundSent, WritesAudit}
 use Rattle.command_inputs.specs.Status.{code_of}
 use Rattle.command_inputs.specs.declared.fault.Fault.{Fault}
 use Rattle.command_inputs.specs.declared.fault.Fault.TheVariants as fault
@@ -90,7 +93,7 @@ not_ended : (asked : Asked) (status : Status) (old new : Option (List ℕ)) → 
     → ⊥
 not_ended (Check asked) status old new done =
     not_first (IsAskedProgram none _ asked.base.now asked.image asked.logs.items)
-    (λ program. WritesLines none program asked.logs.items) (record { text = done.text; ended = Ok status }) status refl
+    (λ program. WritesLines none asked.explain program asked.logs.items) (record { text = done.text; ended = Ok status }) status refl
     (λ program is lines. no_asked _ asked.base.now asked.image asked.logs.items program is) done.prints
 not_ended (Encode asked) status old new done =
     not_first (AreAskedLogs none _ asked.base.now asked.image asked.logs.items) (WritesMessages asked)
@@ -114,6 +117,14 @@ not_ended (Bench asked) status old new done =
     not_first (AreAskedLogs none _ asked.base.now asked.image asked.logs.items) (BenchesLogs asked)
     (record { text = done.text; ended = Ok status }) status refl
     (λ logs are report. no_logs _ asked.base.now asked.image asked.logs.items logs are) done.prints
+not_ended (Audit asked) status old new done =
+    not_first (IsRead none asked.sent) (λ bytes. First (IsFoundSent asked.sent bytes) (λ sent.
+    First (IsRead none asked.received) (WritesAudit sent))) (record { text = done.text; ended = Ok status }) status refl
+    (λ bytes read prints. no_bytes asked.sent bytes read) done.prints
+not_ended (Measure asked) status old new done =
+    not_first (AreAskedLogs none _ asked.base.now asked.image asked.logs.items) (WritesTable asked)
+    (record { text = done.text; ended = Ok status }) status refl
+    (λ logs are table. no_logs _ asked.base.now asked.image asked.logs.items logs are) done.prints
 
 -- No fault ends with status 0.
 faulty : (why : Fault) → code_of (status_of why) ≢ 0
@@ -125,6 +136,7 @@ faulty (fault.Unreadable path) = λ is. omega arith
 faulty (fault.Image why) = λ is. omega arith
 faulty (fault.Log path why) = λ is. omega arith
 faulty (fault.Illegal path why) = λ is. omega arith
+faulty (fault.Sent path why) = λ is. omega arith
 faulty (fault.Schedule why) = λ is. omega arith
 faulty (fault.Unsent why) = λ is. omega arith
 faulty fault.Header = λ is. omega arith
