@@ -1,5 +1,5 @@
 -- Why a row of a log is illegal, in a line of text.
-use Rattle.std.specs.Prelude.{ℕ, ◌+◌, ◌-◌, ◌%◌, ◌++◌, ◌&&◌, ◌==◌, nat_le, nat_lt, if◌then◌else◌, Bool, true, List, [], codes}
+use Rattle.std.specs.Prelude.{ℕ, ◌+◌, ◌-◌, ◌%◌, ◌++◌, ◌&&◌, ◌==◌, nat_lt, if◌then◌else◌, Bool, List, [], codes}
 use Rattle.std.specs.Prelude.{Option, Some, None, length, slice_get}
 use Rattle.isa.specs.Privilege.{is_privilege}
 use Rattle.retire.specs.LogText.{hex}

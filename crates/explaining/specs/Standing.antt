@@ -1,5 +1,5 @@
 -- What stands at a row of a log.
-use Rattle.std.specs.Prelude.{ℕ, ◌++◌, ◌==◌, nat_lt, if◌then◌else◌, Bool, true, false, List, [], Option, Some, None, codes}
+use Rattle.std.specs.Prelude.{ℕ, ◌++◌, if◌then◌else◌, Bool, true, false, List, [], Option, Some, None, codes}
 use Rattle.retire.specs.Events.{is_branch, is_taken}
 use Rattle.retire.specs.LogText.{hex}
 use Rattle.retire.specs.declared.event.Event.{Event}

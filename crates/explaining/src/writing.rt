@@ -83,8 +83,8 @@ fn at_row(log: &[Event], row: u32) -> Option<Event>
 /// elsewhere, and what may stand there. Two blanks stand before the text, and a line feed behind it.
 ///
 /// The fault is one that [`check`](legalpath::check) returns for this program and this log. For a row that the log does
-/// not have, nothing is written. The only fault is [`WriteFault::Write`], where the writer failed; what was written then
-/// is a beginning of the text. No memory is taken, and the writer is not flushed.
+/// not have, nothing is written. The only fault is [`WriteFault::Write`], where the writer failed; what was written
+/// then is a beginning of the text. No memory is taken, and the writer is not flushed.
 pub fn explain<W: Write>(
     program: &Program,
     log: &[Event],

@@ -1,5 +1,6 @@
 -- The bits of the words of an image.
-use Rattle.std.proofs.Common.{◌≡◌, ◌⊎◌, ℕ, ◌+◌, ◌-◌, ◌*◌, ◌^◌, ◌≤◌, ◌==◌, if◌then◌else◌, List, slice_index, Some, false, refl, ap, sym}
+use Rattle.std.proofs.Common.{◌≡◌, ◌⊎◌, ℕ, ◌+◌, ◌-◌, ◌*◌, ◌^◌, ◌≤◌, ◌==◌, if◌then◌else◌, List}
+use Rattle.std.proofs.Common.{slice_index, Some, false, refl, ap, sym}
 use Rattle.std.proofs.Common.{◌∙◌, subst, option_map, arith}
 use Rattle.std.proofs.lemmas.Bool.Decides.{nat_tests}
 use Rattle.rvclass.specs.Fetch.{half_at, word_at, words_of}
@@ -43,8 +44,10 @@ pub half_code : (base : ℕ) (bytes read again : List ℕ) (addr length code : �
     → Some (Instruction-of code length class) ≡ instruction_of (image_at base bytes) addr
 half_code base bytes read again addr length code class r a from two e half =
     let p = image_at base bytes in
-    let word : words_of p addr ≡ Some (class, length) = subst (λ l. words_of (image_at base l) addr ≡ Some (class, length)) r e in
-    let same : code ≡ half_at p addr = half ∙ ap (λ l. half_at (image_at 0 l) (addr - base)) a ∙ half_from_base p addr from in
+    let word : words_of p addr ≡ Some (class, length) =
+    subst (λ l. words_of (image_at base l) addr ≡ Some (class, length)) r e in
+    let same : code ≡ half_at p addr =
+    half ∙ ap (λ l. half_at (image_at 0 l) (addr - base)) a ∙ half_from_base p addr from in
     let choice : (if length == 2 then half_at p addr else word_at p addr) ≡ half_at p addr = rw two refl in
     ap (λ n. Some (Instruction-of n length class)) (same ∙ sym choice) ∙ sym (ap (option_map (with_code p addr)) word)
 
@@ -56,8 +59,10 @@ pub word_code : (base : ℕ) (bytes read again : List ℕ) (addr length code : �
     → Some (Instruction-of code length class) ≡ instruction_of (image_at base bytes) addr
 word_code base bytes read again addr length code class r a from other e word32 =
     let p = image_at base bytes in
-    let word : words_of p addr ≡ Some (class, length) = subst (λ l. words_of (image_at base l) addr ≡ Some (class, length)) r e in
-    let same : code ≡ word_at p addr = word32 ∙ ap (λ l. word_at (image_at 0 l) (addr - base)) a ∙ word_from_base p addr from in
+    let word : words_of p addr ≡ Some (class, length) =
+    subst (λ l. words_of (image_at base l) addr ≡ Some (class, length)) r e in
+    let same : code ≡ word_at p addr =
+    word32 ∙ ap (λ l. word_at (image_at 0 l) (addr - base)) a ∙ word_from_base p addr from in
     let test : (length == 2) ≡ false = grind (arith, nat_tests) in
     let choice : (if length == 2 then half_at p addr else word_at p addr) ≡ word_at p addr = rw test refl in
     ap (λ n. Some (Instruction-of n length class)) (same ∙ sym choice) ∙ sym (ap (option_map (with_code p addr)) word)
