@@ -116,10 +116,8 @@ fn write_hart<W: Write, A: Allocator, B: Allocator>(
         decoded: outcome.decoded.len(),
         verdict,
     };
-    match write_text(sink, format_args!("{line}\n")) {
-        Ok(()) => Ok(verdict.is_whole()),
-        Err(_) => Err(WriteFault::Write),
-    }
+    write_text(sink, format_args!("{line}\n"))?;
+    Ok(verdict.is_whole())
 }
 
 /// Writes the line of a stop, where there is one.
@@ -131,10 +129,8 @@ fn write_stop<W: Write>(stop: Option<Stop>, sink: &mut W) -> Result<(), WriteFau
     let Some(why) = stop else {
         return Ok(());
     };
-    match write_text(sink, format_args!("stop: {why}\n")) {
-        Ok(()) => Ok(()),
-        Err(_) => Err(WriteFault::Write),
-    }
+    write_text(sink, format_args!("stop: {why}\n"))?;
+    Ok(())
 }
 
 /// Writes the line of the result.
@@ -148,8 +144,6 @@ fn write_result<W: Write>(whole: bool, sink: &mut W) -> Result<(), WriteFault>
     } else {
         "result: not whole\n"
     };
-    match write_bytes(sink, result.as_bytes()) {
-        Ok(()) => Ok(()),
-        Err(_) => Err(WriteFault::Write),
-    }
+    write_bytes(sink, result.as_bytes())?;
+    Ok(())
 }

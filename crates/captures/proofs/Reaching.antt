@@ -17,8 +17,8 @@ use Rattle.receiver.specs.Received.{Received}
 use Rattle.receiver.specs.NotReceived.{IsNotReceived}
 use Rattle.receiver.specs.declared.fault.ReceiveFault.{ReceiveFault}
 use Rattle.receiver.specs.declared.fault.ReceiveFault.TheVariants as receiving
-use Rattle.captures.specs.Decoded.{AreMessagesDecoded, BeginsRefused, Stops, StopsDecoding}
-use Rattle.captures.specs.steps.Collecting.{HasReceivedUpTo, as_capture_fault}
+use Rattle.captures.specs.Decoded.{AreMessagesDecoded, BeginsRefused, Stops, StopsDecoding, as_capture_fault}
+use Rattle.captures.specs.steps.Collecting.{HasReceivedUpTo}
 use Rattle.captures.specs.declared.outcome.CaptureFault.{CaptureFault}
 use Rattle.captures.specs.declared.outcome.CaptureFault.TheVariants as capture_fault
 

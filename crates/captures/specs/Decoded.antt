@@ -19,6 +19,12 @@ use Rattle.captures.specs.NoMessage.{BeginsNone, BeginsNoHeader}
 use Rattle.captures.specs.declared.outcome.CaptureFault.{CaptureFault}
 use Rattle.captures.specs.declared.outcome.CaptureFault.TheVariants as fault
 
+-- The fault of a capture whose next message a receiver refuses, for this reason.
+abbrev pub as_capture_fault : ReceiveFault → CaptureFault
+as_capture_fault (receiving.Demux why) = fault.Demux why
+as_capture_fault receiving.Mode = fault.Mode
+as_capture_fault (receiving.Decode why) = fault.Decode why
+
 -- The bytes begin with a message that is refused after these messages, for this reason. There are so many harts, and
 -- the header announces this mode, if there is a header.
 pub record BeginsRefused (words : Words) (harts : ℕ) (announced : Option Mode) (messages : List Message)

@@ -9,12 +9,12 @@ ghost use Rattle.receiver.specs.Holds.{HasReceived};
 ghost use Rattle.receiver.specs.Received.{events_in};
 ghost use Rattle.captures.specs.Decoded.{AreMessagesDecoded, IsDecoded};
 ghost use Rattle.captures.specs.Returned.{AreAskedFor, AreReturned, IsCaptureOf};
-ghost use Rattle.captures.specs.steps.Collecting.{HasReceivedUpTo, as_capture_fault};
+ghost use Rattle.captures.specs.steps.Collecting.{HasReceivedUpTo};
 
 use crate::outcome::{CaptureFault, CaptureOutcome};
 use message::Messages;
 use payload::Mode;
-use receiver::{ReceiveFault, Receiver};
+use receiver::Receiver;
 use rvclass::Program;
 use std::alloc::{AllocError, Allocator};
 
@@ -112,18 +112,7 @@ fn collect<A: Allocator + Copy>(
         };
         match receiver.receive(program, announced, &message) {
             Ok(()) => number += 1,
-            Err(fault) => return Some((number, as_capture_fault(fault))),
+            Err(fault) => return Some((number, CaptureFault::from(fault))),
         }
-    }
-}
-
-/// The fault of a capture of which the next message is refused.
-fn as_capture_fault(fault: ReceiveFault) -> CaptureFault
-    ensures { result ≡ as_capture_fault fault }
-{
-    match fault {
-        ReceiveFault::Demux(why) => CaptureFault::Demux(why),
-        ReceiveFault::Mode => CaptureFault::Mode,
-        ReceiveFault::Decode(why) => CaptureFault::Decode(why),
     }
 }

@@ -53,8 +53,12 @@ pub fn dump_capture<W: Write>(capture: &[u8], sink: &mut W) -> Result<Dumped, Wr
     }
 }
 
-/// Writes the line of a header.
-fn write_header_line<W: Write>(sink: &mut W, header: &Header) -> Result<(), WriteFault>
+/// Writes the line of a header, as [`dump_capture`] writes it before all others: `capture 2 mode=diff period=N harts=N`,
+/// or `mode=full`, the numbers decimal.
+///
+/// The only fault is [`WriteFault::Write`], where the writer failed; what was written then is a beginning of the line. No
+/// memory is taken, and the writer is not flushed.
+pub fn write_header_line<W: Write>(sink: &mut W, header: &Header) -> Result<(), WriteFault>
     ensures text { OnOk result (Appends (W.contents sink.old) (W.contents sink.new) (header_line header.now)) }
     ensures begun { AppendsBeginning (header_line header.now) (W.contents sink.old) (W.contents sink.new) }
     ensures fault { IfErr result (λ fault. fault ≡ WriteFault.Write) }
@@ -62,13 +66,11 @@ fn write_header_line<W: Write>(sink: &mut W, header: &Header) -> Result<(), Writ
     let mode = mode_text(header.mode);
     let period = header.period;
     let harts = header.harts;
-    match write_text(
+    write_text(
         sink,
         format_args!("capture 2 mode={mode} period={period} harts={harts}\n"),
-    ) {
-        Ok(()) => Ok(()),
-        Err(_) => Err(WriteFault::Write),
-    }
+    )?;
+    Ok(())
 }
 
 /// The name of a mode.
@@ -132,8 +134,6 @@ fn write_message_line<W: Write>(
         mode,
         read: &unpacked,
     };
-    match write_text(sink, format_args!("{hart} {number} {text}\n")) {
-        Ok(()) => Ok(unpacked.is_err()),
-        Err(_) => Err(WriteFault::Write),
-    }
+    write_text(sink, format_args!("{hart} {number} {text}\n"))?;
+    Ok(unpacked.is_err())
 }

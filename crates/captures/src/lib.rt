@@ -16,7 +16,8 @@ mod packet_text;
 
 pub use capture_decoding::decode_capture;
 pub use capture_reading::{ReadFault, WholeCapture, read_messages};
-pub use dumping::{Dumped, dump_capture};
+pub use dumping::{Dumped, dump_capture, write_header_line};
 pub use encoding::{encode_capture, encode_hex};
 pub use lines::hex_lines;
 pub use outcome::{CaptureFault, CaptureOutcome};
+pub use packet_text::ReadingText;

@@ -53,16 +53,8 @@ pub(crate) fn write_line<W: Write>(
         Ok(()) => {}
         Err(_) => unreachable!(),
     }
-    match write_text(sink, format_args!("{hart} {number} ")) {
-        Ok(()) => {}
-        Err(_) => return Err(WriteFault::Write),
-    }
-    match write_bytes(sink, digits) {
-        Ok(()) => {}
-        Err(_) => return Err(WriteFault::Write),
-    }
-    match write_bytes(sink, b"\n") {
-        Ok(()) => Ok(()),
-        Err(_) => Err(WriteFault::Write),
-    }
+    write_text(sink, format_args!("{hart} {number} "))?;
+    write_bytes(sink, digits)?;
+    write_bytes(sink, b"\n")?;
+    Ok(())
 }

@@ -1,10 +1,12 @@
 //! What a capture decodes to.
 
-ghost use Rattle.std.specs.Prelude.{Some};
+ghost use Rattle.std.specs.Prelude.{◌≡◌, Some};
+ghost use Rattle.captures.specs.Decoded.{as_capture_fault};
 ghost use Rattle.captures.specs.FaultText.{capture_fault_text};
 
 use decoder::DecodeFault;
 use message::{DemuxFault, MessageFault};
+use receiver::ReceiveFault;
 use retire::Event;
 use std::alloc::{Allocator, Global};
 use std::error::Error;
@@ -37,6 +39,18 @@ impl fmt::Display for CaptureFault {
 }
 
 impl Error for CaptureFault {}
+
+impl From<ReceiveFault> for CaptureFault {
+    ghost from_gives = { λ why fault. fault ≡ as_capture_fault why };
+
+    fn from(why: ReceiveFault) -> CaptureFault {
+        match why {
+            ReceiveFault::Demux(why) => CaptureFault::Demux(why),
+            ReceiveFault::Mode => CaptureFault::Mode,
+            ReceiveFault::Decode(why) => CaptureFault::Decode(why),
+        }
+    }
+}
 
 /// What the messages of a capture decode to.
 #[derive(Debug, Drop)]

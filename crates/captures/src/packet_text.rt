@@ -7,12 +7,15 @@ ghost use Rattle.captures.specs.PacketText.{trap_address_text, reading_text, add
 use payload::{Mode, Outcomes, PackFault, Packet, Report, Support};
 use std::fmt;
 
-/// The text of what a payload is: that of its packet, or `bad` and why it is none.
+/// The text of what a payload is: that of its packet, or `bad` and why it is none, as
+/// [`dump_capture`](crate::dump_capture) writes it behind the hart's number and the message's.
 #[derive(Clone, Copy)]
-pub(crate) struct ReadingText<'a> {
-    /// The mode that names the address field.
-    pub(crate) mode: Mode,
-    pub(crate) read: &'a Result<Packet, PackFault>,
+pub struct ReadingText<'a> {
+    /// The mode that names the address field: that of the capture's header, or [`Mode::Differential`] where there is
+    /// none.
+    pub mode: Mode,
+    /// What [`unpack`](payload::unpack) says of the payload.
+    pub read: &'a Result<Packet, PackFault>,
 }
 
 impl fmt::Display for ReadingText<'_> {

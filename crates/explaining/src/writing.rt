@@ -106,8 +106,6 @@ pub fn explain<W: Write>(
         event,
         why: fault.why,
     };
-    match write_text(sink, format_args!("  {line}\n")) {
-        Ok(()) => Ok(()),
-        Err(_) => Err(WriteFault::Write),
-    }
+    write_text(sink, format_args!("  {line}\n"))?;
+    Ok(())
 }

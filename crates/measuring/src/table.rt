@@ -56,10 +56,8 @@ fn write_column_names<W: Write>(sink: &mut W) -> Result<(), WriteFault>
     ensures begun { AppendsBeginning column_names (W.contents sink.old) (W.contents sink.new) }
     ensures fault { IfErr result (λ fault. fault ≡ WriteFault.Write) }
 {
-    match write_bytes(sink, COLUMN_NAMES.as_bytes()) {
-        Ok(()) => Ok(()),
-        Err(_) => Err(WriteFault::Write),
-    }
+    write_bytes(sink, COLUMN_NAMES.as_bytes())?;
+    Ok(())
 }
 
 /// Writes the row of each hart, and returns the measures of all together.
@@ -99,8 +97,6 @@ fn write_row<W: Write>(name: Name, measures: &Measures, sink: &mut W) -> Result<
         name,
         measures: *measures,
     };
-    match write_text(sink, row) {
-        Ok(()) => Ok(()),
-        Err(_) => Err(WriteFault::Write),
-    }
+    write_text(sink, row)?;
+    Ok(())
 }

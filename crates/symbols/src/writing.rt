@@ -34,18 +34,10 @@ fn write_named<W: Write>(named: &Named<'_>, sink: &mut W) -> Result<(), WriteFau
         (W.contents sink.old) (W.contents sink.new) }
     ensures fault { IfErr result (λ fault. fault ≡ WriteFault.Write) }
 {
-    match write_bytes(sink, b" <") {
-        Ok(()) => {}
-        Err(_) => return Err(WriteFault::Write),
-    }
-    match write_bytes(sink, named.name) {
-        Ok(()) => {}
-        Err(_) => return Err(WriteFault::Write),
-    }
-    match write_text(sink, Distance(named.distance)) {
-        Ok(()) => Ok(()),
-        Err(_) => Err(WriteFault::Write),
-    }
+    write_bytes(sink, b" <")?;
+    write_bytes(sink, named.name)?;
+    write_text(sink, Distance(named.distance))?;
+    Ok(())
 }
 
 /// Writes what stands behind a place: a blank, and in angle brackets the name of its symbol, a plus, and how far the

@@ -9,11 +9,8 @@ use Rattle.message.specs.declared.message.Message.{Message}
 use Rattle.receiver.specs.Agreeing.{Agrees}
 use Rattle.receiver.specs.Holds.{Holds}
 use Rattle.receiver.specs.Received.{Received}
-use Rattle.receiver.specs.declared.fault.ReceiveFault.{ReceiveFault}
-use Rattle.receiver.specs.declared.fault.ReceiveFault.TheVariants as receiving
 use Rattle.captures.specs.Decoded.{Stops}
 use Rattle.captures.specs.declared.outcome.CaptureFault.{CaptureFault}
-use Rattle.captures.specs.declared.outcome.CaptureFault.TheVariants as fault
 
 -- A receiver accepted the messages with which the bytes begin, and holds what they decode to. None of them opens a
 -- trace in another mode than the announced one, if one is announced. Receiving stops before the rest.
@@ -27,9 +24,3 @@ pub record HasReceivedUpTo (words : Words) (harts : ℕ) (announced : Option Mod
   pub agree : All (Agrees announced) messages
   pub holds : Holds (λ hart. words) harts messages received
   pub stops : Stops words harts announced messages rest stop
-
--- The fault of a capture of which the next message is refused.
-abbrev pub as_capture_fault : ReceiveFault → CaptureFault
-as_capture_fault (receiving.Demux why) = fault.Demux why
-as_capture_fault receiving.Mode = fault.Mode
-as_capture_fault (receiving.Decode why) = fault.Decode why

@@ -29,7 +29,7 @@ returns-in-Err-receive g c = λ harts has.
     said.ranges said.message said.shorter in
     collected_at words harts c.args.announced c.args.messages c.loop-message.messages c.next.new.self
     c.loop-message.number c.loop-message.receiver c.receive.new.self c.in-Ok-Some.message c.in-Err-receive.fault
-    c.as_capture_fault.result (c.loop-message.invariant.0 harts has) front.is_message front.here
+    c.from.result (c.loop-message.invariant.0 harts has) front.is_message front.here
     (λ messages. c.in-Err-receive.ensures.held (λ hart. words) harts messages)
     (λ messages. c.in-Err-receive.ensures.not_received (λ hart. words) harts messages refl)
-    c.as_capture_fault.ensures
+    c.from.ensures
