@@ -11,23 +11,23 @@ module _ (g : _) (c : After-unpack-unpacked g) where
   same : c.unpack-unpacked.result ≡ reading c.args.message.now.payload
   same = c.unpack-unpacked.ensures.value ∙ ap reading c.bytes.ensures.same
 
-pub returns-in-Ok-clause-text : goal.returns-in-Ok-clause-text
-returns-in-Ok-clause-text g c =
-    let is_read = same g (goal.at.returns-in-Ok-clause-text g c).After-unpack-unpacked in
+pub returns-clause-text : goal.returns-clause-text
+returns-clause-text g c =
+    let is_read = same g (goal.at.returns-clause-text g c).After-unpack-unpacked in
     subst
     (λ read. Appends (g.W.Write.contents c.args.sink.now) (g.W.Write.contents c.write_text.new.out)
-    (line_with c.args.mode c.args.message.now read)) is_read c.in-Ok.ensures.whole
+    (line_with c.args.mode c.args.message.now read)) is_read c.in_ok-write_text.ensures.whole
 
-pub returns-in-Ok-clause-begun : goal.returns-in-Ok-clause-begun
-returns-in-Ok-clause-begun g c =
-    let is_read = same g (goal.at.returns-in-Ok-clause-begun g c).After-unpack-unpacked in
+pub returns-clause-begun : goal.returns-clause-begun
+returns-clause-begun g c =
+    let is_read = same g (goal.at.returns-clause-begun g c).After-unpack-unpacked in
     subst
     (λ read. AppendsBeginning (line_with c.args.mode c.args.message.now read) (g.W.Write.contents c.args.sink.now)
     (g.W.Write.contents c.write_text.new.out)) is_read c.write_text.ensures.begun
 
-pub returns-in-Err-clause-begun : goal.returns-in-Err-clause-begun
-returns-in-Err-clause-begun g c =
-    let is_read = same g (goal.at.returns-in-Err-clause-begun g c).After-unpack-unpacked in
+pub returns-in_err-write_text-clause-begun : goal.returns-in_err-write_text-clause-begun
+returns-in_err-write_text-clause-begun g c =
+    let is_read = same g (goal.at.returns-in_err-write_text-clause-begun g c).After-unpack-unpacked in
     subst
     (λ read. AppendsBeginning (line_with c.args.mode c.args.message.now read) (g.W.Write.contents c.args.sink.now)
     (g.W.Write.contents c.write_text.new.out)) is_read c.write_text.ensures.begun

@@ -24,28 +24,28 @@ parted m =
     ap (λ l. decimal m.hart ++ (codes " " ++ l)) (sym (append_assoc (decimal m.number) (codes " ") digits))
     ∙ sym (append_assoc (decimal m.hart) (codes " " ++ (decimal m.number ++ codes " ")) digits)
 
-pub returns-in-Err-write_text-clause-begun : goal.returns-in-Err-write_text-clause-begun
-returns-in-Err-write_text-clause-begun g c =
+pub returns-in_err-write_text-clause-begun : goal.returns-in_err-write_text-clause-begun
+returns-in_err-write_text-clause-begun g c =
     let m = message c.args.hart c.args.number c.args.payload.now in
     let old = g.W.Write.contents c.args.sink.now in
     let new = g.W.Write.contents c.write_text.new.out in
     subst (λ l. AppendsBeginning l old new) (sym (parted m))
     (begun_in_front (numbers m) (encode_lower m.payload ++ codes "\n") old new c.write_text.ensures.begun)
 
-pub returns-in-Err-write_bytes-clause-begun : goal.returns-in-Err-write_bytes-clause-begun
-returns-in-Err-write_bytes-clause-begun g c =
+pub returns-in_err-write_bytes-clause-begun : goal.returns-in_err-write_bytes-clause-begun
+returns-in_err-write_bytes-clause-begun g c =
     let m = message c.args.hart c.args.number c.args.payload.now in
     let old = g.W.Write.contents c.args.sink.now in
     let mid = g.W.Write.contents c.write_text.new.out in
     let new = g.W.Write.contents c.write_bytes.new.out in
     let digits = c.in-Ok.ensures.written ∙ ap encode_lower c.bytes-bytes.ensures.same in
     subst (λ l. AppendsBeginning l old new) (sym (parted m))
-    (begun_behind (numbers m) (encode_lower m.payload ++ codes "\n") old mid new c.in-Ok-write_text.ensures.whole
+    (begun_behind (numbers m) (encode_lower m.payload ++ codes "\n") old mid new c.in_ok-write_text.ensures.whole
     (begun_in_front (encode_lower m.payload) (codes "\n") mid new
     (subst (λ l. AppendsBeginning l mid new) digits c.write_bytes.ensures.begun)))
 
-pub returns-in-Ok-write_bytes-2-clause-text : goal.returns-in-Ok-write_bytes-2-clause-text
-returns-in-Ok-write_bytes-2-clause-text g c =
+pub returns-clause-text : goal.returns-clause-text
+returns-clause-text g c =
     let m = message c.args.hart c.args.number c.args.payload.now in
     let old = g.W.Write.contents c.args.sink.now in
     let mid = g.W.Write.contents c.write_text.new.out in
@@ -53,17 +53,17 @@ returns-in-Ok-write_bytes-2-clause-text g c =
     let new = g.W.Write.contents c.write_bytes-2.new.out in
     let digits = c.in-Ok.ensures.written ∙ ap encode_lower c.bytes-bytes.ensures.same in
     subst (Appends old new) (sym (parted m))
-    (Appends-trans old mid new (numbers m) (encode_lower m.payload ++ codes "\n") c.in-Ok-write_text.ensures.whole
+    (Appends-trans old mid new (numbers m) (encode_lower m.payload ++ codes "\n") c.in_ok-write_text.ensures.whole
     (Appends-trans mid late new (encode_lower m.payload) (codes "\n")
-    (subst (Appends mid late) digits c.in-Ok-write_bytes.ensures.whole) c.in-Ok-write_bytes-2.ensures.whole))
+    (subst (Appends mid late) digits c.in_ok-write_bytes.ensures.whole) c.in_ok-write_bytes-2.ensures.whole))
 
-pub returns-in-Ok-write_bytes-2-clause-begun : goal.returns-in-Ok-write_bytes-2-clause-begun
-returns-in-Ok-write_bytes-2-clause-begun g c =
+pub returns-clause-begun : goal.returns-clause-begun
+returns-clause-begun g c =
     whole_begun (hex_line (message c.args.hart c.args.number c.args.payload.now)) (g.W.Write.contents c.args.sink.now)
-    (g.W.Write.contents c.write_bytes-2.new.out) (returns-in-Ok-write_bytes-2-clause-text g c)
+    (g.W.Write.contents c.write_bytes-2.new.out) (returns-clause-text g c)
 
-pub returns-in-Err-write_bytes-2-clause-begun : goal.returns-in-Err-write_bytes-2-clause-begun
-returns-in-Err-write_bytes-2-clause-begun g c =
+pub returns-in_err-write_bytes-2-clause-begun : goal.returns-in_err-write_bytes-2-clause-begun
+returns-in_err-write_bytes-2-clause-begun g c =
     let m = message c.args.hart c.args.number c.args.payload.now in
     let old = g.W.Write.contents c.args.sink.now in
     let mid = g.W.Write.contents c.write_text.new.out in
@@ -71,6 +71,6 @@ returns-in-Err-write_bytes-2-clause-begun g c =
     let new = g.W.Write.contents c.write_bytes-2.new.out in
     let digits = c.in-Ok.ensures.written ∙ ap encode_lower c.bytes-bytes.ensures.same in
     subst (λ l. AppendsBeginning l old new) (sym (parted m))
-    (begun_behind (numbers m) (encode_lower m.payload ++ codes "\n") old mid new c.in-Ok-write_text.ensures.whole
+    (begun_behind (numbers m) (encode_lower m.payload ++ codes "\n") old mid new c.in_ok-write_text.ensures.whole
     (begun_behind (encode_lower m.payload) (codes "\n") mid late new
-    (subst (Appends mid late) digits c.in-Ok-write_bytes.ensures.whole) c.write_bytes-2.ensures.begun))
+    (subst (Appends mid late) digits c.in_ok-write_bytes.ensures.whole) c.write_bytes-2.ensures.begun))
