@@ -120,6 +120,14 @@ sent_rule = record (new_rule (codes "SENT")) { action = Some Set; required = tru
 abbrev pub received_rule : Rule
 received_rule = record (new_rule (codes "RECEIVED")) { action = Some Set; required = true }
 
+-- `--symbols FILE`.
+abbrev pub symbols_rule : Rule
+symbols_rule = record (new_rule (codes "symbols")) {
+  long = Some (codes "symbols");
+  action = Some Set;
+  value_names = 1;
+}
+
 -- The argument is read by this rule, and by its own subcommand alone.
 abbrev pub IsReadBy : Rule → Arg → Type 0
 IsReadBy rule a = (rule_of a ≡ rule) × (a.global ≡ false)

@@ -6,5 +6,5 @@ mod rules;
 
 pub use rules::{
     base, capacity, capture, explain, full, harts, hex, image, logs, lossy, period, received,
-    schedule, sent, version_one,
+    schedule, sent, symbols, version_one,
 };

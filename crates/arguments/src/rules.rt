@@ -2,7 +2,8 @@
 
 ghost use Rattle.arguments.specs.Rules.{IsReadBy, base_rule, capacity_rule, capture_rule, explain_rule, full_rule};
 ghost use Rattle.arguments.specs.Rules.{harts_rule, hex_rule, image_rule, logs_rule, lossy_rule, period_rule};
-ghost use Rattle.arguments.specs.Rules.{received_rule, schedule_rule, sent_rule, version_one_rule};
+ghost use Rattle.arguments.specs.Rules.{received_rule, schedule_rule, sent_rule, symbols_rule};
+ghost use Rattle.arguments.specs.Rules.{version_one_rule};
 ghost use Rattle.arguments.specs.steps.Forms.{file_rule, flag_rule, number_rule};
 
 use clap::{Arg, ArgAction, value_parser};
@@ -178,6 +179,17 @@ pub fn sent<'a>(alloc: Global) -> Arg<'a>
     ensures { IsReadBy sent_rule result }
 {
     file(alloc, "SENT", "File of all trace messages that were sent")
+}
+
+/// `--symbols FILE`, the file of the program's symbols.
+pub fn symbols<'a>(alloc: Global) -> Arg<'a>
+    ensures { IsReadBy symbols_rule result }
+{
+    Arg::new(alloc, "symbols")
+        .long("symbols")
+        .value_name("FILE")
+        .action(ArgAction::Set)
+        .help("File of the program's symbols, as `nm` prints them")
 }
 
 /// `--v1`, which asks for a capture of version 1.

@@ -1,7 +1,7 @@
 -- What words ask for, by what clap finds in them.
 use Rattle.std.specs.Prelude.{◌≡◌, ◌≢◌, ◌≤◌, ℕ, codes, Bool, true, false, List, [], Option, map}
 use Rattle.std.specs.Str.Parse.{IsNumeral, digits_value, without_leading_plus}
-use Rattle.std.specs.Prelude.{Some, None, unwrap_or}
+use Rattle.std.specs.Prelude.{Some, None, option_map, unwrap_or}
 use Rattle.clap.specs.Words.{Row, Text, all_of, fault_of, first_of, one_of, subcommand_of}
 use Rattle.cli.specs.Grammar.{program_app}
 use Rattle.message.specs.Capacity.{most_capacity}
@@ -13,7 +13,7 @@ use Rattle.payload.specs.declared.mode.Mode.TheVariants.{Differential, Full}
 use Rattle.subcommands.specs.Kind.{IsCheck}
 use Rattle.subcommands.specs.Limits.{longest_period}
 use Rattle.subcommands.specs.declared.words.Asked.{Asked}
-use Rattle.subcommands.specs.declared.words.Asked.TheVariants.{Audit, Bench, Check, Decode, Dump, Encode, Measure}
+use Rattle.subcommands.specs.declared.words.Asked.TheVariants.{Audit, Bench, Check, Decode, Dump, Encode, Listing, Measure}
 use Rattle.subcommands.specs.declared.words.Asked.TheVariants.{Replay}
 
 -- The first value of an argument, or no text where it has none.
@@ -106,6 +106,10 @@ Asks name rows (Measure asked) = (name ≡ codes "measure")
     × (asked.base.now ≡ text_of (codes "base") rows) × IsPeriod (one_of (codes "period") rows) asked.period
     × IsMode (one_of (codes "full") rows) asked.mode × (asked.image.now ≡ text_of (codes "IMAGE") rows)
     × (map (λ log. log.now) asked.logs.items ≡ texts_of (codes "LOG") rows)
+Asks name rows (Listing asked) = (name ≡ codes "list")
+    × (asked.base.now ≡ text_of (codes "base") rows) × IsHarts (one_of (codes "harts") rows) asked.harts
+    × (option_map (λ path. path.now) asked.symbols ≡ first_of (codes "symbols") rows)
+    × (asked.image.now ≡ text_of (codes "IMAGE") rows) × (asked.capture.now ≡ text_of (codes "CAPTURE") rows)
 
 -- A subcommand with its rows was found, and it is what is asked.
 abbrev pub AsksFound : Option (Text × List Row) → Asked → Type 0

@@ -8,7 +8,7 @@ use Rattle.clap.specs.declared.builder.command.Command.{Command}
 use Rattle.clap.specs.declared.builder.command.Command.TheViews.{out-Command as fields_of}
 use Rattle.arguments.specs.Rules.{base_rule, capacity_rule, capture_rule, explain_rule, full_rule, harts_rule, hex_rule}
 use Rattle.arguments.specs.Rules.{image_rule, logs_rule, lossy_rule, period_rule, received_rule, schedule_rule}
-use Rattle.arguments.specs.Rules.{sent_rule, version_one_rule}
+use Rattle.arguments.specs.Rules.{sent_rule, symbols_rule, version_one_rule}
 
 -- A subcommand of this name with arguments that are read by these rules.
 abbrev pub with_arguments : Text → List Rule → App
@@ -49,9 +49,14 @@ audit_app = with_arguments (codes "audit") (sent_rule ∷ received_rule ∷ [])
 abbrev pub measure_app : App
 measure_app = with_arguments (codes "measure") (base_rule ∷ period_rule ∷ full_rule ∷ image_rule ∷ logs_rule ∷ [])
 
+-- `list --base B [--harts N] [--symbols FILE] IMAGE CAPTURE`.
+abbrev pub list_app : App
+list_app = with_arguments (codes "list") (base_rule ∷ harts_rule ∷ symbols_rule ∷ image_rule ∷ capture_rule ∷ [])
+
 -- The program's subcommands, in the order in which help lists them.
 abbrev pub all_apps : List App
-all_apps = check_app ∷ encode_app ∷ dump_app ∷ decode_app ∷ replay_app ∷ bench_app ∷ audit_app ∷ measure_app ∷ []
+all_apps = check_app ∷ encode_app ∷ dump_app ∷ decode_app ∷ replay_app ∷ bench_app ∷ audit_app ∷ measure_app ∷
+    list_app ∷ []
 
 -- The program without its subcommands, one of which has to be there. It has a version.
 abbrev pub bare_program : App

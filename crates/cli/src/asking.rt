@@ -14,7 +14,7 @@ use message::{MOST_CAPACITY, MOST_HARTS, Version};
 use payload::Mode;
 use std::alloc::{AllocError, Global};
 use subcommands::{
-    Asked, Audit, Bench, Check, Decode, Dump, Encode, Measure, Replay, SHORTEST_PERIOD,
+    Asked, Audit, Bench, Check, Decode, Dump, Encode, Listing, Measure, Replay, SHORTEST_PERIOD,
     SMALLEST_CAPACITY,
 };
 
@@ -212,6 +212,19 @@ fn measure_asked<'a>(alloc: Global, given: &ArgMatches<'a>) -> Result<Asked<'a>,
     }))
 }
 
+/// What was asked of `list`.
+fn list_asked<'a>(given: &ArgMatches<'a>) -> Asked<'a>
+    ensures { Asks (codes "list") (rows_of (found_of given.now)) result }
+{
+    Asked::Listing(Listing {
+        base: text(given, "base"),
+        harts: harts(given),
+        symbols: given.get_str("symbols"),
+        image: text(given, "IMAGE"),
+        capture: text(given, "CAPTURE"),
+    })
+}
+
 /// What was asked of the subcommand with this name.
 fn asked_of<'a>(alloc: Global, name: &str, given: &ArgMatches<'a>) -> Result<Asked<'a>, AllocError>
     requires { IsSubcommand name.now }
@@ -226,6 +239,7 @@ fn asked_of<'a>(alloc: Global, name: &str, given: &ArgMatches<'a>) -> Result<Ask
         "bench" => bench_asked(alloc, given),
         "audit" => Ok(audit_asked(given)),
         "measure" => measure_asked(alloc, given),
+        "list" => Ok(list_asked(given)),
         _ => unreachable!("clap knows no other subcommand"),
     }
 }

@@ -5,15 +5,15 @@ ghost use Rattle.std.specs.List.{AllZip};
 ghost use Rattle.arguments.specs.Rules.{IsReadBy};
 ghost use Rattle.clap.specs.Words.{Rule};
 ghost use Rattle.cli.specs.Grammar.{HasGrammar, all_apps, audit_app, bench_app, check_app, decode_app, dump_app};
-ghost use Rattle.cli.specs.Grammar.{encode_app, measure_app, program_app, replay_app, with_arguments};
+ghost use Rattle.cli.specs.Grammar.{encode_app, list_app, measure_app, program_app, replay_app, with_arguments};
 
 use crate::help::{
     AUDIT_EXAMPLE, BENCH_EXAMPLE, CHECK_EXAMPLE, DECODE_EXAMPLE, DUMP_EXAMPLE, ENCODE_EXAMPLE,
-    EXIT_STATUSES, MEASURE_EXAMPLE, REPLAY_EXAMPLE, VERSION,
+    EXIT_STATUSES, LIST_EXAMPLE, MEASURE_EXAMPLE, REPLAY_EXAMPLE, VERSION,
 };
 use arguments::{
     base, capacity, capture, explain, full, harts, hex, image, logs, lossy, period, received,
-    schedule, sent, version_one,
+    schedule, sent, symbols, version_one,
 };
 use clap::{Arg, Command};
 use std::alloc::{AllocError, Global};
@@ -182,6 +182,26 @@ fn measure<'a>(alloc: Global) -> Result<Command<'a>, AllocError>
     )
 }
 
+/// The words that `list` takes.
+fn list<'a>(alloc: Global) -> Result<Command<'a>, AllocError>
+    ensures { IfOk result (HasGrammar list_app) }
+{
+    let args = vec![in alloc;
+        base(alloc),
+        harts(alloc),
+        symbols(alloc),
+        image(alloc),
+        capture(alloc),
+    ]?;
+    subcommand(
+        alloc,
+        "list",
+        "List what each message of a capture says and settles",
+        LIST_EXAMPLE,
+        args,
+    )
+}
+
 /// The program's subcommands, in the order in which help lists them.
 fn all_subcommands<'a>(alloc: Global) -> Result<Vec<Command<'a>>, AllocError>
     ensures { IfOk result (λ commands. AllZip HasGrammar all_apps commands.items) }
@@ -195,6 +215,7 @@ fn all_subcommands<'a>(alloc: Global) -> Result<Vec<Command<'a>>, AllocError>
         bench(alloc)?,
         audit(alloc)?,
         measure(alloc)?,
+        list(alloc)?,
     ]?;
     Ok(subcommands)
 }

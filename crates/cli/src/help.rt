@@ -54,3 +54,8 @@ Example:
 pub(crate) const MEASURE_EXAMPLE: &str = "\
 Example:
   tracebench measure --base 80000000 --period 64 examples/loop/image.bin examples/loop/log.csv";
+
+/// What the help of `list` ends with.
+pub(crate) const LIST_EXAMPLE: &str = "\
+Example:
+  tracebench list --base 80000000 examples/loop/image.bin examples/loop/log.capture";

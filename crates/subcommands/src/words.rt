@@ -119,6 +119,21 @@ pub struct Measure<'a> {
     pub logs: Vec<&'a str>,
 }
 
+/// `list --base B [--harts N] [--symbols FILE] IMAGE CAPTURE`: what each message of a capture says and settles.
+#[derive(Debug, Drop)]
+pub struct Listing<'a> {
+    /// The address of the image's first byte, not yet read as a number.
+    pub base: &'a str,
+    /// The count of harts of a capture with no header, 1 to 1024.
+    pub harts: u16,
+    /// The path of the program's symbols, where they are given.
+    pub symbols: Option<&'a str>,
+    /// The path of the image.
+    pub image: &'a str,
+    /// The path of the capture.
+    pub capture: &'a str,
+}
+
 /// A subcommand with its files and options, as texts of the words.
 #[derive(Debug, Drop)]
 pub enum Asked<'a> {
@@ -138,4 +153,6 @@ pub enum Asked<'a> {
     Audit(Audit<'a>),
     /// A run of `measure`.
     Measure(Measure<'a>),
+    /// A run of `list`.
+    Listing(Listing<'a>),
 }

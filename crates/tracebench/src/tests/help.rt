@@ -17,6 +17,7 @@ $ tracebench --help
 !   bench    Send logs through the funnel, each from a thread of its own, and report what comes of them
 !   audit    Compare a capture that came with the one that was sent, message by message
 !   measure  Count the packets and bytes that logs take, as CSV
+!   list     List what each message of a capture says and settles
 !   help     Print this message or the help of the given subcommand(s)
 !
 ! Options:
@@ -194,5 +195,23 @@ $ tracebench measure --help
 !
 ! Example:
 !   tracebench measure --base 80000000 --period 64 examples/loop/image.bin examples/loop/log.csv
+? 2
+$ tracebench list --help
+! List what each message of a capture says and settles
+!
+! Usage: tracebench list [OPTIONS] --base <B> <IMAGE> <CAPTURE>
+!
+! Arguments:
+!   <IMAGE>    File of the program's bytes
+!   <CAPTURE>  File of trace messages
+!
+! Options:
+!       --base <B>        Address of the image's first byte, in hexadecimal
+!       --harts <N>       How many harts a capture of version 1 may have, 1 to 1024 [default: 1]
+!       --symbols <FILE>  File of the program's symbols, as `nm` prints them
+!   -h, --help            Print help
+!
+! Example:
+!   tracebench list --base 80000000 examples/loop/image.bin examples/loop/log.capture
 ? 2
 "#;

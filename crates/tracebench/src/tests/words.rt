@@ -5,7 +5,7 @@ pub(crate) const TEXT: &str = r#"
 # No subcommand, and one that does not exist.
 % tracebench
 ! error: 'tracebench' requires a subcommand but one was not provided
-!   [subcommands: check, encode, dump, decode, replay, bench, audit, measure, help]
+!   [subcommands: check, encode, dump, decode, replay, bench, audit, measure, list, help]
 !
 ! Usage: tracebench <COMMAND>
 !
@@ -246,6 +246,27 @@ pub(crate) const TEXT: &str = r#"
 !   <LOG>...
 !
 ! Usage: tracebench measure --base <B> <IMAGE> <LOG>...
+!
+! For more information, try '--help'.
+
+# `list`: its count of harts and its symbols.
+% tracebench list --base 80000000 image.bin run.capture
+> Listing(Listing { base: "80000000", harts: 1, symbols: None, image: "image.bin", capture: "run.capture" })
+% tracebench list --symbols nm.txt --harts 1024 --base 0 image.bin run.capture
+> Listing(Listing { base: "0", harts: 1024, symbols: Some("nm.txt"), image: "image.bin", capture: "run.capture" })
+% tracebench list --base 0 --harts 0 image.bin run.capture
+! error: invalid value '0' for '--harts <N>': 0 is not in 1..=1024
+!
+! For more information, try '--help'.
+% tracebench list --base 0 image.bin run.capture --symbols
+! error: a value is required for '--symbols <FILE>' but none was supplied
+!
+! For more information, try '--help'.
+% tracebench list --base 0 image.bin
+! error: the following required arguments were not provided:
+!   <CAPTURE>
+!
+! Usage: tracebench list --base <B> <IMAGE> <CAPTURE>
 !
 ! For more information, try '--help'.
 "#;
