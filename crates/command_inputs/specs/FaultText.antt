@@ -10,6 +10,7 @@ use Rattle.message.specs.declared.fault.MessageFault.TheVariants.{BadHeader}
 use Rattle.retire.specs.FaultText.{log_fault_text}
 use Rattle.rvclass.specs.FaultText.{program_fault_text}
 use Rattle.schedule.specs.FaultText.{schedule_fault_text}
+use Rattle.symbols.specs.FaultText.{symbols_fault_text}
 use Rattle.command_inputs.specs.declared.fault.Fault.{Fault}
 use Rattle.command_inputs.specs.declared.fault.Fault.TheVariants as fault
 
@@ -19,6 +20,7 @@ fault_place_text (fault.Unreadable path) = path.now ++ codes ": "
 fault_place_text (fault.Log path why) = path.now ++ codes ": "
 fault_place_text (fault.Illegal path why) = path.now ++ codes ": "
 fault_place_text (fault.Sent path why) = path.now ++ codes ": "
+fault_place_text (fault.Symbols path why) = path.now ++ codes ": "
 fault_place_text _ = []
 
 -- What is wrong, without the file's path.
@@ -32,6 +34,7 @@ reason_text (fault.Image why) = program_fault_text why
 reason_text (fault.Log path why) = log_fault_text why
 reason_text (fault.Illegal path why) = path_fault_text why
 reason_text (fault.Sent path why) = sent_fault_text why
+reason_text (fault.Symbols path why) = symbols_fault_text why
 reason_text (fault.Schedule why) = codes "schedule: " ++ schedule_fault_text why
 reason_text (fault.Unsent why) = setup_text why
 reason_text fault.Header = message_fault_text BadHeader

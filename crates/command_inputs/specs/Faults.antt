@@ -19,6 +19,8 @@ use Rattle.retire.specs.declared.fault.WriteFault.{WriteFault}
 use Rattle.retire.specs.declared.fault.WriteFault.TheVariants as write
 use Rattle.schedule.specs.declared.fault.ScheduleFault.{ScheduleFault}
 use Rattle.schedule.specs.declared.fault.ScheduleFault.TheVariants as schedule
+use Rattle.symbols.specs.declared.fault.SymbolsFault.{SymbolsFault}
+use Rattle.symbols.specs.declared.fault.SymbolsFault.TheVariants as symbols
 use Rattle.command_inputs.specs.declared.fault.Fault.{Fault}
 use Rattle.command_inputs.specs.declared.fault.Fault.TheVariants as fault
 use Rattle.command_inputs.specs.declared.files.FileFault.{FileFault}
@@ -45,6 +47,11 @@ log_fault path why = fault.Log path why
 abbrev pub sent_fault : Path → SentFault → Fault
 sent_fault path sent.Memory = fault.Memory
 sent_fault path why = fault.Sent path why
+
+-- The fault of a file whose symbols are not read.
+abbrev pub symbols_fault : Path → SymbolsFault → Fault
+symbols_fault path symbols.Memory = fault.Memory
+symbols_fault path why = fault.Symbols path why
 
 -- The fault of a text that is no schedule.
 abbrev pub schedule_fault : ScheduleFault → Fault

@@ -13,6 +13,8 @@ use Rattle.retire.specs.declared.event.Event.{Event}
 use Rattle.rvclass.specs.Fetch.{words_of}
 use Rattle.rvclass.specs.Image.{Image}
 use Rattle.rvclass.specs.Program.{program_of}
+use Rattle.symbols.specs.File.{most_bytes}
+use Rattle.symbols.specs.declared.fault.SymbolsFault.TheVariants.{TooLarge}
 use Rattle.command_inputs.specs.Faults.{Path, log_fault}
 use Rattle.command_inputs.specs.Known.{Content, MayHold, MayLack}
 use Rattle.command_inputs.specs.Finding.{After}
@@ -52,6 +54,23 @@ pub record IsProgramAt (content : Content) (base : ℕ) (path : Path) (found : R
   pub bytes : Result (List ℕ) Fault
   pub read : IsRead content path bytes
   pub made : found ≡ program_at base bytes
+
+-- The file that has these symbols, or the fault where it is too large.
+abbrev pub symbols_at : Path → Result (List ℕ) Fault → Result (Option (List ℕ)) Fault
+symbols_at path (Err why) = Err why
+symbols_at path (Ok bytes) =
+    if nat_lt most_bytes (length bytes) then Err (fault.Symbols path TooLarge) else Ok (Some bytes)
+
+-- The file of symbols at a path is found.
+pub record AreSymbolsAt (content : Content) (path : Path) (found : Result (Option (List ℕ)) Fault) : Type 0 where
+  pub bytes : Result (List ℕ) Fault
+  pub read : IsRead content path bytes
+  pub made : found ≡ symbols_at path bytes
+
+-- The file of symbols is found, if a path of one is given.
+abbrev pub AreSymbols : Content → Option Path → Result (Option (List ℕ)) Fault → Type 0
+AreSymbols content None found = found ≡ Ok None
+AreSymbols content (Some path) found = AreSymbolsAt content path found
 
 -- The program that is asked for together with logs is found. The base is looked at first, then the count of logs, then
 -- the image.

@@ -3,8 +3,9 @@
 ghost use Rattle.std.specs.Prelude.{◌≡◌, ◌≢◌, Some};
 ghost use Rattle.command_inputs.specs.FaultText.{fault_text, reason_text};
 ghost use Rattle.command_inputs.specs.declared.fault.Fault.TheVariants as fault;
-ghost use Rattle.command_inputs.specs.Faults.{capture_fault, file_fault, log_fault, lossy_fault, reading_fault, sent_fault};
-ghost use Rattle.command_inputs.specs.Faults.{schedule_fault, status_of, unsent_fault, write_fault};
+ghost use Rattle.command_inputs.specs.Faults.{capture_fault, file_fault, log_fault, lossy_fault, reading_fault};
+ghost use Rattle.command_inputs.specs.Faults.{schedule_fault, sent_fault, status_of, symbols_fault, unsent_fault};
+ghost use Rattle.command_inputs.specs.Faults.{write_fault};
 
 use crate::files::FileFault;
 use crate::status::Status;
@@ -21,6 +22,7 @@ use schedule::ScheduleFault;
 use std::alloc::AllocError;
 use std::error::Error;
 use std::{fmt, io};
+use symbols::SymbolsFault;
 
 /// Why a command stops. Its text is the error line without the program's name and the line's end.
 #[derive(Clone, Copy, Debug, PartialEq, Eq)]
@@ -41,6 +43,8 @@ pub enum Fault<'a> {
     Log(&'a str, LogFault),
     /// The log at this path is not legal for the program.
     Illegal(&'a str, PathFault),
+    /// The file at this path has no symbols that are read.
+    Symbols(&'a str, SymbolsFault),
     /// The text of the schedule is no schedule.
     Schedule(ScheduleFault),
     /// Nothing is sent through the funnel. A command line that `cli` reads leads to no such fault.
@@ -132,6 +136,16 @@ impl<'a> Fault<'a> {
         }
     }
 
+    /// Why the symbols of the file at a path are not read.
+    pub(crate) fn of_symbols(path: &'a str, why: SymbolsFault) -> Fault<'a>
+        ensures { result ≡ symbols_fault path.entry why }
+    {
+        match why {
+            SymbolsFault::Memory => Fault::Memory,
+            SymbolsFault::TooLarge => Fault::Symbols(path, why),
+        }
+    }
+
     /// Why a text is no schedule.
     pub fn of_schedule(why: ScheduleFault) -> Fault<'a>
         ensures { result ≡ schedule_fault why }
@@ -165,6 +179,7 @@ impl<'a> Fault<'a> {
             | Fault::Log(..)
             | Fault::Illegal(..)
             | Fault::Sent(..)
+            | Fault::Symbols(..)
             | Fault::Schedule(_)
             | Fault::Unsent(_) => Status::Refused,
             Fault::Header | Fault::Message(..) | Fault::Unclosed(_) => Status::NotWhole,
@@ -193,6 +208,7 @@ impl fmt::Display for Reason<'_, '_> {
             Fault::Log(_, why) => write!(f, "{why}"),
             Fault::Illegal(_, why) => write!(f, "{why}"),
             Fault::Sent(_, why) => write!(f, "{why}"),
+            Fault::Symbols(_, why) => write!(f, "{why}"),
             Fault::Schedule(why) => write!(f, "schedule: {why}"),
             Fault::Unsent(why) => write!(f, "{why}"),
             Fault::Header => write!(f, "{}", MessageFault::BadHeader),
@@ -212,7 +228,8 @@ impl fmt::Display for Fault<'_> {
             Fault::Unreadable(path)
             | Fault::Log(path, _)
             | Fault::Illegal(path, _)
-            | Fault::Sent(path, _) => write!(f, "{path}: {}", Reason { of: self }),
+            | Fault::Sent(path, _)
+            | Fault::Symbols(path, _) => write!(f, "{path}: {}", Reason { of: self }),
             _ => write!(f, "{}", Reason { of: self }),
         }
     }

@@ -1,10 +1,10 @@
-//! The inputs of a command: a base, an image and logs.
+//! The inputs of a command: a base, an image, symbols and logs.
 
 ghost use Rattle.std.specs.Prelude.{◌≡◌, ◌⊎◌, ◌≤◌, ◌<◌, IfErr, IfOk, IfSome, Err, Ok, length, vec_len};
 ghost use Rattle.command_inputs.specs.Faults.{status_of};
 ghost use Rattle.command_inputs.specs.declared.fault.Fault.TheVariants as fault;
-ghost use Rattle.command_inputs.specs.Found.{AreFew, AreLegalLogs, IsAskedProgram, IsBase, IsLegalLogAt, IsLog, IsProgramAt};
-ghost use Rattle.command_inputs.specs.Found.{IsRead};
+ghost use Rattle.command_inputs.specs.Found.{AreFew, AreLegalLogs, AreSymbols, IsAskedProgram, IsBase, IsLegalLogAt};
+ghost use Rattle.command_inputs.specs.Found.{IsLog, IsProgramAt, IsRead};
 ghost use Rattle.command_inputs.specs.Order.{logs_fault};
 ghost use Rattle.retire.specs.Log.{most_rows};
 ghost use Rattle.retire.specs.Number.{number_of};
@@ -16,6 +16,7 @@ use legalpath::LegalLog;
 use retire::{Event, number, read_log_from_slice};
 use rvclass::Program;
 use std::alloc::Global;
+use symbols::Symbols;
 
 /// The number that a base is.
 pub fn base_of<'a>(text: &str) -> Result<u64, Fault<'a>>
@@ -69,6 +70,29 @@ pub fn program_of<'a, F: Files>(
 {
     let bytes = content_of(files, image)?;
     Ok(Program::new(base, bytes)?)
+}
+
+/// The symbols of the file at a path, if one is given.
+pub fn symbols_of<'a, F: Files>(
+    alloc: Global,
+    files: &mut F,
+    path: Option<&'a str>,
+) -> Result<Option<Symbols>, Fault<'a>>
+    ensures symbols { IfOk result (λ symbols. AreSymbols (F.content files.old) path.entry (Ok symbols)) }
+    ensures fault { IfErr result (λ why. (why ≡ Fault.Memory) ⊎ AreSymbols (F.content files.old) path.entry (Err why)) }
+    ensures kept { F.content files.new ≡ F.content files.old }
+{
+    let Some(path) = path else {
+        return Ok(None);
+    };
+    let bytes = match content_of(files, path) {
+        Ok(bytes) => bytes,
+        Err(why) => return Err(why),
+    };
+    match Symbols::new(alloc, bytes) {
+        Ok(symbols) => Ok(Some(symbols)),
+        Err(why) => Err(Fault::of_symbols(path, why)),
+    }
 }
 
 /// The program that is asked for together with logs. The base is looked at first, then the count of logs, then the

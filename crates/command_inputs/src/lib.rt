@@ -1,6 +1,6 @@
 //! What the subcommands of `tracebench` begin with and end by, whatever they do in between.
 //!
-//! A subcommand reads its inputs from [`Files`]: a base, an image, logs or a capture, each found in turn, or a
+//! A subcommand reads its inputs from [`Files`]: a base, an image, symbols, logs or a capture, each found in turn, or a
 //! [`Fault`] that ends it. It ends with a [`Status`], or at a fault, whose line [`report_error`] writes. What a run
 //! prints, and what it may have written where it is cut short, is said here for any subcommand.
 #![tactic(auto)]
@@ -14,5 +14,7 @@ mod status;
 pub use error_reporting::report_error;
 pub use fault::Fault;
 pub use files::{FileFault, Files};
-pub use inputs::{asked_program, base_of, content_of, legal_logs_of, log_of, program_of};
+pub use inputs::{
+    asked_program, base_of, content_of, legal_logs_of, log_of, program_of, symbols_of,
+};
 pub use status::Status;
