@@ -1,4 +1,5 @@
 mod DecodedRuns
 mod HartTexts
+mod ListedRuns
 mod PartTexts
 mod WrittenOutcomes

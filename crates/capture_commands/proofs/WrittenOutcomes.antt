@@ -50,6 +50,11 @@ pub refused_writing : (lists : List (List Event)) (closed : List Bool) (stop : O
 refused_writing lists closed stop why old new (inl memory) stops = inr (inr (ap Err memory, stops memory))
 refused_writing lists closed stop why old new (inr output) stops = inr (inl (ap Err output.0))
 
+-- A fault of writing is one that denies printing.
+pub write_denied : (why : WriteFault) → IsPrintingDenied ⊤ (write_fault why)
+write_denied write.Write = inr (refl, tt)
+write_denied write.Memory = inl refl
+
 -- Memory alone is reported as memory.
 pub write_memory : (why : WriteFault) → write_fault why ≡ fault.Memory → why ≡ write.Memory
 write_memory write.Write is = cc

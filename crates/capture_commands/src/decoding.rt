@@ -10,9 +10,9 @@ ghost use Rattle.command_inputs.specs.Printed.{IsPrintingDenied, PrintsUnlessDen
 ghost use Rattle.command_inputs.specs.Faults.{final_status, status_of};
 ghost use Rattle.command_inputs.specs.Order.{base_fault};
 ghost use Rattle.capture_commands.specs.Decoded.{Decodes, WritesDecoded, harts_text, CanDecode};
-ghost use Rattle.capture_commands.specs.Decoding.{end_of_capture};
 ghost use Rattle.capture_commands.specs.steps.Writing.{EndsWriting, StopsBehindLine};
 
+use crate::ending::ended;
 use crate::lossy_decoding::decode_lossy;
 use captures::{CaptureOutcome, decode_capture};
 use command_inputs::{Fault, Files, Status, base_of, content_of, program_of};
@@ -90,7 +90,7 @@ fn write_outcome<'a, O: Write>(
 {
     write_logs(alloc, outcome.harts.as_slice(), out)?;
     out.flush()?;
-    ended(outcome)
+    ended(outcome.fault, outcome.closed.as_slice())
 }
 
 /// Writes the log of each hart, after a line with the hart's number. Memory may be refused for the text of a log, once
@@ -112,20 +112,4 @@ fn write_logs<'a, O: Write>(
         write_log(alloc, out, log.as_slice())?;
     }
     Ok(())
-}
-
-/// How decoding ended: at its fault, if there is one, or at the first hart whose closing packet did not come.
-fn ended<'a>(outcome: &CaptureOutcome) -> Result<Status, Fault<'a>>
-    ensures value { result ≡ end_of_capture outcome.now.fault outcome.now.closed.items }
-    ensures never_refused { final_status result ≢ Status.Refused }
-{
-    if let Some((number, why)) = outcome.fault {
-        return Err(Fault::of_capture(number, why));
-    }
-    for (hart, closed) in outcome.closed.iter().enumerate() {
-        if !*closed {
-            return Err(Fault::Unclosed(hart));
-        }
-    }
-    Ok(Status::Whole)
 }

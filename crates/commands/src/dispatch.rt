@@ -8,7 +8,7 @@ ghost use Rattle.commands.specs.Begun.{IsBegun, IsCutOutput, WritesInParts};
 ghost use Rattle.commands.specs.CarriedOut.{IsCarriedOut};
 ghost use Rattle.commands.specs.Order.{early_fault};
 
-use capture_commands::{decode, dump};
+use capture_commands::{decode, dump, list};
 use command_inputs::{Fault, Files, Status};
 use log_commands::{bench, check, encode, measure, replay};
 use path_commands::audit;
@@ -19,7 +19,7 @@ use std::thread::Threads;
 use subcommands::Asked;
 
 /// Does what is asked, and returns how that ended: with a status, or at the first fault in the order base, count of
-/// logs, image, each log in turn, schedule, capture.
+/// logs, image, symbols, each log in turn, schedule, capture.
 ///
 /// Illegal logs are no fault of `check`, which has a line for each log on `out`.
 pub fn carry_out<'a, F: Files, O: Write, R: Threads + Wait + Sync>(
@@ -37,7 +37,7 @@ pub fn carry_out<'a, F: Files, O: Write, R: Threads + Wait + Sync>(
     // Where memory is refused, nothing or a beginning of the text was written.
     ensures begun { result ≡ Err Fault.Memory
         → IsBegun (F.content files.old) asked.now (O.contents out.old) (O.contents out.new) }
-    // Where memory is refused, only `check` and `decode` may have written anything.
+    // Where memory is refused, only `check`, `decode` and `list` may have written anything.
     ensures untouched { ¬ WritesInParts asked.now → result ≡ Err Fault.Memory → out.new ≡ out.old }
     // Where the input is refused, nothing is written, but for the lines of `check`.
     ensures refused { ¬ IsCheck asked.now → final_status result ≡ Status.Refused → out.new ≡ out.old }
@@ -51,5 +51,6 @@ pub fn carry_out<'a, F: Files, O: Write, R: Threads + Wait + Sync>(
         Asked::Bench(asked) => bench(alloc, rt, files, asked, out),
         Asked::Audit(asked) => audit(alloc, files, asked, out),
         Asked::Measure(asked) => measure(alloc, files, asked, out),
+        Asked::Listing(asked) => list(alloc, files, asked, out),
     }
 }

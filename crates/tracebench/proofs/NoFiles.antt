@@ -2,18 +2,19 @@
 use Rattle.std.proofs.Common.{◌≡◌, ◌≢◌, ◌∙◌, ◌⊎◌, ℕ, List, [], Option, Result, Ok, Err, ap, arith, inl, inr, map, refl}
 use Rattle.std.proofs.Common.{subst, sym}
 use Rattle.subcommands.specs.declared.words.Asked.{Asked}
-use Rattle.subcommands.specs.declared.words.Asked.TheVariants.{Audit, Bench, Check, Decode, Dump, Encode, Measure}
-use Rattle.subcommands.specs.declared.words.Asked.TheVariants.{Replay}
+use Rattle.subcommands.specs.declared.words.Asked.TheVariants.{Audit, Bench, Check, Decode, Dump, Encode, Listing}
+use Rattle.subcommands.specs.declared.words.Asked.TheVariants.{Measure, Replay}
 use Rattle.log_commands.specs.Benching.{BenchesLogs}
 use Rattle.commands.specs.CarriedOut.{IsCarriedOut}
 use Rattle.log_commands.specs.Checking.{WritesLines}
 use Rattle.capture_commands.specs.Decoded.{WritesLogs}
 use Rattle.capture_commands.specs.Dumping.{WritesDump}
+use Rattle.capture_commands.specs.Listed.{WritesListing}
 use Rattle.log_commands.specs.Encoding.{WritesMessages}
 use Rattle.command_inputs.specs.Faults.{Path, final_status, status_of}
 use Rattle.command_inputs.specs.Finding.{After, IsFoundFrom}
-use Rattle.command_inputs.specs.Found.{AreAskedLogs, AreFew, AreLegalLogs, IsAskedProgram, IsBase, IsProgramAt, IsRead}
-use Rattle.command_inputs.specs.Found.{program_at}
+use Rattle.command_inputs.specs.Found.{AreAskedLogs, AreFew, AreLegalLogs, AreSymbols, IsAskedProgram, IsBase}
+use Rattle.command_inputs.specs.Found.{IsProgramAt, IsRead, program_at}
 use Rattle.command_inputs.specs.Known.{Content, content_in}
 use Rattle.command_inputs.specs.Printed.{First, GoesOn, Printed}
 use Rattle.log_commands.specs.Measuring.{WritesTable}
@@ -125,6 +126,15 @@ not_ended (Measure asked) status old new done =
     not_first (AreAskedLogs none _ asked.base.now asked.image asked.logs.items) (WritesTable asked)
     (record { text = done.text; ended = Ok status }) status refl
     (λ logs are table. no_logs _ asked.base.now asked.image asked.logs.items logs are) done.prints
+not_ended (Listing asked) status old new done =
+    let printed : Printed = record { text = done.text; ended = Ok status } in
+    not_first (IsBase asked.base.now) (λ base. First (IsProgramAt none base asked.image) (λ program.
+    First (AreSymbols none asked.symbols) (λ symbols. First (IsRead none asked.capture)
+    (WritesListing asked.harts program symbols)))) printed status refl
+    (λ base is prints. not_first (IsProgramAt none base asked.image) (λ program.
+    First (AreSymbols none asked.symbols) (λ symbols. First (IsRead none asked.capture)
+    (WritesListing asked.harts program symbols))) printed status refl
+    (λ program made listing. no_program base asked.image program made) prints) done.prints
 
 -- No fault ends with status 0.
 faulty : (why : Fault) → code_of (status_of why) ≢ 0
@@ -137,6 +147,7 @@ faulty (fault.Image why) = λ is. omega arith
 faulty (fault.Log path why) = λ is. omega arith
 faulty (fault.Illegal path why) = λ is. omega arith
 faulty (fault.Sent path why) = λ is. omega arith
+faulty (fault.Symbols path why) = λ is. omega arith
 faulty (fault.Schedule why) = λ is. omega arith
 faulty (fault.Unsent why) = λ is. omega arith
 faulty fault.Header = λ is. omega arith

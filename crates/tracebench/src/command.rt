@@ -17,13 +17,13 @@ use subcommands::Asked;
 
 /// Does what the words ask for, and returns the exit status. The program's name is the first word. The status is 0
 /// where all is done, 1 where a capture is not good or a log does not come back whole, 2 where the words, the base, the
-/// count of logs, the image, a log or the schedule is refused or a log is illegal, and 3 where a file is not read, the
-/// output is not written, memory is refused or there is a stop of `replay` or `bench`.
+/// count of logs, the image, the symbols, a log or the schedule is refused or a log is illegal, and 3 where a file is
+/// not read, the output is not written, memory is refused or there is a stop of `replay` or `bench`.
 ///
-/// The first fault is reported on `err`, in the order words, base, count of logs, image, each log in turn, schedule,
-/// capture. It has one line there, or `clap`'s own text where the words are at fault. Where a write to `err` fails, the
-/// status stays the same. Illegal logs are no fault of `check`, which has a line for each log on `out`. Only `bench`
-/// starts threads, and it waits for them.
+/// The first fault is reported on `err`, in the order words, base, count of logs, image, symbols, each log in turn,
+/// schedule, capture. It has one line there, or `clap`'s own text where the words are at fault. Where a write to `err`
+/// fails, the status stays the same. Illegal logs are no fault of `check`, which has a line for each log on `out`. Only
+/// `bench` starts threads, and it waits for them.
 pub fn command<F: Files, O: Write, E: Write, R: Threads + Wait + Sync>(
     alloc: Global,
     rt: &R,

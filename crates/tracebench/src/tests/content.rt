@@ -10,11 +10,12 @@ use std::sync::Wait;
 use std::thread::Threads;
 
 /// A line of words for each subcommand. The first file of each is `image.bin`.
-pub(crate) const LINES: [&str; 6] = [
+pub(crate) const LINES: [&str; 7] = [
     "tracebench check --base 80000000 image.bin log.csv",
     "tracebench encode --base 80000000 image.bin log.csv",
     "tracebench dump image.bin",
     "tracebench decode --base 80000000 image.bin log.capture",
+    "tracebench list --base 80000000 image.bin log.capture",
     "tracebench replay --base 80000000 image.bin turns.txt log.csv",
     "tracebench bench --base 80000000 image.bin log.csv",
 ];

@@ -20,6 +20,8 @@ file gap.capture
 |~ 0 0 1f
 |~ 0 1 7300000020
 |~ 0 3 4f
+file names.txt
+| 80000000 T main
 file unopened.capture
 |~ 0 1 7300000020
 
@@ -84,6 +86,16 @@ $ tracebench decode --base 80000000 --lossy image.bin unopened.capture
 > stretch: 1 events
 > addr,itype,priv,cause,tval
 > 80000000,0,3,,
+! tracebench: hart 0: no closing packet
+? 1
+$ tracebench list --base 80000000 image.bin gap.capture
+> 00000000 0 0 open => nothing
+> 0000000c 0 1 sync addr=80000000 priv=3 branch=1 => 1 event, 80000000
+> 0000001c 0 3 close ended_rep
+! tracebench: message 2: gap, expected number 2
+? 1
+$ tracebench list --base 80000000 --symbols names.txt image.bin open.capture
+> 00000000 0 0 open => nothing
 ! tracebench: hart 0: no closing packet
 ? 1
 $ tracebench replay --base 80000000 image.bin empty.txt log.csv

@@ -8,6 +8,7 @@ use Rattle.output.proofs.Beginnings.{begun_kept}
 use Rattle.command_inputs.specs.declared.fault.Fault.TheVariants as fault
 use Rattle.command_inputs.proofs.Runs.{appends-keeps}
 use Rattle.capture_commands.specs.Decoded.{harts_text}
+use Rattle.capture_commands.specs.Decoding.{end_of_capture}
 use Rattle.capture_commands.specs.steps.Writing.{EndsWriting, StopsBehindLine}
 use Rattle.capture_commands.proofs.WrittenOutcomes.{refused_writing}
 use Rattle.capture_commands.proofs.decoding.write_outcome.Goals.{After-write_logs}
@@ -64,4 +65,5 @@ returns-clause-written g c =
     let lists = events_in c.args.outcome.now.harts.items in
     let text = subst (λ logs. Appends old mid (harts_text 0 (events_in logs))) c.as_slice.ensures.value
     c.in_ok-write_logs.ensures.text in
-    inl (appends-keeps old mid new (harts_text 0 lists) text c.flush.ensures.bytes, c.ended.ensures.value)
+    let ended = c.ended.ensures.value ∙ ap (end_of_capture c.args.outcome.now.fault) c.as_slice-2.ensures.value in
+    inl (appends-keeps old mid new (harts_text 0 lists) text c.flush.ensures.bytes, ended)

@@ -1,0 +1,98 @@
+-- What `list` prints, from what was found.
+use Rattle.std.proofs.Common.{◌≡◌, inl, inr, ℕ, List, Option, Result, Ok, Err}
+use Rattle.std.specs.Io.KnownBytes.{Keeps}
+use Rattle.std.specs.Prelude.{⊤}
+use Rattle.rvclass.specs.Fetch.{words_of}
+use Rattle.rvclass.specs.Image.{Image}
+use Rattle.listing.specs.Begun.{BeginsPart, IsPartOfListing}
+use Rattle.listing.specs.Begun.IsPartOfListing.{OfAll}
+use Rattle.listing.specs.Listing.{AppendsListing, IsListing}
+use Rattle.captures.specs.declared.outcome.CaptureFault.{CaptureFault}
+use Rattle.output.proofs.Beginnings.{begun_kept, whole_begun}
+use Rattle.subcommands.specs.declared.words.Listing.{Listing}
+use Rattle.command_inputs.proofs.Beginnings.{cut_leads}
+use Rattle.command_inputs.proofs.Runs.{appends-keeps, leads_on}
+use Rattle.command_inputs.specs.Begun.{IsCutOf}
+use Rattle.command_inputs.specs.Found.{AreSymbols, IsBase, IsProgramAt, IsRead}
+use Rattle.command_inputs.specs.Known.{Content}
+use Rattle.command_inputs.specs.Printed.{IsPrinted, Printed, PrintsUnlessDenied}
+use Rattle.command_inputs.specs.declared.fault.Fault.{Fault}
+use Rattle.command_inputs.specs.declared.fault.Fault.TheVariants as fault
+use Rattle.command_inputs.specs.declared.status.Status.{Status}
+use Rattle.capture_commands.specs.Decoding.{end_of_capture}
+use Rattle.capture_commands.specs.Listed.{CanList, Lists, ListsInPart, ListsUpToMemory, WritesListing, WritesPart}
+
+module _ (content : Content) (asked : Listing) (base : ℕ) (program : Image) (symbols : Option (List ℕ))
+    (bytes : List ℕ)
+    (based : IsBase asked.base.now (Ok base)) (found : IsProgramAt content base asked.image (Ok program))
+    (named : AreSymbols content asked.symbols (Ok symbols)) (read : IsRead content asked.capture (Ok bytes)) where
+  -- What is written of the capture is what `list` prints.
+  list_leads : (printed : Printed) → WritesListing asked.harts program symbols bytes printed
+      → Lists content asked printed
+  list_leads printed writes =
+      (Ok base, based, (Ok program, found, (Ok symbols, named, (Ok bytes, read, writes))))
+
+  -- All is found that `list` writes from.
+  can_list : CanList content asked
+  can_list = (base, based, (program, found, (symbols, named, (bytes, read, tt))))
+
+  -- A part of the capture's listing is a part of what `list` prints.
+  part_leads : (printed : Printed) → WritesPart asked.harts program symbols bytes printed
+      → ListsInPart content asked printed
+  part_leads printed part = (base, based, (program, found, (symbols, named, (bytes, read, part))))
+
+  -- What is printed of the capture is what `list` prints.
+  pub list_printed : (ended : Result Status Fault) (old new : Option (List ℕ))
+      → PrintsUnlessDenied (WritesListing asked.harts program symbols bytes) ⊤ ended old new
+      → PrintsUnlessDenied (Lists content asked) (CanList content asked) ended old new
+  list_printed ended old new =
+      leads_on (WritesListing asked.harts program symbols bytes) (Lists content asked) ⊤ (CanList content asked) ended
+      old new list_leads (λ _. can_list)
+
+  -- What is written where memory is refused is what `list` writes then.
+  pub list_begun : (old new : Option (List ℕ))
+      → ListsUpToMemory (WritesListing asked.harts program symbols bytes) old new
+      → ListsUpToMemory (Lists content asked) old new
+  list_begun old new (inl kept) = inl kept
+  list_begun old new (inr is) = inr (record {
+    text = is.text;
+    prints = list_leads (record { text = is.text; ended = Err fault.Memory }) is.prints;
+    appended = is.appended;
+  })
+
+  -- A cut of it is one of what `list` prints.
+  pub list_cut : (old new : Option (List ℕ)) → IsCutOf (WritesPart asked.harts program symbols bytes) old new
+      → IsCutOf (ListsInPart content asked) old new
+  list_cut old new =
+      cut_leads (WritesPart asked.harts program symbols bytes) (ListsInPart content asked) old new part_leads
+
+module _ (harts : ℕ) (program : Image) (symbols : Option (List ℕ)) (bytes : List ℕ) where
+  -- The beginning of a part of a listing was written.
+  pub part_cut : (old new : Option (List ℕ))
+      → BeginsPart (IsPartOfListing (words_of program) harts symbols bytes) old new
+      → IsCutOf (WritesPart harts program symbols bytes) old new
+  part_cut old new begins = inr (record {
+    printed = record { text = begins.text; ended = Err fault.Output };
+    prints = begins.part;
+    begun = begins.begun;
+  })
+
+  module _ (closed : List _) (stop : Option (ℕ × CaptureFault)) (old mid new : Option (List ℕ))
+      (appends : AppendsListing (IsListing (words_of program) harts symbols bytes) closed stop old mid)
+      (kept : Keeps mid new) where
+    -- The whole listing was written, and then nothing more.
+    pub whole_cut : IsCutOf (WritesPart harts program symbols bytes) old new
+    whole_cut = inr (record {
+      printed = record { text = appends.text; ended = end_of_capture stop closed };
+      prints = OfAll closed stop appends.listed;
+      begun = begun_kept appends.text old mid new (whole_begun appends.text old mid appends.appended) kept;
+    })
+
+    -- And the run ends as decoding does.
+    pub whole_printed : (ended : Result Status Fault) → ended ≡ end_of_capture stop closed
+        → IsPrinted (WritesListing harts program symbols bytes) ended old new
+    whole_printed ended is = record {
+      text = appends.text;
+      prints = record { closed = closed; stop = stop; listing = appends.listed; ended = is };
+      appended = appends-keeps old mid new appends.text appends.appended kept;
+    }

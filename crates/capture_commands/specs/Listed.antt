@@ -1,0 +1,72 @@
+-- What `list` prints, and how it ends.
+use Rattle.std.specs.Prelude.{⊤, ◌≡◌, ◌⊎◌, ℕ, Bool, List, Option, Err}
+use Rattle.std.specs.Io.KnownBytes.{Keeps}
+use Rattle.captures.specs.declared.outcome.CaptureFault.{CaptureFault}
+use Rattle.listing.specs.Begun.{IsPartOfListing}
+use Rattle.listing.specs.Listing.{IsListing}
+use Rattle.retire.specs.Number.{number_of}
+use Rattle.rvclass.specs.Fetch.{words_of}
+use Rattle.rvclass.specs.Image.{Image}
+use Rattle.subcommands.specs.declared.words.Listing.{Listing}
+use Rattle.command_inputs.specs.Finding.{Once}
+use Rattle.command_inputs.specs.Found.{AreSymbols, IsBase, IsProgramAt, IsRead}
+use Rattle.command_inputs.specs.Known.{Content}
+use Rattle.command_inputs.specs.Meaning.{Meaning}
+use Rattle.command_inputs.specs.Order.{base_fault}
+use Rattle.command_inputs.specs.Printed.{First, IsPrinted, Printed}
+use Rattle.command_inputs.specs.declared.fault.Fault.TheVariants as fault
+use Rattle.capture_commands.specs.Decoding.{end_of_capture}
+
+-- The listing of a capture's bytes is written, and the run ends as their decoding does.
+pub record WritesListing (harts : ℕ) (program : Image) (symbols : Option (List ℕ)) (bytes : List ℕ)
+    (printed : Printed) : Type 0 where
+  pub closed : List Bool
+  pub stop : Option (ℕ × CaptureFault)
+  pub listing : IsListing (words_of program) harts symbols bytes closed stop printed.text
+  pub ended : printed.ended ≡ end_of_capture stop closed
+
+-- The base is looked at first, then the image, the symbols, if they are given, and the capture. Where there is no
+-- fault, the listing of the capture is written.
+abbrev pub Lists : Content → Listing → Printed → Type 0
+Lists content asked =
+    First (IsBase asked.base.now) (λ base.
+    First (IsProgramAt content base asked.image) (λ program.
+    First (AreSymbols content asked.symbols) (λ symbols.
+    First (IsRead content asked.capture) (WritesListing asked.harts program symbols))))
+
+-- The program, the symbols and the bytes of the capture are found, and this holds of them.
+abbrev pub OnceListed : Content → Listing → (Image → Option (List ℕ) → List ℕ → Type 0) → Type 0
+OnceListed content asked Holds =
+    Once (IsBase asked.base.now) (λ base.
+    Once (IsProgramAt content base asked.image) (λ program.
+    Once (AreSymbols content asked.symbols) (λ symbols.
+    Once (IsRead content asked.capture) (Holds program symbols))))
+
+-- `list` writes once it has the program, the symbols and the capture.
+abbrev pub CanList : Content → Listing → Type 0
+CanList content asked = OnceListed content asked (λ program symbols bytes. ⊤)
+
+-- A part of the listing of a capture's bytes is written, however the run ends.
+abbrev pub WritesPart : ℕ → Image → Option (List ℕ) → List ℕ → Printed → Type 0
+WritesPart harts program symbols bytes printed =
+    IsPartOfListing (words_of program) harts symbols bytes printed.text
+
+-- The program, the symbols and the capture were found, and a part of the capture's listing is written.
+abbrev pub ListsInPart : Content → Listing → Printed → Type 0
+ListsInPart content asked printed =
+    OnceListed content asked (λ program symbols bytes. WritesPart asked.harts program symbols bytes printed)
+
+-- Nothing was written, or all lines before the message at which memory was refused.
+abbrev pub ListsUpToMemory : (Printed → Type 0) → Option (List ℕ) → Option (List ℕ) → Type 0
+ListsUpToMemory Prints old new = Keeps old new ⊎ IsPrinted Prints (Err fault.Memory) old new
+
+-- What `list` means. It takes memory for the events of a message once the lines before are written.
+abbrev pub list_meaning : Listing → Meaning
+list_meaning asked = record {
+  early = base_fault (number_of asked.base.now);
+  Prints = λ content. Lists content asked;
+  CanWrite = λ content. CanList content asked;
+  Begins = λ content old new. ListsUpToMemory (Lists content asked) old new;
+  WritesInParts = ⊤;
+  Cuts = λ content. ListsInPart content asked;
+}
