@@ -6,6 +6,7 @@ import tempfile
 
 import audits
 import cases
+import lists
 import measures
 import reading
 
@@ -97,10 +98,23 @@ def of_measured(maker, _, logs):
     yield Run(["measure", *words], 0, measures.text(logs, payloads).encode(), None)
 
 
+def of_listed(maker, harts, case):
+    """What `list` prints of a capture, with a file of symbols or without one."""
+    capture, symbols = case
+    words = ["list", "--base", f"{maker.program.base:x}", "--harts", str(harts), "image", lists.CAPTURE]
+    known = {}
+    if symbols is not None:
+        words += ["--symbols", lists.SYMBOLS]
+        known = lists.symbols_of(symbols)
+    yield Run(words, *lists.listing(maker.program, harts, capture, known))
+
+
 def files_of(kind, case):
     """The files that the runs over a case read, but for the image."""
     if kind == "audits":
         return {audits.SENT: case[0], audits.RECEIVED: case[1]}
+    if kind == "lists":
+        return {lists.CAPTURE: case[0]} | ({} if case[1] is None else {lists.SYMBOLS: case[1]})
     if kind == "measures":
         return {f"case{hart}": reading.log_text(events).encode() for hart, events in enumerate(case)}
     return {"case": case}
@@ -111,7 +125,9 @@ def answer(binary, folder, words):
     return done.returncode, done.stdout, done.stderr
 
 
-OF_CASE = {"captures": of_capture, "logs": of_log, "audits": of_pair, "measures": of_measured}
+OF_CASE = {
+    "captures": of_capture, "logs": of_log, "audits": of_pair, "measures": of_measured, "lists": of_listed,
+}
 
 
 def compared(binary, kind, maker, harts, made):

@@ -1,0 +1,85 @@
+"""What `tracebench list` prints, read from docs/FORMATS.md, and files of symbols for it."""
+
+import re
+
+import reading
+
+CAPTURE, SYMBOLS = "case", "symbols"
+SYMBOL = re.compile(rb"([0-9a-fA-F]{1,16}) [tTwW] (.+)", re.DOTALL)
+
+
+def symbols_of(text):
+    """The symbols of a file, each address with the last name that the file has for it."""
+    found = {}
+    for line in text.split(b"\n"):
+        if matched := SYMBOL.fullmatch(line.removesuffix(b"\r")):
+            found[int(matched[1], 16)] = matched[2]
+    return found
+
+
+def place_text(address, symbols):
+    below = [it for it in symbols if it <= address]
+    if not below:
+        return b"%x" % address
+    return b"%x <%s+%x>" % (address, symbols[max(below)], address - max(below))
+
+
+def effect(events, packet, symbols):
+    """What a message does: the events that it adds, and whether its packet waits or closes its hart."""
+    if not events:
+        made = b"nothing"
+    elif len(events) == 1:
+        made = b"1 event, " + place_text(events[0][1], symbols)
+    else:
+        first, last = (place_text(event[1], symbols) for event in (events[0], events[-1]))
+        made = b"%d events, %s to %s" % (len(events), first, last)
+    if packet[0] == "address" and packet[3] == "plain":
+        made += b", waits"
+    return made + b", closed" * packet[0].startswith("ended")
+
+
+def listing(program, harts, capture, symbols):
+    """The status, the text and the error of a list."""
+    stop, decoders = reading.decode(program, harts, capture)
+    try:
+        header, at = reading.start(capture)
+    except reading.NoHeader as why:
+        return 1, b"", str(why)
+    lines = reading.dump(capture)[0].splitlines(keepends=True)
+    text = lines.pop(0).encode() if header else b""
+    harts = header[2] if header else harts
+    place_of_stop = re.match(r"message (\d+): ", stop)
+    accepted = int(place_of_stop[1]) if place_of_stop else None
+    decoders = [reading.Decoder(program) for _ in range(harts)]
+    for place, message in enumerate(reading.messages(capture, at)):
+        text += b"%08x" % at
+        if isinstance(message, str):
+            return 1, text + b"\n", stop
+        line = lines[place].encode().removesuffix(b"\n")
+        if place == accepted:
+            return 1, text + b" " + line + b"\n", stop
+        decoder, packet = decoders[message[0]], reading.unpack(message[2])
+        before = len(decoder.events)
+        decoder.feed(packet)
+        text += b" %s => %s\n" % (line, effect(decoder.events[before:], packet, symbols))
+        at += 11 + len(message[2])
+    left = next((hart for hart, it in enumerate(decoders) if not it.closed), None)
+    if left is not None:
+        return 1, text, f"hart {left}: no closing packet"
+    return 0, text, None
+
+
+def any_symbols(random, program):
+    """A file of symbols near a program, with lines that are none; or None."""
+    if random.randrange(3) == 0:
+        return None
+    made = []
+    for _ in range(random.randrange(8)):
+        address = (program.base + random.randrange(-4, len(program.image) + 4)) & reading.MASK
+        address = random.choice((address, address, address, 0, 1 << 63, reading.MASK))
+        kind = random.choice((b"t", b"T", b"T", b"w", b"W", b"d", b"B", b"", b"tt"))
+        name = random.choice((b"main", b"a b", b"", b" x", b"_start", b"\xff\x80", b"x<+>"))
+        end = random.choice((b"\n", b"\n", b"\n", b"\r\n", b"", b"\r"))
+        digits = random.choice((b"%x", b"%X", b"%016x", b"0x%x", b"%017x")) % address
+        made.append(digits + random.choice((b" ", b" ", b" ", b"  ", b"\t")) + kind + b" " + name + end)
+    return b"".join(made)
