@@ -14,7 +14,7 @@ use Rattle.subcommands.specs.Kind.{IsCheck}
 use Rattle.subcommands.specs.Limits.{longest_period}
 use Rattle.subcommands.specs.declared.words.Asked.{Asked}
 use Rattle.subcommands.specs.declared.words.Asked.TheVariants.{Audit, Bench, Check, Decode, Dump, Encode, Listing}
-use Rattle.subcommands.specs.declared.words.Asked.TheVariants.{Measure, Replay}
+use Rattle.subcommands.specs.declared.words.Asked.TheVariants.{Measure, Replay, Salvage}
 
 -- The first value of an argument, or no text where it has none.
 abbrev pub text_of : Text → List Row → Text
@@ -109,6 +109,9 @@ Asks name rows (Measure asked) = (name ≡ codes "measure")
 Asks name rows (Listing asked) = (name ≡ codes "list")
     × (asked.base.now ≡ text_of (codes "base") rows) × IsHarts (one_of (codes "harts") rows) asked.harts
     × (option_map (λ path. path.now) asked.symbols ≡ first_of (codes "symbols") rows)
+    × (asked.image.now ≡ text_of (codes "IMAGE") rows) × (asked.capture.now ≡ text_of (codes "CAPTURE") rows)
+Asks name rows (Salvage asked) = (name ≡ codes "salvage")
+    × (asked.base.now ≡ text_of (codes "base") rows) × IsHarts (one_of (codes "harts") rows) asked.harts
     × (asked.image.now ≡ text_of (codes "IMAGE") rows) × (asked.capture.now ≡ text_of (codes "CAPTURE") rows)
 
 -- A subcommand with its rows was found, and it is what is asked.

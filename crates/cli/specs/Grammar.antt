@@ -53,10 +53,14 @@ measure_app = with_arguments (codes "measure") (base_rule ∷ period_rule ∷ fu
 abbrev pub list_app : App
 list_app = with_arguments (codes "list") (base_rule ∷ harts_rule ∷ symbols_rule ∷ image_rule ∷ capture_rule ∷ [])
 
+-- `salvage --base B [--harts N] IMAGE CAPTURE`.
+abbrev pub salvage_app : App
+salvage_app = with_arguments (codes "salvage") (base_rule ∷ harts_rule ∷ image_rule ∷ capture_rule ∷ [])
+
 -- The program's subcommands, in the order in which help lists them.
 abbrev pub all_apps : List App
 all_apps = check_app ∷ encode_app ∷ dump_app ∷ decode_app ∷ replay_app ∷ bench_app ∷ audit_app ∷ measure_app ∷
-    list_app ∷ []
+    list_app ∷ salvage_app ∷ []
 
 -- The program without its subcommands, one of which has to be there. It has a version.
 abbrev pub bare_program : App

@@ -15,7 +15,7 @@ use payload::Mode;
 use std::alloc::{AllocError, Global};
 use subcommands::{
     Asked, Audit, Bench, Check, Decode, Dump, Encode, Listing, Measure, Replay, SHORTEST_PERIOD,
-    SMALLEST_CAPACITY,
+    SMALLEST_CAPACITY, Salvage,
 };
 
 /// The period where the words give none.
@@ -225,6 +225,18 @@ fn list_asked<'a>(given: &ArgMatches<'a>) -> Asked<'a>
     })
 }
 
+/// What was asked of `salvage`.
+fn salvage_asked<'a>(given: &ArgMatches<'a>) -> Asked<'a>
+    ensures { Asks (codes "salvage") (rows_of (found_of given.now)) result }
+{
+    Asked::Salvage(Salvage {
+        base: text(given, "base"),
+        harts: harts(given),
+        image: text(given, "IMAGE"),
+        capture: text(given, "CAPTURE"),
+    })
+}
+
 /// What was asked of the subcommand with this name.
 fn asked_of<'a>(alloc: Global, name: &str, given: &ArgMatches<'a>) -> Result<Asked<'a>, AllocError>
     requires { IsSubcommand name.now }
@@ -240,6 +252,7 @@ fn asked_of<'a>(alloc: Global, name: &str, given: &ArgMatches<'a>) -> Result<Ask
         "audit" => Ok(audit_asked(given)),
         "measure" => measure_asked(alloc, given),
         "list" => Ok(list_asked(given)),
+        "salvage" => Ok(salvage_asked(given)),
         _ => unreachable!("clap knows no other subcommand"),
     }
 }

@@ -5,11 +5,12 @@ ghost use Rattle.std.specs.List.{AllZip};
 ghost use Rattle.arguments.specs.Rules.{IsReadBy};
 ghost use Rattle.clap.specs.Words.{Rule};
 ghost use Rattle.cli.specs.Grammar.{HasGrammar, all_apps, audit_app, bench_app, check_app, decode_app, dump_app};
-ghost use Rattle.cli.specs.Grammar.{encode_app, list_app, measure_app, program_app, replay_app, with_arguments};
+ghost use Rattle.cli.specs.Grammar.{encode_app, list_app, measure_app, program_app, replay_app, salvage_app};
+ghost use Rattle.cli.specs.Grammar.{with_arguments};
 
 use crate::help::{
     AUDIT_EXAMPLE, BENCH_EXAMPLE, CHECK_EXAMPLE, DECODE_EXAMPLE, DUMP_EXAMPLE, ENCODE_EXAMPLE,
-    EXIT_STATUSES, LIST_EXAMPLE, MEASURE_EXAMPLE, REPLAY_EXAMPLE, VERSION,
+    EXIT_STATUSES, LIST_EXAMPLE, MEASURE_EXAMPLE, REPLAY_EXAMPLE, SALVAGE_EXAMPLE, VERSION,
 };
 use arguments::{
     base, capacity, capture, explain, full, harts, hex, image, logs, lossy, period, received,
@@ -202,6 +203,20 @@ fn list<'a>(alloc: Global) -> Result<Command<'a>, AllocError>
     )
 }
 
+/// The words that `salvage` takes.
+fn salvage<'a>(alloc: Global) -> Result<Command<'a>, AllocError>
+    ensures { IfOk result (HasGrammar salvage_app) }
+{
+    let args = vec![in alloc; base(alloc), harts(alloc), image(alloc), capture(alloc)]?;
+    subcommand(
+        alloc,
+        "salvage",
+        "Write what is left of the log of each hart after any damage to a capture",
+        SALVAGE_EXAMPLE,
+        args,
+    )
+}
+
 /// The program's subcommands, in the order in which help lists them.
 fn all_subcommands<'a>(alloc: Global) -> Result<Vec<Command<'a>>, AllocError>
     ensures { IfOk result (λ commands. AllZip HasGrammar all_apps commands.items) }
@@ -216,6 +231,7 @@ fn all_subcommands<'a>(alloc: Global) -> Result<Vec<Command<'a>>, AllocError>
         audit(alloc)?,
         measure(alloc)?,
         list(alloc)?,
+        salvage(alloc)?,
     ]?;
     Ok(subcommands)
 }

@@ -59,3 +59,8 @@ Example:
 pub(crate) const LIST_EXAMPLE: &str = "\
 Example:
   tracebench list --base 80000000 examples/loop/image.bin examples/loop/log.capture";
+
+/// What the help of `salvage` ends with.
+pub(crate) const SALVAGE_EXAMPLE: &str = "\
+Example:
+  tracebench salvage --base 80000000 examples/loop/image.bin examples/loop/log.capture";

@@ -5,6 +5,7 @@ use Rattle.message.specs.Version.{most_harts}
 use Rattle.message.specs.declared.header.Version.TheVariants.{Two}
 use Rattle.subcommands.specs.declared.words.Asked.{Asked}
 use Rattle.subcommands.specs.declared.words.Asked.TheVariants.{Bench, Decode, Encode, Listing, Measure, Replay}
+use Rattle.subcommands.specs.declared.words.Asked.TheVariants.{Salvage}
 
 -- The most retirements from one periodic synchronisation to the next.
 abbrev pub longest_period : ℕ
@@ -20,4 +21,5 @@ IsWithinLimits (Bench asked) =
     (1 ≤ asked.period) × (asked.period ≤ longest_period) × (1 ≤ asked.capacity) × (asked.capacity ≤ most_capacity)
 IsWithinLimits (Measure asked) = (1 ≤ asked.period) × (asked.period ≤ longest_period)
 IsWithinLimits (Listing asked) = (1 ≤ asked.harts) × (asked.harts ≤ most_harts Two)
+IsWithinLimits (Salvage asked) = (1 ≤ asked.harts) × (asked.harts ≤ most_harts Two)
 IsWithinLimits _ = Unit {0}

@@ -6,4 +6,6 @@ mod limits;
 mod words;
 
 pub use limits::{LONGEST_PERIOD, SHORTEST_PERIOD, SMALLEST_CAPACITY};
-pub use words::{Asked, Audit, Bench, Check, Decode, Dump, Encode, Listing, Measure, Replay};
+pub use words::{
+    Asked, Audit, Bench, Check, Decode, Dump, Encode, Listing, Measure, Replay, Salvage,
+};

@@ -134,6 +134,19 @@ pub struct Listing<'a> {
     pub capture: &'a str,
 }
 
+/// `salvage --base B [--harts N] IMAGE CAPTURE`: what is left of the log of each hart after any damage to a capture.
+#[derive(Debug, Drop)]
+pub struct Salvage<'a> {
+    /// The address of the image's first byte, not yet read as a number.
+    pub base: &'a str,
+    /// The count of harts of a capture with no header, 1 to 1024.
+    pub harts: u16,
+    /// The path of the image.
+    pub image: &'a str,
+    /// The path of the capture.
+    pub capture: &'a str,
+}
+
 /// A subcommand with its files and options, as texts of the words.
 #[derive(Debug, Drop)]
 pub enum Asked<'a> {
@@ -155,4 +168,6 @@ pub enum Asked<'a> {
     Measure(Measure<'a>),
     /// A run of `list`.
     Listing(Listing<'a>),
+    /// A run of `salvage`.
+    Salvage(Salvage<'a>),
 }

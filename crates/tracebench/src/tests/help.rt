@@ -18,6 +18,7 @@ $ tracebench --help
 !   audit    Compare a capture that came with the one that was sent, message by message
 !   measure  Count the packets and bytes that logs take, as CSV
 !   list     List what each message of a capture says and settles
+!   salvage  Write what is left of the log of each hart after any damage to a capture
 !   help     Print this message or the help of the given subcommand(s)
 !
 ! Options:
@@ -213,5 +214,22 @@ $ tracebench list --help
 !
 ! Example:
 !   tracebench list --base 80000000 examples/loop/image.bin examples/loop/log.capture
+? 2
+$ tracebench salvage --help
+! Write what is left of the log of each hart after any damage to a capture
+!
+! Usage: tracebench salvage [OPTIONS] --base <B> <IMAGE> <CAPTURE>
+!
+! Arguments:
+!   <IMAGE>    File of the program's bytes
+!   <CAPTURE>  File of trace messages
+!
+! Options:
+!       --base <B>   Address of the image's first byte, in hexadecimal
+!       --harts <N>  How many harts a capture of version 1 may have, 1 to 1024 [default: 1]
+!   -h, --help       Print help
+!
+! Example:
+!   tracebench salvage --base 80000000 examples/loop/image.bin examples/loop/log.capture
 ? 2
 "#;

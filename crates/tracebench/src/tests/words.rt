@@ -5,7 +5,7 @@ pub(crate) const TEXT: &str = r#"
 # No subcommand, and one that does not exist.
 % tracebench
 ! error: 'tracebench' requires a subcommand but one was not provided
-!   [subcommands: check, encode, dump, decode, replay, bench, audit, measure, list, help]
+!   [subcommands: check, encode, dump, decode, replay, bench, audit, measure, list, salvage, help]
 !
 ! Usage: tracebench <COMMAND>
 !
@@ -267,6 +267,31 @@ pub(crate) const TEXT: &str = r#"
 !   <CAPTURE>
 !
 ! Usage: tracebench list --base <B> <IMAGE> <CAPTURE>
+!
+! For more information, try '--help'.
+
+# `salvage`: its count of harts, and what it does not take.
+% tracebench salvage --base 80000000 image.bin run.capture
+> Salvage(Salvage { base: "80000000", harts: 1, image: "image.bin", capture: "run.capture" })
+% tracebench salvage --harts 1024 --base 0 image.bin run.capture
+> Salvage(Salvage { base: "0", harts: 1024, image: "image.bin", capture: "run.capture" })
+% tracebench salvage --base 0 --harts 1025 image.bin run.capture
+! error: invalid value '1025' for '--harts <N>': 1025 is not in 1..=1024
+!
+! For more information, try '--help'.
+% tracebench salvage --base 0 --lossy image.bin run.capture
+! error: unexpected argument '--lossy' found
+!
+!   tip: to pass '--lossy' as a value, use '-- --lossy'
+!
+! Usage: tracebench salvage --base <B> <IMAGE> <CAPTURE>
+!
+! For more information, try '--help'.
+% tracebench salvage --base 0 image.bin
+! error: the following required arguments were not provided:
+!   <CAPTURE>
+!
+! Usage: tracebench salvage --base <B> <IMAGE> <CAPTURE>
 !
 ! For more information, try '--help'.
 "#;

@@ -16,7 +16,13 @@ returns c =
             c.in_ok-decode.ensures,
             (
               c.in_ok-replay.ensures,
-              (c.in_ok-bench.ensures, (c.in_ok-audit.ensures, (c.in_ok-measure.ensures, (c.in_ok-list.ensures, tt)))),
+              (
+                c.in_ok-bench.ensures,
+                (
+                  c.in_ok-audit.ensures,
+                  (c.in_ok-measure.ensures, (c.in_ok-list.ensures, (c.in_ok-salvage.ensures, tt))),
+                ),
+              ),
             ),
           ),
         ),
