@@ -25,4 +25,4 @@ pub use in_memory::read_log_from_slice;
 pub use itype::{ITYPE_NOT_TAKEN, ITYPE_OTHER, ITYPE_TAKEN, ITYPE_TRAP_RETURN, ITYPE_UNINFERABLE};
 pub use laws::{plain_is_parted, read_is_in_range, written_is_plain, written_is_read_back};
 pub use read::{MOST_ROWS, read_log};
-pub use write::write_log;
+pub use write::{LOG_ROOM, write_log, write_log_in};
