@@ -1,6 +1,6 @@
 -- Captures that are read whole, and those that are not.
 use Rattle.std.proofs.Common.{◌≡◌, ℕ, All, List, [], ◌∷◌, ◌++◌, Option, Some, None}
-use Rattle.std.proofs.Common.{refl, sym, ap, subst, ◌∙◌, append-nil}
+use Rattle.std.proofs.Common.{refl, sym, ap, subst, ◌∙◌, ◌⊎◌, inl, inr, append-nil, length}
 use Rattle.std.specs.Prelude.{IfSome}
 use Rattle.std.proofs.lemmas.List.{append_cancel_left}
 use Rattle.std.proofs.lemmas.List.Elements.{All-push}
@@ -17,8 +17,8 @@ use Rattle.captures.proofs.Elements.{All-behind}
 use Rattle.captures.proofs.HeaderFaults.{has_header, marked_by}
 use Rattle.captures.proofs.Reaching.{capture_next}
 use Rattle.captures.specs.NoMessage.{BeginsNone, BeginsNoHeader}
-use Rattle.captures.specs.Whole.{AtHeader, AtMessage, BeginsWith, IsReadFault, IsWhole}
-use Rattle.captures.specs.steps.Reading.{AreRead, IsNotRead}
+use Rattle.captures.specs.Whole.{AtHeader, AtMessage, BeginsWith, IsFront, IsReadFault, IsWhole}
+use Rattle.captures.specs.steps.Reading.{AreReadUpTo}
 use Rattle.captures.specs.declared.capture_reading.ReadFault.{ReadFault}
 use Rattle.captures.specs.declared.capture_reading.ReadFault.TheVariants as fault
 
@@ -42,36 +42,37 @@ pub begins_with : (bytes left : List ℕ) (header : Option Header)
 begins_with bytes left None found none stays = (none refl, sym (stays refl))
 begins_with bytes left (Some header) found none stays = found
 
--- What is read behind a header, or without one, is the whole.
-pub whole_of : (bytes left : List ℕ) (header : Option Header) (messages : List Message)
-    → BeginsWith header bytes left → AreRead left messages → IsWhole bytes header messages
-whole_of bytes left None messages begins read =
-    record { ranges = read.0; whole = (begins.0, begins.1 ∙ read.1) }
-whole_of bytes left (Some header) messages begins read =
-    record { ranges = read.0; whole = (begins.0, begins.1 ∙ ap (λ rest. header_bytes header ++ rest) read.1) }
+-- What stands behind a header, or without one, is the whole.
+begins_so : (bytes left behind : List ℕ) (header : Option Header) → BeginsWith header bytes left → left ≡ behind
+    → BeginsWith header bytes behind
+begins_so bytes left behind header begins is = subst (BeginsWith header bytes) is begins
 
--- And so is what stops behind it.
-pub stops_behind : (bytes left : List ℕ) (header : Option Header) (why : ReadFault)
-    → BeginsWith header bytes left → IsNotRead left why → IsReadFault bytes why
-stops_behind bytes left header fault.Memory begins none = tt
-stops_behind bytes left None (fault.Message number why) begins none = AtMessage (record {
-  header = None;
-  messages = none.messages;
-  rest = none.rest;
-  ranges = none.ranges;
-  whole = (begins.0, begins.1 ∙ none.whole);
-  counted = none.counted;
-  stops = none.stops;
+-- What is read behind a header, or without one, is the front of the capture.
+pub front_of : (bytes left : List ℕ) (header : Option Header) (messages : List Message) (stop : Option MessageFault)
+    → BeginsWith header bytes left → AreReadUpTo left messages stop → IsFront bytes header messages stop
+front_of bytes left header messages None begins read =
+    record { ranges = read.0; whole = begins_so bytes left (capture messages) header begins read.1 }
+front_of bytes left header messages (Some why) begins read = inl (record {
+  rest = read.rest;
+  ranges = read.ranges;
+  whole = begins_so bytes left (capture messages ++ read.rest) header begins read.whole;
+  stops = read.stops;
 })
-stops_behind bytes left (Some header) (fault.Message number why) begins none = AtMessage (record {
-  header = Some header;
-  messages = none.messages;
-  rest = none.rest;
-  ranges = none.ranges;
-  whole = (begins.0, begins.1 ∙ ap (λ rest. header_bytes header ++ rest) none.whole);
-  counted = none.counted;
-  stops = none.stops;
+
+-- A capture with such a front is not read whole.
+pub front_stops : (bytes : List ℕ) (header : Option Header) (messages : List Message) (why : MessageFault)
+    → IsFront bytes header messages (Some why) → IsReadFault bytes (fault.Message (length messages) why)
+front_stops bytes header messages why (inl front) = AtMessage (record {
+  header = header;
+  messages = messages;
+  rest = front.rest;
+  ranges = front.ranges;
+  whole = front.whole;
+  counted = refl;
+  stops = front.stops;
 })
+front_stops bytes header messages why (inr none) =
+    AtHeader (record { first = ap length none.no_messages; none = none.none })
 
 -- Bytes begin with one header, or with none.
 same_start : (bytes xs ys : List ℕ) (h k : Option Header) → BeginsWith h bytes xs → BeginsWith k bytes ys

@@ -1,5 +1,5 @@
 -- What the bytes of a capture hold, where all messages are read before one is judged.
-use Rattle.std.specs.Prelude.{ℕ, ◌≡◌, ◌++◌, All, List, Option, Some, None, length}
+use Rattle.std.specs.Prelude.{ℕ, ◌≡◌, ◌⊎◌, ◌++◌, All, List, [], Option, Some, None, length}
 use Rattle.message.specs.Capture.{capture}
 use Rattle.message.specs.Cut.{IsMessage}
 use Rattle.message.specs.Header.{IsHeader, IsMarked, header_bytes}
@@ -20,6 +20,29 @@ BeginsWith (Some header) bytes rest = IsHeader header × (bytes ≡ header_bytes
 pub record IsWhole (bytes : List ℕ) (header : Option Header) (messages : List Message) : Type 0 where
   pub ranges : All IsMessage messages
   pub whole : BeginsWith header bytes (capture messages)
+
+-- The bytes are a header, or none, and these messages, behind which no whole message stands, for this reason.
+pub record IsCutBehind (bytes : List ℕ) (header : Option Header) (messages : List Message) (why : MessageFault)
+    : Type 0 where
+  pub rest : List ℕ
+  pub ranges : All IsMessage messages
+  pub whole : BeginsWith header bytes (capture messages ++ rest)
+  pub stops : BeginsNone rest why
+
+-- The bytes begin as a capture of version 2 does, and their header is cut short or out of range: the reason says
+-- which. There is no header and no message.
+pub record HasNoFront (bytes : List ℕ) (header : Option Header) (messages : List Message) (why : MessageFault)
+    : Type 0 where
+  pub no_header : header ≡ None
+  pub no_messages : messages ≡ []
+  pub none : BeginsNoHeader bytes why
+
+-- The bytes are a header, or none, and these messages, up to the end or to the first place where no header or no whole
+-- message stands, for this reason.
+abbrev pub IsFront : List ℕ → Option Header → List Message → Option MessageFault → Type 0
+IsFront bytes header messages None = IsWhole bytes header messages
+IsFront bytes header messages (Some why) =
+    IsCutBehind bytes header messages why ⊎ HasNoFront bytes header messages why
 
 -- The bytes are a header, or none, and so many messages, behind which no whole message stands, for this reason.
 pub record IsUnread (bytes : List ℕ) (number : ℕ) (why : MessageFault) : Type 0 where

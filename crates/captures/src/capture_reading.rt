@@ -1,14 +1,14 @@
 //! From the bytes of a capture to all of its messages.
 
-ghost use Rattle.std.specs.Prelude.{◌≡◌, IfErr, IfOk, List, Option, Some};
+ghost use Rattle.std.specs.Prelude.{◌≡◌, IfErr, IfOk, List, [], Option, Some};
 ghost use Rattle.message.specs.declared.header.Header.{Header as AnyHeader};
 ghost use Rattle.message.specs.declared.message.Message.{Message as AnyMessage};
 ghost use Rattle.captures.specs.FaultText.{read_fault_text};
-ghost use Rattle.captures.specs.Whole.{IsReadFault, IsWhole};
-ghost use Rattle.captures.specs.steps.Reading.{AreRead, IsNotRead};
+ghost use Rattle.captures.specs.Whole.{IsFront, IsReadFault, IsWhole};
+ghost use Rattle.captures.specs.steps.Reading.{AreReadUpTo};
 
 use message::{Header, Message, MessageFault, Messages};
-use std::alloc::{Allocator, Global};
+use std::alloc::{AllocError, Allocator, Global};
 use std::error::Error;
 use std::fmt;
 
@@ -19,6 +19,17 @@ pub struct WholeCapture<A: Allocator = Global> {
     pub header: Option<Header>,
     /// The messages of all harts, in the order of the capture. None is judged.
     pub messages: Vec<Message, A>,
+}
+
+/// What a capture holds in front of the first place where no whole message stands.
+#[derive(Debug, Drop)]
+pub struct CaptureFront<A: Allocator = Global> {
+    /// The header. A capture of version 1 has none, nor has one whose header is cut short or bad.
+    pub header: Option<Header>,
+    /// The messages of all harts, in the order of the capture. None is judged.
+    pub messages: Vec<Message, A>,
+    /// Why no whole message, or no header, stands behind them, or `None` where the capture ends there.
+    pub stop: Option<MessageFault>,
 }
 
 /// Why a capture is not read whole.
@@ -59,33 +70,59 @@ pub fn read_messages<A: Allocator>(alloc: A, bytes: &[u8]) -> Result<WholeCaptur
     ensures memory { (header : Option AnyHeader) (messages : List AnyMessage) → IsWhole bytes.now header messages
         → IfErr result (λ fault. fault ≡ ReadFault.Memory) }
 {
-    let mut left = Messages::new(bytes);
-    let header = match left.header() {
-        Ok(header) => header,
-        Err(fault) => return Err(ReadFault::Message(0, fault)),
+    let Ok(front) = read_front(alloc, bytes) else {
+        return Err(ReadFault::Memory);
     };
-    let messages = all_messages(alloc, left)?;
-    Ok(WholeCapture { header, messages })
+    match front.stop {
+        Some(why) => Err(ReadFault::Message(front.messages.len() as u64, why)),
+        None => Ok(WholeCapture {
+            header: front.header,
+            messages: front.messages,
+        }),
+    }
 }
 
-/// All messages of these bytes.
-fn all_messages<A: Allocator>(
-    alloc: A,
-    mut left: Messages<'_>,
-) -> Result<Vec<Message, A>, ReadFault>
-    ensures read { IfOk result (λ messages. AreRead left.entry messages.items) }
-    ensures fault { IfErr result (IsNotRead left.entry) }
+/// Reads the messages of a capture, of either version, up to the first place where no whole message stands, and the
+/// header where it has one. Where the header is cut short or bad, there is neither, and that is why reading stops.
+///
+/// No message is judged. The time and the memory that are taken grow with the capture.
+pub fn read_front<A: Allocator>(alloc: A, bytes: &[u8]) -> Result<CaptureFront<A>, AllocError>
+    ensures { IfOk result (λ front. IsFront bytes.now front.header front.messages.items front.stop) }
 {
+    let mut left = Messages::new(bytes);
     let mut messages = Vec::new(alloc);
+    let header = match left.header() {
+        Ok(header) => header,
+        Err(fault) => {
+            return Ok(CaptureFront {
+                header: None,
+                messages,
+                stop: Some(fault),
+            });
+        }
+    };
+    let stop = read_into(&mut messages, left)?;
+    Ok(CaptureFront {
+        header,
+        messages,
+        stop,
+    })
+}
+
+/// Appends the messages that these bytes begin with, up to the first place where no whole message stands. Returns why
+/// none stands there, or `None` at the end of the bytes.
+fn read_into<A: Allocator>(
+    messages: &mut Vec<Message, A>,
+    mut left: Messages<'_>,
+) -> Result<Option<MessageFault>, AllocError>
+    requires { messages.old.items ≡ [] }
+    ensures { IfOk result (AreReadUpTo left.entry messages.new.items) }
+{
     loop {
         match left.next() {
-            Ok(Some(message)) => {
-                if messages.push(message).is_err() {
-                    return Err(ReadFault::Memory);
-                }
-            }
-            Ok(None) => return Ok(messages),
-            Err(fault) => return Err(ReadFault::Message(messages.len() as u64, fault)),
+            Ok(Some(message)) => messages.push(message)?,
+            Ok(None) => return Ok(None),
+            Err(fault) => return Ok(Some(fault)),
         }
     }
 }

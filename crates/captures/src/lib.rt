@@ -2,7 +2,7 @@
 //!
 //! [`encode_capture`] writes the messages of logs as a capture, and [`encode_hex`] as lines of hexadecimal;
 //! [`hex_lines`] writes those of a hart's payloads as such lines. [`decode_capture`] returns the events of each hart of
-//! a capture, [`read_messages`] its messages as they are. [`dump_capture`] writes a line of text for each message.
+//! a capture, [`read_messages`] its messages as they are, [`read_front`] those up to the first place where none stands. [`dump_capture`] writes a line of text for each message.
 #![tactic(auto)]
 
 mod capture_decoding;
@@ -15,7 +15,7 @@ mod outcome;
 mod packet_text;
 
 pub use capture_decoding::decode_capture;
-pub use capture_reading::{ReadFault, WholeCapture, read_messages};
+pub use capture_reading::{CaptureFront, ReadFault, WholeCapture, read_front, read_messages};
 pub use dumping::{Dumped, dump_capture, write_header_line};
 pub use encoding::{encode_capture, encode_hex};
 pub use lines::hex_lines;

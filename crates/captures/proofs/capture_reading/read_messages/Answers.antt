@@ -1,51 +1,23 @@
--- What was read behind a header or without one: by laws on captures, which no tactic finds.
-use Rattle.std.proofs.Common.{Ok, Err, refl, ap, subst}
-use Rattle.std.proofs.lemmas.Result.{err_from_is_err_and}
-use Rattle.message.specs.Header.{HasBadHeader, IsCutHeader}
-use Rattle.captures.proofs.HeaderFaults.{no_header}
-use Rattle.captures.proofs.WholeCaptures.{begins_with, never_both, stops_behind, whole_of, whole_only}
-use Rattle.captures.proofs.capture_reading.read_messages.Goals.{After-all_messages}
+-- What was read is the front of a capture: by laws on captures, which no tactic finds.
+use Rattle.std.proofs.Common.{◌≡◌, arith, length, subst, sym}
+use Rattle.std.proofs.lemmas.Grind.{common_steps}
+use Rattle.captures.proofs.WholeCaptures.{front_stops, never_both, whole_only}
 use Rattle.captures.proofs.capture_reading.read_messages.Goals as goal
-use Rattle.captures.specs.Whole.{AtHeader, BeginsWith}
+use Rattle.captures.specs.Whole.{IsReadFault}
 use Rattle.captures.specs.declared.capture_reading.ReadFault.TheVariants as fault
 
--- What stands in front of the messages.
-begins : (g : _) (c : After-all_messages g) → BeginsWith c.in-Ok.header c.args.bytes.now c.header.new.self
-begins g c =
-    let ensured = c.in-Ok.ensures in
-    subst (λ bytes. BeginsWith c.in-Ok.header bytes c.header.new.self) c.new-left.ensures
-    (begins_with c.new-left.result c.header.new.self c.in-Ok.header ensured.header
-    (λ is. ensured.none.0 (ap (λ h. Ok h) is)) (λ is. ensured.stays (ap (λ h. Ok h) is)))
+pub returns-in-Some-clause-memory : goal.returns-in-Some-clause-memory
+returns-in-Some-clause-memory g c = λ header messages whole.
+    let bytes = c.args.bytes.now in
+    let front = c.in-Ok.front in
+    let why = c.in-Some.why in
+    let count : c.len.result ≡ length front.messages.items = grind (arith, common_steps) in
+    let stops = front_stops bytes front.header front.messages.items why (rw c.in-Some.is at c.in-Ok.ensures) in
+    never_both bytes header messages (fault.Message c.len.result why) whole
+    (subst (λ number. IsReadFault bytes (fault.Message number why)) (sym count) stops)
 
-pub returns-in-Err-clause-memory : goal.returns-in-Err-clause-memory
-returns-in-Err-clause-memory g c = λ header messages whole.
-    let bytes = c.new-left.ensures in
-    let ensured = c.in-Err.ensures in
-    let none =
-    no_header c.args.bytes.now c.in-Err.fault ensured.fault
-    (λ is. subst IsCutHeader bytes (ensured.short.0 (ap (λ f. Err f) is)))
-    (λ is. subst HasBadHeader bytes (ensured.bad_header.0 (ap (λ f. Err f) is))) in
-    never_both c.args.bytes.now header messages (fault.Message 0 c.in-Err.fault) whole
-    (AtHeader (record { first = refl; none = none }))
-
-pub returns-clause-reads_back : goal.returns-clause-reads_back
-returns-clause-reads_back g c = λ header messages whole.
-    whole_only c.args.bytes.now c.in-Ok.header header c.in_ok-messages.messages.items messages
-    (whole_of c.args.bytes.now c.header.new.self c.in-Ok.header c.in_ok-messages.messages.items
-    (begins g (goal.at.returns-clause-reads_back g c).After-all_messages)
-    c.in_ok-messages.ensures.read) whole
-
-pub returns-in_err-messages-clause-fault : goal.returns-in_err-messages-clause-fault
-returns-in_err-messages-clause-fault g c =
-    let made = err_from_is_err_and c.from_residual.result c.from_residual.ensures.1 in
-    rw (made.1, made.2) (stops_behind c.args.bytes.now c.header.new.self c.in-Ok.header c.in_err-messages.field-0.0
-    (begins g (goal.at.returns-in_err-messages-clause-fault g c).After-all_messages)
-    c.in_err-messages.ensures.fault)
-
-pub returns-in_err-messages-clause-memory : goal.returns-in_err-messages-clause-memory
-returns-in_err-messages-clause-memory g c = λ header messages whole.
-    let made = err_from_is_err_and c.from_residual.result c.from_residual.ensures.1 in
-    rw (made.1, made.2) (never_both c.args.bytes.now header messages c.in_err-messages.field-0.0 whole
-    (stops_behind c.args.bytes.now c.header.new.self c.in-Ok.header c.in_err-messages.field-0.0
-    (begins g (goal.at.returns-in_err-messages-clause-memory g c).After-all_messages)
-    c.in_err-messages.ensures.fault))
+pub returns-in-None-clause-reads_back : goal.returns-in-None-clause-reads_back
+returns-in-None-clause-reads_back g c = λ header messages whole.
+    let front = c.in-Ok.front in
+    whole_only c.args.bytes.now front.header header front.messages.items messages
+    (rw c.in-None.is at c.in-Ok.ensures) whole

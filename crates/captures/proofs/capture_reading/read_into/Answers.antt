@@ -3,7 +3,7 @@ use Rattle.std.proofs.Common.{◌≡◌, ◌∷◌, ◌++◌, [], sym, subst, ar
 use Rattle.std.proofs.lemmas.Grind.{common_steps}
 use Rattle.captures.proofs.FoundInFront.{in_front}
 use Rattle.captures.proofs.WholeCaptures.{HasRead, read_next}
-use Rattle.captures.proofs.capture_reading.all_messages.Goals as goal
+use Rattle.captures.proofs.capture_reading.read_into.Goals as goal
 
 pub loop-message-preserved : goal.loop-message-preserved
 loop-message-preserved g c =
