@@ -4,4 +4,6 @@ pub mod Decoding
 pub mod Pieces
 pub mod Decoded
 pub mod Listed
+pub mod SalvagedText
+pub mod Salvaging
 pub mod steps

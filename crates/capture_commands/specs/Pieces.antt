@@ -25,10 +25,14 @@ use Rattle.command_inputs.specs.declared.status.Status.TheVariants.{NotWhole}
 use Rattle.capture_commands.specs.Decoding.{end_of_harts}
 use Rattle.capture_commands.specs.EachHart.{each_hart}
 
+-- The line of a count of messages, behind what they are.
+abbrev pub messages_line : List ℕ → ℕ → List ℕ
+messages_line name count = name ++ (codes ": " ++ (decimal count ++ codes " messages\n"))
+
 -- The line of a gap, with how many numbers are missing; or the line of a stretch, with how many events it has, and the
 -- text of their log.
 abbrev pub part_text : LogPart → List ℕ
-part_text (Missing count) = codes "gap: " ++ (decimal count ++ codes " messages\n")
+part_text (Missing count) = messages_line (codes "gap") count
 part_text (Events events) = (codes "stretch: " ++ (decimal (length events) ++ codes " events\n")) ++ log_text events
 
 -- The texts of the parts of a hart's log, in order.
@@ -52,7 +56,7 @@ is_gap (Events events) = false
 abbrev pub have_gaps : List (List LogPart) → Bool
 have_gaps harts = list_any (list_any is_gap) harts
 
--- A fault stays the end. Without one, all is done only where there are no gaps.
+-- A fault stays the end. Without one, all is done only where there are no gaps or other losses.
 abbrev pub end_with_gaps : Bool → Result Status Fault → Result Status Fault
 end_with_gaps gaps (Err why) = Err why
 end_with_gaps true (Ok status) = Ok NotWhole

@@ -1,6 +1,6 @@
 //! The subcommands of `tracebench` that read a capture: [`dump`] writes a line for each message, [`decode`] the logs
-//! that the messages settle, also where messages may be lost, and [`list`] a line for each message that says what the
-//! message does.
+//! that the messages settle, also where messages may be lost, [`list`] a line for each message that says what the
+//! message does, and [`salvage`] what is left of the logs after any damage.
 #![tactic(auto)]
 
 mod decoding;
@@ -8,7 +8,11 @@ mod dumping;
 mod ending;
 mod lossy_decoding;
 mod message_listing;
+mod messages_line;
+mod salvaged_writing;
+mod salvaging_capture;
 
 pub use decoding::decode;
 pub use dumping::dump;
 pub use message_listing::list;
+pub use salvaging_capture::salvage;

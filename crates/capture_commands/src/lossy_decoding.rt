@@ -15,6 +15,7 @@ ghost use Rattle.capture_commands.specs.Pieces.{ArePieces, HasPieces, WritesPiec
 ghost use Rattle.capture_commands.specs.Pieces.{harts_counted, have_gaps, is_gap, mode_of_header, part_text, parts_of};
 ghost use Rattle.capture_commands.specs.Pieces.{parts_text};
 
+use crate::messages_line::write_messages;
 use captures::read_messages;
 use command_inputs::{Fault, Status};
 use losses::{HartPieces, Part, collect_lossy};
@@ -75,7 +76,7 @@ fn pieces_of<'a>(
 }
 
 /// How many harts a capture has: as many as its header counts, or without a header this many.
-fn harts_counted(harts: u16, header: Option<Header>) -> u16
+pub(crate) fn harts_counted(harts: u16, header: Option<Header>) -> u16
     ensures { result ≡ harts_counted harts header }
 {
     match header {
@@ -86,7 +87,7 @@ fn harts_counted(harts: u16, header: Option<Header>) -> u16
 
 /// The mode of a hart whose packet that opens the trace is lost: the header's, or without a header the differential
 /// one.
-fn mode_of_header(header: Option<Header>) -> Mode
+pub(crate) fn mode_of_header(header: Option<Header>) -> Mode
     ensures { result ≡ mode_of_header header }
 {
     match header {
@@ -148,8 +149,7 @@ fn write_gap<'a, O: Write>(missing: u64, out: &mut O) -> Result<(), Fault<'a>>
     ensures text { OnOk result (Appends (O.contents out.old) (O.contents out.new) (part_text (Missing missing))) }
     ensures begun { AppendsBeginning (part_text (Missing missing)) (O.contents out.old) (O.contents out.new) }
 {
-    write_text(out, format_args!("gap: {missing} messages\n"))?;
-    Ok(())
+    write_messages("gap", missing, out)
 }
 
 /// Writes the line of a stretch, with how many events it has, and their log.

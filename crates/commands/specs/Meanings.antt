@@ -1,7 +1,7 @@
 -- What each subcommand means.
 use Rattle.subcommands.specs.declared.words.Asked.{Asked}
 use Rattle.subcommands.specs.declared.words.Asked.TheVariants.{Audit, Bench, Check, Decode, Dump, Encode, Listing}
-use Rattle.subcommands.specs.declared.words.Asked.TheVariants.{Measure, Replay}
+use Rattle.subcommands.specs.declared.words.Asked.TheVariants.{Measure, Replay, Salvage}
 use Rattle.command_inputs.specs.Meaning.{Meaning}
 use Rattle.log_commands.specs.Benching.{bench_meaning}
 use Rattle.log_commands.specs.Checking.{check_meaning}
@@ -11,6 +11,7 @@ use Rattle.log_commands.specs.Replaying.{replay_meaning}
 use Rattle.capture_commands.specs.Decoded.{decode_meaning}
 use Rattle.capture_commands.specs.Dumping.{dump_meaning}
 use Rattle.capture_commands.specs.Listed.{list_meaning}
+use Rattle.capture_commands.specs.Salvaging.{salvage_meaning}
 use Rattle.path_commands.specs.Audited.{audit_meaning}
 
 -- What the subcommand means that is asked for, with what is asked of it.
@@ -24,3 +25,4 @@ meaning_of (Bench asked) = bench_meaning asked
 meaning_of (Audit asked) = audit_meaning asked
 meaning_of (Measure asked) = measure_meaning asked
 meaning_of (Listing asked) = list_meaning asked
+meaning_of (Salvage asked) = salvage_meaning asked

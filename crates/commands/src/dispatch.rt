@@ -8,7 +8,7 @@ ghost use Rattle.commands.specs.Begun.{IsBegun, IsCutOutput, WritesInParts};
 ghost use Rattle.commands.specs.CarriedOut.{IsCarriedOut};
 ghost use Rattle.commands.specs.Order.{early_fault};
 
-use capture_commands::{decode, dump, list};
+use capture_commands::{decode, dump, list, salvage};
 use command_inputs::{Fault, Files, Status};
 use log_commands::{bench, check, encode, measure, replay};
 use path_commands::audit;
@@ -52,5 +52,6 @@ pub fn carry_out<'a, F: Files, O: Write, R: Threads + Wait + Sync>(
         Asked::Audit(asked) => audit(alloc, files, asked, out),
         Asked::Measure(asked) => measure(alloc, files, asked, out),
         Asked::Listing(asked) => list(alloc, files, asked, out),
+        Asked::Salvage(asked) => salvage(alloc, files, asked, out),
     }
 }

@@ -7,7 +7,7 @@
 
 mod dispatch;
 
-pub use capture_commands::{decode, dump, list};
+pub use capture_commands::{decode, dump, list, salvage};
 pub use command_inputs::{Fault, FileFault, Files, Status, report_error};
 pub use dispatch::carry_out;
 pub use log_commands::{bench, check, encode, measure, replay};

@@ -3,13 +3,14 @@ use Rattle.std.proofs.Common.{◌≡◌, ◌≢◌, ◌∙◌, ◌⊎◌, ℕ, L
 use Rattle.std.proofs.Common.{subst, sym}
 use Rattle.subcommands.specs.declared.words.Asked.{Asked}
 use Rattle.subcommands.specs.declared.words.Asked.TheVariants.{Audit, Bench, Check, Decode, Dump, Encode, Listing}
-use Rattle.subcommands.specs.declared.words.Asked.TheVariants.{Measure, Replay}
+use Rattle.subcommands.specs.declared.words.Asked.TheVariants.{Measure, Replay, Salvage}
 use Rattle.log_commands.specs.Benching.{BenchesLogs}
 use Rattle.commands.specs.CarriedOut.{IsCarriedOut}
 use Rattle.log_commands.specs.Checking.{WritesLines}
 use Rattle.capture_commands.specs.Decoded.{WritesLogs}
 use Rattle.capture_commands.specs.Dumping.{WritesDump}
 use Rattle.capture_commands.specs.Listed.{WritesListing}
+use Rattle.capture_commands.specs.Salvaging.{WritesSalvaged}
 use Rattle.log_commands.specs.Encoding.{WritesMessages}
 use Rattle.command_inputs.specs.Faults.{Path, final_status, status_of}
 use Rattle.command_inputs.specs.Finding.{After, IsFoundFrom}
@@ -135,6 +136,13 @@ not_ended (Listing asked) status old new done =
     First (AreSymbols none asked.symbols) (λ symbols. First (IsRead none asked.capture)
     (WritesListing asked.harts program symbols))) printed status refl
     (λ program made listing. no_program base asked.image program made) prints) done.prints
+not_ended (Salvage asked) status old new done =
+    let printed : Printed = record { text = done.text; ended = Ok status } in
+    not_first (IsBase asked.base.now) (λ base. First (IsProgramAt none base asked.image) (λ program.
+    First (IsRead none asked.capture) (WritesSalvaged asked.harts program))) printed status refl
+    (λ base is prints. not_first (IsProgramAt none base asked.image) (λ program.
+    First (IsRead none asked.capture) (WritesSalvaged asked.harts program)) printed status refl
+    (λ program made left. no_program base asked.image program made) prints) done.prints
 
 -- No fault ends with status 0.
 faulty : (why : Fault) → code_of (status_of why) ≢ 0

@@ -10,7 +10,7 @@ use std::sync::Wait;
 use std::thread::Threads;
 
 /// A line of words for each subcommand. The first file of each is `image.bin`.
-pub(crate) const LINES: [&str; 7] = [
+pub(crate) const LINES: [&str; 8] = [
     "tracebench check --base 80000000 image.bin log.csv",
     "tracebench encode --base 80000000 image.bin log.csv",
     "tracebench dump image.bin",
@@ -18,6 +18,7 @@ pub(crate) const LINES: [&str; 7] = [
     "tracebench list --base 80000000 image.bin log.capture",
     "tracebench replay --base 80000000 image.bin turns.txt log.csv",
     "tracebench bench --base 80000000 image.bin log.csv",
+    "tracebench salvage --base 80000000 image.bin log.capture",
 ];
 
 /// Runs the program of these words where there is no file: whatever they ask for, it is not done.

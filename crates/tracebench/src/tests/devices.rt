@@ -98,6 +98,14 @@ $ tracebench list --base 80000000 --symbols names.txt image.bin open.capture
 > 00000000 0 0 open => nothing
 ! tracebench: hart 0: no closing packet
 ? 1
+$ tracebench salvage --base 80000000 image.bin unopened.capture
+> hart 0
+> gap: 1 messages
+> stretch: 1 events, numbers 1 to 1
+> addr,itype,priv,cause,tval
+> 80000000,0,3,,
+! tracebench: hart 0: no closing packet
+? 1
 $ tracebench replay --base 80000000 image.bin empty.txt log.csv
 > hart 0: 2 events, 0 packets, 0 payload bytes, decoded 0, beginning
 > result: not whole

@@ -96,6 +96,25 @@ $ tracebench decode --base 80000000 branch.bin repeated.capture
 $ tracebench decode --base 80000000 --lossy branch.bin repeated.capture
 ! tracebench: message 70001: repeat
 ? 1
+$ tracebench salvage --base 80000000 branch.bin repeated.capture
+> hart 0
+> stretch: 70000 events, numbers 0 to 70000
+>< log.csv
+> copies: 1 messages
+! tracebench: hart 0: no closing packet
+? 1
+
+# The second half comes in front of the first.
+file turned.capture
+|*{35001..70000}~ 0 @ 6300000020
+|~ 0 70001 cf00
+|~ 0 0 1f
+|*{1..35000}~ 0 @ 6300000020
+$ tracebench salvage --base 80000000 branch.bin turned.capture
+> hart 0
+> stretch: 70000 events, numbers 0 to 70001
+>< log.csv
+> late: 35001 messages
 
 # At a period of 280, eight packets map 31 branches each of the 279 retirements behind a synchronisation, and a ninth
 # packet maps the last 31 with the last address.
@@ -173,6 +192,25 @@ $ tracebench decode --base 80000000 --lossy image.bin log.capture
 > gap: 3 messages
 >< stretch.txt
 >*1199< ten.txt
+? 1
+$ tracebench salvage --base 80000000 image.bin log.capture
+> hart 0
+> stretch: 3 events, numbers 0 to 3
+> addr,itype,priv,cause,tval
+>*3 80000000,0,3,,
+> gap: 3 messages
+> stretch: 3 events, numbers 7 to 9
+> addr,itype,priv,cause,tval
+>*3 80000000,0,3,,
+>*{1..1198} gap: 1 messages\nstretch: 3 events, numbers @1 to @3\naddr,itype,priv,cause,tval\n80000000,0,3,,\n80000000,0,3,,\n80000000,0,3,,\ngap: 3 messages\nstretch: 3 events, numbers @7 to @9\naddr,itype,priv,cause,tval\n80000000,0,3,,\n80000000,0,3,,\n80000000,0,3,,
+> gap: 1 messages
+> stretch: 3 events, numbers 11991 to 11993
+> addr,itype,priv,cause,tval
+>*3 80000000,0,3,,
+> gap: 3 messages
+> stretch: 3 events, numbers 11997 to 12000
+> addr,itype,priv,cause,tval
+>*3 80000000,0,3,,
 ? 1
 
 # More numbers are missing at one place than 16 bits count, and the most that may be missing.

@@ -1,0 +1,88 @@
+-- The prover tries no chain of steps by itself: what each step found is handed to it, in order.
+use Rattle.std.proofs.Common.{Err, List, Ok, ap, arith, inr, refl, subst, sym, ℕ, ◌≡◌, ◌∙◌, ◌⊎◌}
+use Rattle.std.proofs.lemmas.Grind.{common_steps}
+use Rattle.std.specs.Prelude.{⊤, IfSome}
+use Rattle.command_inputs.specs.Begun.{IsCutOf}
+use Rattle.command_inputs.specs.Found.{IsBase, IsProgramAt, IsRead}
+use Rattle.command_inputs.specs.Order.{base_fault}
+use Rattle.command_inputs.specs.Printed.{PrintsUnlessDenied}
+use Rattle.command_inputs.specs.declared.fault.Fault.TheVariants as fault
+use Rattle.command_inputs.proofs.Runs.{ends_silently}
+use Rattle.capture_commands.specs.Salvaging.{CanSalvage, Salvages, WritesSalvaged}
+use Rattle.capture_commands.proofs.SalvageRuns.{capture_cut, capture_printed}
+use Rattle.capture_commands.proofs.salvaging_capture.salvage.Goals as goal
+
+pub returns-in_err-base-clause-early : goal.returns-in_err-base-clause-early
+returns-in_err-base-clause-early g c =
+    let why = c.in_err-base.field-0.0 in
+    let is : c.from_residual.result ≡ Err why = grind (arith, common_steps) in
+    let none = c.in_err-base.ensures.none in
+    subst (λ number. IfSome (base_fault number) (λ fault. c.from_residual.result ≡ Err fault)) (sym none.1)
+    (is ∙ ap Err none.0)
+
+pub returns-in_err-base-clause-printed : goal.returns-in_err-base-clause-printed
+returns-in_err-base-clause-printed g c =
+    let asked = c.args.asked.now in
+    let content = g.F.Files.content c.args.files.now in
+    let why = c.in_err-base.field-0.0 in
+    let is : c.from_residual.result ≡ Err why = grind (arith, common_steps) in
+    ends_silently (Salvages content asked) (CanSalvage content asked) (IsBase asked.base.now (Err why)) why
+    c.from_residual.result (g.O.Write.contents c.args.out.now) is (inr c.in_err-base.ensures.found)
+    (λ none. (Err why, none, refl))
+
+pub returns-in_err-program-clause-printed : goal.returns-in_err-program-clause-printed
+returns-in_err-program-clause-printed g c =
+    let asked = c.args.asked.now in
+    let content = g.F.Files.content c.args.files.now in
+    let base = c.in_ok-base.base in
+    let why = c.in_err-program.field-0.0 in
+    let is : c.from_residual-in_err-program.result ≡ Err why = grind (arith, common_steps) in
+    ends_silently (Salvages content asked) (CanSalvage content asked) (IsProgramAt content base asked.image (Err why))
+    why c.from_residual-in_err-program.result (g.O.Write.contents c.args.out.now) is c.in_err-program.ensures.fault
+    (λ none. (Ok base, c.in_ok-base.ensures.found, (Err why, none, refl)))
+
+pub returns-in_err-bytes-clause-printed : goal.returns-in_err-bytes-clause-printed
+returns-in_err-bytes-clause-printed g c =
+    let asked = c.args.asked.now in
+    let content = g.F.Files.content c.args.files.now in
+    let base = c.in_ok-base.base in
+    let program = c.in_ok-program.program in
+    let why = c.in_err-bytes.field-0.0 in
+    let is : c.from_residual-in_err-bytes.result ≡ Err why = grind (arith, common_steps) in
+    let lacked = subst (λ known. (why ≡ fault.Memory) ⊎ IsRead known asked.capture (Err why))
+    c.in_ok-program.ensures.kept c.in_err-bytes.ensures.lacked in
+    ends_silently (Salvages content asked) (CanSalvage content asked) (IsRead content asked.capture (Err why)) why
+    c.from_residual-in_err-bytes.result (g.O.Write.contents c.args.out.now) is lacked
+    (λ none. (
+      Ok base,
+      c.in_ok-base.ensures.found,
+      (Ok program, c.in_ok-program.ensures.program, (Err why, none, refl)),
+    ))
+
+pub returns-clause-printed : goal.returns-clause-printed
+returns-clause-printed g c =
+    let asked = c.args.asked.now in
+    let content = g.F.Files.content c.args.files.now in
+    let program = c.in_ok-program.program in
+    let old = g.O.Write.contents c.args.out.now in
+    let new = g.O.Write.contents c.salvage_capture.new.out in
+    let read = subst (λ known. IsRead known asked.capture (Ok c.in_ok-bytes.bytes.items)) c.in_ok-program.ensures.kept
+    c.in_ok-bytes.ensures.held in
+    capture_printed content asked c.in_ok-base.base program c.in_ok-bytes.bytes.items c.in_ok-base.ensures.found
+    c.in_ok-program.ensures.program read c.salvage_capture.result old new
+    (subst (λ bytes. PrintsUnlessDenied (WritesSalvaged asked.harts program bytes) ⊤ c.salvage_capture.result old new)
+    c.as_slice.ensures.value c.salvage_capture.ensures.printed)
+
+pub returns-clause-cut : goal.returns-clause-cut
+returns-clause-cut g c =
+    let asked = c.args.asked.now in
+    let content = g.F.Files.content c.args.files.now in
+    let program = c.in_ok-program.program in
+    let old = g.O.Write.contents c.args.out.now in
+    let new = g.O.Write.contents c.salvage_capture.new.out in
+    let read = subst (λ known. IsRead known asked.capture (Ok c.in_ok-bytes.bytes.items)) c.in_ok-program.ensures.kept
+    c.in_ok-bytes.ensures.held in
+    capture_cut content asked c.in_ok-base.base program c.in_ok-bytes.bytes.items c.in_ok-base.ensures.found
+    c.in_ok-program.ensures.program read old new
+    (subst (λ bytes. IsCutOf (WritesSalvaged asked.harts program bytes) old new) c.as_slice.ensures.value
+    c.salvage_capture.ensures.cut)
