@@ -3,3 +3,4 @@ pub mod logs
 pub mod lossy
 pub mod packets
 pub mod runs
+pub mod salvaged

@@ -1,8 +1,9 @@
 //! Messages of several harts and the captures that hold them: writing, reading, dumping, decoding.
 
 pub use captures::{
-    CaptureFault, CaptureOutcome, Dumped, ReadFault, ReadingText, WholeCapture, decode_capture,
-    dump_capture, encode_capture, encode_hex, hex_lines, read_messages, write_header_line,
+    CaptureFault, CaptureFront, CaptureOutcome, Dumped, ReadFault, ReadingText, WholeCapture,
+    decode_capture, dump_capture, encode_capture, encode_hex, hex_lines, read_front, read_messages,
+    write_header_line,
 };
 pub use message::{
     Demux, DemuxFault, Header, MOST_HARTS, Message, MessageFault, Messages, Start, Version,

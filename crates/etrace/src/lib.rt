@@ -1,4 +1,5 @@
-//! The bench as one library, under one roof: programs and logs, packets, captures, the funnel, and what losses leave.
+//! The bench as one library, under one roof: programs and logs, packets, captures, the funnel, and what losses and
+//! damages leave.
 //!
 //! From a log to a capture and back, where `alloc` is the allocator, `image` the program's bytes and `text` the log's:
 //!
@@ -18,8 +19,8 @@
 //! `decoded.harts` are then the events of the logs, unless `decoded.fault` says that memory was refused: so says the
 //! contract of [`decode_capture`](capture::decode_capture). The program `two_harts` does this over files.
 //!
-//! Each module re-exports what a caller wants together: [`logs`], [`packets`], [`capture`], [`runs`] and [`lossy`];
-//! [`laws`] has the theorems that no call carries. The crate has no code of its own. The definitions that the contracts
+//! Each module re-exports what a caller wants together: [`logs`], [`packets`], [`capture`], [`runs`], [`lossy`] and
+//! [`salvaged`]; [`laws`] has the theorems that no call carries. The crate has no code of its own. The definitions that the contracts
 //! cite are re-exported too: a crate above names them as `Rattle.etrace.specs.MODULE.FILE`, and the types as
 //! `Rattle.etrace.specs.declared.MODULE.TYPE`.
 #![tactic(auto)]
@@ -30,3 +31,4 @@ pub mod logs;
 pub mod lossy;
 pub mod packets;
 pub mod runs;
+pub mod salvaged;

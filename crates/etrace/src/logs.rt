@@ -8,6 +8,7 @@ pub use legalpath::{
 };
 pub use retire::{
     Event, ITYPE_NOT_TAKEN, ITYPE_OTHER, ITYPE_TAKEN, ITYPE_TRAP_RETURN, ITYPE_UNINFERABLE,
-    LogFault, MOST_ROWS, WriteFault, number, read_log, read_log_from_slice, write_log,
+    LOG_ROOM, LogFault, MOST_ROWS, WriteFault, number, read_log, read_log_from_slice, write_log,
+    write_log_in,
 };
 pub use rvclass::{Class, Instruction, Program, ProgramFault, Return};

@@ -21,6 +21,8 @@ mod packets;
 #[cfg(test)]
 mod refused_captures;
 #[cfg(test)]
+mod salvaged;
+#[cfg(test)]
 mod same;
 #[cfg(test)]
 mod whole_captures;

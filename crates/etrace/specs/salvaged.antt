@@ -1,0 +1,11 @@
+-- What the contract on damaged messages cites.
+pub use Rattle.salvaging.specs.Strangers
+pub use Rattle.salvaging.specs.Entries
+pub use Rattle.salvaging.specs.Copies
+pub use Rattle.salvaging.specs.LeftParts
+pub use Rattle.salvaging.specs.Bad
+pub use Rattle.salvaging.specs.ReasonText
+pub use Rattle.salvaging.specs.Leaving
+pub use Rattle.salvaging.specs.Late
+pub use Rattle.salvaging.specs.PartsIn
+pub use Rattle.salvaging.specs.Salvaged

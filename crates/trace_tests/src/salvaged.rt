@@ -1,0 +1,5 @@
+//! What is left of logs whatever befell their messages (`salvaging`).
+
+mod orders;
+mod random;
+mod rows;
