@@ -1,0 +1,9 @@
+pub mod ListedMessages
+pub mod TakenMessages
+pub mod Reaching
+pub mod NothingListed
+pub mod Parts
+pub mod LastPlaces
+pub mod LineParts
+pub mod AddedParts
+mod WorkedLines

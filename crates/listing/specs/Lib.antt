@@ -1,0 +1,6 @@
+pub mod Effect
+pub mod EffectText
+pub mod Lines
+pub mod Listing
+pub mod Begun
+pub mod steps

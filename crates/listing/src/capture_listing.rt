@@ -1,0 +1,247 @@
+//! Listing a whole capture.
+
+ghost use Rattle.std.specs.Prelude.{ℕ, ◌≡◌, ◌+◌, ◌<◌, ◌^◌, [], false, Err, IfErr, IfOk, OnErr, OnOk, Some, length};
+ghost use Rattle.std.specs.Prelude.{option_map, replicate};
+ghost use Rattle.std.specs.Io.KnownBytes.{Appends};
+ghost use Rattle.output.specs.Begun.{AppendsBeginning};
+ghost use Rattle.rvclass.specs.Fetch.{words_of};
+ghost use Rattle.message.specs.Capture.{message_bytes};
+ghost use Rattle.receiver.specs.Holds.{HasReceived};
+ghost use Rattle.listing.specs.Begun.{BeginsPart, IsPartOfListing};
+ghost use Rattle.listing.specs.Listing.{AppendsListing, AreMessagesListed, IsListing};
+ghost use Rattle.listing.specs.steps.Part.{IsPartOfMessages};
+ghost use Rattle.listing.specs.steps.Started.{IsListedBehind, IsPartBehind, announced_by, first_offset, harts_by};
+ghost use Rattle.listing.specs.steps.Started.{start_text};
+
+use crate::lines::write_offset_line;
+use crate::message_listing::list_message;
+use crate::outcome::Listed;
+use captures::{CaptureFault, write_header_line};
+use message::{Header, Message, MessageFault, Messages};
+use payload::Mode;
+use receiver::Receiver;
+use retire::WriteFault;
+use rvclass::Program;
+use std::alloc::Allocator;
+use std::io::Write;
+use symbols::Symbols;
+
+/// The bytes of a capture's header.
+const HEADER_SIZE: u64 = 16;
+
+/// The bytes of a message before its payload.
+const HEAD_SIZE: u64 = 11;
+
+/// Writes what each message of a capture says and settles. Of a capture of version 2 the first line is that of its
+/// header, as [`dump_capture`](captures::dump_capture) writes it. Then comes a line for each message, in the capture's
+/// order: the offset of its first byte in the capture, in 8 hexadecimal digits at least; the line that `dump_capture`
+/// writes for it; ` => `; and what it does.
+///
+/// That is `nothing`, or `1 event, A`, or `N events, A to Z`: the events that it adds to its hart's list, those of a
+/// waiting packet that it settles among them, with the places of the first and of the last. A place is an address or a
+/// trap's exception program counter, in hexadecimal, and what the symbols name it, where symbols are handed in. Then
+/// comes `, waits` where the message's packet waits for the next one of its hart, and `, closed` where it closes its
+/// hart.
+///
+/// The harts are those below the count in the header of a capture of version 2, and else those below `harts`. The lines
+/// end where [`decode_capture`](captures::decode_capture) stops. A message that is refused there has its line too,
+/// without ` => ` and what stands behind it. Where no whole message stands, there is a line of the offset alone. Where
+/// memory was refused for the events of a packet, its message has no line. Where the header is cut short or bad, there
+/// is no line at all.
+///
+/// [`WriteFault::Memory`] comes where memory was refused before anything was written, and [`WriteFault::Write`] where
+/// the writer failed: what was written then is a beginning of the text. The writer is not flushed. Memory is taken for
+/// the events of all harts.
+pub fn list_capture<A: Allocator + Copy, S: Allocator, W: Write>(
+    alloc: A,
+    program: &Program,
+    harts: u16,
+    capture: &[u8],
+    symbols: Option<&Symbols<S>>,
+    sink: &mut W,
+) -> Result<Listed<A>, WriteFault>
+    ensures listed { IfOk result (λ listed. AppendsListing
+        (IsListing (words_of program.now) harts (option_map (λ file. file.now) symbols.entry) capture.now)
+        listed.closed.items listed.fault (W.contents sink.old) (W.contents sink.new)) }
+    ensures begun { OnErr result (BeginsPart
+        (IsPartOfListing (words_of program.now) harts (option_map (λ file. file.now) symbols.entry) capture.now)
+        (W.contents sink.old) (W.contents sink.new)) }
+    ensures memory { result ≡ Err WriteFault.Memory → sink.new ≡ sink.old }
+{
+    let mut messages = Messages::new(capture);
+    match messages.header() {
+        Ok(header) => list_behind(alloc, program, harts, header, messages, symbols, sink),
+        Err(fault) => list_nothing(alloc, harts, fault),
+    }
+}
+
+/// What is found where nothing is listed, for this fault.
+fn list_nothing<A: Allocator>(
+    alloc: A,
+    harts: u16,
+    fault: MessageFault,
+) -> Result<Listed<A>, WriteFault>
+    ensures found { IfOk result (λ listed. (listed.closed.items ≡ replicate harts false)
+        × (listed.fault ≡ Some (0, CaptureFault.Message fault))) }
+    ensures memory { IfErr result (λ fault. fault ≡ WriteFault.Memory) }
+{
+    Ok(Listed {
+        closed: vec![in alloc; false; usize::from(harts)]?,
+        fault: Some((0, CaptureFault::Message(fault))),
+    })
+}
+
+/// Lists the messages behind a header, or those of a capture that has none, and before them the header's line.
+fn list_behind<A: Allocator + Copy, S: Allocator, W: Write>(
+    alloc: A,
+    program: &Program,
+    harts: u16,
+    header: Option<Header>,
+    messages: Messages<'_>,
+    symbols: Option<&Symbols<S>>,
+    sink: &mut W,
+) -> Result<Listed<A>, WriteFault>
+    requires { first_offset header + length messages < 2 ^ 64 }
+    ensures listed { IfOk result (λ listed. AppendsListing (IsListedBehind (words_of program.now) harts header
+        (option_map (λ file. file.now) symbols.entry) messages.entry) listed.closed.items listed.fault
+        (W.contents sink.old) (W.contents sink.new)) }
+    ensures begun { OnErr result (BeginsPart (IsPartBehind (words_of program.now) harts header
+        (option_map (λ file. file.now) symbols.entry) messages.entry) (W.contents sink.old) (W.contents sink.new)) }
+    ensures memory { result ≡ Err WriteFault.Memory → sink.new ≡ sink.old }
+{
+    let mut receiver = Receiver::new(alloc, harts_by(header, harts))?;
+    let fault = list_started(&mut receiver, program, header, messages, symbols, sink)?;
+    let (_, closed) = receiver.into_parts();
+    Ok(Listed { closed, fault })
+}
+
+/// How many harts there are: as many as the header counts, or else as are asked for.
+fn harts_by(header: Option<Header>, harts: u16) -> u16
+    ensures { result ≡ harts_by header harts }
+{
+    match header {
+        Some(header) => header.harts,
+        None => harts,
+    }
+}
+
+/// The mode that the header announces.
+fn announced_by(header: Option<Header>) -> Option<Mode>
+    ensures { result ≡ announced_by header }
+{
+    match header {
+        Some(header) => Some(header.mode),
+        None => None,
+    }
+}
+
+/// The offset of the first message.
+fn first_offset(header: Option<Header>) -> u64
+    ensures { result ≡ first_offset header }
+{
+    match header {
+        Some(_) => HEADER_SIZE,
+        None => 0,
+    }
+}
+
+/// Writes the line of the header, if there is one.
+fn write_start<W: Write>(header: Option<Header>, sink: &mut W) -> Result<(), WriteFault>
+    ensures text { OnOk result (Appends (W.contents sink.old) (W.contents sink.new) (start_text header)) }
+    ensures begun { AppendsBeginning (start_text header) (W.contents sink.old) (W.contents sink.new) }
+    ensures fault { IfErr result (λ fault. fault ≡ WriteFault.Write) }
+{
+    match header {
+        Some(header) => write_header_line(sink, &header),
+        None => Ok(()),
+    }
+}
+
+/// Lists the messages behind a header with a receiver that received none, and before them the header's line.
+fn list_started<A: Allocator + Copy, S: Allocator, W: Write>(
+    receiver: &mut Receiver<A>,
+    program: &Program,
+    header: Option<Header>,
+    messages: Messages<'_>,
+    symbols: Option<&Symbols<S>>,
+    sink: &mut W,
+) -> Result<Option<(u64, CaptureFault)>, WriteFault>
+    requires room { first_offset header + length messages < 2 ^ 64 }
+    requires none { (harts : ℕ) × HasReceived (λ hart. words_of program.now) harts [] receiver.old }
+    ensures listed { (harts : ℕ)
+        → HasReceived (λ hart. words_of program.now) (harts_by header harts) [] receiver.old
+        → IfOk result (λ stop. AppendsListing (IsListedBehind (words_of program.now) harts header
+        (option_map (λ file. file.now) symbols.entry) messages.entry) receiver.new.closed stop
+        (W.contents sink.old) (W.contents sink.new)) }
+    ensures begun { (harts : ℕ)
+        → HasReceived (λ hart. words_of program.now) (harts_by header harts) [] receiver.old
+        → OnErr result (BeginsPart (IsPartBehind (words_of program.now) harts header
+        (option_map (λ file. file.now) symbols.entry) messages.entry) (W.contents sink.old) (W.contents sink.new)) }
+    ensures fault { IfErr result (λ fault. fault ≡ WriteFault.Write) }
+{
+    match write_start(header, sink) {
+        Ok(()) => list_messages(
+            receiver,
+            program,
+            announced_by(header),
+            first_offset(header),
+            messages,
+            symbols,
+            sink,
+        ),
+        Err(fault) => Err(fault),
+    }
+}
+
+/// Lists messages with a receiver that received none. The first of them has this offset. Returns where that stops
+/// before their end, and why.
+fn list_messages<A: Allocator + Copy, S: Allocator, W: Write>(
+    receiver: &mut Receiver<A>,
+    program: &Program,
+    announced: Option<Mode>,
+    first: u64,
+    mut messages: Messages<'_>,
+    symbols: Option<&Symbols<S>>,
+    sink: &mut W,
+) -> Result<Option<(u64, CaptureFault)>, WriteFault>
+    requires room { first + length messages < 2 ^ 64 }
+    requires none { (harts : ℕ) × HasReceived (λ hart. words_of program.now) harts [] receiver.old }
+    ensures listed { (harts : ℕ) → HasReceived (λ hart. words_of program.now) harts [] receiver.old
+        → IfOk result (λ stop. AppendsListing (AreMessagesListed (words_of program.now) harts announced
+        (option_map (λ file. file.now) symbols.entry) first messages.entry) receiver.new.closed stop
+        (W.contents sink.old) (W.contents sink.new)) }
+    ensures begun { (harts : ℕ) → HasReceived (λ hart. words_of program.now) harts [] receiver.old
+        → OnErr result (BeginsPart (IsPartOfMessages (words_of program.now) harts announced
+        (option_map (λ file. file.now) symbols.entry) first messages.entry)
+        (W.contents sink.old) (W.contents sink.new)) }
+    ensures fault { IfErr result (λ fault. fault ≡ WriteFault.Write) }
+{
+    let mut number = 0;
+    let mut offset = first;
+    loop {
+        let message = match messages.next() {
+            Ok(Some(message)) => message,
+            Ok(None) => return Ok(None),
+            Err(fault) => {
+                write_offset_line(offset, sink)?;
+                return Ok(Some((number, CaptureFault::Message(fault))));
+            }
+        };
+        match list_message(
+            receiver, program, announced, symbols, offset, &message, sink,
+        )? {
+            None => {
+                number += 1;
+                offset += size_of(&message);
+            }
+            Some(fault) => return Ok(Some((number, CaptureFault::from(fault)))),
+        }
+    }
+}
+
+/// How many bytes of a capture a message takes.
+fn size_of(message: &Message) -> u64
+    ensures { result ≡ length (message_bytes message.now) }
+{
+    HEAD_SIZE + message.payload.bytes().len() as u64
+}

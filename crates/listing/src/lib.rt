@@ -1,0 +1,14 @@
+//! What each message of a capture says and settles, in a line of text.
+//!
+//! [`list_capture`] writes a line for each message: where it stands in the file, its packet, and the events that it
+//! adds to its hart's list. Places are named by symbols where there are some.
+#![tactic(auto)]
+
+mod capture_listing;
+mod lines;
+mod message_listing;
+mod outcome;
+mod places;
+
+pub use capture_listing::list_capture;
+pub use outcome::Listed;

@@ -1,0 +1,76 @@
+//! The places of events, and their names.
+
+ghost use Rattle.std.specs.Prelude.{◌≡◌, IfErr, OnOk, Some, option_map};
+ghost use Rattle.std.specs.Io.KnownBytes.{Appends};
+ghost use Rattle.output.specs.Begun.{AppendsBeginning};
+ghost use Rattle.retire.specs.LogText.{hex};
+ghost use Rattle.listing.specs.EffectText.{added_text, place_text};
+
+use output::{write_bytes, write_text};
+use retire::{Event, WriteFault};
+use std::alloc::Allocator;
+use std::fmt;
+use std::io::Write;
+use symbols::{Symbols, write_symbol};
+
+/// A place in hexadecimal.
+#[derive(Clone, Copy)]
+struct Place(u64);
+
+impl fmt::Display for Place {
+    ghost output = { λ place. Some (hex place.0) };
+
+    fn fmt<W: fmt::Write>(&self, f: &mut fmt::Formatter<W>) -> fmt::Result {
+        write!(f, "{:x}", self.0)
+    }
+}
+
+/// Writes a place in hexadecimal, and what the symbols name it.
+fn write_place<S: Allocator, W: Write>(
+    symbols: Option<&Symbols<S>>,
+    place: u64,
+    sink: &mut W,
+) -> Result<(), WriteFault>
+    ensures text { OnOk result (Appends (W.contents sink.old) (W.contents sink.new)
+        (place_text (option_map (λ file. file.now) symbols.entry) place)) }
+    ensures begun { AppendsBeginning (place_text (option_map (λ file. file.now) symbols.entry) place)
+        (W.contents sink.old) (W.contents sink.new) }
+    ensures fault { IfErr result (λ fault. fault ≡ WriteFault.Write) }
+{
+    write_text(sink, Place(place))?;
+    match symbols {
+        Some(symbols) => write_symbol(symbols, place, sink),
+        None => Ok(()),
+    }
+}
+
+/// Writes how many events there are, and the places of the first and of the last of them.
+pub(crate) fn write_added<S: Allocator, W: Write>(
+    symbols: Option<&Symbols<S>>,
+    added: &[Event],
+    sink: &mut W,
+) -> Result<(), WriteFault>
+    ensures text { OnOk result (Appends (W.contents sink.old) (W.contents sink.new)
+        (added_text (option_map (λ file. file.now) symbols.entry) added.now)) }
+    ensures begun { AppendsBeginning (added_text (option_map (λ file. file.now) symbols.entry) added.now)
+        (W.contents sink.old) (W.contents sink.new) }
+    ensures fault { IfErr result (λ fault. fault ≡ WriteFault.Write) }
+{
+    match added {
+        [] => {
+            write_bytes(sink, b"nothing")?;
+            Ok(())
+        }
+        [event] => {
+            write_bytes(sink, b"1 event, ")?;
+            write_place(symbols, event.place(), sink)
+        }
+        [first, .., last] => {
+            let count = added.len();
+            write_text(sink, format_args!("{count} events, "))?;
+            write_place(symbols, first.place(), sink)?;
+            write_bytes(sink, b" to ")?;
+            write_place(symbols, last.place(), sink)
+        }
+    }
+}
