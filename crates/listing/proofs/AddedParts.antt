@@ -13,39 +13,39 @@ use Rattle.listing.proofs.LastPlaces.{last_is}
 use Rattle.listing.specs.EffectText.{added_text, place_text}
 
 -- An event that stands for none.
-abbrev some_event : Event
+abbrev pub some_event : Event
 some_event = Retire 0 0 0
 
--- One event.
-pub one_text : (symbols : Option (List ℕ)) (added : List Event) → 1 ≤ length added → length added < 2
-    → added_text symbols added ≡ codes "1 event, " ++ place_text symbols (place (get_or added 0 some_event))
-one_text symbols [] some few = absurd (omega (arith, some))
-one_text symbols (event ∷ []) some few = refl
-one_text symbols (event ∷ next ∷ rest) some few = absurd (omega (arith, few))
-
 -- Of the first event it does not matter what would stand for none.
-pub first_same : (added : List Event) (d : Event) → 1 ≤ length added
-    → place (get_or added 0 d) ≡ place (get_or added 0 some_event)
-first_same [] d some = absurd (omega (arith, some))
-first_same (event ∷ rest) d some = refl
+first_same : (added : List Event) (d e : Event) → 1 ≤ length added
+    → place (get_or added 0 d) ≡ place (get_or added 0 e)
+first_same [] d e some = absurd (omega (arith, some))
+first_same (event ∷ rest) d e some = refl
 
 -- Nor of the last.
-pub last_same : (added : List Event) (d : Event) → 1 ≤ length added
-    → place (get_or added (length added - 1) d) ≡ place (get_or added (length added - 1) some_event)
-last_same [] d some = absurd (omega (arith, some))
-last_same (event ∷ rest) d some =
+last_same : (added : List Event) (d e : Event) → 1 ≤ length added
+    → place (get_or added (length added - 1) d) ≡ place (get_or added (length added - 1) e)
+last_same [] d e some = absurd (omega (arith, some))
+last_same (event ∷ rest) d e some =
     let last : length (event ∷ rest) - 1 ≡ length rest = omega arith in
-    ap (λ k. place (get_or (event ∷ rest) k d)) last ∙ sym (last_is event rest d) ∙ last_is event rest some_event
-    ∙ sym (ap (λ k. place (get_or (event ∷ rest) k some_event)) last)
+    ap (λ k. place (get_or (event ∷ rest) k d)) last ∙ sym (last_is event rest d) ∙ last_is event rest e
+    ∙ sym (ap (λ k. place (get_or (event ∷ rest) k e)) last)
+
+-- One event, at this place.
+pub one_text : (symbols : Option (List ℕ)) (added : List Event) (at : ℕ) (d : Event) → at ≡ place (get_or added 0 d)
+    → 1 ≤ length added → length added < 2 → codes "1 event, " ++ place_text symbols at ≡ added_text symbols added
+one_text symbols [] at d is some few = absurd (omega (arith, some))
+one_text symbols (event ∷ []) at d is some few = ap (λ at. codes "1 event, " ++ place_text symbols at) is
+one_text symbols (event ∷ next ∷ rest) at d is some few = absurd (omega (arith, few))
 
 module _ (symbols : Option (List ℕ)) (added : List Event) (several : 2 ≤ length added) where
-  abbrev pub count : List ℕ
+  abbrev count : List ℕ
   count = decimal (length added) ++ codes " events, "
 
-  abbrev pub first : List ℕ
+  abbrev first : List ℕ
   first = place_text symbols (place (get_or added 0 some_event))
 
-  abbrev pub last : List ℕ
+  abbrev last : List ℕ
   last = place_text symbols (place (get_or added (length added - 1) some_event))
 
   parted : count ++ (first ++ (codes " to " ++ last)) ≡ added_text symbols added
@@ -72,38 +72,49 @@ module _ (symbols : Option (List ℕ)) (added : List Event) (several : 2 ≤ len
       subst (λ l. AppendsBeginning l old new) parted
       (begun_in_front count (first ++ (codes " to " ++ last)) old new begun)
 
-  module _ (old one : Option (List ℕ)) (counted : Appends old one count) where
+  module _ (old one : Option (List ℕ)) (counted : Appends old one count) (from : ℕ) (d : Event)
+      (is_from : from ≡ place (get_or added 0 d)) where
+    is_first : place_text symbols from ≡ first
+    is_first = ap (place_text symbols) (is_from ∙ first_same added d some_event (omega (arith, several)))
+
     -- It was written, and a beginning of the first place.
-    pub first_begun : (new : Option (List ℕ)) → AppendsBeginning first one new
+    pub first_begun : (new : Option (List ℕ)) → AppendsBeginning (place_text symbols from) one new
         → AppendsBeginning (added_text symbols added) old new
     first_begun new begun =
         subst (λ l. AppendsBeginning l old new) parted
         (begun_behind count (first ++ (codes " to " ++ last)) old one new counted
-        (begun_in_front first (codes " to " ++ last) one new begun))
+        (begun_in_front first (codes " to " ++ last) one new
+        (subst (λ l. AppendsBeginning l one new) is_first begun)))
 
-    module _ (two : Option (List ℕ)) (begins : Appends one two first) where
+    module _ (two : Option (List ℕ)) (begins : Appends one two (place_text symbols from)) where
       -- Both were written, and a beginning of the word between the places.
       pub between_begun : (new : Option (List ℕ)) → AppendsBeginning (codes " to ") two new
           → AppendsBeginning (added_text symbols added) old new
       between_begun new begun =
           subst (λ l. AppendsBeginning l old new) parted
           (begun_behind count (first ++ (codes " to " ++ last)) old one new counted
-          (begun_behind first (codes " to " ++ last) one two new begins
+          (begun_behind first (codes " to " ++ last) one two new (subst (Appends one two) is_first begins)
           (begun_in_front (codes " to ") last two new begun)))
 
-      module _ (three : Option (List ℕ)) (goes_on : Appends two three (codes " to ")) (new : Option (List ℕ)) where
+      module _ (three : Option (List ℕ)) (goes_on : Appends two three (codes " to ")) (new : Option (List ℕ)) (to : ℕ)
+          (e : Event) (is_to : to ≡ place (get_or added (length added - 1) e)) where
+        is_last : place_text symbols to ≡ last
+        is_last = ap (place_text symbols) (is_to ∙ last_same added e some_event (omega (arith, several)))
+
         -- All but the last place was written, and a beginning of that.
-        pub last_begun : AppendsBeginning last three new → AppendsBeginning (added_text symbols added) old new
+        pub last_begun : AppendsBeginning (place_text symbols to) three new
+            → AppendsBeginning (added_text symbols added) old new
         last_begun begun =
             subst (λ l. AppendsBeginning l old new) parted
             (begun_behind count (first ++ (codes " to " ++ last)) old one new counted
-            (begun_behind first (codes " to " ++ last) one two new begins
-            (begun_behind (codes " to ") last two three new goes_on begun)))
+            (begun_behind first (codes " to " ++ last) one two new (subst (Appends one two) is_first begins)
+            (begun_behind (codes " to ") last two three new goes_on
+            (subst (λ l. AppendsBeginning l three new) is_last begun))))
 
         -- All was written.
-        pub added_written : Appends three new last → Appends old new (added_text symbols added)
+        pub added_written : Appends three new (place_text symbols to) → Appends old new (added_text symbols added)
         added_written ends =
             subst (Appends old new) parted
             (Appends-trans old one new count (first ++ (codes " to " ++ last)) counted
-            (Appends-trans one two new first (codes " to " ++ last) begins
-            (Appends-trans two three new (codes " to ") last goes_on ends)))
+            (Appends-trans one two new first (codes " to " ++ last) (subst (Appends one two) is_first begins)
+            (Appends-trans two three new (codes " to ") last goes_on (subst (Appends three new) is_last ends))))

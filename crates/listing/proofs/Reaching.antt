@@ -261,7 +261,8 @@ module _ (words : Words) (harts : ℕ) (announced : Option Mode) (symbols : Opti
           last_line = subst (λ l. IsFaultLine (naming_mode announced) (first + length (capture so_far.messages)) left
               (as_capture_fault why) l)
               (sym (refused.text ∙ ap (λ at. fault_line (naming_mode announced) at m why) so_far.stands))
-              (fault_line_is (naming_mode announced) (first + length (capture so_far.messages)) m next left why is here);
+              (fault_line_is (naming_mode announced) (first + length (capture so_far.messages)) m next left why is
+              here);
           lines = refl;
         }
           where

@@ -5,10 +5,18 @@ use Rattle.std.proofs.lemmas.List.{length-append}
 use Rattle.std.proofs.lemmas.Result.{err_from_is_err_and}
 use Rattle.rvclass.specs.Fetch.{words_of}
 use Rattle.message.specs.Capture.{message_bytes}
-use Rattle.captures.proofs.FoundInFront.{in_front}
+use Rattle.captures.proofs.FoundInFront.{InFront, in_front}
 use Rattle.listing.proofs.Reaching.{HasListed, cut_begun, cut_written, judged_more, judged_refused, listed_all}
 use Rattle.listing.proofs.Reaching.{listed_none, next_begun}
+use Rattle.listing.proofs.capture_listing.list_messages.Goals.{In-Ok-Some}
 use Rattle.listing.proofs.capture_listing.list_messages.Goals as goal
+
+-- The message that was found stands in front of the bytes that were left.
+in_front_of : (g : _) (c : In-Ok-Some g) → InFront c.loop-message.messages c.next.new.self c.in-Ok-Some.message
+in_front_of g c =
+    let said = c.in-Ok-Some.ensures in
+    in_front c.loop-message.messages c.next.new.self _ c.in-Ok-Some.message c.in-Ok-Some.field-0-is said.ranges
+    said.message said.shorter
 
 pub loop-message-init : goal.loop-message-init
 loop-message-init g c = (
@@ -55,9 +63,7 @@ pub returns-in_err-list_message-clause-begun : goal.returns-in_err-list_message-
 returns-in_err-list_message-clause-begun g c = λ harts has.
     let left = c.loop-message.messages in
     let next = c.next.new.self in
-    let said = c.in-Ok-Some.ensures in
-    let front = in_front left next _ c.in-Ok-Some.message c.in-Ok-Some.field-0-is said.ranges said.message
-    said.shorter in
+    let front = in_front_of g (goal.at.returns-in_err-list_message-clause-begun g c).In-Ok-Some in
     let r = c.loop-message.invariant.0 harts has in
     let found = c.in_err-list_message.ensures.begun harts r.taken.messages r.taken.takes in
     let made = err_from_is_err_and c.from_residual-in_err-list_message.result
@@ -70,10 +76,7 @@ returns-in_err-list_message-clause-begun g c = λ harts has.
 
 pub overflow_add-number : goal.overflow_add-number
 overflow_add-number g c =
-    let left = c.loop-message.messages in
-    let said = c.in-Ok-Some.ensures in
-    let front = in_front left c.next.new.self _ c.in-Ok-Some.message c.in-Ok-Some.field-0-is said.ranges said.message
-    said.shorter in
+    let front = in_front_of g (goal.at.overflow_add-number g c).In-Ok-Some in
     let shorter = front.shorter in
     let room = c.requires.room in
     let few = c.loop-message.invariant.1.1 in
@@ -83,9 +86,7 @@ pub overflow_add-offset : goal.overflow_add-offset
 overflow_add-offset g c =
     let left = c.loop-message.messages in
     let next = c.next.new.self in
-    let said = c.in-Ok-Some.ensures in
-    let front = in_front left next _ c.in-Ok-Some.message c.in-Ok-Some.field-0-is said.ranges said.message
-    said.shorter in
+    let front = in_front_of g (goal.at.overflow_add-offset g c).In-Ok-Some in
     let here = ap length front.here in
     let both = length-append (message_bytes c.in-Ok-Some.message) next in
     let room = c.requires.room in
@@ -97,9 +98,7 @@ pub loop-message-preserved : goal.loop-message-preserved
 loop-message-preserved g c =
     let left = c.loop-message.messages in
     let next = c.next.new.self in
-    let said = c.in-Ok-Some.ensures in
-    let front = in_front left next _ c.in-Ok-Some.message c.in-Ok-Some.field-0-is said.ranges said.message
-    said.shorter in
+    let front = in_front_of g (goal.at.loop-message-preserved g c).In-Ok-Some in
     let words = words_of c.args.program.now in
     let symbols = option_map (λ file. file.now) c.args.symbols in
     let old = g.W.Write.contents c.args.sink.now in
@@ -129,9 +128,7 @@ pub returns-in-Some-clause-listed : goal.returns-in-Some-clause-listed
 returns-in-Some-clause-listed g c = λ harts has.
     let left = c.loop-message.messages in
     let next = c.next.new.self in
-    let said = c.in-Ok-Some.ensures in
-    let front = in_front left next _ c.in-Ok-Some.message c.in-Ok-Some.field-0-is said.ranges said.message
-    said.shorter in
+    let front = in_front_of g (goal.at.returns-in-Some-clause-listed g c).In-Ok-Some in
     let r = c.loop-message.invariant.0 harts has in
     let found = c.in_ok-list_message.ensures.listed harts r.taken.messages r.taken.takes in
     judged_refused (words_of c.args.program.now) harts c.args.announced

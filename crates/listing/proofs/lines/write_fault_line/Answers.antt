@@ -51,4 +51,5 @@ returns-then-denies_memory-clause-text g c =
 pub returns-then-denies_memory-clause-begun : goal.returns-then-denies_memory-clause-begun
 returns-then-denies_memory-clause-begun g c =
     whole_begun (fault_line c.args.mode c.args.offset c.args.message.now c.args.why)
-    (g.W.Write.contents c.args.sink.now) (g.W.Write.contents c.args.sink.now) (returns-then-denies_memory-clause-text g c)
+    (g.W.Write.contents c.args.sink.now) (g.W.Write.contents c.args.sink.now)
+    (returns-then-denies_memory-clause-text g c)
