@@ -64,10 +64,7 @@ impl<'a, A: Allocator + Copy> Audit<'a, A> {
         ensures memory { (header : Option AnyHeader) (sent : List AnyMessage) → IsSent bytes.entry.now header sent
             → IfErr result (λ fault. fault ≡ SentFault.Memory) }
     {
-        match Audit::by_header(alloc, bytes) {
-            Ok(audit) => Ok(audit),
-            Err(why) => Err(why),
-        }
+        Audit::by_header(alloc, bytes)
     }
 
     /// As [`Audit::new`], by the header.
@@ -99,15 +96,9 @@ impl<'a, A: Allocator + Copy> Audit<'a, A> {
             × AreInTurn harts [] sent × Audits sent [] audit)) }
         ensures fault { IfErr result (IsCountFault harts bytes.entry.now) }
     {
-        let counted = match count_messages(alloc, harts, Messages::new(bytes)) {
-            Ok(counted) => counted,
-            Err(why) => return Err(why),
-        };
+        let counted = count_messages(alloc, harts, Messages::new(bytes))?;
         let count = count_of_harts(header, counted.highest);
-        let index = match index_messages(alloc, counted.counts.as_slice(), count, bytes) {
-            Ok(index) => index,
-            Err(_) => return Err(SentFault::Memory),
-        };
+        let index = index_messages(alloc, counted.counts.as_slice(), count, bytes)?;
         Ok(Audit {
             header,
             harts: index,

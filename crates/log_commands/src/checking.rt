@@ -103,10 +103,7 @@ fn write_lines<'a, O: Write>(
     ensures begun { AppendsBeginning (log_lines explain program.now path.now log.now illegal)
         (O.contents out.old) (O.contents out.new) }
 {
-    match write_line(path, log.len(), illegal, out) {
-        Ok(()) => {}
-        Err(why) => return Err(why),
-    }
+    write_line(path, log.len(), illegal, out)?;
     write_explanation(program, log, illegal, explain, out)
 }
 

@@ -1,6 +1,7 @@
 //! The subcommand `audit`.
 
-ghost use Rattle.std.specs.Prelude.{⊤, ◌≡◌, ◌≢◌, ◌<◌, ◌^◌, ◌==◌, ◌&&◌, not, List, [], Err, IfOk, OnOk, Option, ℕ, length};
+ghost use Rattle.std.specs.Prelude.{⊤, ◌≡◌, ◌≢◌, ◌<◌, ◌^◌, ◌==◌, ◌&&◌, not, List, [], Err, IfOk, OnOk, Option, ℕ};
+ghost use Rattle.std.specs.Prelude.{length};
 ghost use Rattle.std.specs.Io.KnownBytes.{Appends};
 ghost use Rattle.output.specs.Begun.{AppendsBeginning};
 ghost use Rattle.message.specs.declared.fault.MessageFault.{MessageFault as AnyMessageFault};
@@ -48,18 +49,12 @@ pub fn audit<'a, F: Files, O: Write>(
         (O.contents out.old) (O.contents out.new) }
     ensures cut { IsCutOf (Audits (F.content files.old) asked.now) (O.contents out.old) (O.contents out.new) }
 {
-    let sent = match content_of(files, asked.sent) {
-        Ok(sent) => sent,
-        Err(why) => return Err(why),
-    };
+    let sent = content_of(files, asked.sent)?;
     let mut path = match Audit::new(alloc, sent.as_slice()) {
         Ok(path) => path,
         Err(why) => return Err(Fault::of_sent(asked.sent, why)),
     };
-    let received = match content_of(files, asked.received) {
-        Ok(received) => received,
-        Err(why) => return Err(why),
-    };
+    let received = content_of(files, asked.received)?;
     write_audit(&mut path, received.as_slice(), out)
 }
 
@@ -81,10 +76,7 @@ fn write_audit<'a, O: Write>(
     let mut left = Messages::new(bytes);
     match left.header() {
         Ok(header) => {
-            let stop = match write_fates(path, left, out) {
-                Ok(stop) => stop,
-                Err(error) => return Err(Fault::from(error)),
-            };
+            let stop = write_fates(path, left, out)?;
             write_rest(path, header, stop, out)
         }
         Err(why) => write_rest(path, None, Some((0, why)), out),
@@ -118,10 +110,8 @@ fn write_fates<O: Write>(
             Err(why) => return Ok(Some((place, why))),
         };
         let fate = path.take(&message);
-        match write_fate(place, &message, fate, out) {
-            Ok(()) => place += 1,
-            Err(error) => return Err(error),
-        }
+        write_fate(place, &message, fate, out)?;
+        place += 1;
     }
 }
 
@@ -160,14 +150,8 @@ fn write_rest<'a, O: Write>(
         → AppendsBeginning (behind_fates (record { header = path.now.header; messages = sent }) header received stop)
         (O.contents out.old) (O.contents out.new) }
 {
-    match write_losses(path, out) {
-        Ok(()) => {}
-        Err(error) => return Err(Fault::from(error)),
-    }
-    let all_whole = match write_tallies(path, out) {
-        Ok(all_whole) => all_whole,
-        Err(error) => return Err(Fault::from(error)),
-    };
+    write_losses(path, out)?;
+    let all_whole = write_tallies(path, out)?;
     let count = path.strangers();
     let unlike = are_unlike(path.header(), header);
     let whole = is_whole(all_whole, count, unlike, stop.is_none());
@@ -176,14 +160,8 @@ fn write_rest<'a, O: Write>(
         unlike,
         whole,
     };
-    match write_text(out, ending) {
-        Ok(()) => {}
-        Err(error) => return Err(Fault::from(error)),
-    }
-    match out.flush() {
-        Ok(()) => {}
-        Err(error) => return Err(Fault::from(error)),
-    }
+    write_text(out, ending)?;
+    out.flush()?;
     ended(stop, whole)
 }
 
@@ -231,10 +209,7 @@ fn write_losses<O: Write>(path: &Audit<'_>, out: &mut O) -> io::Result<()>
         (O.contents out.old) (O.contents out.new) }
 {
     for hart in 0..path.harts() {
-        match write_lost(path, hart, out) {
-            Ok(()) => {}
-            Err(error) => return Err(error),
-        }
+        write_lost(path, hart, out)?;
     }
     Ok(())
 }
@@ -251,10 +226,7 @@ fn write_lost<O: Write>(path: &Audit<'_>, hart: usize, out: &mut O) -> io::Resul
     let mut runs = path.lost(hart);
     while let Some(run) = runs.next() {
         let line = LostLine { hart, run };
-        match write_text(out, line) {
-            Ok(()) => {}
-            Err(error) => return Err(error),
-        }
+        write_text(out, line)?;
     }
     Ok(())
 }
@@ -275,10 +247,7 @@ fn write_tallies<O: Write>(path: &Audit<'_>, out: &mut O) -> io::Result<bool>
         let tally = path.tally(hart);
         whole &= tally.whole;
         let line = TallyLine { hart, tally };
-        match write_text(out, line) {
-            Ok(()) => {}
-            Err(error) => return Err(error),
-        }
+        write_text(out, line)?;
     }
     Ok(whole)
 }

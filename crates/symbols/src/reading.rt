@@ -47,13 +47,10 @@ fn add<A: Allocator>(
     ensures { OnOk result
         (entries.new.items ≡ entries.old.items ++ option_to_list (entry_of from line.now)) }
 {
-    match entry_of(from, line) {
-        Some(entry) => match entries.push(entry) {
-            Ok(()) => Ok(()),
-            Err(_) => Err(AllocError),
-        },
-        None => Ok(()),
+    if let Some(entry) = entry_of(from, line) {
+        entries.push(entry)?;
     }
+    Ok(())
 }
 
 /// The entries of a file, in its order.
@@ -89,10 +86,7 @@ pub(crate) fn entries_in_order<A: Allocator>(
     requires { length bytes.now ≤ most_bytes }
     ensures { IfOk result (λ entries. AreInOrder bytes.now entries.items) }
 {
-    let mut entries = match all_entries(alloc, bytes) {
-        Ok(entries) => entries,
-        Err(refused) => return Err(refused),
-    };
+    let mut entries = all_entries(alloc, bytes)?;
     sort(entries.as_mut_slice());
     Ok(entries)
 }

@@ -1,6 +1,6 @@
 //! What became of messages.
 
-/// Each fate alone and all at once, lost numbers, headers, refusals of SENT, and faults of RECEIVED.
+/// Each fate alone and all at once, lost numbers, headers, and the most harts.
 pub(crate) const TEXT: &str = r"
 # Nothing befell the messages: SENT and RECEIVED are the same.
 file sent.capture
@@ -288,114 +288,6 @@ $ tracebench audit headed.capture other.capture
 > headers differ
 > result: not whole
 ? 1
-# SENT is refused: a header that is not valid or cut short, a message that is cut short or has a bad length.
-file bad.capture
-|= ffff727674726163653200 02 0004 0100
-$ tracebench audit bad.capture sent.capture
-! tracebench: bad.capture: capture header is not valid
-? 2
-file bad.capture
-|= ffff727674726163653200 00 0004 01
-$ tracebench audit bad.capture sent.capture
-! tracebench: bad.capture: message 0: the capture ends inside a message
-? 2
-file bad.capture
-|~ 0 0 1f
-|= 0000 0100000000000000 02 73
-$ tracebench audit bad.capture sent.capture
-! tracebench: bad.capture: message 1: the capture ends inside a message
-? 2
-file bad.capture
-|~ 0 0 1f
-|= 0000 0100000000000000 13
-$ tracebench audit bad.capture sent.capture
-! tracebench: bad.capture: message 1: payload length is not 1 to 18
-? 2
-# A stranger: of a hart that the header does not count, or without a header of hart 1,024.
-file bad.capture
-|= ffff727674726163653200 00 0004 0100
-|~ 0 0 1f
-|~ 1 0 1f
-$ tracebench audit bad.capture sent.capture
-! tracebench: bad.capture: message 1: stranger
-? 2
-file bad.capture
-|~ 1024 0 1f
-$ tracebench audit bad.capture sent.capture
-! tracebench: bad.capture: message 0: stranger
-? 2
-# A repeat, and a gap.
-file bad.capture
-|~ 0 0 1f
-|~ 1 0 1f
-|~ 0 1 01
-|~ 0 1 01
-$ tracebench audit bad.capture sent.capture
-! tracebench: bad.capture: message 3: repeat
-? 2
-file bad.capture
-|~ 0 0 1f
-|~ 1 0 1f
-|~ 0 2 01
-$ tracebench audit bad.capture sent.capture
-! tracebench: bad.capture: message 2: gap, expected number 1
-? 2
-# Two at once: the first message is named, and of one message the stranger. RECEIVED is not looked at.
-file bad.capture
-|~ 0 1 1f
-|~ 1024 0 1f
-$ tracebench audit bad.capture nothing.capture
-! tracebench: bad.capture: message 0: gap, expected number 0
-? 2
-file bad.capture
-|~ 1024 5 1f
-|= 00
-$ tracebench audit bad.capture nothing.capture
-! tracebench: bad.capture: message 0: stranger
-? 2
-# RECEIVED ends in a fault of its own: all before that place is audited.
-file received.capture
-|~ 0 0 1f
-|~ 1 0 1f
-|= 0000 0100000000000000 05 7300
-$ tracebench audit sent.capture received.capture
-> hart 0: numbers 1 to 2 lost
-> hart 1: number 1 lost
-> hart 0: 3 sent, 1 came, 2 lost, 0 repeated, 0 late, 0 changed, not whole
-> hart 1: 2 sent, 1 came, 1 lost, 0 repeated, 0 late, 0 changed, not whole
-> result: not whole
-! tracebench: message 2: the capture ends inside a message
-? 1
-file received.capture
-|< sent.capture
-|= 0000 0300000000000000 00
-$ tracebench audit sent.capture received.capture
-> hart 0: 3 sent, 3 came, 0 lost, 0 repeated, 0 late, 0 changed, whole
-> hart 1: 2 sent, 2 came, 0 lost, 0 repeated, 0 late, 0 changed, whole
-> result: not whole
-! tracebench: message 5: payload length is not 1 to 18
-? 1
-file received.capture
-|= ffff727674726163653200 00 0000 0100
-|< sent.capture
-$ tracebench audit gap.capture received.capture
-> hart 2: number 0 lost
-> hart 0: 0 sent, 0 came, 0 lost, 0 repeated, 0 late, 0 changed, whole
-> hart 1: 0 sent, 0 came, 0 lost, 0 repeated, 0 late, 0 changed, whole
-> hart 2: 1 sent, 0 came, 1 lost, 0 repeated, 0 late, 0 changed, not whole
-> result: not whole
-! tracebench: capture header is not valid
-? 1
-file received.capture
-|= ffff727674726163653200 00
-$ tracebench audit gap.capture received.capture
-> hart 2: number 0 lost
-> hart 0: 0 sent, 0 came, 0 lost, 0 repeated, 0 late, 0 changed, whole
-> hart 1: 0 sent, 0 came, 0 lost, 0 repeated, 0 late, 0 changed, whole
-> hart 2: 1 sent, 0 came, 1 lost, 0 repeated, 0 late, 0 changed, not whole
-> result: not whole
-! tracebench: message 0: the capture ends inside a message
-? 1
 # As many harts as there may be.
 file many.capture
 |= ffff727674726163653200 00 0004 0004
@@ -414,18 +306,4 @@ $ tracebench audit highest.capture highest.capture
 >*1023 hart @: 0 sent, 0 came, 0 lost, 0 repeated, 0 late, 0 changed, whole
 > hart 1023: 1 sent, 1 came, 0 lost, 0 repeated, 0 late, 0 changed, whole
 > result: whole
-# Memory is refused for a file: nothing is printed.
-$ tracebench audit full sent.capture
-! tracebench: out of memory
-? 3
-$ tracebench audit sent.capture full
-! tracebench: out of memory
-? 3
-# Files that are not there.
-$ tracebench audit nothing.capture sent.capture
-! tracebench: nothing.capture: cannot be read
-? 3
-$ tracebench audit sent.capture nothing.capture
-! tracebench: nothing.capture: cannot be read
-? 3
 ";

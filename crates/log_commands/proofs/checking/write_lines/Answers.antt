@@ -5,8 +5,8 @@ use Rattle.output.proofs.Beginnings.{begun_behind, begun_in_front}
 use Rattle.log_commands.specs.Checking.{explained_line, verdict_line}
 use Rattle.log_commands.proofs.checking.write_lines.Goals as goal
 
-pub returns-in-Err-clause-begun : goal.returns-in-Err-clause-begun
-returns-in-Err-clause-begun g c =
+pub returns-in_err-write_line-clause-begun : goal.returns-in_err-write_line-clause-begun
+returns-in_err-write_line-clause-begun g c =
     let log = c.args.log.now in
     begun_in_front (verdict_line c.args.path.now (length log) c.args.illegal)
     (explained_line c.args.explain c.args.program.now log c.args.illegal) (g.O.Write.contents c.args.out.now)
@@ -17,5 +17,6 @@ returns-clause-begun g c =
     let log = c.args.log.now in
     begun_behind (verdict_line c.args.path.now (length log) c.args.illegal)
     (explained_line c.args.explain c.args.program.now log c.args.illegal) (g.O.Write.contents c.args.out.now)
-    (g.O.Write.contents c.write_line.new.out) (g.O.Write.contents c.write_explanation.new.out) c.in-Ok.ensures.text
+    (g.O.Write.contents c.write_line.new.out) (g.O.Write.contents c.write_explanation.new.out)
+    c.in_ok-write_line.ensures.text
     c.write_explanation.ensures.begun

@@ -27,42 +27,44 @@ module _ (g : _) (c : After-write_fates g) where
   short : length c.args.bytes.now < 2 ^ 64
   short = omega arith
 
-pub returns-in-Err-write_fates-clause-cut : goal.returns-in-Err-write_fates-clause-cut
-returns-in-Err-write_fates-clause-cut g c = λ sent audits.
-    let at = (goal.at.returns-in-Err-write_fates-clause-cut g c).After-write_fates in
+pub returns-in_err-stop-in-Ok-clause-cut : goal.returns-in_err-stop-in-Ok-clause-cut
+returns-in_err-stop-in-Ok-clause-cut g c = λ sent audits.
+    let at = (goal.at.returns-in_err-stop-in-Ok-clause-cut g c).After-write_fates in
     fates_cut (record { header = c.args.path.now.header; messages = sent }) c.args.bytes.now c.header.new.self
     c.in-Ok.header (begins g at) (are g at) (short g at) (g.O.Write.contents c.args.out.now)
     (g.O.Write.contents c.write_fates.new.out)
     (λ received stop heard. c.write_fates.ensures.begun sent received stop audits heard)
 
-pub returns-in-Ok-write_fates-clause-printed : goal.returns-in-Ok-write_fates-clause-printed
-returns-in-Ok-write_fates-clause-printed g c = λ sent audits.
-    let at = (goal.at.returns-in-Ok-write_fates-clause-printed g c).After-write_fates in
+pub returns-in_ok-stop-in-Ok-clause-printed : goal.returns-in_ok-stop-in-Ok-clause-printed
+returns-in_ok-stop-in-Ok-clause-printed g c = λ sent audits.
+    let at = (goal.at.returns-in_ok-stop-in-Ok-clause-printed g c).After-write_fates in
     let mid = g.O.Write.contents c.write_fates.new.out in
     let new = g.O.Write.contents c.write_rest.new.out in
-    let stop = c.in-Ok-write_fates.stop in
+    let stop = c.in_ok-stop-in-Ok.stop in
     headed_printed (record { header = c.args.path.now.header; messages = sent }) c.args.bytes.now c.header.new.self
     c.in-Ok.header (begins g at) (are g at) (short g at) (g.O.Write.contents c.args.out.now) mid stop
-    c.write_fates.new.path new (λ received stop heard. c.in-Ok-write_fates.ensures.heard sent received stop audits heard)
-    (λ received stop heard. c.in-Ok-write_fates.ensures.text sent received stop audits heard) c.write_rest.result
+    c.write_fates.new.path new (λ received stop heard. c.in_ok-stop-in-Ok.ensures.heard sent received stop audits heard)
+    (λ received stop heard. c.in_ok-stop-in-Ok.ensures.text sent received stop audits heard) c.write_rest.result
     (λ received is few.
     subst
-    (λ header. EndsRest (record { header = header; messages = sent }) c.in-Ok.header received stop c.write_rest.result mid
+    (λ header. EndsRest (record { header = header; messages = sent }) c.in-Ok.header received stop c.write_rest.result
+    mid
     new) c.write_fates.ensures.header (c.write_rest.ensures.written sent received is few))
 
-pub returns-in-Ok-write_fates-clause-cut : goal.returns-in-Ok-write_fates-clause-cut
-returns-in-Ok-write_fates-clause-cut g c = λ sent audits.
-    let at = (goal.at.returns-in-Ok-write_fates-clause-cut g c).After-write_fates in
+pub returns-in_ok-stop-in-Ok-clause-cut : goal.returns-in_ok-stop-in-Ok-clause-cut
+returns-in_ok-stop-in-Ok-clause-cut g c = λ sent audits.
+    let at = (goal.at.returns-in_ok-stop-in-Ok-clause-cut g c).After-write_fates in
     let mid = g.O.Write.contents c.write_fates.new.out in
     let new = g.O.Write.contents c.write_rest.new.out in
-    let stop = c.in-Ok-write_fates.stop in
+    let stop = c.in_ok-stop-in-Ok.stop in
     headed_cut (record { header = c.args.path.now.header; messages = sent }) c.args.bytes.now c.header.new.self
     c.in-Ok.header (begins g at) (are g at) (short g at) (g.O.Write.contents c.args.out.now) mid stop
-    c.write_fates.new.path new (λ received stop heard. c.in-Ok-write_fates.ensures.heard sent received stop audits heard)
-    (λ received stop heard. c.in-Ok-write_fates.ensures.text sent received stop audits heard)
+    c.write_fates.new.path new (λ received stop heard. c.in_ok-stop-in-Ok.ensures.heard sent received stop audits heard)
+    (λ received stop heard. c.in_ok-stop-in-Ok.ensures.text sent received stop audits heard)
     (λ received is few.
     subst
-    (λ header. AppendsBeginning (behind_fates (record { header = header; messages = sent }) c.in-Ok.header received stop)
+    (λ header. AppendsBeginning (behind_fates (record { header = header; messages = sent }) c.in-Ok.header received
+    stop)
     mid new) c.write_fates.ensures.header (c.write_rest.ensures.begun sent received is few))
 
 pub returns-in-Err-clause-printed : goal.returns-in-Err-clause-printed

@@ -31,16 +31,17 @@ loop-message-preserved g c =
     subst (λ o. IfSome o (λ (m : Message). length next < length left)) found c.in-Ok-Some.ensures.shorter in
     let most = c.loop-message.invariant.2 in (
       λ sent received stop audits heard.
-          taken_more sent received stop left c.loop-message.path c.loop-message.place (g.O.Write.contents c.args.out.now)
+          taken_more sent received stop left c.loop-message.path c.loop-message.place (g.O.Write.contents
+          c.args.out.now)
           (g.O.Write.contents c.loop-message.out) (c.loop-message.invariant.0 sent received stop audits heard)
           c.in-Ok-Some.message next c.take-fate.result c.take-fate.new.self (g.O.Write.contents c.write_fate.new.out) is
-          begins (c.take-fate.ensures.fate sent) (c.take-fate.ensures.taken sent) c.in-Ok.ensures.text,
+          begins (c.take-fate.ensures.fate sent) (c.take-fate.ensures.taken sent) c.in_ok-write_fate.ensures.text,
       c.take-fate.ensures.header ∙ c.loop-message.invariant.1,
       omega (arith, most, shorter),
     )
 
-pub returns-in-Err-write_fate-clause-begun : goal.returns-in-Err-write_fate-clause-begun
-returns-in-Err-write_fate-clause-begun g c =
+pub returns-in_err-write_fate-clause-begun : goal.returns-in_err-write_fate-clause-begun
+returns-in_err-write_fate-clause-begun g c =
     let found = c.in-Ok-Some.field-0-is in
     let left = c.loop-message.left in
     let next = c.next.new.self in

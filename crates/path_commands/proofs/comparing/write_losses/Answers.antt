@@ -14,7 +14,8 @@ loop-hart-init g c = λ sent received audits.
     let whole = all_lost_lines sent received count in
     let out = g.O.Write.contents c.args.out.now in
     let all : count ≡ count - 0 = omega arith in
-    subst (λ n. HasWritten whole (flat_map (λ hart. lost_lines hart (lost_runs sent received hart)) (range_with_len 0 n))
+    subst (λ n. HasWritten whole (flat_map (λ hart. lost_lines hart (lost_runs sent received hart)) (range_with_len 0
+    n))
     out out) all (part_none whole out)
 
 pub loop-hart-preserved : goal.loop-hart-preserved
@@ -24,10 +25,10 @@ loop-hart-preserved g c = λ sent received audits.
     hart_more (λ hart. lost_lines hart (lost_runs sent received hart)) (all_lost_lines sent received count) count
     (g.O.Write.contents c.args.out.now) (g.O.Write.contents c.loop-hart.out) c.loop-hart.hart
     (g.O.Write.contents c.write_lost.new.out) within (c.loop-hart.invariant sent received audits)
-    (c.in-Ok.ensures.text sent received audits)
+    (c.in_ok-write_lost.ensures.text sent received audits)
 
-pub returns-in-Err-clause-begun : goal.returns-in-Err-clause-begun
-returns-in-Err-clause-begun g c = λ sent received audits.
+pub returns-in_err-write_lost-clause-begun : goal.returns-in_err-write_lost-clause-begun
+returns-in_err-write_lost-clause-begun g c = λ sent received audits.
     let count = length c.args.path.now.harts in
     let within : c.loop-hart.hart < count = omega arith in
     hart_begun (λ hart. lost_lines hart (lost_runs sent received hart)) (all_lost_lines sent received count) count

@@ -22,10 +22,10 @@ loop-run-preserved g c = λ sent received audits.
     let whole = lost_lines hart (lost_runs sent received hart) in
     part_more whole (lost_line hart c.in-Some.run') (lost_lines hart c.next.new.self) old mid new
     (subst (λ runs. HasWritten whole (lost_lines hart runs) old mid) c.in-Some.ensures.next
-    (c.loop-run.invariant sent received audits)) c.in-Ok.ensures.whole
+    (c.loop-run.invariant sent received audits)) c.in_ok-write_text.ensures.whole
 
-pub returns-in-Err-clause-begun : goal.returns-in-Err-clause-begun
-returns-in-Err-clause-begun g c = λ sent received audits.
+pub returns-in_err-write_text-clause-begun : goal.returns-in_err-write_text-clause-begun
+returns-in_err-write_text-clause-begun g c = λ sent received audits.
     let hart = c.args.hart in
     let old = g.O.Write.contents c.args.out.now in
     let mid = g.O.Write.contents c.loop-run.out in

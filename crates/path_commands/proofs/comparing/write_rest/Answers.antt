@@ -13,18 +13,18 @@ use Rattle.path_commands.proofs.Rests.{all_written, begun_ending, begun_lost, be
 use Rattle.path_commands.proofs.comparing.write_rest.Goals.{After-write_text}
 use Rattle.path_commands.proofs.comparing.write_rest.Goals as goal
 
-pub returns-in-Err-clause-begun : goal.returns-in-Err-clause-begun
-returns-in-Err-clause-begun g c = λ sent received audits few.
+pub returns-in_err-write_losses-clause-begun : goal.returns-in_err-write_losses-clause-begun
+returns-in_err-write_losses-clause-begun g c = λ sent received audits few.
     begun_lost (record { header = c.args.path.now.header; messages = sent }) c.args.header received c.args.stop
     (length c.args.path.now.harts) audits.count (g.O.Write.contents c.args.out.now)
     (g.O.Write.contents c.write_losses.new.out) (c.write_losses.ensures.begun sent received audits)
 
-pub returns-in-Err-write_tallies-clause-begun : goal.returns-in-Err-write_tallies-clause-begun
-returns-in-Err-write_tallies-clause-begun g c = λ sent received audits few.
+pub returns-in_err-all_whole-clause-begun : goal.returns-in_err-all_whole-clause-begun
+returns-in_err-all_whole-clause-begun g c = λ sent received audits few.
     begun_tallies (record { header = c.args.path.now.header; messages = sent }) c.args.header received c.args.stop
     (length c.args.path.now.harts) audits.count (g.O.Write.contents c.args.out.now)
     (g.O.Write.contents c.write_losses.new.out) (g.O.Write.contents c.write_tallies.new.out)
-    (c.in-Ok.ensures.text sent received audits) (c.write_tallies.ensures.begun sent received audits few)
+    (c.in_ok-write_losses.ensures.text sent received audits) (c.write_tallies.ensures.begun sent received audits few)
 
 module _ (g : _) (c : After-write_text g) (sent received : List Message)
     (audits : Audits sent received c.args.path.now) (few : length received < 2 ^ 64) where
@@ -47,11 +47,14 @@ module _ (g : _) (c : After-write_text g) (sent received : List Message)
       → AppendsBeginning (behind_fates both c.args.header received c.args.stop) begins new
   ending_begun new begun =
       begun_ending both c.args.header received c.args.stop (length c.args.path.now.harts) audits.count
-      c.in-Ok-write_tallies.all_whole c.are_unlike-unlike.result c.is_whole-whole.result c.strangers-count.result
-      (c.in-Ok-write_tallies.ensures.whole sent received audits few)
-      (c.strangers-count.ensures sent received audits few) (c.are_unlike-unlike.ensures ∙ ap (λ own. headers_differ own c.args.header) c.header.ensures) (c.is_whole-whole.ensures ∙ ap (λ ends. c.in-Ok-write_tallies.all_whole && (c.strangers-count.result == 0) && not c.are_unlike-unlike.result && ends) (turned _ c.is_none.result c.is_none.ensures)) begins
-      first second new (c.in-Ok.ensures.text sent received audits)
-      (c.in-Ok-write_tallies.ensures.text sent received audits few) begun
+      c.in_ok-all_whole.all_whole c.are_unlike-unlike.result c.is_whole-whole.result c.strangers-count.result
+      (c.in_ok-all_whole.ensures.whole sent received audits few)
+      (c.strangers-count.ensures sent received audits few) (c.are_unlike-unlike.ensures
+      ∙ ap (λ own. headers_differ own c.args.header) c.header.ensures) (c.is_whole-whole.ensures
+      ∙ ap (λ ends. c.in_ok-all_whole.all_whole && (c.strangers-count.result == 0) && not c.are_unlike-unlike.result
+      && ends) (turned _ c.is_none.result c.is_none.ensures)) begins
+      first second new (c.in_ok-write_losses.ensures.text sent received audits)
+      (c.in_ok-all_whole.ensures.text sent received audits few) begun
 
   ending_all : (new : Option (List ℕ))
       → Appends second new
@@ -59,23 +62,27 @@ module _ (g : _) (c : After-write_text g) (sent received : List Message)
       → Appends begins new (behind_fates both c.args.header received c.args.stop)
   ending_all new written =
       all_written both c.args.header received c.args.stop (length c.args.path.now.harts) audits.count
-      c.in-Ok-write_tallies.all_whole c.are_unlike-unlike.result c.is_whole-whole.result c.strangers-count.result
-      (c.in-Ok-write_tallies.ensures.whole sent received audits few)
-      (c.strangers-count.ensures sent received audits few) (c.are_unlike-unlike.ensures ∙ ap (λ own. headers_differ own c.args.header) c.header.ensures) (c.is_whole-whole.ensures ∙ ap (λ ends. c.in-Ok-write_tallies.all_whole && (c.strangers-count.result == 0) && not c.are_unlike-unlike.result && ends) (turned _ c.is_none.result c.is_none.ensures)) begins
-      first second new (c.in-Ok.ensures.text sent received audits)
-      (c.in-Ok-write_tallies.ensures.text sent received audits few) written
+      c.in_ok-all_whole.all_whole c.are_unlike-unlike.result c.is_whole-whole.result c.strangers-count.result
+      (c.in_ok-all_whole.ensures.whole sent received audits few)
+      (c.strangers-count.ensures sent received audits few) (c.are_unlike-unlike.ensures
+      ∙ ap (λ own. headers_differ own c.args.header) c.header.ensures) (c.is_whole-whole.ensures
+      ∙ ap (λ ends. c.in_ok-all_whole.all_whole && (c.strangers-count.result == 0) && not c.are_unlike-unlike.result
+      && ends) (turned _ c.is_none.result c.is_none.ensures)) begins
+      first second new (c.in_ok-write_losses.ensures.text sent received audits)
+      (c.in_ok-all_whole.ensures.text sent received audits few) written
 
-pub returns-in-Err-write_text-clause-begun : goal.returns-in-Err-write_text-clause-begun
-returns-in-Err-write_text-clause-begun g c = λ sent received audits few.
-    ending_begun g (goal.at.returns-in-Err-write_text-clause-begun g c).After-write_text sent received audits few
+pub returns-in_err-write_text-clause-begun : goal.returns-in_err-write_text-clause-begun
+returns-in_err-write_text-clause-begun g c = λ sent received audits few.
+    ending_begun g (goal.at.returns-in_err-write_text-clause-begun g c).After-write_text sent received audits few
     (g.O.Write.contents c.write_text.new.out) c.write_text.ensures.begun
 
-pub returns-in-Err-flush-clause-begun : goal.returns-in-Err-flush-clause-begun
-returns-in-Err-flush-clause-begun g c = λ sent received audits few.
+pub returns-in_err-flush-clause-begun : goal.returns-in_err-flush-clause-begun
+returns-in_err-flush-clause-begun g c = λ sent received audits few.
     let mid = g.O.Write.contents c.write_text.new.out in
     let new = g.O.Write.contents c.flush.new.self in
-    let at = (goal.at.returns-in-Err-flush-clause-begun g c).After-write_text in
-    let text = behind_fates (record { header = c.args.path.now.header; messages = sent }) c.args.header received c.args.stop in
+    let at = (goal.at.returns-in_err-flush-clause-begun g c).After-write_text in
+    let text = behind_fates (record { header = c.args.path.now.header; messages = sent }) c.args.header received
+    c.args.stop in
     begun_kept text (g.O.Write.contents c.args.out.now) mid new
     (ending_begun g at sent received audits few mid c.write_text.ensures.begun) c.flush.ensures.bytes
 
@@ -84,7 +91,8 @@ returns-clause-begun g c = λ sent received audits few.
     let mid = g.O.Write.contents c.write_text.new.out in
     let new = g.O.Write.contents c.flush.new.self in
     let at = (goal.at.returns-clause-begun g c).After-write_text in
-    let text = behind_fates (record { header = c.args.path.now.header; messages = sent }) c.args.header received c.args.stop in
+    let text = behind_fates (record { header = c.args.path.now.header; messages = sent }) c.args.header received
+    c.args.stop in
     begun_kept text (g.O.Write.contents c.args.out.now) mid new
     (ending_begun g at sent received audits few mid c.write_text.ensures.begun) c.flush.ensures.bytes
 
@@ -96,11 +104,14 @@ returns-clause-written g c = λ sent received audits few.
     let both : Sent = record { header = c.args.path.now.header; messages = sent } in
     let whole =
     whole_is both c.args.header received c.args.stop (length c.args.path.now.harts) audits.count
-    c.in-Ok-write_tallies.all_whole c.are_unlike-unlike.result c.is_whole-whole.result c.strangers-count.result
-    (c.in-Ok-write_tallies.ensures.whole sent received audits few) (c.strangers-count.ensures sent received audits few)
-    (c.are_unlike-unlike.ensures ∙ ap (λ own. headers_differ own c.args.header) c.header.ensures) (c.is_whole-whole.ensures ∙ ap (λ ends. c.in-Ok-write_tallies.all_whole && (c.strangers-count.result == 0) && not c.are_unlike-unlike.result && ends) (turned _ c.is_none.result c.is_none.ensures)) in
+    c.in_ok-all_whole.all_whole c.are_unlike-unlike.result c.is_whole-whole.result c.strangers-count.result
+    (c.in_ok-all_whole.ensures.whole sent received audits few) (c.strangers-count.ensures sent received audits few)
+    (c.are_unlike-unlike.ensures
+    ∙ ap (λ own. headers_differ own c.args.header) c.header.ensures) (c.is_whole-whole.ensures
+    ∙ ap (λ ends. c.in_ok-all_whole.all_whole && (c.strangers-count.result == 0) && not c.are_unlike-unlike.result &&
+    ends) (turned _ c.is_none.result c.is_none.ensures)) in
     inr (
       appends-keeps (g.O.Write.contents c.args.out.now) mid new (behind_fates both c.args.header received c.args.stop)
-          (ending_all g at sent received audits few mid c.in-Ok-write_text.ensures.whole) c.flush.ensures.bytes,
+          (ending_all g at sent received audits few mid c.in_ok-write_text.ensures.whole) c.flush.ensures.bytes,
       c.ended.ensures.value ∙ ap (end_of_audit c.args.stop) whole,
     )

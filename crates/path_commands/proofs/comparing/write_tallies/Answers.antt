@@ -18,7 +18,8 @@ loop-hart-init g c = λ sent received audits few.
     let whole = tally_lines sent received count in
     let out = g.O.Write.contents c.args.out.now in
     let all : count ≡ count - 0 = omega arith in (
-      subst (λ n. HasWritten whole (flat_map (λ hart. tally_line hart (tally_of sent received hart)) (range_with_len 0 n))
+      subst (λ n. HasWritten whole (flat_map (λ hart. tally_line hart (tally_of sent received hart)) (range_with_len 0
+          n))
           out out) all (part_none whole out),
       ap (λ n. list_all (λ hart. (tally_of sent received hart).whole) (range_with_len 0 n)) (sym all),
     )
@@ -31,18 +32,19 @@ loop-hart-preserved g c = λ sent received audits few.
     let is = c.tally-tally.ensures sent received audits few in
     let mid = g.O.Write.contents c.loop-hart.out in
     let new = g.O.Write.contents c.write_text.new.out in
-    let line = subst (λ tally. Appends mid new (tally_line hart tally)) is c.in-Ok.ensures.whole in
+    let line = subst (λ tally. Appends mid new (tally_line hart tally)) is c.in_ok-write_text.ensures.whole in
     let has = c.loop-hart.invariant sent received audits few in (
       hart_more (λ hart. tally_line hart (tally_of sent received hart)) (tally_lines sent received count) count
           (g.O.Write.contents c.args.out.now) mid hart new within has.0 line,
       ap
-          (λ (tally : Tally). (c.loop-hart.whole && tally.whole) && list_all (λ hart. (tally_of sent received hart).whole)
+          (λ (tally : Tally). (c.loop-hart.whole && tally.whole) && list_all (λ hart. (tally_of sent received
+          hart).whole)
           (range_with_len (hart + 1) (count - (hart + 1)))) is
           ∙ sym (tested_more (λ hart. (tally_of sent received hart).whole) c.loop-hart.whole hart count within) ∙ has.1,
     )
 
-pub returns-in-Err-clause-begun : goal.returns-in-Err-clause-begun
-returns-in-Err-clause-begun g c = λ sent received audits few.
+pub returns-in_err-write_text-clause-begun : goal.returns-in_err-write_text-clause-begun
+returns-in_err-write_text-clause-begun g c = λ sent received audits few.
     let count = length c.args.path.now.harts in
     let hart = c.loop-hart.hart in
     let within : hart < count = omega arith in

@@ -6,12 +6,12 @@ use Rattle.auditing.proofs.audit.Audit.of_messages.Goals as goal
 
 pub returns-clause-audits : goal.returns-clause-audits
 returns-clause-audits g c =
-    let counted = c.in-Ok.ensures.counted in
-    let counts = c.in-Ok.counted.counts.items in
-    let highest = c.in-Ok.counted.highest in (
+    let counted = c.in_ok-counted.ensures.counted in
+    let counts = c.in_ok-counted.counted.counts.items in
+    let highest = c.in_ok-counted.counted.highest in (
       refl,
       started c.args.header c.args.harts c.count_of_harts-count.result highest counted.0 c.args.bytes.now counts
-          c.in-Ok-index_messages.index.items c.requires
+          c.in_ok-index.index.items c.requires
           (subst (λ bytes. HasCounted c.args.harts bytes [] counts highest counted.0) c.new.ensures counted.1)
-          c.count_of_harts-count.ensures c.in-Ok-index_messages.ensures,
+          c.count_of_harts-count.ensures c.in_ok-index.ensures,
     )
