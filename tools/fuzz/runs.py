@@ -9,6 +9,7 @@ import cases
 import lists
 import measures
 import reading
+import salvages
 
 Run = collections.namedtuple("Run", "words status out error")
 
@@ -88,6 +89,14 @@ def of_pair(_, __, pair):
     yield Run(["audit", audits.SENT, audits.RECEIVED], status, text.encode(), error)
 
 
+def of_salvaged(maker, harts, capture):
+    """What is salvaged of a damaged capture, and what `decode --lossy` prints of it."""
+    words = ["--base", f"{maker.program.base:x}", "--harts", str(harts), "image", "case"]
+    status, text, error = salvages.salvage(maker.program, harts, capture)
+    yield Run(["salvage", *words], status, text.encode(), error)
+    yield of_lossy_capture(maker, harts, capture, ["decode", "--lossy", *words])
+
+
 def of_measured(maker, _, logs):
     """The lines of some legal logs, and what `measure` prints of them."""
     random = maker.random
@@ -127,6 +136,7 @@ def answer(binary, folder, words):
 
 OF_CASE = {
     "captures": of_capture, "logs": of_log, "audits": of_pair, "measures": of_measured, "lists": of_listed,
+    "salvages": of_salvaged,
 }
 
 
