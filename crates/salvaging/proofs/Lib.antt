@@ -1,0 +1,4 @@
+pub mod BlockTraces
+pub mod RunsOfLog
+pub mod RisingNumbers
+pub mod SentMessages
