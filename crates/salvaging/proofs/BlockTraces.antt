@@ -48,6 +48,11 @@ none_opens words mode before reported p (q ∷ ps) (piece ∷ pieces) each = (
   none_opens words mode (last_or before piece) (reported_after p reported piece) q ps pieces each.2,
 )
 
+behind_first : (words : Words) (mode : Mode) (ps : List Packet) (pieces : List (List Event))
+    → Pieces words mode None 0 ps None pieces → NoneOpens (drop 1 ps)
+behind_first words mode [] pieces each = tt
+behind_first words mode (p ∷ ps) pieces each = none_opens words mode None 0 p ps pieces each
+
 -- Where none opens a trace, a stretch begins at a synchronisation alone.
 described_behind : (words : Words) (mode : Mode) (ps : List Packet) (events : List Event) → NoneOpens ps
     → DescribesFrom words mode (from_start ps) events → Describes words (opened mode (from_sync ps)) events
@@ -86,10 +91,10 @@ module _ (words : Words) (program : IsProgram words) (period : ℕ) (mode : Mode
       → Describes words (opened mode (from_sync (take count (drop (suc first) packets_of_log))))
       (events_of_block (suc first) count)
   from_later first count =
-      let none = none_opens words mode None 0 _ _ (stretches words period log)
-      (packets_have_stretches words program period mode log legal) in
+      let none : NoneOpens (drop 1 packets_of_log) = behind_first words mode packets_of_log
+      (stretches words period log) (packets_have_stretches words program period mode log legal) in
       described_behind words mode (take count (drop (suc first) packets_of_log)) (events_of_block (suc first) count)
-      (none_opens-take count (drop (suc first) packets_of_log) (none_opens-drop first _ none))
+      (none_opens-take count (drop (suc first) packets_of_log) (none_opens-drop first (drop 1 packets_of_log) none))
       (block_described words program period mode log legal (block_of 0 (suc first) count))
 
   -- The packets of a block, before which numbers are missing exactly where it does not begin at 0.

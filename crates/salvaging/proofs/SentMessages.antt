@@ -83,12 +83,22 @@ of_log hart period mode log legal message one =
       number = facts.1;
     }
 
+abbrev message_of : ℕ → ℕ → List ℕ → Message
+message_of hart number payload = record { hart = hart; number = number; payload = payload }
+
+message_same : (one other : Message) → one.hart ≡ other.hart → one.number ≡ other.number
+    → one.payload ≡ other.payload → one ≡ other
+message_same one other harts numbers bytes =
+    let whole : one ≡ message_of one.hart one.number one.payload = refl in
+    let again : message_of other.hart other.number other.payload ≡ other = refl in
+    whole ∙ ap (λ h. message_of h one.number one.payload) harts
+    ∙ ap (λ n. message_of other.hart n one.payload) numbers
+    ∙ ap (message_of other.hart other.number) bytes ∙ again
+
 -- Two messages of a log with one number are the same.
 pub same_number : (hart : ℕ) (ps : List Packet) (one other : Message) → IsOfLog hart ps one → IsOfLog hart ps other
     → one.number ≡ other.number → one ≡ other
 same_number hart ps one other i j is =
     let both : i.packet ∷ i.later ≡ j.packet ∷ j.later = sym i.here ∙ ap (λ n. drop n ps) is ∙ j.here in
     let packet : i.packet ≡ j.packet = cc in
-    let payload = i.payload ∙ ap payload_of packet ∙ sym j.payload in
-    let harts = i.own ∙ sym j.own in
-    cc
+    message_same one other (i.own ∙ sym j.own) is (i.payload ∙ ap payload_of packet ∙ sym j.payload)
