@@ -1,4 +1,10 @@
+pub mod Members
 pub mod BlockTraces
 pub mod RunsOfLog
 pub mod RisingNumbers
 pub mod SentMessages
+pub mod EntriesOfLog
+pub mod NoRepeats
+pub mod ClosedLogs
+pub mod OneHart
+pub mod AllLogs

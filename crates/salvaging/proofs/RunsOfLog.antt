@@ -38,18 +38,18 @@ HavePackets ps (message ∷ messages) = HasPacket ps message × HavePackets ps m
 
 module _ (words : Words) (program : IsProgram words) (period : ℕ) (mode : Mode) (log : List Event)
     (legal : Legal words log) where
-  abbrev ps : List Packet
+  abbrev pub ps : List Packet
   ps = packets_of_log words program period mode log legal
 
-  abbrev pieces : List (List Event)
+  abbrev pub pieces : List (List Event)
   pieces = stretches words period log
 
   -- The parts of a block under way and of those behind it.
-  abbrev parts_on : Block → ℕ → List ℕ → List LogPart
+  abbrev pub parts_on : Block → ℕ → List ℕ → List LogPart
   parts_on block next numbers = parts_of_blocks ps pieces (block_before block (blocks_from next numbers))
 
   -- One packet more of a block.
-  one_more : (first count number : ℕ) (p : Packet) (later : List Packet) → number ≡ first + count
+  pub one_more : (first count number : ℕ) (p : Packet) (later : List Packet) → number ≡ first + count
       → drop number ps ≡ p ∷ later
       → take count (drop first ps) ++ p ∷ [] ≡ take (count + 1) (drop first ps)
   one_more first count number p later is here =

@@ -1,6 +1,7 @@
 -- What is known of a message that is one of a log's.
 use Rattle.std.proofs.Common.{◌≡◌, ◌⊎◌, inl, inr, ℕ, zero, suc, ◌+◌, ◌<◌, ◌^◌, true, List, [], ◌∷◌, drop, map, refl}
 use Rattle.std.proofs.Common.{sym, ap, subst, ◌∙◌, arith}
+use Rattle.salvaging.proofs.Members.{IsIn}
 use Rattle.std.specs.Prelude.{Ok}
 use Rattle.rvclass.specs.Fetch.{words_of}
 use Rattle.legalpath.specs.ProgramLog.{ProgramLog, IsLegalLog}
@@ -14,7 +15,6 @@ use Rattle.encoder.specs.Payloads.{payloads}
 use Rattle.message.specs.Numbered.{messages_from}
 use Rattle.message.specs.declared.message.Message.{Message}
 use Rattle.losses.proofs.NextMessage.{packet_of_log}
-use Rattle.salvaging.specs.FromLogs.{IsOneOf}
 
 -- A message is one of those that were sent: its hart, its number, and its packet.
 pub record IsSent (hart next : ℕ) (ps : List Packet) (message : Message) : Type 0 where
@@ -27,7 +27,7 @@ pub record IsSent (hart next : ℕ) (ps : List Packet) (message : Message) : Typ
   pub payload : message.payload ≡ payload_of packet
 
 pub sent_of_one : (hart next : ℕ) (ps : List Packet) (message : Message)
-    → IsOneOf (messages_from hart next (map payload_of ps)) message → IsSent hart next ps message
+    → IsIn message (messages_from hart next (map payload_of ps)) → IsSent hart next ps message
 sent_of_one hart next [] message one = absurd one
 sent_of_one hart next (p ∷ ps) message (inl is) =
     let number = ap (λ (m : Message). m.number) is in
@@ -64,7 +64,7 @@ pub record IsOfLog (hart : ℕ) (ps : List Packet) (message : Message) : Type 0 
   pub number : message.number < 2 ^ 63
 
 pub of_log : (hart period : ℕ) (mode : Mode) (log : ProgramLog) → IsLegalLog log → (message : Message)
-    → IsOneOf (messages_from hart 0 (payloads period mode log)) message
+    → IsIn message (messages_from hart 0 (payloads period mode log))
     → IsOfLog hart (packets (words_of log.program) period mode log.events) message
 of_log hart period mode log legal message one =
     let ps = packets (words_of log.program) period mode log.events in

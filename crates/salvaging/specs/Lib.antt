@@ -1,1 +1,11 @@
+pub mod Strangers
+pub mod Entries
+pub mod Copies
+pub mod LeftParts
+pub mod Bad
+pub mod Leaving
+pub mod Late
+pub mod PartsIn
+pub mod Salvaged
 pub mod FromLogs
+pub mod LogsSalvaged

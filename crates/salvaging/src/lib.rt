@@ -1,5 +1,12 @@
-//! What is left of harts' logs after any damage.
+//! What is left of harts' logs after any damage to their messages.
 #![tactic(auto)]
 
-/// A placeholder.
-pub fn placeholder() {}
+mod laws;
+mod part;
+mod reason;
+mod salvaged;
+
+pub use laws::logs_are_salvaged;
+pub use part::Part;
+pub use reason::Reason;
+pub use salvaged::{Salvaged, SalvagedHart};

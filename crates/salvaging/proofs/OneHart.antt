@@ -1,0 +1,304 @@
+-- What is salvaged of one hart, whose messages are of a legal log.
+use Rattle.std.proofs.Common.{◌≡◌, ◌⊎◌, inl, inr, ℕ, zero, suc, ◌+◌, ◌-◌, ◌≤◌, ◌<◌, ◌++◌, All, Bool, true, false, Contains}
+use Rattle.std.proofs.Common.{List, [], ◌∷◌, drop, map, length, Some, slice_get, refl, sym, ap, subst, ◌∙◌, arith}
+use Rattle.std.specs.Prelude.{Ok}
+use Rattle.std.proofs.lemmas.List.{length-map}
+use Rattle.std.proofs.lemmas.List.Elements.{All-contains, All-get_or, All-head, All-map, All-tail, All-weaker}
+use Rattle.std.proofs.lemmas.Option.{get_or_from_slice_get, slice_get_within}
+use Rattle.rvclass.proofs.WordsLemmas.{words_of-IsProgram}
+use Rattle.rvclass.specs.Fetch.{words_of}
+use Rattle.rvclass.specs.Words.{Words, IsProgram}
+use Rattle.legalpath.specs.ProgramLog.{ProgramLog, IsLegalLog}
+use Rattle.payload.specs.declared.mode.Mode.{Mode}
+use Rattle.payload.specs.declared.packet.Packet.{Packet}
+use Rattle.payload.specs.declared.packet.Packet.TheVariants as packet
+use Rattle.payload.specs.declared.packet.Support.TheVariants as support
+use Rattle.payload.specs.Reading.{reading}
+use Rattle.encoder.specs.Packets.{packets}
+use Rattle.message.specs.declared.message.Message.{Message}
+use Rattle.roundtrip.specs.Reach.{stretches}
+use Rattle.losses.specs.Apart.{AreRising}
+use Rattle.losses.specs.Parts.{LogPart, parts}
+use Rattle.losses.specs.Parts.{Missing as LogMissing, Events as LogEvents}
+use Rattle.losses.specs.Runs.{first_run, mode_or}
+use Rattle.losses.specs.WholeStretches.{NumberCame}
+use Rattle.losses.proofs.BlockLemmas.{blocks_at_first}
+use Rattle.salvaging.specs.Copies.{AllDiffer, AreAlike, AreCopies, HasLike}
+use Rattle.salvaging.specs.Entries.{Entry, Used, Doubtful, AreEntries, IsEntryOf, entry_number}
+use Rattle.salvaging.specs.Leaving.{EntriesLeave, HartLeaves, mode_by, own_mode}
+use Rattle.salvaging.specs.LeftParts.{LeftPart, Missing, Events, BadNumbers, DoubtfulNumber, AreJoined, each_bad}
+use Rattle.salvaging.specs.LeftParts.{one_by_one}
+use Rattle.salvaging.specs.LogsSalvaged.{AreInOrder, AreLogParts, IsLogSalvaged, closing_number}
+use Rattle.salvaging.specs.PartsIn.{parts_in}
+use Rattle.salvaging.specs.Salvaged.{IsSalvagedHart}
+use Rattle.salvaging.specs.declared.reason.Reason.{Reason}
+use Rattle.salvaging.specs.declared.salvaged.SalvagedHart.{SalvagedHart}
+use Rattle.salvaging.proofs.ClosedLogs.{came_closed, closed_came}
+use Rattle.salvaging.proofs.EntriesOfLog.{AreOfPackets, HasPacketOf, entries_left}
+use Rattle.salvaging.proofs.Members.{IsIn, came_of_contains, contains_of_came, contains_of_in, in_of_contains}
+use Rattle.salvaging.proofs.NoRepeats.{NoRepeat, no_more, rising_no_repeat}
+use Rattle.salvaging.proofs.RisingNumbers.{not_below}
+use Rattle.salvaging.proofs.RunsOfLog.{number_of}
+use Rattle.salvaging.proofs.SentMessages.{IsOfLog, same_number}
+
+heads_same : (p q : Packet) (ps qs : List Packet) → p ∷ ps ≡ q ∷ qs → p ≡ q
+heads_same p q ps qs is = cc
+
+-- An item at a place is one of the list.
+pub all_at : {X : Type 0} (P : X → Type 0) (xs : List X) (k : ℕ) (x : X) → slice_get xs k ≡ Some x → All P xs → P x
+all_at P xs k x at all =
+    subst P (get_or_from_slice_get xs k x x at) (All-get_or P xs k x (slice_get_within xs k x at) all)
+
+in_at : {X : Type 0} (xs : List X) (k : ℕ) (x : X) → slice_get xs k ≡ Some x → IsIn x xs
+in_at [] k x at = cc
+in_at (y ∷ xs) zero x at = let same : x ≡ y = cc in inl same
+in_at (y ∷ xs) (suc k) x at = inr (in_at xs k x at)
+
+-- The number of a message is among the numbers.
+number_in : (messages : List Message) (message : Message) → IsIn message messages
+    → NumberCame (number_of message) (map number_of messages)
+number_in [] message one = absurd one
+number_in (first ∷ messages) message (inl is) = inl (ap number_of is)
+number_in (first ∷ messages) message (inr one) = inr (number_in messages message one)
+
+-- A number among the numbers is one of a message.
+message_with : (messages : List Message) (number : ℕ) → NumberCame number (map number_of messages)
+    → (message : Message) × IsIn message messages × (number ≡ number_of message)
+message_with [] number came = absurd came
+message_with (first ∷ messages) number (inl is) = (first, inl refl, is)
+message_with (first ∷ messages) number (inr came) =
+    let found = message_with messages number came in (found.0, inr found.1, found.2)
+
+-- Where the parts of each bad number are those of a log, none is bad.
+bad_parts : (first count : ℕ) (why : Reason) (left : List LeftPart) (parts : List LogPart)
+    → ¬ AreLogParts (each_bad first (suc count) why ++ left) parts
+bad_parts first count why left [] are = are
+bad_parts first count why left (part ∷ parts) are = are
+
+joined_parts : (left : List LeftPart) (parts : List LogPart) → AreJoined left → AreLogParts (one_by_one left) parts
+    → AreLogParts left parts
+joined_parts [] parts joined are = are
+joined_parts (Missing count ∷ left) [] joined are = are
+joined_parts (Missing count ∷ left) (LogMissing missing ∷ parts) joined are =
+    (are.0, joined_parts left parts joined are.1)
+joined_parts (Missing count ∷ left) (LogEvents events ∷ parts) joined are = are
+joined_parts (Events first last events ∷ left) [] joined are = are
+joined_parts (Events first last events ∷ left) (LogMissing missing ∷ parts) joined are = are
+joined_parts (Events first last events ∷ left) (LogEvents stretch ∷ parts) joined are =
+    (are.0, joined_parts left parts joined are.1)
+joined_parts (BadNumbers first last why ∷ left) parts joined are =
+    let some = joined.0 in
+    let count : last + 1 - first ≡ suc (last - first) = omega (arith, some) in
+    absurd (bad_parts first (last - first) why (one_by_one left) parts
+    (subst (λ n. AreLogParts (each_bad first n why ++ one_by_one left) parts) count are))
+joined_parts (DoubtfulNumber number ∷ left) [] joined are = are
+joined_parts (DoubtfulNumber number ∷ left) (part ∷ parts) joined are = absurd are
+
+module _ (hart period : ℕ) (handed mode : Mode) (log : ProgramLog) (legal : IsLegalLog log)
+    (messages : List Message) where
+  abbrev words : Words
+  words = words_of log.program
+
+  is_program : IsProgram words
+  is_program = words_of-IsProgram log.program legal.image
+
+  abbrev all : List Packet
+  all = packets words period mode log.events
+
+  abbrev came : List ℕ
+  came = map number_of messages
+
+  module _ (each : All (IsOfLog hart all) messages) where
+    is_of_log : (message : Message) → IsIn message messages → IsOfLog hart all message
+    is_of_log message one = All-contains (IsOfLog hart all) messages message each (contains_of_in messages message one)
+
+    -- Messages with one number are the same.
+    one_message : (one other : Message) → IsIn one messages → IsIn other messages → one.number ≡ other.number
+        → one ≡ other
+    one_message one other here there is =
+        same_number hart all one other (is_of_log one here) (is_of_log other there) is
+
+    -- Their entries are used, each with the packet of its number.
+    has_packet : (number place : ℕ) (payload : List ℕ) → IsEntryOf messages (Used number place payload)
+        → HasPacketOf all number payload
+    has_packet number place payload used =
+        let i = is_of_log used.message (in_at messages place used.message used.here) in
+        record {
+          packet = i.packet;
+          later = i.later;
+          here = ap (λ n. drop n all) (sym used.number_here) ∙ i.here;
+          read = ap reading (sym used.payload_here) ∙ i.read;
+        }
+
+    none_doubtful : (number : ℕ) → ¬ IsEntryOf messages (Doubtful number)
+    none_doubtful number doubtful =
+        let same = one_message doubtful.one doubtful.other (in_of_contains messages doubtful.one doubtful.one_came)
+        (in_of_contains messages doubtful.other doubtful.other_came)
+        (doubtful.one_number ∙ sym doubtful.other_number) in
+        doubtful.differ (ap (λ (m : Message). m.payload) same)
+
+    of_packets : (entries : List Entry) → All (IsEntryOf messages) entries → AreOfPackets all entries
+    of_packets [] are = tt
+    of_packets (Used number place payload ∷ entries) are = (
+      has_packet number place payload (All-head (IsEntryOf messages) (Used number place payload) entries are),
+      of_packets entries (All-tail (IsEntryOf messages) (Used number place payload) entries are),
+    )
+    of_packets (Doubtful number ∷ entries) are =
+        absurd (none_doubtful number (All-head (IsEntryOf messages) (Doubtful number) entries are))
+
+    -- The number of an entry came.
+    entry_came : (entry : Entry) → IsEntryOf messages entry → Contains came (entry_number entry)
+    entry_came (Used number place payload) used =
+        contains_of_came came number (subst (λ n. NumberCame n came) used.number_here
+        (number_in messages used.message (in_at messages place used.message used.here)))
+    entry_came (Doubtful number) doubtful = absurd (none_doubtful number doubtful)
+
+    module _ (entries : List Entry) (are : AreEntries messages entries) where
+      abbrev numbers : List ℕ
+      numbers = map entry_number entries
+
+      of_log : AreOfPackets all entries
+      of_log = of_packets entries are.each
+
+      in_order : AreInOrder came numbers
+      in_order = record {
+        rising = are.rising;
+        some = All-map (Contains came) entry_number entries
+            (All-weaker (IsEntryOf messages) (λ entry. Contains came (entry_number entry)) entry_came entries are.each);
+        all = All-map (Contains numbers) number_of messages are.none_left_out;
+      }
+
+      -- They are read in the log's mode.
+      mode_at_first : (payload : List ℕ) → HasPacketOf all 0 payload → mode_by 0 handed (reading payload) ≡ mode
+      mode_at_first payload has =
+          let opens = heads_same (packet.Support (support.Open mode)) has.packet _ has.later has.here in
+          ap (mode_by 0 handed) has.read ∙ ap (mode_or handed) (sym opens)
+
+      own_mode_is : (entries : List Entry) → AreRising 0 (map entry_number entries) → AreOfPackets all entries
+          → (handed ≡ mode) ⊎ NumberCame 0 (map entry_number entries) → own_mode handed entries ≡ mode
+      own_mode_is [] rising are (inl is) = is
+      own_mode_is [] rising are (inr came) = absurd came
+      own_mode_is (Used zero place payload ∷ entries) rising (has, are) known = mode_at_first payload has
+      own_mode_is (Used (suc number) place payload ∷ entries) rising are (inl is) = is
+      own_mode_is (Used (suc number) place payload ∷ entries) rising are (inr (inl is)) = cc
+      own_mode_is (Used (suc number) place payload ∷ entries) rising are (inr (inr came)) =
+          let above = not_below (suc number + 1) (map entry_number entries) 0 rising.1 came in
+          absurd (omega (arith, above))
+      own_mode_is (Doubtful number ∷ entries) rising are known = absurd are
+
+      leaves_by_mode : (goods : List Bool) (left : List LeftPart)
+          → (handed ≡ mode) ⊎ (NumberCame 0 came ⊎ (messages ≡ [])) → HartLeaves words handed entries goods left
+          → EntriesLeave words mode first_run 0 entries goods left
+      leaves_by_mode goods left (inl is) leaves =
+          subst (λ m. EntriesLeave words m first_run 0 entries goods left)
+          (own_mode_is entries are.rising of_log (inl is)) leaves
+      leaves_by_mode goods left (inr (inl zero_came)) leaves =
+          let contained = All-contains (Contains numbers) came 0 in_order.all (contains_of_came came 0 zero_came) in
+          subst (λ m. EntriesLeave words m first_run 0 entries goods left)
+          (own_mode_is entries are.rising of_log (inr (came_of_contains numbers 0 contained))) leaves
+      leaves_by_mode goods left (inr (inr none)) leaves = by_entries entries are.each goods leaves
+        where
+          by_entries : (entries : List Entry) → All (IsEntryOf messages) entries → (goods : List Bool)
+              → HartLeaves words handed entries goods left → EntriesLeave words mode first_run 0 entries goods left
+          by_entries [] each [] leaves = leaves
+          by_entries [] each (good ∷ goods) leaves = absurd leaves
+          by_entries (entry ∷ entries) each goods leaves =
+              let contained = entry_came entry (All-head (IsEntryOf messages) entry entries each) in
+              let came_too = came_of_contains came (entry_number entry) contained in
+              absurd (subst (λ (ms : List Message). NumberCame (entry_number entry) (map number_of ms)) none came_too)
+
+      -- The parts are those of the log.
+      parts_of_log : (goods : List Bool) (left : List LeftPart)
+          → (handed ≡ mode) ⊎ (NumberCame 0 came ⊎ (messages ≡ [])) → AreJoined left
+          → HartLeaves words handed entries goods (one_by_one left)
+          → AreLogParts left (parts words period mode log.events numbers)
+      parts_of_log goods left known joined leaves =
+          joined_parts left (parts words period mode log.events numbers) joined
+          (subst (AreLogParts (one_by_one left)) (blocks_at_first all (stretches words period log.events) numbers)
+          (entries_left words is_program period mode log.events legal.legal entries goods of_log 0 0 0 0 (λ is. refl)
+          (λ is. refl) refl are.rising (one_by_one left)
+          (leaves_by_mode goods (one_by_one left) known leaves)))
+
+      -- Of the distinct messages there is one for each number.
+      like_came : (distinct : List Message) (message like : Message) → IsIn message messages → IsIn like messages
+          → number_of message ≡ number_of like → IsIn like distinct → HasLike distinct message
+      like_came distinct message like here there is one =
+          let same = one_message message like here there is in (
+            like,
+            contains_of_in distinct like one,
+            (is, ap (λ (m : Message). m.payload) same),
+          )
+
+      differ_no_repeat : (distinct : List Message) → All (Contains messages) distinct → AllDiffer distinct
+          → NoRepeat (map number_of distinct)
+      differ_no_repeat [] some differ = tt
+      differ_no_repeat (message ∷ distinct) some (none, differ) =
+          let rest = All-tail (Contains messages) message distinct some in (
+            λ again.
+                let found = message_with distinct (number_of message) again in
+                none (like_came distinct message found.0
+                (in_of_contains messages message (All-head (Contains messages) message distinct some))
+                (in_of_contains messages found.0 (All-contains (Contains messages) distinct found.0 rest
+                (contains_of_in distinct found.0 found.1))) found.2 found.1),
+            differ_no_repeat distinct rest differ,
+          )
+
+      copies_counted : (count : ℕ) → AreCopies messages count → count + length numbers ≡ length came
+      copies_counted count copies =
+          let distinct = copies.distinct in
+          let is = copies.are_distinct in
+          let more = no_more (map number_of distinct) numbers (differ_no_repeat distinct is.some is.differ)
+          (λ number there.
+          let found = message_with distinct number there in
+          let one = All-contains (Contains messages) distinct found.0 is.some
+          (contains_of_in distinct found.0 found.1) in
+          let number_came = number_in messages found.0 (in_of_contains messages found.0 one) in
+          let contained = All-contains (Contains numbers) came (number_of found.0) in_order.all
+          (contains_of_came came (number_of found.0) number_came) in
+          subst (λ n. NumberCame n numbers) (sym found.2) (came_of_contains numbers (number_of found.0) contained)) in
+          let fewer = no_more numbers (map number_of distinct) (rising_no_repeat 0 numbers are.rising)
+          (λ number there.
+          let contained = All-contains (Contains came) numbers number in_order.some
+          (contains_of_came numbers number there) in
+          let found = message_with messages number (came_of_contains came number contained) in
+          let like = All-contains (HasLike distinct) messages found.0 is.all
+          (contains_of_in messages found.0 found.1) in
+          subst (λ n. NumberCame n (map number_of distinct)) (sym (found.2 ∙ like.2.0))
+          (number_in distinct like.0 (in_of_contains distinct like.0 like.1))) in
+          let others = copies.others in
+          let mapped = length-map distinct number_of in
+          let came_count = length-map messages number_of in
+          omega (arith, more, fewer, others, mapped, came_count)
+
+  -- What is salvaged of the hart is that of its log.
+  pub hart_of_log : {A : Type 0} → All (IsOfLog hart all) messages
+      → (handed ≡ mode) ⊎ (NumberCame 0 came ⊎ (messages ≡ [])) → (one : SalvagedHart A)
+      → IsSalvagedHart words handed messages one → IsLogSalvaged words period mode log.events came one
+  hart_of_log each known one salvaged =
+      let entries = salvaged.entries in
+      let are = salvaged.are_entries in
+      let order = in_order each entries are in
+      let of = of_log each entries are in
+      let last = closing_number words period mode log.events in
+      record {
+        numbers = map entry_number entries;
+        in_order = order;
+        parts = parts_of_log each entries are salvaged.goods (parts_in one.parts.items) known salvaged.joined
+            salvaged.parts;
+        copies = copies_counted each entries are one.copies salvaged.copies;
+        closed = (
+          λ closed. by_came entries order (closed_came words is_program period mode log.events legal.legal false entries
+              of (sym salvaged.closed ∙ closed)),
+          λ contained. salvaged.closed ∙ came_closed words is_program period mode log.events legal.legal false 0 entries
+              are.rising of (came_of_contains (map entry_number entries) last
+              (All-contains (Contains (map entry_number entries)) came last order.all contained)),
+        );
+      }
+    where
+      by_came : (entries : List Entry) → AreInOrder came (map entry_number entries)
+          → (false ≡ true) ⊎ NumberCame (closing_number words period mode log.events) (map entry_number entries)
+          → Contains came (closing_number words period mode log.events)
+      by_came entries order (inl never) = cc
+      by_came entries order (inr there) =
+          All-contains (Contains came) (map entry_number entries) (closing_number words period mode log.events)
+          order.some (contains_of_came (map entry_number entries) (closing_number words period mode log.events) there)

@@ -1,0 +1,35 @@
+-- What is salvaged of messages.
+use Rattle.std.specs.Prelude.{ℕ, ◌≡◌, Bool, List, Some, count_by, length, slice_get}
+use Rattle.rvclass.specs.Words.{Words}
+use Rattle.payload.specs.declared.mode.Mode.{Mode}
+use Rattle.message.specs.declared.message.Message.{Message}
+use Rattle.salvaging.specs.Copies.{AreCopies}
+use Rattle.salvaging.specs.Entries.{Entry, AreEntries, is_closed}
+use Rattle.salvaging.specs.Late.{late}
+use Rattle.salvaging.specs.Leaving.{HartLeaves}
+use Rattle.salvaging.specs.LeftParts.{AreJoined, one_by_one}
+use Rattle.salvaging.specs.PartsIn.{parts_in}
+use Rattle.salvaging.specs.Strangers.{is_stranger, own_messages}
+use Rattle.salvaging.specs.declared.salvaged.SalvagedHart.{SalvagedHart}
+use Rattle.salvaging.specs.declared.salvaged.Salvaged.{Salvaged}
+
+-- This is salvaged of a hart with these messages, where this mode is handed in.
+pub record IsSalvagedHart {A : Type 0} (words : Words) (mode : Mode) (messages : List Message)
+    (hart : SalvagedHart A) : Type 0 where
+  pub entries : List Entry
+  pub goods : List Bool
+  pub are_entries : AreEntries messages entries
+  pub parts : HartLeaves words mode entries goods (one_by_one (parts_in hart.parts.items))
+  pub joined : AreJoined (parts_in hart.parts.items)
+  pub copies : AreCopies messages hart.copies
+  pub late : hart.late ≡ late entries goods
+  pub closed : hart.closed ≡ is_closed entries
+
+-- This is salvaged of messages of so many harts: of each hart by its own messages and the mode handed in alone, and all
+-- strangers are counted.
+pub record IsSalvaged {A : Type 0} (words : Words) (mode : Mode) (harts : ℕ) (messages : List Message)
+    (salvaged : Salvaged A) : Type 0 where
+  pub count : length salvaged.harts.items ≡ harts
+  pub each : (hart : ℕ) (own : SalvagedHart A) → slice_get salvaged.harts.items hart ≡ Some own
+      → IsSalvagedHart words mode (own_messages hart messages) own
+  pub strangers : salvaged.strangers ≡ count_by (is_stranger harts) messages

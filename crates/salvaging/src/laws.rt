@@ -1,0 +1,25 @@
+//! What the definitions of salvaging promise.
+
+ghost use Rattle.std.specs.Prelude.{ℕ, ◌≡◌, List, length};
+ghost use Rattle.rvclass.specs.Fetch.{words_of};
+ghost use Rattle.rvclass.specs.Image.{Image};
+ghost use Rattle.legalpath.specs.ProgramLog.{ProgramLog};
+ghost use Rattle.payload.specs.declared.mode.Mode.{Mode};
+ghost use Rattle.message.specs.declared.message.Message.{Message};
+ghost use Rattle.salvaging.specs.FromLogs.{AreFromLogs};
+ghost use Rattle.salvaging.specs.LogsSalvaged.{AreLogsSalvaged};
+ghost use Rattle.salvaging.specs.Salvaged.{IsSalvaged};
+ghost use Rattle.salvaging.specs.declared.salvaged.Salvaged.{Salvaged as AnySalvaged};
+
+use std::alloc::Allocator;
+
+/// What is salvaged of messages of legal logs of a program, in whatever order they came, how often, and which of them
+/// did not come at all: of each hart the parts of its log by the numbers that came, so that its stretches are disjoint
+/// stretches of the log, in its order. Nothing is bad or doubtful, and there is no stranger. The copies are the
+/// messages less the distinct ones, and a hart is closed exactly where its closing packet came.
+pub fn logs_are_salvaged<A: Allocator>()
+    ensures { (program : Image) (period : ℕ) (handed : Mode) (own : ℕ → Mode) (logs : List ProgramLog)
+        (messages : List Message) (salvaged : AnySalvaged A) → AreFromLogs program period handed own logs messages
+        → IsSalvaged (words_of program) handed (length logs) messages salvaged
+        → AreLogsSalvaged program period own logs messages salvaged }
+{}

@@ -1,0 +1,26 @@
+//! What is salvaged of messages.
+
+use crate::part::Part;
+use std::alloc::{Allocator, Global};
+
+/// What is salvaged of one hart's messages.
+#[derive(Debug, Drop)]
+pub struct SalvagedHart<A: Allocator = Global> {
+    /// What is left of its log, in the order of the numbers.
+    pub parts: Vec<Part<A>, A>,
+    /// How many messages are copies: an earlier message of the hart has the same number and the same payload.
+    pub copies: usize,
+    /// How many messages are late: they are used, and an earlier used message that is not bad has a greater number.
+    pub late: usize,
+    /// Whether the hart is closed: the last number that is used has a packet that closes the trace.
+    pub closed: bool,
+}
+
+/// What is salvaged of messages of several harts.
+#[derive(Debug, Drop)]
+pub struct Salvaged<A: Allocator = Global> {
+    /// What is salvaged of each hart.
+    pub harts: Vec<SalvagedHart<A>, A>,
+    /// How many messages are strangers: their hart is not known, or their number is 2^63 or more.
+    pub strangers: usize,
+}
