@@ -48,7 +48,7 @@ AreOfPackets packets (Used number place payload ∷ entries) =
 AreOfPackets packets (Doubtful number ∷ entries) = ⊥
 
 -- Parts behind one another are those of a log behind one another.
-parts_append : (left more : List LeftPart) (parts others : List LogPart) → AreLogParts left parts
+pub parts_append : (left more : List LeftPart) (parts others : List LogPart) → AreLogParts left parts
     → AreLogParts more others → AreLogParts (left ++ more) (parts ++ others)
 parts_append [] more [] others are further = further
 parts_append [] more (part ∷ parts) others are further = absurd are
@@ -65,16 +65,16 @@ parts_append (BadNumbers first last why ∷ left) more (part ∷ parts) others a
 parts_append (DoubtfulNumber number ∷ left) more [] others are further = absurd are
 parts_append (DoubtfulNumber number ∷ left) more (part ∷ parts) others are further = absurd are
 
-parts_gap : (missing : ℕ) → AreLogParts (gap missing) (log_gap missing)
+pub parts_gap : (missing : ℕ) → AreLogParts (gap missing) (log_gap missing)
 parts_gap zero = tt
 parts_gap (suc missing) = (refl, tt)
 
-parts_stretch : (next count : ℕ) (events : List Event) → AreLogParts (stretch next count events) (log_stretch events)
+pub parts_stretch : (next count : ℕ) (events : List Event) → AreLogParts (stretch next count events) (log_stretch events)
 parts_stretch next count [] = tt
 parts_stretch next count (event ∷ events) = (refl, tt)
 
 -- A payload is read as one packet.
-same_packet : (payload : List ℕ) (p q : Packet) → reading payload ≡ Ok p → reading payload ≡ Ok q → p ≡ q
+pub same_packet : (payload : List ℕ) (p q : Packet) → reading payload ≡ Ok p → reading payload ≡ Ok q → p ≡ q
 same_packet payload p q one other = cc
 
 -- The last item of a list stands at its end.

@@ -49,20 +49,20 @@ pub all_at : {X : Type 0} (P : X → Type 0) (xs : List X) (k : ℕ) (x : X) →
 all_at P xs k x at all =
     subst P (get_or_from_slice_get xs k x x at) (All-get_or P xs k x (slice_get_within xs k x at) all)
 
-in_at : {X : Type 0} (xs : List X) (k : ℕ) (x : X) → slice_get xs k ≡ Some x → IsIn x xs
+pub in_at : {X : Type 0} (xs : List X) (k : ℕ) (x : X) → slice_get xs k ≡ Some x → IsIn x xs
 in_at [] k x at = cc
 in_at (y ∷ xs) zero x at = let same : x ≡ y = cc in inl same
 in_at (y ∷ xs) (suc k) x at = inr (in_at xs k x at)
 
 -- The number of a message is among the numbers.
-number_in : (messages : List Message) (message : Message) → IsIn message messages
+pub number_in : (messages : List Message) (message : Message) → IsIn message messages
     → NumberCame (number_of message) (map number_of messages)
 number_in [] message one = absurd one
 number_in (first ∷ messages) message (inl is) = inl (ap number_of is)
 number_in (first ∷ messages) message (inr one) = inr (number_in messages message one)
 
 -- A number among the numbers is one of a message.
-message_with : (messages : List Message) (number : ℕ) → NumberCame number (map number_of messages)
+pub message_with : (messages : List Message) (number : ℕ) → NumberCame number (map number_of messages)
     → (message : Message) × IsIn message messages × (number ≡ number_of message)
 message_with [] number came = absurd came
 message_with (first ∷ messages) number (inl is) = (first, inl refl, is)

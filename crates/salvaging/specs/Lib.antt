@@ -9,3 +9,5 @@ pub mod PartsIn
 pub mod Salvaged
 pub mod FromLogs
 pub mod LogsSalvaged
+pub mod LossyParts
+pub mod steps

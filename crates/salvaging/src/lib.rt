@@ -1,6 +1,10 @@
 //! What is left of harts' logs after any damage to their messages.
 #![tactic(auto)]
 
+mod came;
+mod entry;
+mod grouping;
+mod late;
 mod laws;
 mod part;
 mod reason;

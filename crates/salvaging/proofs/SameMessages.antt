@@ -1,0 +1,137 @@
+-- The entries of messages whose numbers rise are the messages, each in its place.
+use Rattle.std.proofs.Common.{◌≡◌, ◌≢◌, ◌⊎◌, inl, inr, ℕ, zero, suc, ◌+◌, ◌-◌, ◌≤◌, ◌<◌, ◌++◌, All, Contains, List, []}
+use Rattle.std.proofs.Common.{◌∷◌, map, Some, length, slice_get, refl, sym, ap, subst, ◌∙◌, arith, append_assoc}
+use Rattle.std.proofs.lemmas.Bool.{cases_lt}
+use Rattle.std.proofs.lemmas.List.{length_push}
+use Rattle.std.proofs.lemmas.List.Elements.{All-contains, All-head, All-tail}
+use Rattle.message.specs.declared.message.Message.{Message}
+use Rattle.losses.specs.Apart.{AreRising}
+use Rattle.losses.specs.WholeStretches.{NumberCame}
+use Rattle.salvaging.specs.Entries.{Entry, Used, Doubtful, AreEntries, IsDoubtful, IsEntryOf, IsUsed, entry_number}
+use Rattle.salvaging.proofs.Members.{IsIn, came_of_contains, contains_of_came, contains_of_in, in_of_contains}
+use Rattle.salvaging.proofs.OneHart.{in_at, message_with, number_in}
+use Rattle.salvaging.proofs.RisingNumbers.{not_below, rising_same}
+use Rattle.salvaging.proofs.RunsOfLog.{number_of}
+
+-- The entries are these messages, the first of which stands at this place.
+abbrev pub AreMessages : ℕ → List Entry → List Message → Type 0
+AreMessages place [] [] = Unit {0}
+AreMessages place (Used number at payload ∷ entries) (message ∷ messages) =
+    (number ≡ message.number) × (payload ≡ message.payload) × (at ≡ place) × AreMessages (place + 1) entries messages
+AreMessages place entries messages = ⊥
+
+-- Of rising numbers each has one place.
+rising_at : (from : ℕ) (messages : List Message) (k : ℕ) (message : Message) → AreRising from (map number_of messages)
+    → slice_get messages k ≡ Some message → from ≤ message.number
+rising_at from messages k message rising at =
+    not_below from (map number_of messages) message.number rising (number_in messages message (in_at messages k message
+    at))
+
+places_rise : (from : ℕ) (messages : List Message) (i j : ℕ) (one other : Message)
+    → AreRising from (map number_of messages) → slice_get messages i ≡ Some one → slice_get messages j ≡ Some other
+    → i < j → one.number < other.number
+places_rise from [] i j one other rising at_one at_other below = cc
+places_rise from (message ∷ messages) zero zero one other rising at_one at_other below = absurd (omega (arith, below))
+places_rise from (message ∷ messages) zero (suc j) one other rising at_one at_other below =
+    let same : message ≡ one = cc in
+    let above = rising_at (message.number + 1) messages j other rising.1 at_other in
+    let number = ap number_of same in
+    omega (arith, above, number)
+places_rise from (message ∷ messages) (suc i) zero one other rising at_one at_other below =
+    absurd (omega (arith, below))
+places_rise from (message ∷ messages) (suc i) (suc j) one other rising at_one at_other below =
+    places_rise (message.number + 1) messages i j one other rising.1 at_one at_other (omega (arith, below))
+
+pub one_place : (messages : List Message) (i j : ℕ) (one other : Message) → AreRising 0 (map number_of messages)
+    → slice_get messages i ≡ Some one → slice_get messages j ≡ Some other → one.number ≡ other.number → i ≡ j
+one_place messages i j one other rising at_one at_other is = by_order (cases_lt i j) (cases_lt j i)
+  where
+    by_order : (i < j) ⊎ (j ≤ i) → (j < i) ⊎ (i ≤ j) → i ≡ j
+    by_order (inl below) other_way =
+        let less = places_rise 0 messages i j one other rising at_one at_other below in
+        absurd (omega (arith, less, is))
+    by_order (inr over) (inl below) =
+        let less = places_rise 0 messages j i other one rising at_other at_one below in
+        absurd (omega (arith, less, is))
+    by_order (inr over) (inr least) = omega (arith, over, least)
+
+-- A message has a place.
+place_of : (messages : List Message) (message : Message) → IsIn message messages
+    → (k : ℕ) × (slice_get messages k ≡ Some message)
+place_of [] message there = absurd there
+place_of (first ∷ messages) message (inl is) = (0, ap Some (sym is))
+place_of (first ∷ messages) message (inr there) = let found = place_of messages message there in (suc found.0, found.1)
+
+at_same : (messages : List Message) (i j : ℕ) (one other : Message) → slice_get messages i ≡ Some one
+    → slice_get messages j ≡ Some other → i ≡ j → one ≡ other
+at_same messages i j one other at_one at_other is =
+    let there = subst (λ k. slice_get messages k ≡ Some other) (sym is) at_other in
+    let both : Some one ≡ Some other = sym at_one ∙ there in
+    cc
+
+at_behind : (front : List Message) (message : Message) (messages : List Message)
+    → slice_get (front ++ message ∷ messages) (length front) ≡ Some message
+at_behind [] message messages = refl
+at_behind (first ∷ front) message messages = at_behind front message messages
+
+module _ (all : List Message) (rising : AreRising 0 (map number_of all)) where
+  -- The entry of a message's number is the message.
+  is_message : (place : ℕ) (message : Message) (entry : Entry) → slice_get all place ≡ Some message
+      → entry_number entry ≡ message.number → IsEntryOf all entry → (entries : List Entry) (messages : List Message)
+      → AreMessages (place + 1) entries messages → AreMessages place (entry ∷ entries) (message ∷ messages)
+  is_message place message (Used number at payload) here is used entries messages later =
+      let same = one_place all at place used.message message rising used.here here (used.number_here ∙ is) in
+      let own = at_same all at place used.message message used.here here same in
+      (is, sym used.payload_here ∙ ap (λ (m : Message). m.payload) own, same, later)
+  is_message place message (Doubtful number) here is doubtful entries messages later =
+      let one = place_of all doubtful.one (in_of_contains all doubtful.one doubtful.one_came) in
+      let other = place_of all doubtful.other (in_of_contains all doubtful.other doubtful.other_came) in
+      let same = one_place all one.0 other.0 doubtful.one doubtful.other rising one.1 other.1
+      (doubtful.one_number ∙ sym doubtful.other_number) in
+      absurd (doubtful.differ (ap (λ (m : Message). m.payload)
+      (at_same all one.0 other.0 doubtful.one doubtful.other one.1 other.1 same)))
+
+  are_messages : (front messages : List Message) (entries : List Entry) → all ≡ front ++ messages
+      → map entry_number entries ≡ map number_of messages → All (IsEntryOf all) entries
+      → AreMessages (length front) entries messages
+  are_messages front [] [] whole numbers each = tt
+  are_messages front [] (entry ∷ entries) whole numbers each = cc
+  are_messages front (message ∷ messages) [] whole numbers each = cc
+  are_messages front (message ∷ messages) (entry ∷ entries) whole numbers each =
+      let first : entry_number entry ≡ message.number = cc in
+      let rest : map entry_number entries ≡ map number_of messages = cc in
+      let here = subst (λ l. slice_get l (length front) ≡ Some message) (sym whole)
+      (at_behind front message messages) in
+      let later = are_messages (front ++ message ∷ []) messages entries
+      (whole ∙ sym (append_assoc front (message ∷ []) messages)) rest (All-tail (IsEntryOf all) entry entries each) in
+      is_message (length front) message entry here first (All-head (IsEntryOf all) entry entries each) entries messages
+      (subst (λ n. AreMessages n entries messages) (length_push front message) later)
+
+  pub entries_are_messages : (entries : List Entry) → AreEntries all entries → AreMessages 0 entries all
+  entries_are_messages entries are =
+      let numbers = rising_same 0 (map entry_number entries) (map number_of all) are.rising rising
+      (λ number there. entry_came entries are.each number there)
+      (λ number there.
+      let found = message_with all number there in
+      let contained = All-contains (λ (m : Message). Contains (map entry_number entries) m.number) all found.0
+      are.none_left_out (contains_of_in all found.0 found.1) in
+      subst (λ n. NumberCame n (map entry_number entries)) (sym found.2)
+      (came_of_contains (map entry_number entries) found.0.number contained)) in
+      are_messages [] all entries refl numbers are.each
+    where
+      own_number : (entry : Entry) → IsEntryOf all entry → NumberCame (entry_number entry) (map number_of all)
+      own_number (Used number at payload) used =
+          subst (λ n. NumberCame n (map number_of all)) used.number_here
+          (number_in all used.message (in_at all at used.message used.here))
+      own_number (Doubtful number) doubtful =
+          subst (λ n. NumberCame n (map number_of all)) doubtful.one_number
+          (number_in all doubtful.one (in_of_contains all doubtful.one doubtful.one_came))
+
+      entry_came : (entries : List Entry) → All (IsEntryOf all) entries → (number : ℕ)
+          → NumberCame number (map entry_number entries) → NumberCame number (map number_of all)
+      entry_came [] each number there = absurd there
+      entry_came (entry ∷ entries) each number (inl is) =
+          subst (λ n. NumberCame n (map number_of all)) (sym is)
+          (own_number entry (All-head (IsEntryOf all) entry entries each))
+      entry_came (entry ∷ entries) each number (inr there) =
+          entry_came entries (All-tail (IsEntryOf all) entry entries each) number there

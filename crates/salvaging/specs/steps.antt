@@ -1,0 +1,3 @@
+pub mod Arrivals
+pub mod Grouping
+pub mod Lateness

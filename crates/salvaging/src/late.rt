@@ -1,0 +1,61 @@
+//! How many messages of a hart are late.
+
+ghost use Rattle.std.specs.Prelude.{◌≡◌, length};
+ghost use Rattle.salvaging.specs.Late.{late};
+ghost use Rattle.salvaging.specs.steps.Grouping.{entries_in, entry_of};
+ghost use Rattle.salvaging.specs.steps.Lateness.{comes_before, earliest_with, is_late_behind};
+
+use crate::entry::Entry;
+
+/// Whether there is a place, and it comes before this one.
+fn comes_before(first: Option<usize>, place: usize) -> bool
+    ensures { result ≡ comes_before first place }
+{
+    match first {
+        Some(first) => first < place,
+        None => false,
+    }
+}
+
+/// Whether an entry's message is late, where `first` is the place of the earliest good message with a greater number.
+fn is_late_behind(entry: Entry<'_>, first: Option<usize>) -> bool
+    ensures { result ≡ is_late_behind (entry_of entry.entry) first }
+{
+    match entry {
+        Entry::Used { place, .. } => comes_before(first, place),
+        Entry::Doubtful { .. } => false,
+    }
+}
+
+/// The place of the earliest good message, with that of an entry which is good or not.
+fn earliest_with(entry: Entry<'_>, good: bool, first: Option<usize>) -> Option<usize>
+    ensures { result ≡ earliest_with (entry_of entry.entry) good first }
+{
+    match entry {
+        Entry::Used { place, .. } => {
+            if good && !comes_before(first, place) {
+                Some(place)
+            } else {
+                first
+            }
+        }
+        Entry::Doubtful { .. } => first,
+    }
+}
+
+/// How many used messages came behind a good one with a greater number, by which of the entries are good.
+pub(crate) fn late(entries: &[Entry<'_>], goods: &[bool]) -> usize
+    requires { length goods.now ≡ length entries.now }
+    ensures { result ≡ late (entries_in entries.now) goods.now }
+{
+    let mut count = 0;
+    let mut first = None;
+    for at in (0..entries.len()).rev() {
+        let entry = entries[at];
+        if is_late_behind(entry, first) {
+            count += 1;
+        }
+        first = earliest_with(entry, goods[at], first);
+    }
+    count
+}
