@@ -30,7 +30,7 @@ use Rattle.salvaging.proofs.OneHart.{all_at, hart_of_log}
 use Rattle.salvaging.proofs.SentMessages.{IsOfLog, of_log}
 
 -- A filter that all pass leaves all.
-all_pass : {X : Type 0} (test : X → Bool) (xs : List X) → All (λ x. test x ≡ true) xs → filter test xs ≡ xs
+pub all_pass : {X : Type 0} (test : X → Bool) (xs : List X) → All (λ x. test x ≡ true) xs → filter test xs ≡ xs
 all_pass test [] all = refl
 all_pass test (x ∷ xs) all =
     ap (λ passes. cond passes (x ∷ filter test xs) (filter test xs)) (All-head (λ x. test x ≡ true) x xs all)

@@ -56,93 +56,93 @@ groups_start came capacity first entry some is of room =
 module _ (came : List Came) (entries : List Held) (capacity copies : ℕ) (entry : Held) (at : ℕ)
     (g : GroupsSo came entries capacity copies entry at) (within : at < length came)
     (before more : Came) (is_before : before ≡ get_or came (at - 1) before) (is_more : more ≡ get_or came at more)
-    where
-  here : drop at (arrivals_in came) ≡ arrival_of more ∷ drop (at + 1) (arrivals_in came)
-  here = drop_at came at more within is_more
+  where
+    here : drop at (arrivals_in came) ≡ arrival_of more ∷ drop (at + 1) (arrivals_in came)
+    here = drop_at came at more within is_more
 
-  -- The copies with one message more.
-  copies_more : (alike : Bool) → alike ≡ are_alike (arrival_of before) (arrival_of more)
-      → one_more alike copies + copies_by (drop (at + 1 - 1) (arrivals_in came)) ≡ copies_by (arrivals_in came)
-  copies_more alike is =
-      let some = g.some in
-      let back : at - 1 + 1 ≡ at = omega (arith, some) in
-      let on : at + 1 - 1 ≡ at = omega arith in
-      let both = drop_at came (at - 1) before (omega (arith, within)) is_before
-      ∙ ap (λ n. arrival_of before ∷ drop n (arrivals_in came)) back
-      ∙ ap (λ l. arrival_of before ∷ l) here in
-      let rest = ap (λ n. copies_by (drop n (arrivals_in came))) on ∙ ap copies_by here in
-      let step = ap copies_by both
-      ∙ ap (λ b. one_more b (copies_by (arrival_of more ∷ drop (at + 1) (arrivals_in came)))) (sym is) in
-      let counted = g.counted in
-      by_test alike rest step counted
-    where
-      by_test : (alike : Bool) → copies_by (drop (at + 1 - 1) (arrivals_in came))
-          ≡ copies_by (arrival_of more ∷ drop (at + 1) (arrivals_in came))
-          → copies_by (drop (at - 1) (arrivals_in came))
-          ≡ one_more alike (copies_by (arrival_of more ∷ drop (at + 1) (arrivals_in came)))
-          → copies + copies_by (drop (at - 1) (arrivals_in came)) ≡ copies_by (arrivals_in came)
-          → one_more alike copies + copies_by (drop (at + 1 - 1) (arrivals_in came)) ≡ copies_by (arrivals_in came)
-      by_test true rest step counted = omega (arith, rest, step, counted)
-      by_test false rest step counted = omega (arith, rest, step, counted)
+    -- The copies with one message more.
+    copies_more : (alike : Bool) → alike ≡ are_alike (arrival_of before) (arrival_of more)
+        → one_more alike copies + copies_by (drop (at + 1 - 1) (arrivals_in came)) ≡ copies_by (arrivals_in came)
+    copies_more alike is =
+        let some = g.some in
+        let back : at - 1 + 1 ≡ at = omega (arith, some) in
+        let on : at + 1 - 1 ≡ at = omega arith in
+        let both = drop_at came (at - 1) before (omega (arith, within)) is_before
+        ∙ ap (λ n. arrival_of before ∷ drop n (arrivals_in came)) back
+        ∙ ap (λ l. arrival_of before ∷ l) here in
+        let rest = ap (λ n. copies_by (drop n (arrivals_in came))) on ∙ ap copies_by here in
+        let step = ap copies_by both
+        ∙ ap (λ b. one_more b (copies_by (arrival_of more ∷ drop (at + 1) (arrivals_in came)))) (sym is) in
+        let counted = g.counted in
+        by_test alike rest step counted
+      where
+        by_test : (alike : Bool) → copies_by (drop (at + 1 - 1) (arrivals_in came))
+            ≡ copies_by (arrival_of more ∷ drop (at + 1) (arrivals_in came))
+            → copies_by (drop (at - 1) (arrivals_in came))
+            ≡ one_more alike (copies_by (arrival_of more ∷ drop (at + 1) (arrivals_in came)))
+            → copies + copies_by (drop (at - 1) (arrivals_in came)) ≡ copies_by (arrivals_in came)
+            → one_more alike copies + copies_by (drop (at + 1 - 1) (arrivals_in came)) ≡ copies_by (arrivals_in came)
+        by_test true rest step counted = omega (arith, rest, step, counted)
+        by_test false rest step counted = omega (arith, rest, step, counted)
 
-  few_more : (alike : Bool) → one_more alike copies < at + 1
-  few_more true = let few = g.few in omega (arith, few)
-  few_more false = let few = g.few in omega (arith, few)
+    few_more : (alike : Bool) → one_more alike copies < at + 1
+    few_more true = let few = g.few in omega (arith, few)
+    few_more false = let few = g.few in omega (arith, few)
 
-  -- Where the number is the one under way, the message joins its entry.
-  pub groups_joined : (alike : Bool) → alike ≡ are_alike (arrival_of before) (arrival_of more) → (added : ℕ)
-      → added ≡ one_more alike copies → (joined : Held)
-      → entry_number (entry_of entry) ≡ more.message.now.number
-      → entry_of joined ≡ entry_with (entry_of entry) more.message.now.payload
-      → GroupsSo came entries capacity added joined (at + 1)
-  groups_joined alike is added added_is joined numbers of =
-      let filled = g.filled in
-      let rest = drop (at + 1) (arrivals_in came) in
-      let test = eq-eqb (entry_number (entry_of entry)) more.message.now.number numbers in
-      record {
-        some = omega arith;
-        within = omega (arith, within);
-        grouped =
-            ap (λ e. entries_in entries ++ entries_on e rest) of
-            ∙ sym (ap (λ b. entries_in entries ++ join_or_begin b (entry_of entry) (arrival_of more)
-            (λ later. entries_on later rest)) test)
-            ∙ sym (ap (λ l. entries_in entries ++ entries_on (entry_of entry) l) here)
-            ∙ g.grouped;
-        counted = ap (λ n. n + copies_by (drop (at + 1 - 1) (arrivals_in came))) added_is ∙ copies_more alike is;
-        few = subst (λ n. n < at + 1) (sym added_is) (few_more alike);
-        filled = omega (arith, filled);
-        room = g.room;
-      }
+    -- Where the number is the one under way, the message joins its entry.
+    pub groups_joined : (alike : Bool) → alike ≡ are_alike (arrival_of before) (arrival_of more) → (added : ℕ)
+        → added ≡ one_more alike copies → (joined : Held)
+        → entry_number (entry_of entry) ≡ more.message.now.number
+        → entry_of joined ≡ entry_with (entry_of entry) more.message.now.payload
+        → GroupsSo came entries capacity added joined (at + 1)
+    groups_joined alike is added added_is joined numbers of =
+        let filled = g.filled in
+        let rest = drop (at + 1) (arrivals_in came) in
+        let test = eq-eqb (entry_number (entry_of entry)) more.message.now.number numbers in
+        record {
+          some = omega arith;
+          within = omega (arith, within);
+          grouped =
+              ap (λ e. entries_in entries ++ entries_on e rest) of
+              ∙ sym (ap (λ b. entries_in entries ++ join_or_begin b (entry_of entry) (arrival_of more)
+              (λ later. entries_on later rest)) test)
+              ∙ sym (ap (λ l. entries_in entries ++ entries_on (entry_of entry) l) here)
+              ∙ g.grouped;
+          counted = ap (λ n. n + copies_by (drop (at + 1 - 1) (arrivals_in came))) added_is ∙ copies_more alike is;
+          few = subst (λ n. n < at + 1) (sym added_is) (few_more alike);
+          filled = omega (arith, filled);
+          room = g.room;
+        }
 
-  -- Where it is another, the message begins an entry.
-  pub groups_begun : (alike : Bool) → alike ≡ are_alike (arrival_of before) (arrival_of more) → (added : ℕ)
-      → added ≡ one_more alike copies → (begun : Held) (grown : List Held) (larger : ℕ)
-      → entry_number (entry_of entry) ≢ more.message.now.number
-      → entry_of begun ≡ entry_by (arrival_of more) → grown ≡ entries ++ entry ∷ [] → capacity ≤ larger
-      → GroupsSo came grown larger added begun (at + 1)
-  groups_begun alike is added added_is begun grown larger apart of grown_is enough =
-      let filled = g.filled in
-      let room = g.room in
-      let rest = drop (at + 1) (arrivals_in came) in
-      let test = ne_eqb (entry_number (entry_of entry)) more.message.now.number apart in
-      let long = ap length grown_is ∙ length_push entries entry in
-      record {
-        some = omega arith;
-        within = omega (arith, within);
-        grouped =
-            ap (λ es. entries_in es ++ entries_on (entry_of begun) rest) grown_is
-            ∙ ap (λ es. es ++ entries_on (entry_of begun) rest) (map-append entry_of entries (entry ∷ []))
-            ∙ append_assoc (entries_in entries) (entry_of entry ∷ []) (entries_on (entry_of begun) rest)
-            ∙ ap (λ e. entries_in entries ++ entry_of entry ∷ entries_on e rest) of
-            ∙ sym (ap (λ b. entries_in entries ++ join_or_begin b (entry_of entry) (arrival_of more)
-            (λ later. entries_on later rest)) test)
-            ∙ sym (ap (λ l. entries_in entries ++ entries_on (entry_of entry) l) here)
-            ∙ g.grouped;
-        counted = ap (λ n. n + copies_by (drop (at + 1 - 1) (arrivals_in came))) added_is ∙ copies_more alike is;
-        few = subst (λ n. n < at + 1) (sym added_is) (few_more alike);
-        filled = omega (arith, filled, long);
-        room = omega (arith, room, enough);
-      }
+    -- Where it is another, the message begins an entry.
+    pub groups_begun : (alike : Bool) → alike ≡ are_alike (arrival_of before) (arrival_of more) → (added : ℕ)
+        → added ≡ one_more alike copies → (begun : Held) (grown : List Held) (larger : ℕ)
+        → entry_number (entry_of entry) ≢ more.message.now.number
+        → entry_of begun ≡ entry_by (arrival_of more) → grown ≡ entries ++ entry ∷ [] → capacity ≤ larger
+        → GroupsSo came grown larger added begun (at + 1)
+    groups_begun alike is added added_is begun grown larger apart of grown_is enough =
+        let filled = g.filled in
+        let room = g.room in
+        let rest = drop (at + 1) (arrivals_in came) in
+        let test = ne_eqb (entry_number (entry_of entry)) more.message.now.number apart in
+        let long = ap length grown_is ∙ length_push entries entry in
+        record {
+          some = omega arith;
+          within = omega (arith, within);
+          grouped =
+              ap (λ es. entries_in es ++ entries_on (entry_of begun) rest) grown_is
+              ∙ ap (λ es. es ++ entries_on (entry_of begun) rest) (map-append entry_of entries (entry ∷ []))
+              ∙ append_assoc (entries_in entries) (entry_of entry ∷ []) (entries_on (entry_of begun) rest)
+              ∙ ap (λ e. entries_in entries ++ entry_of entry ∷ entries_on e rest) of
+              ∙ sym (ap (λ b. entries_in entries ++ join_or_begin b (entry_of entry) (arrival_of more)
+              (λ later. entries_on later rest)) test)
+              ∙ sym (ap (λ l. entries_in entries ++ entries_on (entry_of entry) l) here)
+              ∙ g.grouped;
+          counted = ap (λ n. n + copies_by (drop (at + 1 - 1) (arrivals_in came))) added_is ∙ copies_more alike is;
+          few = subst (λ n. n < at + 1) (sym added_is) (few_more alike);
+          filled = omega (arith, filled, long);
+          room = omega (arith, room, enough);
+        }
 
 -- One more where a test is true.
 pub more_if : (test : Bool) (count more : ℕ) → test ≡ true → more ≡ count + 1 → more ≡ one_more test count

@@ -23,3 +23,4 @@ pub mod GroupedResults
 pub mod TakenInTurn
 pub mod SameMessages
 pub mod EntriesCollected
+pub mod CollectedToo

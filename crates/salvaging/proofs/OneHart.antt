@@ -75,7 +75,7 @@ bad_parts : (first count : ℕ) (why : Reason) (left : List LeftPart) (parts : L
 bad_parts first count why left [] are = are
 bad_parts first count why left (part ∷ parts) are = are
 
-joined_parts : (left : List LeftPart) (parts : List LogPart) → AreJoined left → AreLogParts (one_by_one left) parts
+pub joined_parts : (left : List LeftPart) (parts : List LogPart) → AreJoined left → AreLogParts (one_by_one left) parts
     → AreLogParts left parts
 joined_parts [] parts joined are = are
 joined_parts (Missing count ∷ left) [] joined are = are

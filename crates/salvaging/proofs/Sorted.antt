@@ -53,13 +53,19 @@ up_to one other is = by_place (cases_lt one.message.number other.message.number)
         → is_lt (ordering_then order (nat_cmp other.place one.place)) ≡ false → IsUpTo one other
     by_payload numbers Less payloads is = cc
     by_payload numbers Equal payloads is =
-        inr (numbers, inr (
-          sym (slice_cmp-IsAntisymmetric nat_cmp-IsAntisymmetric other.message.payload one.message.payload payloads),
-          not_higher one.place other.place is,
-        ))
+        inr (
+          numbers,
+          inr (
+            sym (slice_cmp-IsAntisymmetric nat_cmp-IsAntisymmetric other.message.payload one.message.payload payloads),
+            not_higher one.place other.place is,
+          ),
+        )
     by_payload numbers Greater payloads is =
-        inr (numbers, inl (nat_list_cmp_total.antisymm one.message.payload other.message.payload
-        ∙ ap ordering_reverse payloads))
+        inr (
+          numbers,
+          inl (nat_list_cmp_total.antisymm one.message.payload other.message.payload
+              ∙ ap ordering_reverse payloads),
+        )
 
     by_place : (one.message.number < other.message.number) ⊎ (other.message.number ≤ one.message.number)
         → IsUpTo one other

@@ -36,10 +36,13 @@ AreTakenFrom expects [] = Unit {0}
 AreTakenFrom expects (message ∷ messages) =
     (taken : IsTakenHere expects message) × AreTakenFrom (next_of message.number taken.packet) messages
 
+not_ok : (why : DemuxFault) → ¬ IsOk {T = Packet × ℕ} (Err why)
+not_ok why ok = cc
+
 abbrev answer_of_ok : (answer : Result (Packet × ℕ) DemuxFault) → IsOk answer
     → (packet : Packet) × (missed : ℕ) × (answer ≡ Ok (packet, missed))
 answer_of_ok (Ok taken) ok = (taken.0, taken.1, refl)
-answer_of_ok (Err why) ok = cc
+answer_of_ok (Err why) ok = absurd (not_ok why ok)
 
 module _ (harts : Harts) (message : Message) (ok : IsOk (accepting_lossy harts message)) where
   abbrev answer : (packet : Packet) × (missed : ℕ) × (accepting_lossy harts message ≡ Ok (packet, missed))

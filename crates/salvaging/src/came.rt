@@ -34,7 +34,12 @@ fn order_of(one: &Came<'_>, other: &Came<'_>) -> Ordering
         Ordering::Equal => {}
         apart => return apart,
     }
-    match one.message.payload.bytes().cmp(other.message.payload.bytes()) {
+    match one
+        .message
+        .payload
+        .bytes()
+        .cmp(other.message.payload.bytes())
+    {
         Ordering::Equal => one.place.cmp(&other.place),
         apart => apart,
     }

@@ -70,10 +70,7 @@ fn are_alike(one: &Came<'_>, other: &Came<'_>) -> bool
 
 /// The entries of a hart's messages, which are in the order of their numbers, and how many of them are alike with the
 /// one right before.
-fn group<'a, A: Allocator>(
-    alloc: A,
-    came: &[Came<'a>],
-) -> Result<Grouped<'a, A>, AllocError>
+fn group<'a, A: Allocator>(alloc: A, came: &[Came<'a>]) -> Result<Grouped<'a, A>, AllocError>
     ensures entries { IfOk result (λ grouped. entries_in grouped.entries.items ≡ entries_by (arrivals_in came.now)) }
     ensures copies { IfOk result (λ grouped. grouped.copies ≡ copies_by (arrivals_in came.now)) }
 {

@@ -3,11 +3,17 @@
 ghost use Rattle.std.specs.Prelude.{ℕ, ◌≡◌, List, length};
 ghost use Rattle.rvclass.specs.Fetch.{words_of};
 ghost use Rattle.rvclass.specs.Image.{Image};
+ghost use Rattle.rvclass.specs.Words.{Words, IsProgram};
 ghost use Rattle.legalpath.specs.ProgramLog.{ProgramLog};
 ghost use Rattle.payload.specs.declared.mode.Mode.{Mode};
+ghost use Rattle.message.specs.Accepted.{newcomers};
 ghost use Rattle.message.specs.declared.message.Message.{Message};
+ghost use Rattle.losses.specs.DescribedParts.{AreDescribed};
+ghost use Rattle.losses.specs.Stops.{AreAcceptedLossy};
+ghost use Rattle.losses.specs.declared.part.HartPieces.{HartPieces as AnyPieces};
 ghost use Rattle.salvaging.specs.FromLogs.{AreFromLogs};
 ghost use Rattle.salvaging.specs.LogsSalvaged.{AreLogsSalvaged};
+ghost use Rattle.salvaging.specs.LossyParts.{AreCollectedToo};
 ghost use Rattle.salvaging.specs.Salvaged.{IsSalvaged};
 ghost use Rattle.salvaging.specs.declared.salvaged.Salvaged.{Salvaged as AnySalvaged};
 
@@ -22,4 +28,13 @@ pub fn logs_are_salvaged<A: Allocator>()
         (messages : List Message) (salvaged : AnySalvaged A) → AreFromLogs program period handed own logs messages
         → IsSalvaged (words_of program) handed (length logs) messages salvaged
         → AreLogsSalvaged program period own logs messages salvaged }
+{}
+
+/// Where messages are collected without a fault (`losses::collect_lossy`), the same is salvaged of them: of each hart the
+/// same parts, none of them bad or doubtful, and the same flag. No message is a copy, late or a stranger.
+pub fn what_is_collected_is_salvaged<A: Allocator, B: Allocator>()
+    ensures { (words : Words) (mode : Mode) (harts : ℕ) (messages : List Message) (pieces : List (AnyPieces A))
+        (salvaged : AnySalvaged B) → IsProgram words → AreAcceptedLossy (newcomers harts) messages
+        → AreDescribed words mode messages pieces → IsSalvaged words mode harts messages salvaged
+        → AreCollectedToo pieces salvaged }
 {}

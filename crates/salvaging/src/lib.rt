@@ -10,7 +10,7 @@ mod part;
 mod reason;
 mod salvaged;
 
-pub use laws::logs_are_salvaged;
+pub use laws::{logs_are_salvaged, what_is_collected_is_salvaged};
 pub use part::Part;
 pub use reason::Reason;
 pub use salvaged::{Salvaged, SalvagedHart};

@@ -1,0 +1,235 @@
+-- What is collected of messages without a fault is salvaged of them.
+use Rattle.std.proofs.Common.{◌≡◌, ◌⊎◌, inl, inr, ℕ, zero, suc, ◌+◌, ◌-◌, ◌≤◌, ◌<◌, ◌^◌, ◌&&◌, ◌||◌, ◌++◌, All, Bool}
+use Rattle.std.proofs.Common.{true, false, cond, Contains, List, [], ◌∷◌, map, Option, Some, None, length, slice_get}
+use Rattle.std.proofs.Common.{refl, sym, ap, subst, ◌∙◌, arith}
+use Rattle.std.specs.Prelude.{count_by, nat_lt, not, Ok}
+use Rattle.std.specs.List.{last_or}
+use Rattle.std.proofs.lemmas.Bool.{le-ltb, lt-ltb}
+use Rattle.std.proofs.lemmas.List.{get_or-replicate, length-map, length-replicate}
+use Rattle.std.proofs.lemmas.List.Elements.{All-contains, All-cons, All-nil}
+use Rattle.std.proofs.lemmas.List.Sums.{sum_by-cons}
+use Rattle.std.proofs.lemmas.Option.{slice_get-get_or, slice_get_within}
+use Rattle.rvclass.specs.Words.{Words, IsProgram}
+use Rattle.payload.specs.Closing.{is_closing_packet, is_closing_reading}
+use Rattle.payload.specs.ClosedTrace.{closes, last_is_closing}
+use Rattle.payload.specs.Reading.{reading}
+use Rattle.payload.specs.declared.mode.Mode.{Mode}
+use Rattle.payload.specs.declared.packet.Packet.{Packet}
+use Rattle.message.proofs.HartMessages.{packets_in-cons}
+use Rattle.message.specs.Accepted.{newcomers}
+use Rattle.message.specs.Accepting.{next_of}
+use Rattle.message.specs.Harts.{newcomer}
+use Rattle.message.specs.OfHart.{of_hart, packet_or_none, packets_in}
+use Rattle.message.specs.declared.hart.Hart.{Hart}
+use Rattle.message.specs.declared.message.Message.{Message}
+use Rattle.losses.specs.Apart.{AreRising}
+use Rattle.losses.specs.DescribedParts.{AreDescribed, MessagesDescribe}
+use Rattle.losses.specs.Parts.{LogPart}
+use Rattle.losses.specs.PartsIn.{parts_in as collected_parts}
+use Rattle.losses.specs.Runs.{first_run, longer, mode_in, mode_or, over_before, run_behind, run_of, runs, runs_on}
+use Rattle.losses.specs.Stops.{AreAcceptedLossy}
+use Rattle.losses.specs.WholeStretches.{NumberCame}
+use Rattle.losses.specs.declared.part.HartPieces.{HartPieces}
+use Rattle.losses.specs.steps.Collecting.{closed_by}
+use Rattle.salvaging.specs.Copies.{AreCopies, HasLike}
+use Rattle.salvaging.specs.Entries.{Entry, Used, Doubtful, closed_behind, is_closed}
+use Rattle.salvaging.specs.Late.{counted, is_late, late}
+use Rattle.salvaging.specs.Leaving.{EntriesLeave, mode_by, own_mode}
+use Rattle.salvaging.specs.LeftParts.{one_by_one}
+use Rattle.salvaging.specs.LossyParts.{AreCollectedToo, IsCollected}
+use Rattle.salvaging.specs.PartsIn.{parts_in}
+use Rattle.salvaging.specs.Salvaged.{IsSalvaged, IsSalvagedHart}
+use Rattle.salvaging.specs.Strangers.{has_number, is_stranger, own_messages}
+use Rattle.salvaging.specs.declared.salvaged.SalvagedHart.{SalvagedHart}
+use Rattle.salvaging.specs.declared.salvaged.Salvaged.{Salvaged}
+use Rattle.salvaging.proofs.AllLogs.{all_pass}
+use Rattle.salvaging.proofs.EntriesCollected.{entries_collected}
+use Rattle.salvaging.proofs.Members.{IsIn, contains_of_in, in_of_contains}
+use Rattle.salvaging.proofs.NoRepeats.{no_more, rising_no_repeat}
+use Rattle.salvaging.proofs.OneHart.{joined_parts, message_with, number_in}
+use Rattle.salvaging.proofs.RunsOfLog.{number_of}
+use Rattle.salvaging.proofs.SameMessages.{AreMessages, entries_are_messages}
+use Rattle.salvaging.proofs.TakenInTurn.{AreKnown, AreTakenFrom, known_all, taken_from}
+
+-- The numbers of messages that are taken rise.
+taken_rise : (expects : Hart) (messages : List Message) → AreTakenFrom expects messages
+    → AreRising expects.expected (map number_of messages)
+taken_rise expects [] taken = tt
+taken_rise expects (message ∷ messages) (taken, later) =
+    (taken.least, taken_rise (next_of message.number taken.packet) messages later)
+
+taken_small : (expects : Hart) (messages : List Message) → AreTakenFrom expects messages
+    → All (λ message. has_number message ≡ true) messages
+taken_small expects [] taken = All-nil (λ message. has_number message ≡ true)
+taken_small expects (message ∷ messages) (taken, later) =
+    All-cons (λ message. has_number message ≡ true) message messages (lt-ltb message.number (2 ^ 63) taken.small)
+    (taken_small (next_of message.number taken.packet) messages later)
+
+-- The first run announces the mode.
+mode_kept : (mode : Mode) (packet : Packet) (packets : List Packet) (next : ℕ) (messages : List Message)
+    → mode_in mode (runs_on (run_of 0 (packet ∷ packets)) next messages) ≡ mode_or mode packet
+mode_kept mode packet packets next [] = refl
+mode_kept mode packet packets next (message ∷ messages) =
+    by_missed (message.number - next) (mode_kept mode packet (packets ++ packet_or_none (reading message.payload))
+    (message.number + 1) messages)
+  where
+    by_missed : (missed : ℕ)
+        → mode_in mode (runs_on (run_of 0 (packet ∷ (packets ++ packet_or_none (reading message.payload))))
+        (message.number + 1) messages) ≡ mode_or mode packet
+        → mode_in mode (over_before missed (run_of 0 (packet ∷ packets))
+        ++ runs_on (longer (run_behind missed (run_of 0 (packet ∷ packets)))
+        (packet_or_none (reading message.payload))) (message.number + 1) messages) ≡ mode_or mode packet
+    by_missed zero later = later
+    by_missed (suc missed) later = refl
+
+first_mode : (mode : Mode) (message : Message) (messages : List Message) (packet : Packet)
+    → reading message.payload ≡ Ok packet → (number missed : ℕ) → number ≡ missed
+    → mode_in mode (over_before missed first_run
+    ++ runs_on (longer (run_behind missed first_run) (packet_or_none (reading message.payload)))
+    (message.number + 1) messages) ≡ mode_by number mode (reading message.payload)
+first_mode mode message messages packet read zero zero is =
+    ap (λ r. mode_in mode (runs_on (run_of 0 (packet_or_none r)) (message.number + 1) messages)) read
+    ∙ mode_kept mode packet [] (message.number + 1) messages
+    ∙ sym (ap (mode_by 0 mode) read)
+first_mode mode message messages packet read zero (suc missed) is = cc
+first_mode mode message messages packet read (suc number) zero is = cc
+first_mode mode message messages packet read (suc number) (suc missed) is = refl
+
+own_mode_is : (mode : Mode) (entries : List Entry) (messages : List Message) → AreMessages 0 entries messages
+    → AreTakenFrom newcomer messages → own_mode mode entries ≡ mode_in mode (runs messages)
+own_mode_is mode [] [] are taken = refl
+own_mode_is mode [] (message ∷ messages) are taken = absurd are
+own_mode_is mode (Used number at payload ∷ entries) [] are taken = absurd are
+own_mode_is mode (Doubtful number ∷ entries) [] are taken = absurd are
+own_mode_is mode (Doubtful number ∷ entries) (message ∷ messages) are taken = absurd are
+own_mode_is mode (Used number at payload ∷ entries) (message ∷ messages) (number_is, payload_is, at_is, are)
+    (taken, later) =
+    ap (λ n. mode_by n mode (reading payload)) number_is
+    ∙ ap (λ l. mode_by message.number mode (reading l)) payload_is
+    ∙ sym (first_mode mode message messages taken.packet taken.read message.number (message.number - 0) (omega arith))
+
+-- No message is late where the places rise.
+none_late_before : (place base : ℕ) (entries : List Entry) (messages : List Message) (goods : List Bool)
+    → AreMessages base entries messages → place < base → is_late place entries goods ≡ false
+none_late_before place base [] messages goods are below = refl
+none_late_before place base (entry ∷ entries) messages [] are below = refl
+none_late_before place base (Doubtful number ∷ entries) [] (good ∷ goods) are below = absurd are
+none_late_before place base (Doubtful number ∷ entries) (message ∷ messages) (good ∷ goods) are below = absurd are
+none_late_before place base (Used number at payload ∷ entries) [] (good ∷ goods) are below = absurd are
+none_late_before place base (Used number at payload ∷ entries) (message ∷ messages) (true ∷ goods)
+    (number_is, payload_is, at_is, are) below =
+    ap (λ b. b || is_late place entries goods) (le-ltb at place (omega (arith, at_is, below)))
+    ∙ none_late_before place (base + 1) entries messages goods are (omega (arith, below))
+none_late_before place base (Used number at payload ∷ entries) (message ∷ messages) (false ∷ goods)
+    (number_is, payload_is, at_is, are) below =
+    none_late_before place (base + 1) entries messages goods are (omega (arith, below))
+
+none_late : (base : ℕ) (entries : List Entry) (messages : List Message) (goods : List Bool)
+    → AreMessages base entries messages → late entries goods ≡ 0
+none_late base [] messages goods are = refl
+none_late base (entry ∷ entries) messages [] are = refl
+none_late base (Doubtful number ∷ entries) [] (good ∷ goods) are = absurd are
+none_late base (Doubtful number ∷ entries) (message ∷ messages) (good ∷ goods) are = absurd are
+none_late base (Used number at payload ∷ entries) [] (good ∷ goods) are = absurd are
+none_late base (Used number at payload ∷ entries) (message ∷ messages) (good ∷ goods)
+    (number_is, payload_is, at_is, are) =
+    ap (λ b. counted b (late entries goods))
+    (none_late_before at (base + 1) entries messages goods are (omega (arith, at_is)))
+    ∙ none_late (base + 1) entries messages goods are
+
+-- A hart is closed by its last packet.
+closes_by : (before : Option Packet) (packets : List Packet)
+    → closes (last_or before packets) ≡ closed_by (closes before) packets
+closes_by before [] = refl
+closes_by before (packet ∷ packets) = closes_by (Some packet) packets
+
+closed_same : (closed : Bool) (base : ℕ) (expects : Hart) (entries : List Entry) (messages : List Message)
+    → AreMessages base entries messages → AreTakenFrom expects messages
+    → closed_behind closed entries ≡ closed_by closed (packets_in messages)
+closed_same closed base expects [] [] are taken = refl
+closed_same closed base expects [] (message ∷ messages) are taken = absurd are
+closed_same closed base expects (Used number at payload ∷ entries) [] are taken = absurd are
+closed_same closed base expects (Doubtful number ∷ entries) [] are taken = absurd are
+closed_same closed base expects (Doubtful number ∷ entries) (message ∷ messages) are taken = absurd are
+closed_same closed base expects (Used number at payload ∷ entries) (message ∷ messages)
+    (number_is, payload_is, at_is, are) (taken, later) =
+    let closes_too = ap (λ l. is_closing_reading (reading l)) payload_is ∙ ap is_closing_reading taken.read in
+    ap (λ b. closed_behind b entries) closes_too
+    ∙ closed_same (is_closing_packet taken.packet) (base + 1) (next_of message.number taken.packet) entries messages are
+    later
+    ∙ sym (ap (closed_by closed) (packets_in-cons message messages taken.packet taken.read))
+
+-- No message is a copy where no number comes twice.
+none_copied : (messages : List Message) (count : ℕ) → AreRising 0 (map number_of messages) → AreCopies messages count
+    → count ≡ 0
+none_copied messages count rising copies =
+    let distinct = copies.distinct in
+    let enough = no_more (map number_of messages) (map number_of distinct)
+    (rising_no_repeat 0 (map number_of messages) rising) (λ number there.
+    let found = message_with messages number there in
+    let like = All-contains (HasLike distinct) messages found.0 copies.are_distinct.all
+    (contains_of_in messages found.0 found.1) in
+    subst (λ n. NumberCame n (map number_of distinct)) (sym (found.2 ∙ like.2.0))
+    (number_in distinct like.0 (in_of_contains distinct like.0 like.1))) in
+    let others = copies.others in
+    let many = length-map messages number_of in
+    let few = length-map distinct number_of in
+    omega (arith, enough, others, many, few)
+
+-- No message is a stranger.
+none_strange : (count : ℕ) (messages : List Message) → AreKnown count messages
+    → count_by (is_stranger count) messages ≡ 0
+none_strange count [] known = refl
+none_strange count (message ∷ messages) (here, known) =
+    let hart = lt-ltb message.hart count here.0 in
+    let number = lt-ltb message.number (2 ^ 63) here.1 in
+    let test : is_stranger count message ≡ false =
+    ap (λ b. not (b && has_number message)) hart ∙ ap not number in
+    let first : cond (is_stranger count message) 1 0 ≡ 0 = ap {B = ℕ} (λ b. cond b 1 0) test in
+    let later = none_strange count messages known in
+    let both = sum_by-cons (λ x. cond (is_stranger count x) 1 0) message messages in
+    omega (arith, first, later, both)
+
+module _ (words : Words) (program : IsProgram words) (mode : Mode) where
+  pub hart_collected : {A B : Type 0} (messages : List Message) → AreTakenFrom newcomer messages
+      → (pieces : HartPieces A) → MessagesDescribe words mode messages (collected_parts pieces.parts.items)
+      → pieces.closed ≡ last_is_closing (packets_in messages) → (one : SalvagedHart B)
+      → IsSalvagedHart words mode messages one → IsCollected pieces one
+  hart_collected messages taken pieces described closed one salvaged =
+      let rising = taken_rise newcomer messages taken in
+      let entries = salvaged.entries in
+      let goods = salvaged.goods in
+      let are = entries_are_messages messages rising entries salvaged.are_entries in
+      let left = parts_in one.parts.items in
+      let leaves = subst (λ m. EntriesLeave words m first_run 0 entries goods (one_by_one left))
+      (own_mode_is mode entries messages are taken) salvaged.parts in
+      record {
+        parts = joined_parts left (collected_parts pieces.parts.items) salvaged.joined
+            (entries_collected words program (mode_in mode (runs messages)) messages entries goods 0 newcomer taken are
+            first_run 0 (one_by_one left) (collected_parts pieces.parts.items) leaves described);
+        closed = salvaged.closed ∙ closed_same false 0 newcomer entries messages are taken
+            ∙ sym (closes_by None (packets_in messages)) ∙ sym closed;
+        copies = none_copied messages one.copies rising salvaged.copies;
+        late = salvaged.late ∙ none_late 0 entries messages goods are;
+      }
+
+  pub all_collected : {A B : Type 0} (harts : ℕ) (messages : List Message) (pieces : List (HartPieces A))
+      (salvaged : Salvaged B) → AreAcceptedLossy (newcomers harts) messages → AreDescribed words mode messages pieces
+      → IsSalvaged words mode harts messages salvaged → AreCollectedToo pieces salvaged
+  all_collected harts messages pieces salvaged accepted described is =
+      let many : length (newcomers harts) ≡ harts = length-replicate harts newcomer in
+      record {
+        each = λ hart collected own at_pieces at_own.
+            let count = is.count in
+            let within = slice_get_within salvaged.harts.items hart own at_own in
+            let at_hart = slice_get-get_or (newcomers harts) hart newcomer (omega (arith, within, count, many))
+            ∙ ap Some (get_or-replicate harts hart newcomer newcomer (omega (arith, within, count))) in
+            let taken = taken_from messages (newcomers harts) accepted hart newcomer at_hart in
+            let all = all_pass has_number (of_hart hart messages)
+            (taken_small newcomer (of_hart hart messages) taken) in
+            hart_collected (of_hart hart messages) taken collected (described.parts hart collected at_pieces)
+            (described.closed hart collected at_pieces) own
+            (subst (λ ms. IsSalvagedHart words mode ms own) all (is.each hart own at_own));
+        strangers = is.strangers ∙ none_strange harts messages
+            (subst (λ n. AreKnown n messages) many (known_all messages (newcomers harts) accepted));
+      }
