@@ -135,7 +135,8 @@ module _ (program : Image) (period : ℕ) (handed : Mode) (own : ℕ → Mode) (
       (hart_of_log hart period handed (own hart) log (legal_at hart log at) (of_hart hart messages)
       (each_at hart log at) (known_at hart (slice_get_within logs hart log at)) one by_log)
 
-  pub logs_salvaged : {A : Type 0} (salvaged : Salvaged A) → IsSalvaged (words_of program) handed (length logs) messages salvaged
+  pub logs_salvaged : {A : Type 0} (salvaged : Salvaged A) → IsSalvaged (words_of program) handed (length logs)
+      messages salvaged
       → AreLogsSalvaged program period own logs messages salvaged
   logs_salvaged salvaged is = record {
     count = is.count;

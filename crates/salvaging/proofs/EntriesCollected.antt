@@ -45,7 +45,8 @@ IsDescribed words mode run = (log : List Event) × Describes words (trace_of_run
 
 module _ (words : Words) (program : IsProgram words) (mode : Mode) where
   -- The first packets of a run describe a log where all do.
-  first_described : (missing : ℕ) (packets more : List Packet) → IsDescribed words mode (run_of missing (packets ++ more))
+  first_described : (missing : ℕ) (packets more : List Packet) → IsDescribed words mode (run_of missing (packets ++
+      more))
       → IsDescribed words mode (run_of missing packets)
   first_described zero packets more (log, described) =
       let front = front_describes words packets more log described in
@@ -117,7 +118,8 @@ module _ (words : Words) (program : IsProgram words) (mode : Mode) where
     none_bad run described (reason.Packet why) bad = let fine = payload_read in cc
     none_bad run described (reason.Decode why) bad =
         let same = same_packet payload packet bad.packet payload_read bad.read in
-        bad.not_described described.0 (subst (λ p. Describes words (trace_of_run mode (longer run (p ∷ []))) described.0)
+        bad.not_described described.0 (subst (λ p. Describes words (trace_of_run mode (longer run (p ∷ [])))
+            described.0)
         same described.1)
     none_bad run described (reason.Closing next) (closes, follows) =
         let closes_packet : is_closing_packet packet ≡ true = sym (ap is_closing_reading payload_read) ∙ closes in

@@ -69,7 +69,8 @@ pub parts_gap : (missing : ℕ) → AreLogParts (gap missing) (log_gap missing)
 parts_gap zero = tt
 parts_gap (suc missing) = (refl, tt)
 
-pub parts_stretch : (next count : ℕ) (events : List Event) → AreLogParts (stretch next count events) (log_stretch events)
+pub parts_stretch : (next count : ℕ) (events : List Event) → AreLogParts (stretch next count events) (log_stretch
+    events)
 parts_stretch next count [] = tt
 parts_stretch next count (event ∷ events) = (refl, tt)
 

@@ -1,5 +1,6 @@
 -- A message is late where the earliest good message with a greater number came before it.
-use Rattle.std.proofs.Common.{◌≡◌, ◌⊎◌, inl, inr, ℕ, ◌≤◌, ◌<◌, ◌||◌, Bool, true, false, List, [], ◌∷◌, Option, Some, None}
+use Rattle.std.proofs.Common.{◌≡◌, ◌⊎◌, inl, inr, ℕ, ◌≤◌, ◌<◌, ◌||◌, Bool, true, false, List, [], ◌∷◌, Option, Some}
+use Rattle.std.proofs.Common.{None}
 use Rattle.std.proofs.Common.{refl, sym, ap, ◌∙◌, arith}
 use Rattle.std.specs.Prelude.{nat_lt}
 use Rattle.std.proofs.lemmas.Bool.{cases_lt, lt-ltb, le-ltb, ltb-true, ltb-false}
@@ -35,7 +36,8 @@ either_way before place (Some first) = by_order (nat_lt first before) refl
             let least = ltb-false first before is in
             let here = lt-ltb before place (omega (arith, least, below)) in
             ap (λ b. b || nat_lt first place) here ∙ sym here
-        by_place (inr over) = ap (λ b. nat_lt before place || b) (le-ltb first place over) ∙ no_more (nat_lt before place)
+        by_place (inr over) = ap (λ b. nat_lt before place || b) (le-ltb first place over) ∙ no_more (nat_lt before
+            place)
           where
             no_more : (test : Bool) → (test || false) ≡ test
             no_more true = refl

@@ -24,3 +24,13 @@ pub mod TakenInTurn
 pub mod SameMessages
 pub mod EntriesCollected
 pub mod CollectedToo
+pub mod PartLemmas
+pub mod PushedParts
+pub mod RunsEnded
+pub mod TrailSteps
+pub mod EntriesTaken
+pub mod EntryLists
+pub mod Distributed
+pub mod HartSalvaged
+pub mod SalvagedEach
+pub mod DistributedAll

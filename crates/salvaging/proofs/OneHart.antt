@@ -1,5 +1,6 @@
 -- What is salvaged of one hart, whose messages are of a legal log.
-use Rattle.std.proofs.Common.{◌≡◌, ◌⊎◌, inl, inr, ℕ, zero, suc, ◌+◌, ◌-◌, ◌≤◌, ◌<◌, ◌++◌, All, Bool, true, false, Contains}
+use Rattle.std.proofs.Common.{◌≡◌, ◌⊎◌, inl, inr, ℕ, zero, suc, ◌+◌, ◌-◌, ◌≤◌, ◌<◌, ◌++◌, All, Bool, true, false}
+use Rattle.std.proofs.Common.{Contains}
 use Rattle.std.proofs.Common.{List, [], ◌∷◌, drop, map, length, Some, slice_get, refl, sym, ap, subst, ◌∙◌, arith}
 use Rattle.std.specs.Prelude.{Ok}
 use Rattle.std.proofs.lemmas.List.{length-map}

@@ -1,5 +1,6 @@
 -- The order of messages with their places.
-use Rattle.std.proofs.Common.{◌≡◌, ◌⊎◌, inl, inr, ℕ, ◌≤◌, ◌<◌, ◌++◌, All, List, [], ◌∷◌, refl, sym, subst, ◌∙◌, arith, ap}
+use Rattle.std.proofs.Common.{◌≡◌, ◌⊎◌, inl, inr, ℕ, ◌≤◌, ◌<◌, ◌++◌, All, List, [], ◌∷◌, refl, sym, subst, ◌∙◌, arith}
+use Rattle.std.proofs.Common.{ap}
 use Rattle.std.specs.Cmp.Lexicographic.{slice_cmp}
 use Rattle.std.specs.Ordering.{nat_cmp, ordering_reverse}
 use Rattle.std.specs.declared.cmp.Ordering.TheVariants.{Less}

@@ -20,7 +20,8 @@ by_test : (same : Bool) (entry : Entry) (next : Arrival) (arrivals : List Arriva
     → AreSmall (join_or_begin same entry next (λ later. entries_on later arrivals))
 by_test true entry next arrivals small same new =
     same (subst (λ n. n < end_of_numbers) (sym (number_kept entry next.message.payload)) small)
-by_test false entry next arrivals small same new = All-cons IsSmall entry (entries_on (entry_by next) arrivals) small new
+by_test false entry next arrivals small same new = All-cons IsSmall entry (entries_on (entry_by next) arrivals) small
+    new
 
 entries_on_small : (entry : Entry) (arrivals : List Arrival) → IsSmall entry → HaveNumbers arrivals
     → AreSmall (entries_on entry arrivals)

@@ -16,8 +16,8 @@ abbrev pub entry_number : Entry → ℕ
 entry_number (Used number place payload) = number
 entry_number (Doubtful number) = number
 
--- Of a hart's messages, the one at this place is the first with this number, and it has this payload. Each other message
--- with the number has the same payload.
+-- Of a hart's messages, the one at this place is the first with this number, and it has this payload. Each other
+-- message with the number has the same payload.
 pub record IsUsed (messages : List Message) (number place : ℕ) (payload : List ℕ) : Type 0 where
   pub message : Message
   pub here : slice_get messages place ≡ Some message

@@ -20,15 +20,15 @@ abbrev pub kept : ℕ → List Packet → List Packet
 kept zero packets = packets
 kept (suc lost) packets = from_sync packets
 
--- The run under way is over, whose last number is right before `next`. It leaves a stretch of the one log that its trace
--- describes.
+-- The run under way is over, whose last number is right before `next`. It leaves a stretch of the one log that its
+-- trace describes.
 abbrev pub RunLeaves : Words → Mode → Run → ℕ → List LeftPart → Type 0
 RunLeaves words mode run next parts =
     (events : List Event) × Describes words (trace_of_run mode run) events
     × (parts ≡ stretch next (length (kept run.missing run.packets)) events)
 
--- Before a used number so many numbers were lost, which did not come or are doubtful. Where there are any, the run under
--- way is over, and a gap stands behind its stretch.
+-- Before a used number so many numbers were lost, which did not come or are doubtful. Where there are any, the run
+-- under way is over, and a gap stands behind its stretch.
 abbrev pub LeavesBefore : Words → Mode → Run → ℕ → ℕ → List LeftPart → Type 0
 LeavesBefore words mode run next zero parts = parts ≡ []
 LeavesBefore words mode run next (suc lost) parts =

@@ -7,8 +7,8 @@ use Rattle.salvaging.specs.PartsIn.{parts_in}
 use Rattle.salvaging.specs.declared.salvaged.SalvagedHart.{SalvagedHart}
 use Rattle.salvaging.specs.declared.salvaged.Salvaged.{Salvaged}
 
--- What is salvaged of a hart is what is collected of it: the same parts, none of them bad or doubtful, and the same flag.
--- No message is a copy or late.
+-- What is salvaged of a hart is what is collected of it: the same parts, none of them bad or doubtful, and the same
+-- flag. No message is a copy or late.
 pub record IsCollected {A B : Type 0} (pieces : HartPieces A) (hart : SalvagedHart B) : Type 0 where
   pub parts : AreLogParts (parts_in hart.parts.items) (collected_parts pieces.parts.items)
   pub closed : hart.closed ≡ pieces.closed

@@ -97,8 +97,8 @@ fn group<'a, A: Allocator>(alloc: A, came: &[Came<'a>]) -> Result<Grouped<'a, A>
     Ok(Grouped { entries, copies })
 }
 
-/// The entries of a hart's messages, and how many of the messages are copies, from the messages with their places in the
-/// order of their numbers.
+/// The entries of a hart's messages, and how many of the messages are copies, from the messages with their places in
+/// the order of their numbers.
 pub(crate) fn entries_of<'a, A: Allocator>(
     alloc: A,
     came: &[Came<'a>],

@@ -30,8 +30,8 @@ pub fn logs_are_salvaged<A: Allocator>()
         → AreLogsSalvaged program period own logs messages salvaged }
 {}
 
-/// Where messages are collected without a fault (`losses::collect_lossy`), the same is salvaged of them: of each hart the
-/// same parts, none of them bad or doubtful, and the same flag. No message is a copy, late or a stranger.
+/// Where messages are collected without a fault (`losses::collect_lossy`), the same is salvaged of them: of each hart
+/// the same parts, none of them bad or doubtful, and the same flag. No message is a copy, late or a stranger.
 pub fn what_is_collected_is_salvaged<A: Allocator, B: Allocator>()
     ensures { (words : Words) (mode : Mode) (harts : ℕ) (messages : List Message) (pieces : List (AnyPieces A))
         (salvaged : AnySalvaged B) → IsProgram words → AreAcceptedLossy (newcomers harts) messages

@@ -1,0 +1,10 @@
+-- As many empty lists as were counted, and room for the rest.
+use Rattle.std.proofs.Common.{◌≡◌, ◌≤◌, All, [], length}
+use Rattle.std.specs.Vec.{vec_capacity}
+use Rattle.salvaging.specs.steps.Arrivals.{arrivals_in}
+use Rattle.salvaging.proofs.distributing.empty_lists.Given as goal
+
+abbrev pub invariant-loop : goal.invariant-loop
+invariant-loop g l =
+    (length l.lists.items ≡ l.counter) × (l.count ≤ vec_capacity l.lists)
+    × All (λ list. arrivals_in list.items ≡ []) l.lists.items

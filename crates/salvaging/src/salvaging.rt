@@ -1,0 +1,72 @@
+//! From any messages of several harts to what is left of each hart's log.
+
+ghost use Rattle.std.specs.Prelude.{ℕ, ◌≡◌, All, IfOk, List, length};
+ghost use Rattle.rvclass.specs.Fetch.{words_of};
+ghost use Rattle.legalpath.specs.ProgramLog.{ProgramLog};
+ghost use Rattle.payload.specs.declared.mode.Mode.{Mode as AnyMode};
+ghost use Rattle.salvaging.specs.FromLogs.{AreFromLogs};
+ghost use Rattle.salvaging.specs.LogsSalvaged.{AreLogsSalvaged};
+ghost use Rattle.salvaging.specs.Salvaged.{IsSalvaged};
+ghost use Rattle.salvaging.specs.steps.Arrivals.{HaveNumbers, arrivals_in};
+ghost use Rattle.salvaging.specs.steps.Distributing.{AreSalvagedOf};
+
+use crate::came::Came;
+use crate::distributing::{distribute, strangers};
+use crate::hart::salvage_hart;
+use crate::salvaged::{Salvaged, SalvagedHart};
+use message::Message;
+use payload::Mode;
+use rvclass::Program;
+use std::alloc::{AllocError, Allocator};
+
+/// Salvages what is left of each hart, whose messages these are.
+fn salvage_each<A: Allocator + Copy>(
+    alloc: A,
+    program: &Program,
+    mode: Mode,
+    lists: &mut Vec<Vec<Came<'_>, A>, A>,
+) -> Result<Vec<SalvagedHart<A>, A>, AllocError>
+    requires { All (λ list. HaveNumbers (arrivals_in list.items)) lists.old.items }
+    ensures { IfOk result (λ harts. AreSalvagedOf (words_of program.now) mode lists.old.items harts.items) }
+{
+    let mut harts = Vec::with_capacity(alloc, lists.len())?;
+    for hart in 0..lists.len() {
+        harts.push_reserved(salvage_hart(alloc, program, mode, &mut lists[hart])?);
+    }
+    Ok(harts)
+}
+
+/// Salvages what any messages leave of the logs of several harts, whatever befell them: messages that are lost,
+/// repeated, out of order, damaged, or of no hart. The logs are of this program.
+///
+/// The harts are those below `harts`. `mode` is the mode of a hart whose packet that opens the trace is not used. What
+/// is salvaged of a hart depends on its own messages and on `mode` alone.
+///
+/// A stretch without an event is left out. A gap says how many numbers did not come or are doubtful; behind the last
+/// number that came there is none. Neighbouring numbers that are bad for one reason are one part.
+///
+/// Only where memory is refused an error is returned, and then nothing is kept. The time grows with the messages and
+/// their events, and where messages did not come in the order of their numbers, with the logarithm of how many a hart
+/// has.
+pub fn salvage<A: Allocator + Copy>(
+    alloc: A,
+    program: &Program,
+    harts: u16,
+    mode: Mode,
+    messages: &[Message],
+) -> Result<Salvaged<A>, AllocError>
+    // Of messages of legal logs, in any order and each any number of times.
+    ensures logs { (period : ℕ) (own : ℕ → AnyMode) (logs : List ProgramLog)
+        → AreFromLogs program.now period mode own logs messages.now → length logs ≡ harts
+        → IfOk result (λ salvaged. AreLogsSalvaged program.now period own logs messages.now salvaged) }
+
+    // Of any messages.
+    ensures salvaged { IfOk result (IsSalvaged (words_of program.now) mode harts messages.now) }
+{
+    let mut lists = distribute(alloc, harts, messages)?;
+    let salvaged = salvage_each(alloc, program, mode, &mut lists)?;
+    Ok(Salvaged {
+        harts: salvaged,
+        strangers: strangers(harts, messages),
+    })
+}

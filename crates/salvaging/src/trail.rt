@@ -1,0 +1,313 @@
+//! What is under way of one hart.
+
+ghost use Rattle.std.specs.Prelude.{ℕ, ◌≡◌, ◌≢◌, ◌≤◌, ◌<◌, Bool, false, List, [], ◌∷◌, ◌++◌, IfOk, None, OnOk, Some};
+ghost use Rattle.std.specs.Prelude.{map};
+ghost use Rattle.rvclass.specs.Fetch.{words_of};
+ghost use Rattle.rvclass.specs.Words.{Words};
+ghost use Rattle.payload.specs.Closing.{is_closing_packet};
+ghost use Rattle.payload.specs.declared.mode.Mode.{Mode as AnyMode};
+ghost use Rattle.payload.specs.declared.packet.Packet.{Packet as AnyPacket};
+ghost use Rattle.decoder.specs.declared.fault.DecodeFault.TheVariants.{Memory};
+ghost use Rattle.message.specs.Harts.{end_of_numbers};
+ghost use Rattle.losses.specs.Runs.{Run, first_run};
+ghost use Rattle.losses.specs.Apart.{AreRising};
+ghost use Rattle.salvaging.specs.Entries.{Entry as AnyEntry, entry_number};
+ghost use Rattle.salvaging.specs.steps.Grouping.{AreSmall, entries_in, entry_of};
+ghost use Rattle.salvaging.specs.steps.Trails.{TakesEntries};
+ghost use Rattle.salvaging.specs.steps.UnderWay.{BeginsWith, EndsRun, EndsStretch, GoesOn, IsUnderWay, Judged};
+ghost use Rattle.salvaging.specs.steps.UnderWay.{TakesBad, TakesDoubtful, TakesUsed, begun_by, early, is_sync};
+
+use crate::entry::{Entry, next_used};
+use crate::part::{Part, push_bad, push_gap};
+use crate::reason::Reason;
+use decoder::{DecodeFault, Decoder};
+use payload::{Mode, Packet, Payload, unpack};
+use retire::Event;
+use rvclass::Program;
+use std::alloc::{AllocError, Allocator};
+use std::mem;
+
+/// A hart's decoder, the stretch under way, and what is left of the hart's log so far.
+#[derive(Drop)]
+pub(crate) struct Trail<A: Allocator> {
+    decoder: Decoder,
+    /// The events so far of the stretch that is under way.
+    events: Vec<Event, A>,
+    /// Whether a run behind lost numbers is under way, whose stretch begins at a synchronisation.
+    looking: bool,
+    /// The number of the packet that begins the stretch, once it came.
+    begun: Option<u64>,
+    /// The number behind the last one of the run under way.
+    next: u64,
+    /// What is left of the log so far.
+    pub(crate) parts: Vec<Part<A>, A>,
+    /// Of each entry so far, whether it is used and not bad.
+    pub(crate) goods: Vec<bool, A>,
+}
+
+/// Whether a packet is a synchronisation.
+fn is_sync(packet: &Packet) -> bool
+    ensures { result ≡ is_sync packet.now }
+{
+    matches!(packet, Packet::Sync { .. })
+}
+
+/// Why a message is bad whose packet the decoder refuses with this fault. Refused memory is an error.
+fn reason_of(fault: DecodeFault) -> Result<Option<Reason>, AllocError>
+    ensures { IfOk result (λ found. (found ≡ Some (Reason.Decode fault)) × (fault ≢ Memory)) }
+{
+    match fault {
+        DecodeFault::Memory => Err(AllocError),
+        why => Ok(Some(Reason::Decode(why))),
+    }
+}
+
+/// The number that is used behind a packet which closes the trace; `None` where none is, and for any other packet.
+fn early(packet: &Packet, following: Option<u64>) -> Option<u64>
+    ensures { result ≡ early (is_closing_packet packet.now) following }
+{
+    if packet.is_closing() { following } else { None }
+}
+
+/// The number of the packet that begins the stretch, where this packet comes and has this number.
+fn begun_by(looking: bool, packet: &Packet, number: u64, begun: Option<u64>) -> Option<u64>
+    ensures { result ≡ begun_by looking (is_sync packet.now) number begun }
+{
+    match begun {
+        Some(first) => Some(first),
+        None => {
+            if looking && !is_sync(packet) {
+                None
+            } else {
+                Some(number)
+            }
+        }
+    }
+}
+
+impl<A: Allocator + Copy> Trail<A> {
+    /// The trail of a hart before its first entry. Takes no memory.
+    pub(crate) fn new(alloc: A) -> Trail<A>
+        ensures under_way { (words : Words) (mode : AnyMode) → IsUnderWay words mode mode first_run 0 false result }
+        ensures next { result.next ≡ 0 }
+        ensures parts { result.parts.items ≡ [] }
+        ensures goods { result.goods.items ≡ [] }
+    {
+        Trail {
+            decoder: Decoder::new(),
+            events: Vec::new(alloc),
+            looking: false,
+            begun: None,
+            next: 0,
+            parts: Vec::new(alloc),
+            goods: Vec::new(alloc),
+        }
+    }
+
+    /// The stretch under way becomes the last part, where it has an event.
+    fn end_stretch(&mut self, alloc: A) -> Result<(), AllocError>
+        ensures ends { (next : ℕ) (packets : List AnyPacket) → self.old.next ≡ next
+            → BeginsWith self.old.begun next packets → (packets ≡ [] → self.old.events.items ≡ [])
+            → OnOk result (EndsStretch next packets self.old self.new) }
+        ensures decoder { self.new.decoder ≡ self.old.decoder }
+        ensures next { self.new.next ≡ self.old.next }
+        ensures goods { self.new.goods ≡ self.old.goods }
+    {
+        let Some(first) = self.begun else {
+            return Ok(());
+        };
+        if self.events.is_empty() {
+            return Ok(());
+        }
+        self.parts.reserve(1)?;
+        let events = mem::replace(&mut self.events, Vec::new(alloc));
+        self.parts.push_reserved(Part::Stretch {
+            first,
+            last: self.next.saturating_sub(1),
+            events,
+        });
+        Ok(())
+    }
+
+    /// Ends the run under way: its stretch becomes the last part, where it has an event, and a synchronisation is
+    /// looked for.
+    pub(crate) fn end_run(&mut self, alloc: A, mode: Mode) -> Result<(), AllocError>
+        ensures ends { (words : Words) (reads : AnyMode) (run : Run) (next : ℕ) (closed : Bool)
+            → IsUnderWay words mode reads run next closed self.old
+            → OnOk result (EndsRun words mode reads run next closed self.old self.new) }
+        ensures next { self.new.next ≡ self.old.next }
+        ensures goods { self.new.goods ≡ self.old.goods }
+    {
+        self.end_stretch(alloc)?;
+        self.looking = true;
+        self.begun = None;
+        self.decoder.resume(mode);
+        Ok(())
+    }
+
+    /// Goes on to a used number. Where numbers are lost before it, the run under way is over, and a gap comes behind
+    /// it.
+    fn go_on(&mut self, alloc: A, mode: Mode, number: u64) -> Result<(), AllocError>
+        requires { self.old.next ≤ number }
+        ensures goes_on { (words : Words) (reads : AnyMode) (run : Run) (next : ℕ)
+            → IsUnderWay words mode reads run next false self.old
+            → OnOk result (GoesOn words mode reads run next number self.old self.new) }
+        ensures next { OnOk result (self.new.next ≡ number) }
+        ensures goods { self.new.goods ≡ self.old.goods }
+    {
+        let lost = number - self.next;
+        if lost > 0 {
+            self.end_run(alloc, mode)?;
+            push_gap(&mut self.parts, lost)?;
+            self.next = number;
+        }
+        Ok(())
+    }
+
+    /// Takes the message of the number that comes next, or finds why it is bad. A bad one changes nothing.
+    fn judge(
+        &mut self,
+        program: &Program,
+        payload: &Payload,
+        following: Option<u64>,
+    ) -> Result<Option<Reason>, AllocError>
+        requires { self.old.next < end_of_numbers }
+        ensures judged { (mode reads : AnyMode) (run : Run) (next : ℕ)
+            → IsUnderWay (words_of program.now) mode reads run next false self.old
+            → IfOk result (λ judged. Judged (words_of program.now) mode reads run next payload.now following judged
+            self.new) }
+        ensures parts { self.new.parts ≡ self.old.parts }
+        ensures goods { self.new.goods ≡ self.old.goods }
+    {
+        let packet = match unpack(payload.bytes()) {
+            Ok(packet) => packet,
+            Err(why) => return Ok(Some(Reason::Packet(why))),
+        };
+        match early(&packet, following) {
+            Some(next) => return Ok(Some(Reason::Closing { next })),
+            None => {}
+        }
+        match self.decoder.feed(program, &packet, &mut self.events) {
+            Ok(()) => {}
+            Err(fault) => return reason_of(fault),
+        }
+        self.begun = begun_by(self.looking, &packet, self.next, self.begun);
+        self.next += 1;
+        Ok(None)
+    }
+
+    /// Takes the message of a used number, where `following` is the next greater one that is used.
+    pub(crate) fn take_used(
+        &mut self,
+        alloc: A,
+        program: &Program,
+        mode: Mode,
+        number: u64,
+        payload: &Payload,
+        following: Option<u64>,
+    ) -> Result<(), AllocError>
+        requires behind { self.old.next ≤ number }
+        requires small { number < end_of_numbers }
+        ensures { (reads : AnyMode) (run : Run) (next : ℕ)
+            → IsUnderWay (words_of program.now) mode reads run next false self.old
+            → OnOk result (TakesUsed (words_of program.now) mode reads run next number payload.now following self.old
+            self.new) }
+    {
+        self.go_on(alloc, mode, number)?;
+        match self.judge(program, payload, following)? {
+            None => {
+                self.goods.reserve(1)?;
+                self.goods.push_reserved(true);
+                Ok(())
+            }
+            Some(why) => self.take_bad(alloc, mode, number, why),
+        }
+    }
+
+    /// Takes the message of the number that comes next, which is bad for this reason: the run under way is over.
+    fn take_bad(&mut self, alloc: A, mode: Mode, number: u64, why: Reason) -> Result<(), AllocError>
+        requires { number < end_of_numbers }
+        ensures { (words : Words) (reads : AnyMode) (run : Run) → IsUnderWay words mode reads run number false self.old
+            → OnOk result (TakesBad words mode reads run number why self.old self.new) }
+    {
+        self.end_run(alloc, mode)?;
+        push_bad(&mut self.parts, number, why)?;
+        self.next = number + 1;
+        self.goods.reserve(1)?;
+        self.goods.push_reserved(false);
+        Ok(())
+    }
+
+    /// Takes a doubtful number.
+    pub(crate) fn take_doubtful(
+        &mut self,
+        alloc: A,
+        mode: Mode,
+        number: u64,
+    ) -> Result<(), AllocError>
+        requires { self.old.next ≤ number }
+        ensures { (words : Words) (reads : AnyMode) (run : Run) (next : ℕ) (closed : Bool)
+            → IsUnderWay words mode reads run next closed self.old
+            → OnOk result (TakesDoubtful words mode reads run next number closed self.old self.new) }
+    {
+        self.end_run(alloc, mode)?;
+        push_gap(&mut self.parts, number - self.next)?;
+        self.parts.reserve(1)?;
+        self.parts.push_reserved(Part::Doubtful(number));
+        self.next = number;
+        self.goods.reserve(1)?;
+        self.goods.push_reserved(false);
+        Ok(())
+    }
+
+    /// Takes a hart's next entry, behind which these come.
+    pub(crate) fn take(
+        &mut self,
+        alloc: A,
+        program: &Program,
+        mode: Mode,
+        entry: &Entry<'_>,
+        behind: &[Entry<'_>],
+    ) -> Result<(), AllocError>
+        requires next { self.old.next ≤ entry_number (entry_of entry.now) }
+        requires small { entry_number (entry_of entry.now) < end_of_numbers }
+        ensures { (all done : List AnyEntry) → TakesEntries (words_of program.now) mode all done
+            (entry_of entry.now ∷ entries_in behind.now) self.old
+            → OnOk result (TakesEntries (words_of program.now) mode all (done ++ entry_of entry.now ∷ [])
+            (entries_in behind.now) self.new) }
+    {
+        match entry {
+            Entry::Used { message, .. } => {
+                let following = next_used(behind);
+                self.take_used(
+                    alloc,
+                    program,
+                    mode,
+                    message.number,
+                    &message.payload,
+                    following,
+                )
+            }
+            Entry::Doubtful { number } => self.take_doubtful(alloc, mode, *number),
+        }
+    }
+}
+
+/// Takes the entries of a hart in turn. The last run is not ended.
+pub(crate) fn take_all<A: Allocator + Copy>(
+    alloc: A,
+    program: &Program,
+    mode: Mode,
+    entries: &[Entry<'_>],
+) -> Result<Trail<A>, AllocError>
+    requires rising { AreRising 0 (map entry_number (entries_in entries.now)) }
+    requires small { AreSmall (entries_in entries.now) }
+    ensures { IfOk result (TakesEntries (words_of program.now) mode (entries_in entries.now) (entries_in entries.now)
+        []) }
+{
+    let mut trail = Trail::new(alloc);
+    for (at, entry) in entries.iter().enumerate() {
+        trail.take(alloc, program, mode, entry, &entries[at + 1..])?;
+    }
+    Ok(trail)
+}
