@@ -107,6 +107,21 @@ module _ (words : Words) (program : IsProgram words) (harts : ℕ) (messages : L
     described : Describes words (packets_of message.hart (messages ++ message ∷ [])) (list_at new message.hart)
     same : list_at new message.hart ≡ list_at old message.hart ++ rest
 
+  goes_on_from : (earlier later : List Event) → slice_get old.lists message.hart ≡ Some earlier
+      → Describes words all earlier → slice_get new.lists message.hart ≡ Some later
+      → Describes words (packets_of message.hart (messages ++ message ∷ [])) later → GoesOn
+  goes_on_from earlier later at_first described_before at_last described =
+      let was : list_at old message.hart ≡ earlier = ap (λ o. unwrap_or o []) at_first in
+      let now : list_at new message.hart ≡ later = ap (λ o. unwrap_or o []) at_last in
+      let more = log_goes_on words program all (is.packet ∷ []) earlier later described_before
+      (subst (λ packets. Describes words packets later) next described) in
+      record {
+        rest = more.rest;
+        described_before = subst (Describes words all) (sym was) described_before;
+        described = subst (Describes words (packets_of message.hart (messages ++ message ∷ []))) (sym now) described;
+        same = now ∙ more.is ∙ ap (λ l. l ++ more.rest) (sym was);
+      }
+
   goes_on : GoesOn
   goes_on =
       let known = is.known in
@@ -116,18 +131,7 @@ module _ (words : Words) (program : IsProgram words) (harts : ℕ) (messages : L
       (omega (arith, known, count)) in
       let later = list_of (λ hart. words) harts (messages ++ message ∷ []) message.hart new after.holds
       (omega (arith, known, later_count)) in
-      let was : list_at old message.hart ≡ earlier.0 = ap (λ o. unwrap_or o []) earlier.1 in
-      let now : list_at new message.hart ≡ later.0 = ap (λ o. unwrap_or o []) later.1 in
-      let more = log_goes_on words program all (is.packet ∷ []) earlier.0 later.0 earlier.2
-      (subst (λ packets. Describes words packets later.0) next later.2) in
-      let joined : list_at new message.hart ≡ earlier.0 ++ more.rest = now ∙ more.is in
-      record {
-        rest = more.rest;
-        described_before = subst (Describes words all) (sym was) earlier.2;
-        described =
-            subst (Describes words (packets_of message.hart (messages ++ message ∷ []))) (sym now) later.2;
-        same = joined ∙ ap (λ l. l ++ more.rest) (sym was);
-      }
+      goes_on_from earlier.0 later.0 earlier.1 earlier.2 later.1 later.2
 
   -- The list is no shorter than before.
   pub no_shorter : length (list_at old message.hart) ≤ length (list_at new message.hart)
@@ -157,10 +161,6 @@ module _ (words : Words) (program : IsProgram words) (harts : ℕ) (messages : L
   module _ (announced : Option Mode) (symbols : Option (List ℕ)) (offset : ℕ) (mode : Mode) (count : ℕ)
       (list added : List Event) (is_mode : mode ≡ naming_mode announced)
       (is_count : count ≡ length (list_at old message.hart)) (is_list : list ≡ list_at new message.hart) where
-    -- As many events as there were before are there still.
-    pub within : count ≤ length list
-    within = let longer = no_shorter in let size = ap length is_list in omega (arith, longer, size, is_count)
-
     -- Its line says what it does.
     pub is_taken : added ≡ drop count list → Agrees announced message
         → IsTaken words harts announced symbols offset messages message new
