@@ -96,25 +96,6 @@ $ tracebench decode --base 80000000 branch.bin repeated.capture
 $ tracebench decode --base 80000000 --lossy branch.bin repeated.capture
 ! tracebench: message 70001: repeat
 ? 1
-$ tracebench salvage --base 80000000 branch.bin repeated.capture
-> hart 0
-> stretch: 70000 events, numbers 0 to 70000
->< log.csv
-> copies: 1 messages
-! tracebench: hart 0: no closing packet
-? 1
-
-# The second half comes in front of the first.
-file turned.capture
-|*{35001..70000}~ 0 @ 6300000020
-|~ 0 70001 cf00
-|~ 0 0 1f
-|*{1..35000}~ 0 @ 6300000020
-$ tracebench salvage --base 80000000 branch.bin turned.capture
-> hart 0
-> stretch: 70000 events, numbers 0 to 70001
->< log.csv
-> late: 35001 messages
 
 # At a period of 280, eight packets map 31 branches each of the 279 retirements behind a synchronisation, and a ninth
 # packet maps the last 31 with the last address.
@@ -166,6 +147,37 @@ $ tracebench decode --base 80000000 --lossy nops.bin log.capture
 > stretch: 70000 events
 > addr,itype,priv,cause,tval
 >*70000 @{80000000+2},0,3,,
+";
+
+/// Captures of more than 65,536 messages in another order, with a copy.
+pub(crate) const DAMAGES: &str = r"
+# The last message comes twice; then the second half of the messages in front of the first.
+file branch.bin
+|= 63000000
+file log.csv
+| addr,itype,priv,cause,tval
+|*70000 80000000,5,3,,
+file repeated.capture
+|~ 0 0 1f
+|*{1..70000}~ 0 @ 6300000020
+|~ 0 70000 6300000020
+$ tracebench salvage --base 80000000 branch.bin repeated.capture
+> hart 0
+> stretch: 70000 events, numbers 0 to 70000
+>< log.csv
+> copies: 1 messages
+! tracebench: hart 0: no closing packet
+? 1
+file turned.capture
+|*{35001..70000}~ 0 @ 6300000020
+|~ 0 70001 cf00
+|~ 0 0 1f
+|*{1..35000}~ 0 @ 6300000020
+$ tracebench salvage --base 80000000 branch.bin turned.capture
+> hart 0
+> stretch: 70000 events, numbers 0 to 70001
+>< log.csv
+> late: 35001 messages
 ";
 
 /// Captures with many losses: four of each ten numbers are missing.
