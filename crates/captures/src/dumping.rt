@@ -53,11 +53,11 @@ pub fn dump_capture<W: Write>(capture: &[u8], sink: &mut W) -> Result<Dumped, Wr
     }
 }
 
-/// Writes the line of a header, as [`dump_capture`] writes it before all others: `capture 2 mode=diff period=N harts=N`,
-/// or `mode=full`, the numbers decimal.
+/// Writes the line of a header, as [`dump_capture`] writes it before all others:
+/// `capture 2 mode=diff period=N harts=N`, or `mode=full`, the numbers decimal.
 ///
-/// The only fault is [`WriteFault::Write`], where the writer failed; what was written then is a beginning of the line. No
-/// memory is taken, and the writer is not flushed.
+/// The only fault is [`WriteFault::Write`], where the writer failed; what was written then is a beginning of the line.
+/// No memory is taken, and the writer is not flushed.
 pub fn write_header_line<W: Write>(sink: &mut W, header: &Header) -> Result<(), WriteFault>
     ensures text { OnOk result (Appends (W.contents sink.old) (W.contents sink.new) (header_line header.now)) }
     ensures begun { AppendsBeginning (header_line header.now) (W.contents sink.old) (W.contents sink.new) }

@@ -2,7 +2,8 @@
 //!
 //! [`encode_capture`] writes the messages of logs as a capture, and [`encode_hex`] as lines of hexadecimal;
 //! [`hex_lines`] writes those of a hart's payloads as such lines. [`decode_capture`] returns the events of each hart of
-//! a capture, [`read_messages`] its messages as they are, [`read_front`] those up to the first place where none stands. [`dump_capture`] writes a line of text for each message.
+//! a capture, [`read_messages`] its messages as they are, [`read_front`] those up to the first place where none stands.
+//! [`dump_capture`] writes a line of text for each message.
 #![tactic(auto)]
 
 mod capture_decoding;

@@ -20,9 +20,9 @@
 //! contract of [`decode_capture`](capture::decode_capture). The program `two_harts` does this over files.
 //!
 //! Each module re-exports what a caller wants together: [`logs`], [`packets`], [`capture`], [`runs`], [`lossy`] and
-//! [`salvaged`]; [`laws`] has the theorems that no call carries. The crate has no code of its own. The definitions that the contracts
-//! cite are re-exported too: a crate above names them as `Rattle.etrace.specs.MODULE.FILE`, and the types as
-//! `Rattle.etrace.specs.declared.MODULE.TYPE`.
+//! [`salvaged`]; [`laws`] has the theorems that no call carries. The crate has no code of its own. The definitions that
+//! the contracts cite are re-exported too: a crate above names them as `Rattle.etrace.specs.MODULE.FILE`, and the types
+//! as `Rattle.etrace.specs.declared.MODULE.TYPE`.
 #![tactic(auto)]
 
 pub mod capture;

@@ -1,5 +1,5 @@
-//! Packets and their payloads, the encoder that makes a log's packets, what they cost, and the decoder that gives the log
-//! back.
+//! Packets and their payloads, the encoder that makes a log's packets, what they cost, and the decoder that gives the
+//! log back.
 
 pub use decoder::{DecodeFault, Decoder};
 pub use encoder::{Burst, Encoder, Source};

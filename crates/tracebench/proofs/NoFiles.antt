@@ -95,7 +95,8 @@ not_ended : (asked : Asked) (status : Status) (old new : Option (List ℕ)) → 
     → ⊥
 not_ended (Check asked) status old new done =
     not_first (IsAskedProgram none _ asked.base.now asked.image asked.logs.items)
-    (λ program. WritesLines none asked.explain program asked.logs.items) (record { text = done.text; ended = Ok status }) status refl
+    (λ program. WritesLines none asked.explain program asked.logs.items)
+    (record { text = done.text; ended = Ok status }) status refl
     (λ program is lines. no_asked _ asked.base.now asked.image asked.logs.items program is) done.prints
 not_ended (Encode asked) status old new done =
     not_first (AreAskedLogs none _ asked.base.now asked.image asked.logs.items) (WritesMessages asked)

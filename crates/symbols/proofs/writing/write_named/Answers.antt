@@ -28,7 +28,8 @@ returns-clause-begun g c =
     let late = g.W.Write.contents c.write_bytes-2.new.out in
     let new = g.W.Write.contents c.write_text.new.out in
     whole_begun (codes " <" ++ (named.name.now ++ distance_text named.distance)) old new
-    (Appends-trans old mid new (codes " <") (named.name.now ++ distance_text named.distance) c.in_ok-write_bytes.ensures.whole
+    (Appends-trans old mid new (codes " <") (named.name.now ++ distance_text named.distance)
+    c.in_ok-write_bytes.ensures.whole
     (Appends-trans mid late new named.name.now (distance_text named.distance) c.in_ok-write_bytes-2.ensures.whole
     c.in_ok-write_text.ensures.whole))
 
@@ -39,6 +40,7 @@ returns-in_err-write_text-clause-begun g c =
     let mid = g.W.Write.contents c.write_bytes.new.out in
     let late = g.W.Write.contents c.write_bytes-2.new.out in
     let new = g.W.Write.contents c.write_text.new.out in
-    begun_behind (codes " <") (named.name.now ++ distance_text named.distance) old mid new c.in_ok-write_bytes.ensures.whole
+    begun_behind (codes " <") (named.name.now ++ distance_text named.distance) old mid new
+    c.in_ok-write_bytes.ensures.whole
     (begun_behind named.name.now (distance_text named.distance) mid late new c.in_ok-write_bytes-2.ensures.whole
     c.write_text.ensures.begun)
