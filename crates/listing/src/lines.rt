@@ -4,7 +4,6 @@ ghost use Rattle.std.specs.Prelude.{◌≡◌, IfErr, OnOk, Some, option_map};
 ghost use Rattle.std.specs.Io.KnownBytes.{Appends};
 ghost use Rattle.output.specs.Begun.{AppendsBeginning};
 ghost use Rattle.payload.specs.Reading.{reading};
-ghost use Rattle.decoder.specs.Settling.{waits};
 ghost use Rattle.listing.specs.EffectText.{closes_text, waits_text};
 ghost use Rattle.listing.specs.Lines.{effect_line, offset_line, offset_text, text_with};
 ghost use Rattle.listing.specs.steps.Message.{denies_memory, effect_of, fault_line, read_closes, read_waits};

@@ -1,7 +1,6 @@
 //! Listing one message.
 
-ghost use Rattle.std.specs.Prelude.{ℕ, ◌≡◌, ◌≤◌, [], IfErr, IfOk, List, None, OnErr, OnOk, Option, drop, length};
-ghost use Rattle.std.specs.Prelude.{option_map, slice_get};
+ghost use Rattle.std.specs.Prelude.{ℕ, ◌≡◌, List, [], IfErr, IfOk, OnErr, Option, option_map, slice_get};
 ghost use Rattle.std.specs.Io.KnownBytes.{Appends};
 ghost use Rattle.std.specs.Option.{unwrap_or};
 ghost use Rattle.output.specs.Begun.{AppendsBeginning};
