@@ -26,4 +26,14 @@ pub use Rattle.captures.specs.Returned
 pub use Rattle.captures.specs.FaultText as CaptureFaultText
 pub use Rattle.captures.specs.PacketText
 pub use Rattle.captures.specs.Dump
+pub use Rattle.symbols.specs.File as SymbolFile
+pub use Rattle.symbols.specs.Nearest
+pub use Rattle.symbols.specs.Naming
+pub use Rattle.symbols.specs.FaultText as SymbolsFaultText
+pub use Rattle.symbols.specs.SymbolText
+pub use Rattle.listing.specs.Effect
+pub use Rattle.listing.specs.EffectText
+pub use Rattle.listing.specs.Lines as ListingLines
+pub use Rattle.listing.specs.Listing
+pub use Rattle.listing.specs.Begun as ListingBegun
 pub use Rattle.output.specs.Begun

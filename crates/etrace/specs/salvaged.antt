@@ -9,3 +9,6 @@ pub use Rattle.salvaging.specs.Leaving
 pub use Rattle.salvaging.specs.Late
 pub use Rattle.salvaging.specs.PartsIn
 pub use Rattle.salvaging.specs.Salvaged
+pub use Rattle.salvaging.specs.FromLogs
+pub use Rattle.salvaging.specs.LogsSalvaged
+pub use Rattle.salvaging.specs.LossyParts

@@ -1,12 +1,14 @@
-//! Messages of several harts and the captures that hold them: writing, reading, dumping, decoding.
+//! Messages of several harts and the captures that hold them: writing, reading, dumping, listing, decoding.
 
 pub use captures::{
     CaptureFault, CaptureFront, CaptureOutcome, Dumped, ReadFault, ReadingText, WholeCapture,
     decode_capture, dump_capture, encode_capture, encode_hex, hex_lines, read_front, read_messages,
     write_header_line,
 };
+pub use listing::{Listed, list_capture};
 pub use message::{
     Demux, DemuxFault, Header, MOST_HARTS, Message, MessageFault, Messages, Start, Version,
     read_message, read_start, write_header, write_message,
 };
 pub use receiver::{ReceiveFault, Receiver};
+pub use symbols::{Named, Symbols, SymbolsFault, write_symbol};
