@@ -23,5 +23,5 @@ returns c =
           subst (λ harts. IsSalvaged words (mode_of_header header) harts messages salvaged) c.harts_counted.ensures
           (subst (λ mode. IsSalvaged words mode harts messages salvaged) c.mode_of_header.ensures
           (subst (λ all. IsSalvaged words mode harts all salvaged) c.as_slice.ensures.value
-          c.in_ok-salvaged.ensures.left));
+          c.in_ok-salvaged.ensures.salvaged));
     }
