@@ -2,6 +2,7 @@ pub mod Strangers
 pub mod Entries
 pub mod Copies
 pub mod LeftParts
+pub mod ReasonText
 pub mod Bad
 pub mod Leaving
 pub mod Late

@@ -1,7 +1,13 @@
 //! Why a message is bad.
 
+ghost use Rattle.std.specs.Prelude.{Some};
+ghost use Rattle.salvaging.specs.ReasonText.{reason_text};
+
 use decoder::DecodeFault;
+use message::DemuxFault;
 use payload::PackFault;
+use std::error::Error;
+use std::fmt;
 
 /// Why a message that is used is bad.
 #[derive(Clone, Copy, Debug, PartialEq, Eq)]
@@ -16,3 +22,17 @@ pub enum Reason {
         next: u64,
     },
 }
+
+impl fmt::Display for Reason {
+    ghost output = { λ why. Some (reason_text why) };
+
+    fn fmt<W: fmt::Write>(&self, f: &mut fmt::Formatter<W>) -> fmt::Result {
+        match *self {
+            Reason::Packet(why) => write!(f, "{}", DemuxFault::Packet(why)),
+            Reason::Decode(why) => write!(f, "{why}"),
+            Reason::Closing { next } => write!(f, "closing, but number {next} came"),
+        }
+    }
+}
+
+impl Error for Reason {}
