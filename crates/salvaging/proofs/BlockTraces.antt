@@ -14,8 +14,7 @@ use Rattle.decoder.specs.Order.{IsOpen}
 use Rattle.decoder.specs.Pieces.{Pieces, reported_after}
 use Rattle.roundtrip.proofs.FirstPackets.{packets_have_stretches}
 use Rattle.roundtrip.specs.Reach.{stretches}
-use Rattle.losses.specs.Blocks.{Block}
-use Rattle.losses.specs.Parts.{stretch_of, stretch_of_block}
+use Rattle.losses.specs.Parts.{stretch_of_block}
 use Rattle.losses.specs.Runs.{from_sync, opened, trace_after}
 use Rattle.losses.specs.steps.Traces.{from_start, DescribesFrom}
 use Rattle.losses.proofs.BlockDescribed.{block_described}

@@ -1,12 +1,12 @@
 -- A hart is closed exactly where the packet that closes its log came.
-use Rattle.std.proofs.Common.{◌≡◌, ◌⊎◌, inl, inr, ℕ, zero, suc, ◌+◌, ◌-◌, Bool, true, false, List, [], ◌∷◌, drop, map}
+use Rattle.std.proofs.Common.{◌≡◌, ◌⊎◌, inl, inr, ℕ, zero, suc, ◌+◌, Bool, true, List, [], ◌∷◌, drop, map}
 use Rattle.std.proofs.Common.{length, Option, Some, None, refl, sym, ap, subst, ◌∙◌, arith}
 use Rattle.std.specs.List.{last_or}
 use Rattle.retire.specs.declared.event.Event.{Event}
 use Rattle.rvclass.specs.Words.{Words, IsProgram}
 use Rattle.legalpath.specs.Legal.{Legal}
 use Rattle.payload.specs.Closing.{is_closing, is_closing_packet, is_closing_reading}
-use Rattle.payload.specs.ClosedTrace.{closes, last_is_closing}
+use Rattle.payload.specs.ClosedTrace.{closes}
 use Rattle.payload.specs.declared.mode.Mode.{Mode}
 use Rattle.payload.specs.declared.packet.Packet.{Packet}
 use Rattle.encoder.proofs.ClosingPacket.{packets_end}

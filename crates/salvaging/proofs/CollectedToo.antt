@@ -1,8 +1,8 @@
 -- What is collected of messages without a fault is salvaged of them.
-use Rattle.std.proofs.Common.{◌≡◌, ◌⊎◌, inl, inr, ℕ, zero, suc, ◌+◌, ◌-◌, ◌≤◌, ◌<◌, ◌^◌, ◌&&◌, ◌||◌, ◌++◌, All, Bool}
-use Rattle.std.proofs.Common.{true, false, cond, Contains, List, [], ◌∷◌, map, Option, Some, None, length, slice_get}
+use Rattle.std.proofs.Common.{◌≡◌, ℕ, zero, suc, ◌+◌, ◌-◌, ◌<◌, ◌^◌, ◌&&◌, ◌||◌, ◌++◌, All, Bool}
+use Rattle.std.proofs.Common.{true, false, cond, List, [], ◌∷◌, map, Option, Some, None, length}
 use Rattle.std.proofs.Common.{refl, sym, ap, subst, ◌∙◌, arith}
-use Rattle.std.specs.Prelude.{count_by, nat_lt, not, Ok}
+use Rattle.std.specs.Prelude.{count_by, not, Ok}
 use Rattle.std.specs.List.{last_or}
 use Rattle.std.proofs.lemmas.Bool.{le-ltb, lt-ltb}
 use Rattle.std.proofs.lemmas.List.{get_or-replicate, length-map, length-replicate}
@@ -24,7 +24,6 @@ use Rattle.message.specs.declared.hart.Hart.{Hart}
 use Rattle.message.specs.declared.message.Message.{Message}
 use Rattle.losses.specs.Apart.{AreRising}
 use Rattle.losses.specs.DescribedParts.{AreDescribed, MessagesDescribe}
-use Rattle.losses.specs.Parts.{LogPart}
 use Rattle.losses.specs.PartsIn.{parts_in as collected_parts}
 use Rattle.losses.specs.Runs.{first_run, longer, mode_in, mode_or, over_before, run_behind, run_of, runs, runs_on}
 use Rattle.losses.specs.Stops.{AreAcceptedLossy}
@@ -32,19 +31,19 @@ use Rattle.losses.specs.WholeStretches.{NumberCame}
 use Rattle.losses.specs.declared.part.HartPieces.{HartPieces}
 use Rattle.losses.specs.steps.Collecting.{closed_by}
 use Rattle.salvaging.specs.Copies.{AreCopies, HasLike}
-use Rattle.salvaging.specs.Entries.{Entry, Used, Doubtful, closed_behind, is_closed}
+use Rattle.salvaging.specs.Entries.{Entry, Used, Doubtful, closed_behind}
 use Rattle.salvaging.specs.Late.{counted, is_late, late}
 use Rattle.salvaging.specs.Leaving.{EntriesLeave, mode_by, own_mode}
 use Rattle.salvaging.specs.LeftParts.{one_by_one}
 use Rattle.salvaging.specs.LossyParts.{AreCollectedToo, IsCollected}
 use Rattle.salvaging.specs.PartsIn.{parts_in}
 use Rattle.salvaging.specs.Salvaged.{IsSalvaged, IsSalvagedHart}
-use Rattle.salvaging.specs.Strangers.{has_number, is_stranger, own_messages}
+use Rattle.salvaging.specs.Strangers.{has_number, is_stranger}
 use Rattle.salvaging.specs.declared.salvaged.SalvagedHart.{SalvagedHart}
 use Rattle.salvaging.specs.declared.salvaged.Salvaged.{Salvaged}
 use Rattle.salvaging.proofs.AllLogs.{all_pass}
 use Rattle.salvaging.proofs.EntriesCollected.{entries_collected}
-use Rattle.salvaging.proofs.Members.{IsIn, contains_of_in, in_of_contains}
+use Rattle.salvaging.proofs.Members.{contains_of_in, in_of_contains}
 use Rattle.salvaging.proofs.NoRepeats.{no_more, rising_no_repeat}
 use Rattle.salvaging.proofs.OneHart.{joined_parts, message_with, number_in}
 use Rattle.salvaging.proofs.RunsOfLog.{number_of}

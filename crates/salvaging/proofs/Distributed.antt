@@ -1,9 +1,8 @@
 -- Messages are added to the lists of their harts.
 use Rattle.std.proofs.Common.{◌≡◌, ◌<◌, ◌≤◌, ℕ, zero, suc, ◌+◌, Bool, true, false, List, [], ◌∷◌, ◌++◌, take, length}
-use Rattle.std.proofs.Common.{nat_eq, refl, sym, ap}
-use Rattle.std.proofs.Common.{subst, ◌∙◌, arith, inl, inr, slice_get, Some, None, append_assoc, slice_index_or}
+use Rattle.std.proofs.Common.{refl, sym, ap}
+use Rattle.std.proofs.Common.{subst, ◌∙◌, arith, slice_get, Some, None, slice_index_or}
 use Rattle.std.proofs.Common.{slice_set, ⊎_elim}
-use Rattle.std.proofs.lemmas.Bool.{cases_Bool}
 use Rattle.std.proofs.lemmas.Bool.Decides.{nat_tests}
 use Rattle.std.proofs.lemmas.List.{append-nil, length-map, length-set, take_more}
 use Rattle.std.proofs.lemmas.List.Elements.{filter-append}
@@ -16,7 +15,7 @@ use Rattle.message.specs.declared.message.Message.{Message}
 use Rattle.message.proofs.AcceptedLemmas.{slice_get-set}
 use Rattle.salvaging.specs.Strangers.{has_number, own_messages}
 use Rattle.salvaging.specs.declared.came.Came.{Came}
-use Rattle.salvaging.specs.steps.Arrivals.{Arrival, arrival_of, arrivals_in, placed_from}
+use Rattle.salvaging.specs.steps.Arrivals.{arrival_of, arrivals_in, placed_from}
 use Rattle.salvaging.specs.steps.Distributing.{AddsArrival, Distributes}
 
 -- Whether one message is a hart's own.

@@ -1,7 +1,7 @@
 -- All that was distributed has numbers that a hart may have, and all of it is salvaged.
 use Rattle.std.proofs.Common.{◌≡◌, ◌<◌, ℕ, ◌+◌, All, Bool, true, false, List, [], ◌∷◌, Some, length, slice_get}
 use Rattle.std.proofs.Common.{slice_index_or}
-use Rattle.std.proofs.Common.{refl, sym, ap, subst, ◌∙◌, arith, zero, suc}
+use Rattle.std.proofs.Common.{refl, sym, subst, ◌∙◌, arith, zero, suc}
 use Rattle.std.proofs.lemmas.List.{get_or_default}
 use Rattle.std.proofs.lemmas.List.Elements.{All-cons, All-nil}
 use Rattle.std.proofs.lemmas.Option.{slice_get_read, slice_get_within}
@@ -18,7 +18,6 @@ use Rattle.salvaging.specs.Salvaged.{IsSalvaged}
 use Rattle.salvaging.specs.Strangers.{has_number, is_stranger, own_messages}
 use Rattle.salvaging.specs.declared.came.Came.{Came}
 use Rattle.salvaging.specs.declared.salvaged.Salvaged.{Salvaged}
-use Rattle.salvaging.specs.declared.salvaged.SalvagedHart.{SalvagedHart}
 use Rattle.salvaging.specs.steps.Arrivals.{Arrival, HaveNumbers, arrivals_in, placed_from}
 use Rattle.salvaging.specs.steps.Distributing.{AreSalvagedOf, Distributes}
 
@@ -37,7 +36,7 @@ have_numbers from (message ∷ messages) =
     by_test true has behind here =
         let small : message.number < end_of_numbers = grind (arith, nat_tests) in
         All-cons IsSmall (record { place = from; message = message }) (placed_from (from + 1) (filter has_number
-            messages))
+        messages))
         small behind
     by_test false has behind here = here
 

@@ -1,7 +1,7 @@
 -- What the entries of messages leave that are collected without a fault: what is collected.
-use Rattle.std.proofs.Common.{◌≡◌, ◌⊎◌, inl, inr, ℕ, zero, suc, ◌+◌, ◌-◌, ◌≤◌, ◌<◌, ◌++◌, Bool, true, false, List, []}
-use Rattle.std.proofs.Common.{◌∷◌, map, Option, Some, None, length, refl, sym, ap, subst, ◌∙◌, arith, append_assoc}
-use Rattle.std.specs.Prelude.{Ok, Err}
+use Rattle.std.proofs.Common.{◌≡◌, ℕ, zero, suc, ◌+◌, ◌-◌, ◌++◌, Bool, true, false, List, []}
+use Rattle.std.proofs.Common.{◌∷◌, None, refl, sym, ap, subst, ◌∙◌, append_assoc}
+use Rattle.std.specs.Prelude.{Ok}
 use Rattle.std.proofs.lemmas.List.{append-nil}
 use Rattle.retire.specs.declared.event.Event.{Event}
 use Rattle.rvclass.specs.Words.{Words, IsProgram}
@@ -21,19 +21,19 @@ use Rattle.message.specs.declared.hart.Hart.{Hart}
 use Rattle.message.specs.declared.message.Message.{Message}
 use Rattle.losses.specs.DescribedParts.{RunsDescribe}
 use Rattle.losses.specs.Parts.{LogPart, gap as log_gap, stretch as log_stretch}
-use Rattle.losses.specs.Runs.{Run, from_sync, longer, missing_behind, opened, over_before, packets_behind, run_behind}
-use Rattle.losses.specs.Runs.{run_of, runs_on, trace_after, trace_of_run}
+use Rattle.losses.specs.Runs.{Run, from_sync, longer, opened, over_before, run_behind}
+use Rattle.losses.specs.Runs.{run_of, runs_on, trace_of_run}
 use Rattle.losses.proofs.RunLemmas.{describes_nothing, from_sync-begun}
 use Rattle.salvaging.specs.Bad.{IsBad}
 use Rattle.salvaging.specs.Entries.{Entry, Used, Doubtful, next_used}
 use Rattle.salvaging.specs.Leaving.{EntriesLeave, LeavesBefore, RunLeaves, UsedLeaves}
-use Rattle.salvaging.specs.LeftParts.{LeftPart, Missing, gap, stretch}
+use Rattle.salvaging.specs.LeftParts.{LeftPart, Missing, gap}
 use Rattle.salvaging.specs.LogsSalvaged.{AreLogParts}
 use Rattle.salvaging.specs.declared.reason.Reason.{Reason}
 use Rattle.salvaging.specs.declared.reason.Reason.TheVariants as reason
 use Rattle.salvaging.proofs.EntriesOfLog.{parts_append, parts_gap, parts_stretch, same_packet}
 use Rattle.salvaging.proofs.SameMessages.{AreMessages}
-use Rattle.salvaging.proofs.TakenInTurn.{AreTakenFrom, IsTakenHere}
+use Rattle.salvaging.proofs.TakenInTurn.{AreTakenFrom}
 
 -- The run with a message's packet.
 abbrev run_with : ℕ → Run → Message → Run
@@ -119,7 +119,7 @@ module _ (words : Words) (program : IsProgram words) (mode : Mode) where
     none_bad run described (reason.Decode why) bad =
         let same = same_packet payload packet bad.packet payload_read bad.read in
         bad.not_described described.0 (subst (λ p. Describes words (trace_of_run mode (longer run (p ∷ [])))
-            described.0)
+        described.0)
         same described.1)
     none_bad run described (reason.Closing next) (closes, follows) =
         let closes_packet : is_closing_packet packet ≡ true = sym (ap is_closing_reading payload_read) ∙ closes in

@@ -1,5 +1,5 @@
 -- The entries of a hart are taken one by one.
-use Rattle.std.proofs.Common.{◌≡◌, ◌≤◌, ℕ, zero, suc, ◌+◌, ◌-◌, Bool, true, false, List, [], ◌∷◌, ◌++◌, None, map, refl}
+use Rattle.std.proofs.Common.{◌≡◌, ℕ, zero, suc, ◌+◌, ◌-◌, Bool, true, false, List, [], ◌∷◌, ◌++◌, None, map, refl}
 use Rattle.std.proofs.Common.{sym, ap, subst, ◌∙◌, arith, append_assoc}
 use Rattle.std.proofs.lemmas.List.{append-nil}
 use Rattle.std.specs.Prelude.{⊤, OnOk, Option, Result, Ok, Err, Some}
@@ -19,7 +19,7 @@ use Rattle.losses.specs.Runs.{Run, first_run, longer, mode_or, run_behind, run_o
 use Rattle.salvaging.specs.Bad.{IsBad, IsGood}
 use Rattle.salvaging.specs.Entries.{Entry, Used, Doubtful, entry_number, next_used}
 use Rattle.salvaging.specs.LeftParts.{LeftPart, AreJoined, BadNumbers, DoubtfulNumber, gap, one_by_one}
-use Rattle.salvaging.specs.Leaving.{EntriesLeave, HartLeaves, LeavesBefore, RunLeaves, UsedLeaves, mode_by, own_mode}
+use Rattle.salvaging.specs.Leaving.{EntriesLeave, HartLeaves, LeavesBefore, RunLeaves, mode_by, own_mode}
 use Rattle.salvaging.specs.PartsIn.{parts_in}
 use Rattle.salvaging.specs.declared.reason.Reason.{Reason}
 use Rattle.salvaging.specs.declared.reason.Reason.TheVariants as reason
@@ -196,7 +196,7 @@ module _ {A : Type 0} (words : Words) (mode : Mode) (all done rest : List Entry)
         → (good : Bool) (before added : List LeftPart)
         → LeavesBefore words (own_mode mode done) t.run old.next (number - old.next) before
         → Took words mode (own_mode mode done) (run_behind (number - old.next) t.run) number payload (next_used rest)
-            good
+        good
         added new
         → AddsParts (before ++ added) old.parts.items new.parts.items
         → new.goods.items ≡ old.goods.items ++ good ∷ []
@@ -216,7 +216,7 @@ module _ {A : Type 0} (words : Words) (mode : Mode) (all done rest : List Entry)
           under_way = subst (λ n. IsUnderWay words mode (own_mode mode (done ++ one ∷ [])) (longer run (packet ∷ [])) n
               (is_closing_packet packet) new) (sym u.next_is)
               (subst (λ m. IsUnderWay words mode m (longer run (packet ∷ [])) (number + 1) (is_closing_packet packet)
-                  new)
+              new)
               (own ∙ reads) u);
           fresh = λ is. absurd (some_behind done one [] is);
           begun = λ is are. absurd (packets_behind run.packets packet are);
@@ -228,7 +228,7 @@ module _ {A : Type 0} (words : Words) (mode : Mode) (all done rest : List Entry)
             subst (λ m. LeavesBefore words m t.run old.next (number - old.next) before)
                 (ap (own_mode mode) (sym t.whole))
                 (leaves_either words mode done rest t.run old.next (number - old.next) number place payload before
-                    t.fresh
+                t.fresh
                 leaves),
             added ++ parts,
             refl,

@@ -1,9 +1,9 @@
 -- How far messages are grouped, from one to the next.
-use Rattle.std.proofs.Common.{◌≡◌, ◌≢◌, ℕ, zero, suc, ◌+◌, ◌-◌, ◌≤◌, ◌<◌, ◌++◌, ◌==◌, Bool, true, false, List, [], ◌∷◌}
-use Rattle.std.proofs.Common.{drop, get_or, length, map, refl, sym, ap, subst, ◌∙◌, arith, append_assoc}
+use Rattle.std.proofs.Common.{◌≡◌, ◌≢◌, ℕ, zero, suc, ◌+◌, ◌-◌, ◌≤◌, ◌<◌, ◌++◌, Bool, true, false, List, [], ◌∷◌}
+use Rattle.std.proofs.Common.{drop, get_or, length, refl, sym, ap, subst, ◌∙◌, arith, append_assoc}
 use Rattle.std.proofs.lemmas.Bool.{eq-eqb, ne_eqb}
 use Rattle.std.proofs.lemmas.List.{drop_all, length-drop, length-map, length_push, map-append}
-use Rattle.salvaging.specs.Entries.{Entry, entry_number}
+use Rattle.salvaging.specs.Entries.{entry_number}
 use Rattle.salvaging.specs.declared.came.Came.{Came}
 use Rattle.salvaging.specs.declared.entry.Entry.{Entry as Held}
 use Rattle.salvaging.specs.steps.Arrivals.{Arrival, arrival_of, arrivals_in}

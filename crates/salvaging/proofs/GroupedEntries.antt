@@ -4,7 +4,6 @@ use Rattle.std.proofs.Common.{map, refl, sym, ap, subst, ◌∙◌, arith, appen
 use Rattle.std.specs.Str.{bytes_eq}
 use Rattle.std.proofs.lemmas.Bool.{cases_lt, eq-eqb, eqb-true}
 use Rattle.std.proofs.lemmas.List.{append-nil}
-use Rattle.message.specs.declared.message.Message.{Message}
 use Rattle.losses.specs.Apart.{AreRising}
 use Rattle.losses.specs.WholeStretches.{NumberCame}
 use Rattle.salvaging.specs.Entries.{Entry, Used, Doubtful, entry_number}

@@ -1,5 +1,5 @@
 -- The entries and the copies of a hart's messages, from the messages in the order of their numbers.
-use Rattle.std.proofs.Common.{◌≡◌, ◌⊎◌, inl, inr, ℕ, zero, suc, ◌+◌, ◌≤◌, ◌<◌, All, Contains, List, [], ◌∷◌, length}
+use Rattle.std.proofs.Common.{◌≡◌, inl, inr, ℕ, zero, suc, ◌+◌, All, Contains, List, [], ◌∷◌, length}
 use Rattle.std.proofs.Common.{map}
 use Rattle.std.proofs.Common.{Some, slice_get, refl, sym, ap, subst, ◌∙◌, arith}
 use Rattle.std.specs.List.Sorted.{IsPermutation}
@@ -8,15 +8,15 @@ use Rattle.std.proofs.lemmas.List.Elements.{All-cons, All-nil, All-weaker}
 use Rattle.std.proofs.lemmas.List.Sorted.{Contains-permutation, IsPermutation-sym, length_permutation}
 use Rattle.message.specs.declared.message.Message.{Message}
 use Rattle.losses.specs.WholeStretches.{NumberCame}
-use Rattle.salvaging.specs.Copies.{AllDiffer, AreAlike, AreCopies, AreDistinct, HasLike}
-use Rattle.salvaging.specs.Entries.{Entry, Used, Doubtful, AreEntries, IsEntryOf, IsUsed, entry_number}
+use Rattle.salvaging.specs.Copies.{AllDiffer, AreCopies, HasLike}
+use Rattle.salvaging.specs.Entries.{Entry, Used, Doubtful, AreEntries, IsEntryOf, entry_number}
 use Rattle.salvaging.specs.steps.Arrivals.{Arrival, AreOrdered, placed_from}
 use Rattle.salvaging.specs.steps.Grouping.{copies_by, entries_by}
-use Rattle.salvaging.proofs.GroupedEntries.{AreEntriesAmong, IsDoubtfulOf, IsEntryAmong, IsUsedOf, entries_are}
+use Rattle.salvaging.proofs.GroupedEntries.{IsEntryAmong, entries_are}
 use Rattle.salvaging.proofs.Members.{IsIn, all_in, contains_of_came, contains_of_in, in_of_contains}
-use Rattle.salvaging.proofs.NeighbouringCopies.{HasFirst, NoneAlike, among, counted, first_ones, first_ones_differ}
+use Rattle.salvaging.proofs.NeighbouringCopies.{NoneAlike, among, counted, first_ones, first_ones_differ}
 use Rattle.salvaging.proofs.NeighbouringCopies.{has_first}
-use Rattle.salvaging.proofs.OrderLemmas.{AreAlikeHere, Each}
+use Rattle.salvaging.proofs.OrderLemmas.{Each}
 
 abbrev placed : ℕ → Message → Arrival
 placed place message = record { place = place; message = message }

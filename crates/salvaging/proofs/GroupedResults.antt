@@ -1,5 +1,5 @@
 -- What holds of grouped messages, by what they are grouped into.
-use Rattle.std.proofs.Common.{◌≡◌, ℕ, List, map, sym, subst}
+use Rattle.std.proofs.Common.{◌≡◌, List, map, sym, subst}
 use Rattle.std.specs.Prelude.{Result, IfOk, Ok, Err}
 use Rattle.std.specs.List.Sorted.{IsPermutation}
 use Rattle.message.specs.declared.message.Message.{Message}

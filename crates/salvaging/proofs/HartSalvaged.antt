@@ -1,11 +1,11 @@
 -- What is salvaged of a hart is put together.
-use Rattle.std.proofs.Common.{◌≡◌, ℕ, suc, ◌+◌, ◌-◌, Bool, true, false, List, [], ◌∷◌, length, refl, ap}
+use Rattle.std.proofs.Common.{◌≡◌, ℕ, suc, ◌+◌, Bool, true, false, List, [], ◌∷◌, length, refl, ap}
 use Rattle.rvclass.specs.Words.{Words}
 use Rattle.payload.specs.declared.mode.Mode.{Mode}
-use Rattle.losses.specs.Runs.{Run, run_behind}
-use Rattle.salvaging.specs.Entries.{Entry, Used, Doubtful, next_used}
+use Rattle.losses.specs.Runs.{Run}
+use Rattle.salvaging.specs.Entries.{Entry, Used, Doubtful}
 use Rattle.salvaging.specs.LeftParts.{LeftPart}
-use Rattle.salvaging.specs.Leaving.{EntriesLeave, UsedLeaves}
+use Rattle.salvaging.specs.Leaving.{EntriesLeave}
 
 -- Each entry is good or not.
 pub leaves_count : (words : Words) (mode : Mode) (entries : List Entry) (goods : List Bool) (run : Run) (next : ℕ)

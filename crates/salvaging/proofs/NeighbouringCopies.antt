@@ -1,5 +1,5 @@
 -- Messages that are alike are neighbours in the order of their numbers, payloads and places.
-use Rattle.std.proofs.Common.{◌≡◌, ◌⊎◌, inl, inr, ℕ, suc, ◌+◌, Bool, true, false, List, [], ◌∷◌, length, map, refl, ap}
+use Rattle.std.proofs.Common.{◌≡◌, inl, inr, ◌+◌, Bool, true, false, List, [], ◌∷◌, length, refl, ap}
 use Rattle.std.proofs.Common.{arith, sym, ◌∙◌}
 use Rattle.salvaging.specs.steps.Arrivals.{Arrival, AreOrdered, IsUpTo}
 use Rattle.salvaging.specs.steps.Grouping.{are_alike, copies_by, copies_on, one_more}

@@ -1,5 +1,5 @@
 -- Numbers without a repeat are as many as others with the same numbers.
-use Rattle.std.proofs.Common.{◌≡◌, ◌⊎◌, inl, inr, ℕ, suc, ◌+◌, ◌≤◌, List, [], ◌∷◌, length, refl, sym, subst, arith}
+use Rattle.std.proofs.Common.{◌≡◌, inl, inr, ℕ, suc, ◌+◌, ◌≤◌, List, [], ◌∷◌, length, refl, sym, subst, arith}
 use Rattle.std.proofs.Common.{◌∙◌}
 use Rattle.losses.specs.Apart.{AreRising}
 use Rattle.losses.specs.WholeStretches.{NumberCame}

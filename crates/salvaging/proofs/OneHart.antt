@@ -1,8 +1,7 @@
 -- What is salvaged of one hart, whose messages are of a legal log.
-use Rattle.std.proofs.Common.{◌≡◌, ◌⊎◌, inl, inr, ℕ, zero, suc, ◌+◌, ◌-◌, ◌≤◌, ◌<◌, ◌++◌, All, Bool, true, false}
+use Rattle.std.proofs.Common.{◌≡◌, ◌⊎◌, inl, inr, ℕ, zero, suc, ◌+◌, ◌-◌, ◌++◌, All, Bool, true, false}
 use Rattle.std.proofs.Common.{Contains}
 use Rattle.std.proofs.Common.{List, [], ◌∷◌, drop, map, length, Some, slice_get, refl, sym, ap, subst, ◌∙◌, arith}
-use Rattle.std.specs.Prelude.{Ok}
 use Rattle.std.proofs.lemmas.List.{length-map}
 use Rattle.std.proofs.lemmas.List.Elements.{All-contains, All-get_or, All-head, All-map, All-tail, All-weaker}
 use Rattle.std.proofs.lemmas.Option.{get_or_from_slice_get, slice_get_within}
@@ -24,7 +23,7 @@ use Rattle.losses.specs.Parts.{Missing as LogMissing, Events as LogEvents}
 use Rattle.losses.specs.Runs.{first_run, mode_or}
 use Rattle.losses.specs.WholeStretches.{NumberCame}
 use Rattle.losses.proofs.BlockLemmas.{blocks_at_first}
-use Rattle.salvaging.specs.Copies.{AllDiffer, AreAlike, AreCopies, HasLike}
+use Rattle.salvaging.specs.Copies.{AllDiffer, AreCopies, HasLike}
 use Rattle.salvaging.specs.Entries.{Entry, Used, Doubtful, AreEntries, IsEntryOf, entry_number}
 use Rattle.salvaging.specs.Leaving.{EntriesLeave, HartLeaves, mode_by, own_mode}
 use Rattle.salvaging.specs.LeftParts.{LeftPart, Missing, Events, BadNumbers, DoubtfulNumber, AreJoined, each_bad}

@@ -1,13 +1,13 @@
 -- The order of messages with their places.
-use Rattle.std.proofs.Common.{◌≡◌, ◌⊎◌, inl, inr, ℕ, ◌≤◌, ◌<◌, ◌++◌, All, List, [], ◌∷◌, refl, sym, subst, ◌∙◌, arith}
+use Rattle.std.proofs.Common.{◌≡◌, inl, inr, ℕ, ◌≤◌, All, List, [], ◌∷◌, sym, subst, ◌∙◌, arith}
 use Rattle.std.proofs.Common.{ap}
 use Rattle.std.specs.Cmp.Lexicographic.{slice_cmp}
 use Rattle.std.specs.Ordering.{nat_cmp, ordering_reverse}
 use Rattle.std.specs.declared.cmp.Ordering.TheVariants.{Less}
 use Rattle.std.proofs.lemmas.Cmp.{nat_list_cmp_total}
-use Rattle.std.proofs.lemmas.List.Elements.{All-contains, All-head, All-tail}
-use Rattle.salvaging.specs.steps.Arrivals.{Arrival, AreOrdered, IsUpTo, IsUpToByPayload}
-use Rattle.salvaging.proofs.Members.{IsIn, contains_of_in}
+use Rattle.std.proofs.lemmas.List.Elements.{All-head, All-tail}
+use Rattle.salvaging.specs.steps.Arrivals.{Arrival, IsUpTo, IsUpToByPayload}
+use Rattle.salvaging.proofs.Members.{IsIn}
 
 -- Of all of these it holds.
 abbrev pub Each : {X : Type 0} → (X → Type 0) → List X → Type 0

@@ -1,5 +1,5 @@
 -- The entries of messages whose numbers rise are the messages, each in its place.
-use Rattle.std.proofs.Common.{◌≡◌, ◌≢◌, ◌⊎◌, inl, inr, ℕ, zero, suc, ◌+◌, ◌-◌, ◌≤◌, ◌<◌, ◌++◌, All, Contains, List, []}
+use Rattle.std.proofs.Common.{◌≡◌, ◌⊎◌, inl, inr, ℕ, zero, suc, ◌+◌, ◌≤◌, ◌<◌, ◌++◌, All, Contains, List, []}
 use Rattle.std.proofs.Common.{◌∷◌, map, Some, length, slice_get, refl, sym, ap, subst, ◌∙◌, arith, append_assoc}
 use Rattle.std.proofs.lemmas.Bool.{cases_lt}
 use Rattle.std.proofs.lemmas.List.{length_push}
@@ -7,8 +7,8 @@ use Rattle.std.proofs.lemmas.List.Elements.{All-contains, All-head, All-tail}
 use Rattle.message.specs.declared.message.Message.{Message}
 use Rattle.losses.specs.Apart.{AreRising}
 use Rattle.losses.specs.WholeStretches.{NumberCame}
-use Rattle.salvaging.specs.Entries.{Entry, Used, Doubtful, AreEntries, IsDoubtful, IsEntryOf, IsUsed, entry_number}
-use Rattle.salvaging.proofs.Members.{IsIn, came_of_contains, contains_of_came, contains_of_in, in_of_contains}
+use Rattle.salvaging.specs.Entries.{Entry, Used, Doubtful, AreEntries, IsEntryOf, entry_number}
+use Rattle.salvaging.proofs.Members.{IsIn, came_of_contains, contains_of_in, in_of_contains}
 use Rattle.salvaging.proofs.OneHart.{in_at, message_with, number_in}
 use Rattle.salvaging.proofs.RisingNumbers.{not_below, rising_same}
 use Rattle.salvaging.proofs.RunsOfLog.{number_of}

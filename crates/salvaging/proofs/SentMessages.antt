@@ -1,11 +1,10 @@
 -- What is known of a message that is one of a log's.
-use Rattle.std.proofs.Common.{◌≡◌, ◌⊎◌, inl, inr, ℕ, zero, suc, ◌+◌, ◌<◌, ◌^◌, true, List, [], ◌∷◌, drop, map, refl}
-use Rattle.std.proofs.Common.{sym, ap, subst, ◌∙◌, arith}
+use Rattle.std.proofs.Common.{◌≡◌, inl, inr, ℕ, suc, ◌+◌, ◌<◌, ◌^◌, List, [], ◌∷◌, drop, map, refl}
+use Rattle.std.proofs.Common.{sym, ap, ◌∙◌, arith}
 use Rattle.salvaging.proofs.Members.{IsIn}
 use Rattle.std.specs.Prelude.{Ok}
 use Rattle.rvclass.specs.Fetch.{words_of}
 use Rattle.legalpath.specs.ProgramLog.{ProgramLog, IsLegalLog}
-use Rattle.payload.specs.Closing.{is_closing_packet}
 use Rattle.payload.specs.Reading.{reading}
 use Rattle.payload.specs.Spelling.{payload_of}
 use Rattle.payload.specs.declared.mode.Mode.{Mode}

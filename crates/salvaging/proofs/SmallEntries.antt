@@ -1,5 +1,5 @@
 -- The numbers of entries are those of messages.
-use Rattle.std.proofs.Common.{◌≡◌, ◌<◌, ◌==◌, All, Bool, true, false, List, [], ◌∷◌, subst, sym}
+use Rattle.std.proofs.Common.{◌<◌, ◌==◌, Bool, true, false, List, [], ◌∷◌, subst, sym}
 use Rattle.std.proofs.lemmas.List.Elements.{All-cons, All-head, All-nil, All-tail}
 use Rattle.message.specs.Harts.{end_of_numbers}
 use Rattle.salvaging.specs.Entries.{Entry, entry_number}

@@ -1,5 +1,5 @@
 -- What is under way of a hart, from one step to the next.
-use Rattle.std.proofs.Common.{◌≡◌, ◌<◌, ◌≤◌, ℕ, zero, suc, ◌+◌, ◌-◌, Bool, true, false, List, [], ◌∷◌, ◌++◌, Option}
+use Rattle.std.proofs.Common.{◌≡◌, ◌<◌, ℕ, zero, suc, ◌+◌, ◌-◌, Bool, true, false, List, [], ◌∷◌, ◌++◌, Option}
 use Rattle.std.proofs.Common.{Some}
 use Rattle.std.proofs.Common.{None, length, refl, sym, ap, subst, ◌∙◌, arith}
 use Rattle.std.proofs.lemmas.List.{append-nil, length_push}
@@ -163,7 +163,7 @@ module _ {A : Type 0} (words : Words) (mode reads : Mode) (run : Run) (next : �
   judged_good done is new same_decoder same_events looking begun at =
       let behind = reads_behind mode reads run.missing run.packets p in
       let follows : FollowsRun words mode behind run.missing (run.packets ++ p ∷ []) (is_closing_packet p) after
-          decoder =
+      decoder =
       subst (λ r. OnOk r (FollowsRun words mode behind run.missing (run.packets ++ p ∷ []) (is_closing_packet p) after
       decoder)) is fed.follows in (
         p,

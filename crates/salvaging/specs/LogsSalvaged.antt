@@ -7,13 +7,12 @@ use Rattle.rvclass.specs.Words.{Words}
 use Rattle.legalpath.specs.ProgramLog.{ProgramLog}
 use Rattle.payload.specs.declared.mode.Mode.{Mode}
 use Rattle.encoder.specs.Packets.{packets}
-use Rattle.message.specs.OfHart.{of_hart}
 use Rattle.message.specs.declared.message.Message.{Message}
 use Rattle.losses.specs.Apart.{AreRising}
 use Rattle.losses.specs.Losses.{numbers_of}
 use Rattle.losses.specs.Parts.{LogPart, parts}
 use Rattle.losses.specs.Parts.{Missing as LogMissing, Events as LogEvents}
-use Rattle.salvaging.specs.LeftParts.{LeftPart, Missing, Events, BadNumbers, DoubtfulNumber}
+use Rattle.salvaging.specs.LeftParts.{LeftPart, Missing, Events}
 use Rattle.salvaging.specs.PartsIn.{parts_in}
 use Rattle.salvaging.specs.declared.salvaged.SalvagedHart.{SalvagedHart}
 use Rattle.salvaging.specs.declared.salvaged.Salvaged.{Salvaged}

@@ -44,7 +44,9 @@ fn extend<A: Allocator>(part: &mut Part<A>, number: u64, why: Reason) -> bool
 {
     match part {
         Part::Bad {
-            last, why: before, ..
+            last,
+            why: before,
+            ..
         } => {
             let goes_on = number.checked_sub(1) == Some(*last) && *before == why;
             if goes_on {

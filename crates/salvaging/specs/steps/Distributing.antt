@@ -1,12 +1,12 @@
 -- How messages are distributed to the harts, and what is salvaged of each.
-use Rattle.std.specs.Prelude.{ℕ, ◌≡◌, ◌++◌, All, List, [], ◌∷◌, Some, length, slice_get}
+use Rattle.std.specs.Prelude.{ℕ, ◌≡◌, ◌++◌, List, [], ◌∷◌, Some, length, slice_get}
 use Rattle.std.specs.declared.vec.Vec.{Vec}
 use Rattle.rvclass.specs.Words.{Words}
 use Rattle.payload.specs.declared.mode.Mode.{Mode}
 use Rattle.message.specs.declared.message.Message.{Message}
 use Rattle.salvaging.specs.Salvaged.{IsSalvagedHart}
 use Rattle.salvaging.specs.Strangers.{own_messages}
-use Rattle.salvaging.specs.steps.Arrivals.{HaveNumbers, arrivals_in, placed_from}
+use Rattle.salvaging.specs.steps.Arrivals.{arrivals_in, placed_from}
 use Rattle.salvaging.specs.declared.came.Came.{Came}
 use Rattle.salvaging.specs.declared.salvaged.SalvagedHart.{SalvagedHart}
 

@@ -1,5 +1,5 @@
 -- How far the entries of a hart are taken.
-use Rattle.std.specs.Prelude.{ℕ, ◌≡◌, ◌+◌, ◌++◌, Bool, true, List, [], ◌∷◌, None, map}
+use Rattle.std.specs.Prelude.{◌≡◌, ◌++◌, Bool, true, List, [], None, map}
 use Rattle.rvclass.specs.Words.{Words}
 use Rattle.payload.specs.declared.mode.Mode.{Mode}
 use Rattle.losses.specs.Apart.{AreRising}

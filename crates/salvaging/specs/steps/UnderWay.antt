@@ -97,7 +97,7 @@ abbrev pub Judged : {A : Type 0} → Words → Mode → Mode → Run → ℕ →
     → Type 0
 Judged words mode reads run number payload following None new =
     (packet : Packet) × IsGood words (reads_behind mode reads run.missing run.packets packet) run payload following
-        packet
+    packet
     × IsUnderWay words mode (reads_behind mode reads run.missing run.packets packet) (longer run (packet ∷ []))
     (number + 1) (is_closing_packet packet) new
 Judged words mode reads run number payload following (Some why) new =

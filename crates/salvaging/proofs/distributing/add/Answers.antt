@@ -1,5 +1,5 @@
 -- Which list has the message more is found by lemmas on lists.
-use Rattle.std.proofs.Common.{rules, ◌≡◌, ◌<◌, ◌≤◌, ◌++◌, true, [], ◌∷◌, length, refl, sym, ap, subst, ◌∙◌, arith}
+use Rattle.std.proofs.Common.{rules, ◌≡◌, ◌<◌, ◌≤◌, ◌++◌, true, [], ◌∷◌, length, refl, sym, ap, subst, ◌∙◌}
 use Rattle.std.proofs.Common.{slice_get, Some}
 use Rattle.std.proofs.Common.{slice_set}
 use Rattle.std.specs.Vec.{vec_len}

@@ -1,5 +1,5 @@
 -- The messages so far and one more are a lemma for each way that the message goes.
-use Rattle.std.proofs.Common.{◌≡◌, ◌+◌, ◌≤◌, arith, sym, ◌∙◌}
+use Rattle.std.proofs.Common.{◌≡◌, arith, sym, ◌∙◌}
 use Rattle.salvaging.specs.steps.Grouping.{one_more}
 use Rattle.salvaging.proofs.GroupSteps.{counted_end, groups_begun, groups_joined, more_if, none_more_if}
 use Rattle.salvaging.proofs.grouping.group.Goals.{then-are_alike, else-are_alike}

@@ -1,15 +1,15 @@
 -- What is salvaged is put together from the steps, by lemmas.
-use Rattle.std.proofs.Common.{◌≡◌, ◌<◌, [], length, sym, ap, subst, ◌∙◌}
+use Rattle.std.proofs.Common.{◌<◌, length, sym, ap, subst, ◌∙◌}
 use Rattle.std.proofs.lemmas.List.{length-map}
 use Rattle.std.proofs.lemmas.List.Sorted.{All-permutation}
 use Rattle.std.specs.List.Sorted.{IsPermutation}
 use Rattle.rvclass.specs.Fetch.{words_of}
 use Rattle.losses.specs.Runs.{first_run}
 use Rattle.message.specs.Harts.{end_of_numbers}
-use Rattle.salvaging.specs.Entries.{AreEntries, is_closed}
+use Rattle.salvaging.specs.Entries.{AreEntries}
 use Rattle.salvaging.specs.Late.{late}
 use Rattle.salvaging.specs.Leaving.{own_mode}
-use Rattle.salvaging.specs.steps.Arrivals.{Arrival, arrivals_in, placed_from}
+use Rattle.salvaging.specs.steps.Arrivals.{Arrival, arrivals_in}
 use Rattle.salvaging.specs.steps.Grouping.{entries_in, entry_of}
 use Rattle.salvaging.proofs.EntriesTaken.{all_taken}
 use Rattle.salvaging.proofs.HartSalvaged.{leaves_count}

@@ -1,7 +1,6 @@
 -- What is put behind other parts is found by lemmas on lists, which no tactic finds.
 use Rattle.std.proofs.Common.{◌++◌, [], ◌∷◌, refl, sym, ap, subst, ◌∙◌}
 use Rattle.std.specs.Vec.{vec_len}
-use Rattle.salvaging.specs.LeftParts.{BadNumbers}
 use Rattle.salvaging.specs.PartsIn.{part_of}
 use Rattle.salvaging.specs.steps.Joining.{Extends}
 use Rattle.salvaging.specs.declared.part.Part.TheVariants as part

@@ -1,5 +1,5 @@
 -- What is salvaged of all is put together by lemmas.
-use Rattle.std.proofs.Common.{◌≡◌, length, sym, subst}
+use Rattle.std.proofs.Common.{sym, subst}
 use Rattle.rvclass.specs.Fetch.{words_of}
 use Rattle.salvaging.specs.Salvaged.{IsSalvaged}
 use Rattle.salvaging.specs.declared.salvaged.Salvaged.{Salvaged}

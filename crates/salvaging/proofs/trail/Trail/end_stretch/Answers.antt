@@ -1,5 +1,5 @@
 -- The stretch is put behind the parts by a lemma on lists, which no tactic finds.
-use Rattle.std.proofs.Common.{rules, ◌-◌, ◌++◌, [], ◌∷◌, length, refl, sym, ap, subst, ◌∙◌}
+use Rattle.std.proofs.Common.{rules, ◌-◌, ◌++◌, [], ◌∷◌, length, ap, subst, ◌∙◌}
 use Rattle.std.specs.Prelude.{◌≢◌}
 use Rattle.salvaging.specs.LeftParts.{Events}
 use Rattle.salvaging.specs.declared.part.Part.TheVariants as part

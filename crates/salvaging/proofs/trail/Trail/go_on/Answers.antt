@@ -1,5 +1,5 @@
 -- Behind lost numbers a run is under way by a lemma, which no tactic finds.
-use Rattle.std.proofs.Common.{rules, ◌≡◌, ◌<◌, ◌-◌, ◌++◌, false, refl, sym, ap, subst}
+use Rattle.std.proofs.Common.{rules, ◌≡◌, ◌<◌, ◌-◌, ◌++◌, false, refl, ap, subst}
 use Rattle.salvaging.specs.LeftParts.{gap}
 use Rattle.salvaging.specs.steps.UnderWay.{AddsParts}
 use Rattle.salvaging.proofs.PushedParts.{adds_both}

@@ -1,10 +1,9 @@
 -- What was judged is put together from what the decoder promises, by lemmas on runs.
-use Rattle.std.proofs.Common.{rules, ◌≡◌, ◌<◌, ◌^◌, ◌+◌, false, refl, sym, ap, subst, ◌∙◌}
-use Rattle.std.specs.Prelude.{◌≢◌, Ok, None}
+use Rattle.std.proofs.Common.{rules, ◌≡◌, ◌<◌, ◌^◌, false, refl, sym, ap, subst, ◌∙◌}
+use Rattle.std.specs.Prelude.{Ok, None}
 use Rattle.rvclass.specs.Fetch.{words_of}
 use Rattle.payload.specs.Closing.{is_closing_packet, is_closing_reading}
 use Rattle.payload.specs.Reading.{reading}
-use Rattle.decoder.specs.declared.fault.DecodeFault.TheVariants.{Memory}
 use Rattle.losses.specs.steps.DecoderSteps.{Feeds}
 use Rattle.losses.specs.steps.FollowingRuns.{FollowsRun, Refuses}
 use Rattle.salvaging.specs.steps.UnderWay.{early}

@@ -1,5 +1,5 @@
 -- The run from number 0 on has no packet yet.
-use Rattle.std.proofs.Common.{◌≡◌, false, [], None, refl, sym, subst}
+use Rattle.std.proofs.Common.{false, [], None, refl, sym, subst}
 use Rattle.losses.specs.steps.FollowingRuns.{FollowsRun}
 use Rattle.losses.proofs.RunLemmas.{describes_nothing}
 use Rattle.losses.proofs.TraceSteps.{state_laws}

@@ -1,8 +1,8 @@
 -- An entry more is taken by lemmas on entries.
-use Rattle.std.proofs.Common.{◌≡◌, ◌++◌, [], ◌∷◌, ap, subst, sym}
+use Rattle.std.proofs.Common.{◌++◌, [], ◌∷◌, ap, subst, sym}
 use Rattle.std.specs.Prelude.{OnOk}
 use Rattle.rvclass.specs.Fetch.{words_of}
-use Rattle.salvaging.specs.Entries.{Used, Doubtful}
+use Rattle.salvaging.specs.Entries.{Doubtful}
 use Rattle.salvaging.specs.Leaving.{own_mode}
 use Rattle.salvaging.specs.steps.Grouping.{entries_in, entry_of}
 use Rattle.salvaging.specs.steps.Trails.{TakesEntries}

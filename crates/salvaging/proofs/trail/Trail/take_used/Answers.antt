@@ -1,6 +1,5 @@
 -- What was taken is put together from the steps, by lemmas.
-use Rattle.std.proofs.Common.{◌≡◌, ◌<◌, ◌-◌, ◌++◌, true, false, [], ◌∷◌, refl, sym, ap, subst, ◌∙◌}
-use Rattle.std.specs.Prelude.{None, Some}
+use Rattle.std.proofs.Common.{◌<◌, ◌-◌, ◌++◌, true, [], ◌∷◌, refl, sym, ap, subst, ◌∙◌}
 use Rattle.rvclass.specs.Fetch.{words_of}
 use Rattle.message.specs.Harts.{end_of_numbers}
 use Rattle.losses.specs.Runs.{run_behind}
