@@ -5,3 +5,5 @@ mod faults;
 mod many;
 mod small_logs;
 mod worked_logs;
+
+pub(crate) use self::collected::add;

@@ -1,6 +1,6 @@
 //! All orders of the messages of two harts, each also doubled.
 
-use super::rows::{Wanted, add, are_wanted, copies_and_late, log_of, salvaged_of};
+use super::rows::{Wanted, add_sent, are_wanted, copies_and_late, log_of, salvaged_of};
 use crate::fixtures::{NOP, program_of};
 use crate::packets::{legal_log, sourced};
 use crate::same::same_at;
@@ -43,7 +43,7 @@ fn are_left<R: Abort + AllocGlobal>(
 ) {
     let mut messages: Vec<Message> = Vec::new(rt.alloc());
     for sent in order {
-        add(rt, &mut messages, payloads, *sent);
+        add_sent(rt, &mut messages, payloads, *sent);
     }
     let salvaged = salvaged_of(rt, place, program, &messages);
     same_at(

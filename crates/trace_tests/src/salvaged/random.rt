@@ -1,6 +1,6 @@
 //! Random messages of logs, in any order and with repeats.
 
-use super::rows::{add, are_wanted, copies_and_late, log_of, salvaged_of, wanted_of};
+use super::rows::{add_sent, are_wanted, copies_and_late, log_of, salvaged_of, wanted_of};
 use crate::fixtures::{NOP, program_of};
 use crate::packets::{legal_log, sourced};
 use crate::same::same_at;
@@ -62,7 +62,7 @@ fn are_left<R: Abort + AllocGlobal>(
 ) {
     let mut messages: Vec<Message> = Vec::new(rt.alloc());
     for sent in drawn {
-        add(rt, &mut messages, payloads, *sent);
+        add_sent(rt, &mut messages, payloads, *sent);
     }
     let salvaged = salvaged_of(rt, place, program, &messages);
     same_at(

@@ -1,6 +1,7 @@
 //! What is wanted of what is left of a log in which every second retirement is a synchronisation.
 
 use crate::fixtures::retired;
+use crate::lossy::add;
 use crate::same::same_at;
 use message::Message;
 use payload::{Mode, Payload};
@@ -11,18 +12,14 @@ use std::fmt::Debug;
 use std::process::Abort;
 
 /// Adds the message of this hart with this number, whose payload is the one at that place.
-pub(crate) fn add<R: Abort>(
+pub(crate) fn add_sent<R: Abort>(
     rt: &R,
     messages: &mut Vec<Message>,
     payloads: &[Payload],
     (hart, number): (u16, usize),
 ) {
-    let message = Message {
-        hart,
-        number: number as u64,
-        payload: *payloads.get(number).expect(rt, "a payload"),
-    };
-    messages.push(message).ok().expect(rt, "memory");
+    let payload = payloads.get(number).expect(rt, "a payload");
+    add(rt, messages, hart, number as u64, payload.bytes());
 }
 
 /// The log of this many words, one after the other.
