@@ -53,7 +53,8 @@ fn are_left<R: Abort + AllocGlobal>(
         (2, 0),
     );
     for (hart, own) in salvaged.harts.iter().enumerate() {
-        let (copies, late) = copies_and_late(rt, order, hart as u16);
+        let hart = u16::try_from(hart).ok().expect(rt, "a hart");
+        let (copies, late) = copies_and_late(rt, order, hart);
         let wanted = [Wanted::Stretch(0, 2)];
         are_wanted(rt, (place, hart), log, own, &wanted, (copies, late, true));
     }

@@ -72,9 +72,10 @@ fn are_left<R: Abort + AllocGlobal>(
         (2, 0),
     );
     for (hart, own) in salvaged.harts.iter().enumerate() {
-        let came = came_of(drawn, hart as u16);
+        let hart = u16::try_from(hart).ok().expect(rt, "a hart");
+        let came = came_of(drawn, hart);
         let wanted = wanted_of(rt, &came, WORDS);
-        let (copies, late) = copies_and_late(rt, drawn, hart as u16);
+        let (copies, late) = copies_and_late(rt, drawn, hart);
         let closed = came[SENT - 1];
         are_wanted(rt, (place, hart), log, own, &wanted, (copies, late, closed));
     }
