@@ -3,3 +3,5 @@ pub mod FirstSteps
 mod FromFiles
 pub mod LegalLogs
 pub mod Runs
+pub mod TextLogs
+pub mod Turns

@@ -5,6 +5,9 @@ pub mod Order
 pub mod Known
 pub mod Finding
 pub mod Found
+pub mod Turns
+pub mod Judged
 pub mod Printed
 pub mod Begun
 pub mod Meaning
+pub mod steps

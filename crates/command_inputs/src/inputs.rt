@@ -1,19 +1,16 @@
-//! The inputs of a command: a base, an image, symbols and logs.
+//! The inputs of a command: a base, a file, an image and symbols.
 
-ghost use Rattle.std.specs.Prelude.{◌≡◌, ◌⊎◌, ◌≤◌, ◌<◌, IfErr, IfOk, IfSome, Err, Ok, length, vec_len};
+ghost use Rattle.std.specs.Prelude.{◌≡◌, ◌⊎◌, ◌≤◌, ◌<◌, IfErr, IfOk, IfSome, Err, Ok, length};
 ghost use Rattle.command_inputs.specs.Faults.{status_of};
 ghost use Rattle.command_inputs.specs.declared.fault.Fault.TheVariants as fault;
-ghost use Rattle.command_inputs.specs.Found.{AreFew, AreLegalLogs, AreSymbols, IsAskedProgram, IsBase, IsLegalLogAt};
-ghost use Rattle.command_inputs.specs.Found.{IsLog, IsProgramAt, IsRead};
+ghost use Rattle.command_inputs.specs.Found.{AreFew, AreSymbols, IsAskedProgram, IsBase, IsProgramAt, IsRead};
 ghost use Rattle.command_inputs.specs.Order.{logs_fault};
-ghost use Rattle.retire.specs.Log.{most_rows};
 ghost use Rattle.retire.specs.Number.{number_of};
 
 use crate::fault::Fault;
 use crate::files::Files;
 use crate::status::Status;
-use legalpath::LegalLog;
-use retire::{Event, number, read_log_from_slice};
+use retire::number;
 use rvclass::Program;
 use std::alloc::Global;
 use symbols::Symbols;
@@ -116,64 +113,4 @@ pub fn asked_program<'a, F: Files>(
     let base = base_of(base)?;
     check_count(paths, most)?;
     program_of(files, base, image)
-}
-
-/// The events of the log at a path.
-pub fn log_of<'a, F: Files>(
-    alloc: Global,
-    files: &mut F,
-    path: &'a str,
-) -> Result<Vec<Event>, Fault<'a>>
-    ensures log { IfOk result (λ events. IsLog (F.content files.old) path.entry (Ok events.items)) }
-    ensures fault { IfErr result (λ why. (why ≡ Fault.Memory) ⊎ IsLog (F.content files.old) path.entry (Err why)) }
-    ensures short { IfOk result (λ events. vec_len events ≤ most_rows) }
-    ensures kept { F.content files.new ≡ F.content files.old }
-{
-    let bytes = content_of(files, path)?;
-    match read_log_from_slice(alloc, alloc, bytes.as_slice()) {
-        Ok(events) => Ok(events),
-        Err(why) => Err(Fault::of_log(path, why)),
-    }
-}
-
-/// The log at a path, where it is legal for the program.
-fn legal_log_of<'a, 'p, F: Files>(
-    alloc: Global,
-    files: &mut F,
-    program: &'p Program,
-    path: &'a str,
-) -> Result<LegalLog<'p>, Fault<'a>>
-    ensures log { IfOk result (λ log. IsLegalLogAt (F.content files.old) program.now path.entry (Ok log)) }
-    ensures fault { IfErr result
-        (λ why. (why ≡ Fault.Memory) ⊎ IsLegalLogAt (F.content files.old) program.now path.entry (Err why)) }
-    ensures kept { F.content files.new ≡ F.content files.old }
-{
-    let events = log_of(alloc, files, path)?;
-    match LegalLog::new(program, events) {
-        Ok(log) => Ok(log),
-        Err((why, _)) => Err(Fault::Illegal(path, why)),
-    }
-}
-
-/// The logs at these paths, in order, where each is legal for the program.
-pub fn legal_logs_of<'a, 'p, F: Files>(
-    alloc: Global,
-    files: &mut F,
-    program: &'p Program,
-    paths: &[&'a str],
-) -> Result<Vec<LegalLog<'p>>, Fault<'a>>
-    ensures count { IfOk result (λ logs. vec_len logs ≡ length paths.now) }
-    ensures logs { IfOk result (λ logs. AreLegalLogs (F.content files.old) program.now paths.now (Ok logs.items)) }
-    ensures fault { IfErr result
-        (λ why. (why ≡ Fault.Memory) ⊎ AreLegalLogs (F.content files.old) program.now paths.now (Err why)) }
-    ensures kept { F.content files.new ≡ F.content files.old }
-{
-    let mut logs = Vec::new(alloc);
-    for path in paths {
-        let log = legal_log_of(alloc, files, program, path)?;
-        if logs.push(log).is_err() {
-            return Err(Fault::Memory);
-        }
-    }
-    Ok(logs)
 }

@@ -9,12 +9,15 @@ mod error_reporting;
 mod fault;
 mod files;
 mod inputs;
+mod judging;
+mod legal_logs;
 mod status;
+mod texts;
 
 pub use error_reporting::report_error;
 pub use fault::Fault;
 pub use files::{FileFault, Files};
-pub use inputs::{
-    asked_program, base_of, content_of, legal_logs_of, log_of, program_of, symbols_of,
-};
+pub use inputs::{asked_program, base_of, content_of, program_of, symbols_of};
+pub use judging::{JudgedLog, JudgedLogs, judged_logs_of};
+pub use legal_logs::legal_logs_of;
 pub use status::Status;

@@ -43,14 +43,14 @@ pub fn carry_out<'a, F: Files, O: Write, R: Threads + Wait + Sync>(
     ensures refused { ¬ IsCheck asked.now → final_status result ≡ Status.Refused → out.new ≡ out.old }
 {
     match asked {
-        Asked::Check(asked) => check(alloc, files, asked, out),
-        Asked::Encode(asked) => encode(alloc, files, asked, out),
+        Asked::Check(asked) => check(alloc, rt, files, asked, out),
+        Asked::Encode(asked) => encode(alloc, rt, files, asked, out),
         Asked::Dump(asked) => dump(files, asked, out),
         Asked::Decode(asked) => decode(alloc, files, asked, out),
-        Asked::Replay(asked) => replay(alloc, files, asked, out),
+        Asked::Replay(asked) => replay(alloc, rt, files, asked, out),
         Asked::Bench(asked) => bench(alloc, rt, files, asked, out),
         Asked::Audit(asked) => audit(alloc, files, asked, out),
-        Asked::Measure(asked) => measure(alloc, files, asked, out),
+        Asked::Measure(asked) => measure(alloc, rt, files, asked, out),
         Asked::Listing(asked) => list(alloc, files, asked, out),
         Asked::Salvage(asked) => salvage(alloc, files, asked, out),
     }

@@ -6,20 +6,17 @@ use Rattle.std.specs.Io.KnownBytes.{Keeps}
 use Rattle.std.specs.List.{AllZip, flat_map, list_any}
 use Rattle.explaining.specs.Explanation.{explanation}
 use Rattle.legalpath.specs.FaultText.{path_fault_text}
-use Rattle.legalpath.specs.FirstFault.{IsFirstFault}
-use Rattle.legalpath.specs.Legal.{Legal}
 use Rattle.legalpath.specs.declared.fault.PathFault.{PathFault}
 use Rattle.message.specs.Version.{most_harts}
 use Rattle.message.specs.declared.header.Version.TheVariants.{Two}
 use Rattle.retire.specs.Number.{number_of}
 use Rattle.retire.specs.declared.event.Event.{Event}
-use Rattle.rvclass.specs.Fetch.{words_of}
 use Rattle.rvclass.specs.Image.{Image}
-use Rattle.rvclass.specs.Words.{Words}
 use Rattle.subcommands.specs.declared.words.Check.{Check}
 use Rattle.command_inputs.specs.Faults.{Path}
 use Rattle.command_inputs.specs.Finding.{Once}
 use Rattle.command_inputs.specs.Found.{IsAskedProgram, IsLog}
+use Rattle.command_inputs.specs.Judged.{IsJudgedAt, Judged}
 use Rattle.command_inputs.specs.Known.{Content}
 use Rattle.command_inputs.specs.Meaning.{Meaning}
 use Rattle.command_inputs.specs.Order.{logs_fault}
@@ -27,23 +24,6 @@ use Rattle.command_inputs.specs.Printed.{First, IsPrinted, Printed}
 use Rattle.command_inputs.specs.declared.fault.Fault.{Fault}
 use Rattle.command_inputs.specs.declared.status.Status.{Status}
 use Rattle.command_inputs.specs.declared.status.Status.TheVariants.{Refused, Whole}
-
--- A log is legal, or it has this first illegal row.
-abbrev pub IsVerdict : Words → List Event → Option PathFault → Type 0
-IsVerdict words events None = Legal words events
-IsVerdict words events (Some illegal) = IsFirstFault words events illegal
-
--- A log that was read and judged: its path, its events, and its first illegal row, if it has one.
-pub record Judged : Type 0 where
-  pub path : List ℕ
-  pub events : List Event
-  pub illegal : Option PathFault
-
--- The log at a path was read, and this is its judgement by the program.
-pub record IsJudgedAt (content : Content) (program : Image) (path : Path) (log : Judged) : Type 0 where
-  pub named : log.path ≡ path.now
-  pub read : IsLog content path (Ok log.events)
-  pub verdict : IsVerdict (words_of program) log.events log.illegal
 
 -- The line of a log at a path. It says that the log is legal and how many events it has, or which row is the first
 -- illegal one and why.
@@ -144,7 +124,7 @@ ChecksFirst content asked printed =
     Once (IsAskedProgram content (most_harts Two) asked.base.now asked.image asked.logs.items) (λ program.
     WritesFirstLines content asked.explain program asked.logs.items printed)
 
--- What `check` means. It writes the line of a log before it reads the next.
+-- What `check` means. It writes the lines of some logs before it reads the next.
 abbrev pub check_meaning : Check → Meaning
 check_meaning asked = record {
   early = logs_fault (most_harts Two) (number_of asked.base.now) (length asked.logs.items);

@@ -4,3 +4,4 @@ pub mod Measuring
 pub mod Sending
 pub mod Replaying
 pub mod Benching
+pub mod steps

@@ -50,7 +50,7 @@ pub fn bench<'a, F: Files, O: Write, R: Threads + Wait + Sync>(
         image: asked.image,
         paths: &asked.logs,
     };
-    over_legal_logs(alloc, files, &logs, &OverThreads { rt, asked }, out)
+    over_legal_logs(alloc, rt, files, &logs, &OverThreads { rt, asked }, out)
 }
 
 /// A run of `bench`, over threads of this runtime.

@@ -1,35 +1,40 @@
 //! The subcommand `check`.
 
-ghost use Rattle.std.specs.Prelude.{⊤, ◌≡◌, ◌⊎◌, ◌≤◌, Err, IfErr, IfSome, OnOk, length};
+ghost use Rattle.std.specs.Prelude.{⊤, ◌≡◌, ◌⊎◌, Err, IfErr, IfOk, IfSome, OnOk, length, map};
 ghost use Rattle.std.specs.Io.KnownBytes.{Appends, Keeps};
+ghost use Rattle.std.specs.List.{flat_map, list_any};
 ghost use Rattle.message.specs.Version.{most_harts};
 ghost use Rattle.message.specs.declared.header.Version.TheVariants.{Two};
 ghost use Rattle.output.specs.Begun.{AppendsBeginning};
-ghost use Rattle.retire.specs.Log.{most_rows};
 ghost use Rattle.retire.specs.Number.{number_of};
-ghost use Rattle.rvclass.specs.Fetch.{words_of};
 ghost use Rattle.command_inputs.specs.Begun.{BeginsPrinted, IsCutOf};
+ghost use Rattle.command_inputs.specs.Judged.{judged_of};
 ghost use Rattle.command_inputs.specs.Order.{logs_fault};
 ghost use Rattle.command_inputs.specs.Printed.{PrintsUnlessDenied};
 ghost use Rattle.log_commands.specs.Checking.{AppendsFirstLines, BeginsLines, ChecksFirst, WritesFirstLines, CanCheck};
-ghost use Rattle.log_commands.specs.Checking.{Checks, IsVerdict, WritesLines, explained_line, log_lines};
-ghost use Rattle.log_commands.specs.Checking.{verdict_line};
+ghost use Rattle.log_commands.specs.Checking.{Checks, WritesLines, check_lines, explained_line, is_illegal, log_lines};
+ghost use Rattle.log_commands.specs.Checking.{status_with, verdict_line};
+ghost use Rattle.log_commands.specs.steps.Groups.{end_of_both};
 
-use command_inputs::{Fault, Files, Status, asked_program, log_of};
+use command_inputs::{Fault, Files, JudgedLog, JudgedLogs, Status, asked_program, judged_logs_of};
 use legalpath::PathFault;
 use message::MOST_HARTS;
 use output::write_text;
 use retire::Event;
 use rvclass::Program;
+use side_by_side::processors;
 use std::alloc::Global;
 use std::io::Write;
+use std::thread::Threads;
 use subcommands::Check;
 
 /// Writes a line for each log, which says whether it is legal, and below that of an illegal one, if it is asked for, a
 /// line that explains the first illegal row. Returns that all is done where all logs are legal, and
-/// else that the input is refused. A log that is not read ends the run, after the lines of the logs before it.
-pub fn check<'a, F: Files, O: Write>(
+/// else that the input is refused. A log that is not read ends the run, after the lines of the logs before it. At most as
+/// many logs are held at once as the machine has processors.
+pub fn check<'a, F: Files, O: Write, R: Threads + Sync>(
     alloc: Global,
+    rt: &R,
     files: &mut F,
     asked: &Check<'a>,
     out: &mut O,
@@ -45,14 +50,16 @@ pub fn check<'a, F: Files, O: Write>(
 {
     let paths = asked.logs.as_slice();
     let program = asked_program(files, MOST_HARTS, asked.base, asked.image, paths)?;
-    let ended = judge_all(alloc, files, &program, paths, asked.explain, out);
+    let ended = judge_all(alloc, rt, files, &program, paths, asked.explain, out);
     out.flush()?;
     ended
 }
 
-/// Judges the logs in turn, and writes the lines of each.
-fn judge_all<'a, F: Files, O: Write>(
+/// Judges the logs, and writes the lines of each, in order. As many as the machine has processors are read in turn, then
+/// judged side by side, and then written.
+fn judge_all<'a, F: Files, O: Write, R: Threads + Sync>(
     alloc: Global,
+    rt: &R,
     files: &mut F,
     program: &Program,
     logs: &[&'a str],
@@ -67,24 +74,75 @@ fn judge_all<'a, F: Files, O: Write>(
         (O.contents out.old) (O.contents out.new) }
 {
     let mut status = Status::Whole;
-    for path in logs {
-        let events = log_of(alloc, files, path)?;
-        let rows = events.as_slice();
-        let illegal = illegal_row(program, rows);
-        write_lines(path, program, rows, illegal, explain, out)?;
+    for group in logs.chunks(processors(rt)) {
+        let now = judge_group(alloc, rt, files, program, group, explain, out)?;
+        status = both(status, now);
+    }
+    Ok(status)
+}
+
+/// How a run of two parts ends.
+fn both(first: Status, second: Status) -> Status
+    ensures { result ≡ end_of_both first second }
+{
+    match first {
+        Status::Whole => second,
+        _ => first,
+    }
+}
+
+/// Judges a group of logs side by side, and writes the lines of each, in order.
+fn judge_group<'a, F: Files, O: Write, R: Threads + Sync>(
+    alloc: Global,
+    rt: &R,
+    files: &mut F,
+    program: &Program,
+    paths: &[&'a str],
+    explain: bool,
+    out: &mut O,
+) -> Result<Status, Fault<'a>>
+    ensures printed { PrintsUnlessDenied (WritesLines (F.content files.old) explain program.now paths.now) ⊤ result
+        (O.contents out.old) (O.contents out.new) }
+    ensures begun { result ≡ Err Fault.Memory → AppendsFirstLines (F.content files.old) explain program.now paths.now
+        (O.contents out.old) (O.contents out.new) }
+    ensures cut { BeginsPrinted (WritesFirstLines (F.content files.old) explain program.now paths.now)
+        (O.contents out.old) (O.contents out.new) }
+    ensures kept { F.content files.new ≡ F.content files.old }
+{
+    let JudgedLogs { logs, end } = judged_logs_of(alloc, rt, files, program, paths);
+    let status = match write_logs(program, logs.as_slice(), explain, out) {
+        Ok(status) => status,
+        Err(why) => return Err(why),
+    };
+    match end {
+        Ok(()) => Ok(status),
+        Err(why) => Err(why),
+    }
+}
+
+/// Writes the lines of each log, in order, and returns how a run of these logs ends.
+fn write_logs<'a, O: Write>(
+    program: &Program,
+    logs: &[JudgedLog<'_, '_>],
+    explain: bool,
+    out: &mut O,
+) -> Result<Status, Fault<'a>>
+    ensures fault { IfErr result (λ fault. fault ≡ Fault.Output) }
+    ensures ended { IfOk result (λ status. status ≡ status_with (list_any is_illegal (map judged_of logs.now))) }
+    ensures text { OnOk result (Appends (O.contents out.old) (O.contents out.new)
+        (flat_map (check_lines explain program.now) (map judged_of logs.now))) }
+    ensures begun { AppendsBeginning (flat_map (check_lines explain program.now) (map judged_of logs.now))
+        (O.contents out.old) (O.contents out.new) }
+{
+    let mut status = Status::Whole;
+    for log in logs {
+        let illegal = log.illegal();
+        write_lines(log.path, program, log.events(), illegal, explain, out)?;
         if illegal.is_some() {
             status = Status::Refused;
         }
     }
     Ok(status)
-}
-
-/// The first illegal row of a log, if it has one.
-fn illegal_row(program: &Program, log: &[Event]) -> Option<PathFault>
-    requires { length log.now ≤ most_rows }
-    ensures { IsVerdict (words_of program.now) log.now result }
-{
-    legalpath::check(program, log).err()
 }
 
 /// Writes the lines of a log: whether it is legal, and below that what explains its first illegal row, if it has one

@@ -17,12 +17,14 @@ use command_inputs::{Fault, Files, Status};
 use legalpath::LegalLog;
 use std::alloc::Global;
 use std::io::Write;
+use std::thread::Threads;
 use subcommands::Encode;
 
 /// Writes the messages of each hart's log, once all logs are found legal: as a capture of the version that is asked
 /// for, or as lines of hexadecimal. The version limits the count of logs in both cases.
-pub fn encode<'a, F: Files, O: Write>(
+pub fn encode<'a, F: Files, O: Write, R: Threads + Sync>(
     alloc: Global,
+    rt: &R,
     files: &mut F,
     asked: &Encode<'a>,
     out: &mut O,
@@ -45,7 +47,7 @@ pub fn encode<'a, F: Files, O: Write>(
         image: asked.image,
         paths: &asked.logs,
     };
-    over_legal_logs(alloc, files, &logs, asked, out)
+    over_legal_logs(alloc, rt, files, &logs, asked, out)
 }
 
 impl<'a> OnLogs<'a> for Encode<'a> {

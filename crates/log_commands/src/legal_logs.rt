@@ -15,6 +15,7 @@ use command_inputs::{Fault, Files, Status, asked_program, legal_logs_of};
 use legalpath::LegalLog;
 use std::alloc::Global;
 use std::io::Write;
+use std::thread::Threads;
 
 /// Which logs are asked for.
 #[derive(Clone, Copy)]
@@ -56,8 +57,9 @@ pub(crate) trait OnLogs<'a> {
 }
 
 /// Finds the program and the legal logs that are asked for, and goes on with these.
-pub(crate) fn over_legal_logs<'a, F: Files, O: Write, T: OnLogs<'a>>(
+pub(crate) fn over_legal_logs<'a, F: Files, O: Write, T: OnLogs<'a>, R: Threads + Sync>(
     alloc: Global,
+    rt: &R,
     files: &mut F,
     asked: &AskedLogs<'a, '_>,
     task: &T,
@@ -82,6 +84,6 @@ pub(crate) fn over_legal_logs<'a, F: Files, O: Write, T: OnLogs<'a>>(
 {
     let paths = asked.paths.as_slice();
     let program = asked_program(files, asked.most, asked.base, asked.image, paths)?;
-    let logs = legal_logs_of(alloc, files, &program, paths)?;
+    let logs = legal_logs_of(alloc, rt, files, &program, paths)?;
     task.go_on(alloc, files, logs.as_slice(), out)
 }

@@ -20,12 +20,14 @@ use measuring::write_measures;
 use message::MOST_HARTS;
 use std::alloc::Global;
 use std::io::Write;
+use std::thread::Threads;
 use subcommands::Measure;
 
 /// Writes the table of what each hart's log costs, once all logs are found legal: how many packets of each kind it has
 /// at the period and in the mode, and how many bytes their payloads take.
-pub fn measure<'a, F: Files, O: Write>(
+pub fn measure<'a, F: Files, O: Write, R: Threads + Sync>(
     alloc: Global,
+    rt: &R,
     files: &mut F,
     asked: &Measure<'a>,
     out: &mut O,
@@ -46,7 +48,7 @@ pub fn measure<'a, F: Files, O: Write>(
         image: asked.image,
         paths: &asked.logs,
     };
-    over_legal_logs(alloc, files, &logs, asked, out)
+    over_legal_logs(alloc, rt, files, &logs, asked, out)
 }
 
 impl<'a> OnLogs<'a> for Measure<'a> {

@@ -23,13 +23,15 @@ use message::MOST_HARTS;
 use schedule::read_schedule;
 use std::alloc::Global;
 use std::io::Write;
+use std::thread::Threads;
 use subcommands::Replay;
 
 /// Sends each hart's log through the funnel as the schedule says, once all logs are found legal, and writes the report
 /// of what comes of them. All is done where each log comes back whole. A stop is printed in the report, and the status
 /// is then that of the machine.
-pub fn replay<'a, F: Files, O: Write>(
+pub fn replay<'a, F: Files, O: Write, R: Threads + Sync>(
     alloc: Global,
+    rt: &R,
     files: &mut F,
     asked: &Replay<'a>,
     out: &mut O,
@@ -49,7 +51,7 @@ pub fn replay<'a, F: Files, O: Write>(
         image: asked.image,
         paths: &asked.logs,
     };
-    over_legal_logs(alloc, files, &logs, asked, out)
+    over_legal_logs(alloc, rt, files, &logs, asked, out)
 }
 
 impl<'a> OnLogs<'a> for Replay<'a> {

@@ -22,8 +22,8 @@ use subcommands::Asked;
 ///
 /// The first fault is reported on `err`, in the order words, base, count of logs, image, symbols, each log in turn,
 /// schedule, capture. It has one line there, or `clap`'s own text where the words are at fault. Where a write to `err`
-/// fails, the status stays the same. Illegal logs are no fault of `check`, which has a line for each log on `out`. Only
-/// `bench` starts threads, and it waits for them.
+/// fails, the status stays the same. Illegal logs are no fault of `check`, which has a line for each log on `out`. What
+/// reads several logs judges them in threads, `bench` sends each log from a thread, and both wait for them.
 pub fn command<F: Files, O: Write, E: Write, R: Threads + Wait + Sync>(
     alloc: Global,
     rt: &R,

@@ -1,118 +1,111 @@
--- The prover does not cut the paths at the loop's place: the lemmas on one path more are handed to it.
-use Rattle.std.proofs.Common.{◌≡◌, ◌⊎◌, ◌+◌, get_or, take, drop, take-append-drop, [], sym, ap, ◌∙◌, subst, arith, Ok}
-use Rattle.std.proofs.Common.{Err, length}
+-- The prover does not part the paths at the group's place: the lemmas on one group more are handed to it.
+use Rattle.std.proofs.Common.{◌≡◌, arith, refl, subst, sym, Ok, Err}
 use Rattle.std.proofs.lemmas.Grind.{common_steps}
-use Rattle.std.specs.Io.KnownBytes.{Appends}
-use Rattle.std.specs.Prelude.{⊤, if◌then◌else◌, is_some}
-use Rattle.output.specs.Begun.{AppendsBeginning}
-use Rattle.rvclass.specs.Fetch.{words_of}
-use Rattle.command_inputs.specs.Faults.{Path}
-use Rattle.command_inputs.specs.Found.{IsLog}
-use Rattle.command_inputs.specs.Printed.{IsPrinted, PrintsUnlessDenied}
+use Rattle.std.specs.Prelude.{⊤}
+use Rattle.command_inputs.proofs.Turns.{none_left}
+use Rattle.command_inputs.specs.Begun.{BeginsPrinted}
+use Rattle.command_inputs.specs.Printed.{PrintsUnlessDenied}
 use Rattle.command_inputs.specs.declared.fault.Fault.TheVariants as fault
-use Rattle.command_inputs.specs.declared.status.Status.TheVariants.{Refused}
-use Rattle.log_commands.specs.Checking.{IsVerdict, WritesLines, log_lines}
-use Rattle.log_commands.proofs.JudgedLogs.{first_lines, line_begun, lines_end, lines_more}
+use Rattle.command_inputs.specs.declared.status.Status.TheVariants.{Whole}
+use Rattle.log_commands.specs.Checking.{AppendsFirstLines, WritesFirstLines, WritesLines}
+use Rattle.log_commands.specs.steps.Groups.{LinesSoFar}
+use Rattle.log_commands.proofs.JudgedLogs.{all_lines, lines_begun, lines_cut, lines_end, lines_first, lines_more}
+use Rattle.log_commands.proofs.JudgedLogs.{no_lines}
 use Rattle.log_commands.proofs.checking.judge_all.Goals as goal
-use Rattle.log_commands.proofs.checking.judge_all.Goals.{then-is_some, else-is_some}
 
-pub returns-in_err-events-clause-printed : goal.returns-in_err-events-clause-printed
-returns-in_err-events-clause-printed g c =
-    let contents = g.O.Write.contents in
+pub loop-group-init : goal.loop-group-init
+loop-group-init g c =
     let content = g.F.Files.content c.args.files.now in
     let paths = c.args.logs.now in
-    let i = c.loop-path.path-index in
-    let d : Path = record { ref_ptr = (0, 0); now = [] } in
-    let why = c.in_err-events.field-0.0 in
-    let is : c.from_residual.result ≡ Err why = grind (arith, common_steps) in
-    let unread = subst (λ known. (why ≡ fault.Memory) ⊎ IsLog known (get_or paths i d) (Err why))
-    c.loop-path.invariant.kept c.in_err-events.ensures.fault in
-    subst (λ r. PrintsUnlessDenied (WritesLines content c.args.explain c.args.program.now paths) ⊤ r
-    (contents c.args.out.now)
-    (contents c.loop-path.out)) (sym is)
-    (lines_end content c.args.explain c.args.program.now paths i d c.loop-path.status (contents c.args.out.now)
-    (contents c.loop-path.out) c.loop-path-test.true c.loop-path.invariant.printed why unread)
-
-pub returns-in_err-events-clause-begun : goal.returns-in_err-events-clause-begun
-returns-in_err-events-clause-begun g c = λ memory. record {
-  front = take c.loop-path.path-index c.args.logs.now;
-  rest = drop c.loop-path.path-index c.args.logs.now;
-  status = c.loop-path.status;
-  whole = sym (take-append-drop c.loop-path.path-index c.args.logs.now);
-  lines = c.loop-path.invariant.printed;
-}
-
-pub loop-path-preserved : goal.loop-path-preserved
-loop-path-preserved g c =
-    let contents = g.O.Write.contents in
-    let content = g.F.Files.content c.args.files.now in
-    let program = c.args.program.now in
-    let paths = c.args.logs.now in
-    let i = c.loop-path.path-index in
-    let d : Path = record { ref_ptr = (0, 0); now = [] } in
-    let old = contents c.args.out.now in
-    let mid = contents c.loop-path.out in
-    let new = contents c.write_lines.new.out in
-    let status = c.loop-path.status in
-    let events = c.in_ok-events.events.items in
-    let illegal = c.illegal_row-illegal.result in
-    let read = subst (λ known. IsLog known (get_or paths i d) (Ok events)) c.loop-path.invariant.kept
-    c.in_ok-events.ensures.log in
-    let verdict = subst (λ log. IsVerdict (words_of program) log illegal) c.as_slice-rows.ensures.value
-    c.illegal_row-illegal.ensures in
-    let line = subst (λ log. Appends mid new (log_lines c.args.explain program (get_or paths i d).now log illegal))
-    c.as_slice-rows.ensures.value
-    c.in_ok-write_lines.ensures.text in
-    let found : c.is_some.result ≡ is_some illegal = c.is_some.ensures in
-    let now_is : c.if-is_some.status ≡ (if is_some illegal then Refused else status) = elim c.if-is_some.branch [
-      | then-is_some w ↦ w.status-is ∙ ap (λ b. if b then Refused else status) (sym w.if-is_some.true ∙ found)
-      | else-is_some w ↦ w.status-is ∙ ap (λ b. if b then Refused else status) (sym w.if-is_some.false ∙ found)
-    ] in record {
-      printed = subst (λ status. IsPrinted (WritesLines content c.args.explain program (take (i + 1) paths))
-          (Ok status) old new)
-          (sym now_is)
-          (lines_more content c.args.explain program paths i d status old mid c.loop-path-test.true
-          c.loop-path.invariant.printed
-          events illegal new read verdict line);
-      kept = grind (arith, common_steps);
+    let old = g.O.Write.contents c.args.out.now in
+    let same : paths ≡ c.into_iter-group-iterator.result.rest.now = grind (arith, common_steps) in record {
+      lines = subst (λ rest. LinesSoFar content c.args.explain c.args.program.now paths rest Whole old old) same
+          (no_lines content c.args.explain c.args.program.now paths old);
+      kept = refl;
+      size = grind (arith, common_steps);
     }
 
-pub returns-in_err-events-clause-cut : goal.returns-in_err-events-clause-cut
-returns-in_err-events-clause-cut g c =
-    first_lines (g.F.Files.content c.args.files.now) c.args.explain c.args.program.now c.args.logs.now
-    c.loop-path.path-index
-    c.loop-path.status
-    (g.O.Write.contents c.args.out.now) (g.O.Write.contents c.loop-path.out) c.loop-path.invariant.printed
-
-pub returns-in_err-write_lines-clause-cut : goal.returns-in_err-write_lines-clause-cut
-returns-in_err-write_lines-clause-cut g c =
+pub returns-in_err-now-clause-printed : goal.returns-in_err-now-clause-printed
+returns-in_err-now-clause-printed g c =
     let contents = g.O.Write.contents in
     let content = g.F.Files.content c.args.files.now in
+    let explain = c.args.explain in
     let program = c.args.program.now in
     let paths = c.args.logs.now in
-    let i = c.loop-path.path-index in
-    let d : Path = record { ref_ptr = (0, 0); now = [] } in
+    let group = c.in-Some.group.now in
+    let why = c.in_err-now.field-0.0 in
     let old = contents c.args.out.now in
-    let mid = contents c.loop-path.out in
-    let new = contents c.write_lines.new.out in
-    let events = c.in_ok-events.events.items in
-    let illegal = c.illegal_row-illegal.result in
-    let read = subst (λ known. IsLog known (get_or paths i d) (Ok events)) c.loop-path.invariant.kept
-    c.in_ok-events.ensures.log in
-    let verdict = subst (λ log. IsVerdict (words_of program) log illegal) c.as_slice-rows.ensures.value
-    c.illegal_row-illegal.ensures in
-    let begun = subst (λ log. AppendsBeginning (log_lines c.args.explain program (get_or paths i d).now log illegal)
-    mid new)
-    c.as_slice-rows.ensures.value
-    c.write_lines.ensures.begun in
-    line_begun content c.args.explain program paths i d c.loop-path.status old mid c.loop-path-test.true
-    c.loop-path.invariant.printed
-    events
-    illegal new read verdict begun
+    let mid = contents c.loop-group.out in
+    let new = contents c.judge_group.new.out in
+    let is : c.from_residual.result ≡ Err why = grind (arith, common_steps) in
+    let there = subst (λ known. PrintsUnlessDenied (WritesLines known explain program group) ⊤ (Err why) mid new)
+    c.loop-group.invariant.kept c.in_err-now.ensures.printed in
+    subst (λ r. PrintsUnlessDenied (WritesLines content explain program paths) ⊤ r old new) (sym is)
+    (lines_end content explain program paths c.loop-group.group-iterator.rest.now group c.next.new.self.rest.now
+    c.loop-group.status old mid new c.loop-group.invariant.lines c.in-Some.ensures.steps.1.0 why there)
+
+pub returns-in_err-now-clause-begun : goal.returns-in_err-now-clause-begun
+returns-in_err-now-clause-begun g c = λ memory.
+    let contents = g.O.Write.contents in
+    let content = g.F.Files.content c.args.files.now in
+    let explain = c.args.explain in
+    let program = c.args.program.now in
+    let group = c.in-Some.group.now in
+    let mid = contents c.loop-group.out in
+    let new = contents c.judge_group.new.out in
+    let refused : c.judge_group.result ≡ Err fault.Memory = grind (arith, common_steps) in
+    lines_first content explain program c.args.logs.now c.loop-group.group-iterator.rest.now group
+    c.next.new.self.rest.now c.loop-group.status (contents c.args.out.now) mid new c.loop-group.invariant.lines
+    c.in-Some.ensures.steps.1.0
+    (subst (λ known. AppendsFirstLines known explain program group mid new) c.loop-group.invariant.kept
+    (c.judge_group.ensures.begun refused))
+
+pub returns-in_err-now-clause-cut : goal.returns-in_err-now-clause-cut
+returns-in_err-now-clause-cut g c =
+    let contents = g.O.Write.contents in
+    let content = g.F.Files.content c.args.files.now in
+    let explain = c.args.explain in
+    let program = c.args.program.now in
+    let group = c.in-Some.group.now in
+    let mid = contents c.loop-group.out in
+    let new = contents c.judge_group.new.out in
+    lines_begun content explain program c.args.logs.now c.loop-group.group-iterator.rest.now group
+    c.next.new.self.rest.now c.loop-group.status (contents c.args.out.now) mid new c.loop-group.invariant.lines
+    c.in-Some.ensures.steps.1.0
+    (subst (λ known. BeginsPrinted (WritesFirstLines known explain program group) mid new) c.loop-group.invariant.kept
+    c.judge_group.ensures.cut)
+
+pub loop-group-preserved : goal.loop-group-preserved
+loop-group-preserved g c =
+    let contents = g.O.Write.contents in
+    let content = g.F.Files.content c.args.files.now in
+    let explain = c.args.explain in
+    let program = c.args.program.now in
+    let paths = c.args.logs.now in
+    let group = c.in-Some.group.now in
+    let more = c.next.new.self.rest.now in
+    let now = c.in_ok-now.now in
+    let old = contents c.args.out.now in
+    let mid = contents c.loop-group.out in
+    let new = contents c.judge_group.new.out in
+    let there = subst (λ known. PrintsUnlessDenied (WritesLines known explain program group) ⊤ (Ok now) mid new)
+    c.loop-group.invariant.kept c.in_ok-now.ensures.printed in record {
+      lines = subst (λ status. LinesSoFar content explain program paths more status old new) (sym c.both-status.ensures)
+          (lines_more content explain program paths c.loop-group.group-iterator.rest.now group more
+          c.loop-group.status old mid new c.loop-group.invariant.lines c.in-Some.ensures.steps.1.0 now there);
+      kept = grind (arith, common_steps);
+      size = grind (arith, common_steps);
+    }
+
+pub returns-clause-printed : goal.returns-clause-printed
+returns-clause-printed g c =
+    all_lines (g.F.Files.content c.args.files.now) c.args.explain c.args.program.now c.args.logs.now
+    c.loop-group.group-iterator.rest.now c.loop-group.status (g.O.Write.contents c.args.out.now)
+    (g.O.Write.contents c.loop-group.out) c.loop-group.invariant.lines
+    (none_left c.loop-group.group-iterator.rest.now c.in-None.ensures.steps.1.0)
 
 pub returns-clause-cut : goal.returns-clause-cut
 returns-clause-cut g c =
-    first_lines (g.F.Files.content c.args.files.now) c.args.explain c.args.program.now c.args.logs.now
-    c.loop-path.path-index
-    c.loop-path.status
-    (g.O.Write.contents c.args.out.now) (g.O.Write.contents c.loop-path.out) c.loop-path.invariant.printed
+    lines_cut (g.F.Files.content c.args.files.now) c.args.explain c.args.program.now c.args.logs.now
+    c.loop-group.group-iterator.rest.now c.loop-group.status (g.O.Write.contents c.args.out.now)
+    (g.O.Write.contents c.loop-group.out) c.loop-group.invariant.lines

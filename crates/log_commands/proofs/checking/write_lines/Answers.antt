@@ -1,6 +1,5 @@
 -- The prover does not part the lines at the write that failed: the two are put together by hand.
 use Rattle.std.proofs.Common.{length}
-use Rattle.std.proofs.KnownBytes.{Appends-trans}
 use Rattle.output.proofs.Beginnings.{begun_behind, begun_in_front}
 use Rattle.log_commands.specs.Checking.{explained_line, verdict_line}
 use Rattle.log_commands.proofs.checking.write_lines.Goals as goal

@@ -1,5 +1,5 @@
 -- The prover does not put the most logs of a version in the place of the number that the call returned.
-use Rattle.std.proofs.Common.{◌≡◌, subst, Err, length}
+use Rattle.std.proofs.Common.{◌≡◌, ◌≤◌, refl, rules, subst, Err, length}
 use Rattle.std.specs.Prelude.{⊤, IfSome}
 use Rattle.retire.specs.Number.{number_of}
 use Rattle.command_inputs.specs.Begun.{IsCutOf}
@@ -33,3 +33,14 @@ returns-clause-cut g c =
     (First (AreAskedLogs (g.F.Files.content c.args.files.now) most asked.base.now asked.image asked.logs.items)
     (WritesMessages asked)) (g.O.Write.contents c.args.out.now) (g.O.Write.contents c.over_legal_logs.new.out))
     c.most_harts-most.ensures c.over_legal_logs.ensures.cut
+
+pub over_legal_logs-requires-sync-R : goal.over_legal_logs-requires-sync-R
+over_legal_logs-requires-sync-R g c κs within =
+    let sync = c.type_bounds.sync-R in (
+      search rules,
+      (
+        (refl, tt),
+        λ count some few.
+            (c.requires, some, subst (λ most. count ≤ most) c.most_harts-most.ensures few),
+      ),
+    )

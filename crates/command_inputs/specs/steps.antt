@@ -1,0 +1,3 @@
+pub mod Legal
+pub mod Texts
+pub mod Turns

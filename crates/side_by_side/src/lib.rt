@@ -1,0 +1,9 @@
+//! Work on several jobs side by side, over the processors that there are.
+//!
+//! [`results`] returns what comes of each job, in order, as one thread would that does them in turn. It may start a
+//! thread for each job, so it is called with at most as many as [`processors`] returns.
+#![tactic(auto)]
+
+mod task;
+
+pub use task::{Task, processors, results};

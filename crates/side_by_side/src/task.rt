@@ -1,0 +1,67 @@
+//! Jobs that are done side by side.
+
+ghost use Rattle.std.specs.Prelude.{◌≤◌, ◌<◌, IfOk, length, slice_index_or};
+ghost use Rattle.std.specs.List.{AllZip};
+
+use std::alloc::{AllocError, Global};
+use std::thread;
+use std::thread::Threads;
+
+/// How a job is done.
+pub trait Task<J, X> {
+    /// This may come of the job.
+    ghost Gives: { Self → J → X → Type 0 };
+
+    /// Does the job.
+    fn call(&self, job: &J) -> X
+        ensures { Gives self.now job.now result };
+}
+
+/// How many threads can run at once: the processors that this program may use, or 1 where their count is not known.
+pub fn processors<R: Threads>(rt: &R) -> usize
+    ensures { 1 ≤ result }
+{
+    match thread::available_parallelism(rt) {
+        Ok(count) => count.get(),
+        Err(_) => 1,
+    }
+}
+
+/// What comes of each job, in order. Each job but one is done in a thread of its own, where one can be started, and
+/// else in the caller's. All threads have ended when this returns.
+///
+/// Where memory for the threads or for the list of a part of the results is refused, all jobs are done again, one after
+/// the other, in the caller's thread. The only error is that memory for the list of all results is refused then too.
+pub fn results<R: Threads + Sync, J: Sync, X: Send + Drop, T: Task<J, X> + Sync>(
+    alloc: Global,
+    rt: &R,
+    task: &T,
+    jobs: &[J],
+) -> Result<Vec<X>, AllocError>
+    ensures { IfOk result (λ found. AllZip (T.Gives task.now) jobs.now found.items) }
+{
+    let one = move |place: usize| -> X
+        requires { place < length jobs.now }
+        ensures { (d : _) → T.Gives task.entry.now (slice_index_or jobs.entry.now place d) result }
+    { task.call(&jobs[place]) };
+    match thread::map_indices(rt, alloc, jobs.len(), &one) {
+        Ok(found) => Ok(found),
+        Err(_) => results_in_turn(alloc, task, jobs),
+    }
+}
+
+/// What comes of each job, in order. They are done one after the other.
+fn results_in_turn<J, X: Drop, T: Task<J, X>>(
+    alloc: Global,
+    task: &T,
+    jobs: &[J],
+) -> Result<Vec<X>, AllocError>
+    ensures { IfOk result (λ found. AllZip (T.Gives task.now) jobs.now found.items) }
+{
+    let mut found = Vec::new(alloc);
+    found.reserve(jobs.len())?;
+    for job in jobs {
+        found.push(task.call(job))?;
+    }
+    Ok(found)
+}
