@@ -1,0 +1,5 @@
+mod HartFound
+mod HeaderMade
+mod MapSteps
+mod PacketsBack
+mod TextsRead

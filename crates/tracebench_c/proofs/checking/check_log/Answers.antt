@@ -1,0 +1,21 @@
+-- A fault of the text is handed on: no tactic takes it from the conversion.
+use Rattle.std.proofs.Common.{◌≡◌, ◌⊎◌, inl, inr, Err, sym, subst, arith}
+use Rattle.std.proofs.lemmas.Grind.{common_steps}
+use Rattle.retire.specs.declared.fault.LogFault.TheVariants as log
+use Rattle.tracebench_c.specs.Checked.{IsChecked, IsNoLog}
+use Rattle.tracebench_c.specs.declared.fault.Fault.TheVariants.{Log}
+use Rattle.tracebench_c.proofs.checking.check_log.Goals as goal
+
+pub returns-in_err-events : goal.returns-in_err-events
+returns-in_err-events c =
+    let base = c.args.base in
+    let image = c.args.image.now in
+    let text = c.args.log.now in
+    let why = c.in_err-events.field-0.0 in
+    let is : c.from_residual-in_err-events.result ≡ Err (Log why) = grind (arith, common_steps) in
+    let faulty : (why ≡ log.Memory) ⊎ IsNoLog base image text why =
+    elim c.in_err-events.ensures.faults [
+      | inl memory ↦ inl memory
+      | inr none ↦ inr (c.in_ok-program.program, c.in_ok-program.ensures.program, none)
+    ] in
+    subst (IsChecked base image text) (sym is) faulty

@@ -1,0 +1,21 @@
+-- A capture, or why there is none, is told: by the constructor for each.
+use Rattle.std.proofs.Common.{ℕ, ap, subst, refl}
+use Rattle.tracebench_c.specs.Encoded.{Encoded, Refused}
+use Rattle.tracebench_c.specs.Handed.{IsHandedOut}
+use Rattle.tracebench_c.specs.declared.encoding.LogPlace.{LogPlace}
+use Rattle.tracebench_c.proofs.encoding.tracebench_encode.Goals as goal
+
+-- The place that is told.
+abbrev told : ℕ → ℕ → LogPlace
+told log row = record { log = log; row = row }
+
+pub returns-in-Ok : goal.returns-in-Ok
+returns-in-Ok c =
+    Encoded c.in-Ok.capture.items c.in-Ok.ensures
+    (subst (λ bytes. IsHandedOut bytes c.hand_out.result c.hand_out.new.wanted c.args.buffer.now c.hand_out.new.buffer)
+    c.as_slice.ensures.value c.hand_out.ensures) refl
+
+pub returns-in-Err : goal.returns-in-Err
+returns-in-Err c =
+    Refused c.in-Err.log c.in-Err.fault c.in-Err.ensures c.status.ensures
+    (ap (λ row. told c.in-Err.log row) c.row.ensures) refl refl

@@ -1,0 +1,60 @@
+-- What C is told of a log.
+use Rattle.std.specs.Prelude.{ℕ, ◌≡◌, ◌⊎◌, List, Result, Ok, Err, length}
+use Rattle.legalpath.specs.FirstFault.{IsFirstFault}
+use Rattle.legalpath.specs.Legal.{Legal}
+use Rattle.retire.specs.Log.{log_of_records, records_of}
+use Rattle.retire.specs.declared.event.Event.{Event}
+use Rattle.retire.specs.declared.fault.LogFault.{LogFault}
+use Rattle.retire.specs.declared.fault.LogFault.TheVariants as log
+use Rattle.rvclass.specs.Fetch.{words_of}
+use Rattle.rvclass.specs.Image.{Image}
+use Rattle.rvclass.specs.Program.{program_of}
+use Rattle.tracebench_c.specs.Statuses.{fault_row, fault_status}
+use Rattle.tracebench_c.specs.declared.fault.Fault.{Fault}
+use Rattle.tracebench_c.specs.declared.fault.Fault.TheVariants.{Memory, Program, Log, Illegal, NoHart, Range, Ends}
+use Rattle.tracebench_c.specs.declared.status.TheConstants.{DONE}
+
+-- The text is a log of these events.
+abbrev pub IsLogOf : List ℕ → List Event → Type 0
+IsLogOf text events = log_of_records (records_of text) ≡ Ok events
+
+-- The image makes a program, and the text is no log, for this reason.
+abbrev pub IsNoLog : ℕ → List ℕ → List ℕ → LogFault → Type 0
+IsNoLog base image text why =
+    (program : Image) × (program_of base image ≡ Ok program) × (log_of_records (records_of text) ≡ Err why)
+
+-- What comes of an image and the text of a log: a legal log of so many events, or the first fault; or memory was
+-- refused.
+abbrev pub IsChecked : ℕ → List ℕ → List ℕ → Result ℕ Fault → Type 0
+IsChecked base image text (Ok count) =
+    (program : Image) × (events : List Event) × (program_of base image ≡ Ok program) × IsLogOf text events
+    × Legal (words_of program) events × (count ≡ length events)
+IsChecked base image text (Err Memory) = Unit {0}
+IsChecked base image text (Err (Program why)) = program_of base image ≡ Err why
+IsChecked base image text (Err (Log why)) = (why ≡ log.Memory) ⊎ IsNoLog base image text why
+IsChecked base image text (Err (Illegal why)) =
+    (program : Image) × (events : List Event) × (program_of base image ≡ Ok program) × IsLogOf text events
+    × IsFirstFault (words_of program) events why
+IsChecked base image text (Err NoHart) = ⊥
+IsChecked base image text (Err Range) = ⊥
+IsChecked base image text (Err Ends) = ⊥
+
+-- What is told of it: the status, and the row that the fault names or how many events there are.
+abbrev pub IsTold : Result ℕ Fault → ℕ → ℕ → Type 0
+IsTold (Ok count) status row = (status ≡ DONE) × (row ≡ count)
+IsTold (Err fault) status row = (status ≡ fault_status fault) × (row ≡ fault_row fault)
+
+-- A log was checked, and C was told what came of it.
+abbrev pub IsCheckTold : ℕ → List ℕ → List ℕ → ℕ → ℕ → Type 0
+IsCheckTold base image text status row =
+    (checked : Result ℕ Fault) × IsChecked base image text checked × IsTold checked status row
+
+-- An image makes no program, for this reason; or memory was refused.
+abbrev pub IsNoProgram : ℕ → List ℕ → Fault → Type 0
+IsNoProgram base image (Program why) = program_of base image ≡ Err why
+IsNoProgram base image Memory = Unit {0}
+IsNoProgram base image (Log why) = ⊥
+IsNoProgram base image (Illegal why) = ⊥
+IsNoProgram base image NoHart = ⊥
+IsNoProgram base image Range = ⊥
+IsNoProgram base image Ends = ⊥

@@ -1,0 +1,135 @@
+-- What C is told of a capture of logs.
+use Rattle.std.specs.Prelude.{ℕ, ◌≡◌, ◌⊎◌, ◌-◌, ◌<◌, ◌++◌, ◌==◌, ◌&&◌, nat_le, if◌then◌else◌, List, [], ◌∷◌, Option, Some, None}
+use Rattle.std.specs.Prelude.{Result, Ok, Err, drop, length, take}
+use Rattle.std.specs.declared.alloc.Global.{Global}
+use Rattle.std.specs.declared.vec.Vec.{Vec}
+use Rattle.captures.specs.Versions.{capture_of}
+use Rattle.legalpath.specs.FirstFault.{IsFirstFault}
+use Rattle.legalpath.specs.ProgramLog.{IsLegalLog, ProgramLog}
+use Rattle.message.specs.declared.header.Version.{Version}
+use Rattle.message.specs.declared.header.Version.TheVariants.{One, Two}
+use Rattle.payload.specs.declared.mode.Mode.{Mode}
+use Rattle.payload.specs.declared.mode.Mode.TheVariants.{Differential, Full}
+use Rattle.retire.specs.Log.{log_of_records, records_of}
+use Rattle.retire.specs.declared.event.Event.{Event}
+use Rattle.retire.specs.declared.fault.LogFault.TheVariants as log
+use Rattle.rvclass.specs.Fetch.{words_of}
+use Rattle.rvclass.specs.Image.{Image}
+use Rattle.rvclass.specs.Program.{program_of}
+use Rattle.tracebench_c.specs.Checked.{IsLogOf}
+use Rattle.tracebench_c.specs.Handed.{IsHandedOut}
+use Rattle.tracebench_c.specs.Statuses.{fault_row, fault_status}
+use Rattle.tracebench_c.specs.declared.encoding.LogPlace.{LogPlace}
+use Rattle.tracebench_c.specs.declared.encoding.TheConstants.{VERSION_ONE, VERSION_TWO}
+use Rattle.tracebench_c.specs.declared.fault.Fault.{Fault}
+use Rattle.tracebench_c.specs.declared.fault.Fault.TheVariants.{Memory, Program, Log, Illegal, NoHart, Range, Ends}
+use Rattle.tracebench_c.specs.declared.numbers.TheConstants.{DIFFERENTIAL, FULL}
+
+-- The mode of a number.
+abbrev pub mode_of : ℕ → Option Mode
+mode_of number = if number == DIFFERENTIAL then Some Differential else if number == FULL then Some Full else None
+
+-- The version of a number.
+abbrev pub version_of : ℕ → Option Version
+version_of number = if number == VERSION_ONE then Some One else if number == VERSION_TWO then Some Two else None
+
+-- The bytes from one place up to another, where these do not go back or past the end.
+abbrev pub text_between : List ℕ → ℕ → ℕ → Option (List ℕ)
+text_between bytes from end =
+    if nat_le from end && nat_le end (length bytes) then Some (take (end - from) (drop from bytes)) else None
+
+-- There is a text, and it is that of a legal log of the program.
+abbrev pub IsLegalText : Image → Option (List ℕ) → ProgramLog → Type 0
+IsLegalText program None log = ⊥
+IsLegalText program (Some text) log = IsLogOf text log.events × (log.program ≡ program) × IsLegalLog log
+
+-- There is no text, or it is no text of a legal log of the program, for this reason; or memory was refused.
+abbrev pub IsNoLegalText : Image → Option (List ℕ) → Fault → Type 0
+IsNoLegalText program text Memory = Unit {0}
+IsNoLegalText program None Ends = Unit {0}
+IsNoLegalText program (Some text) Ends = ⊥
+IsNoLegalText program None (Log why) = ⊥
+IsNoLegalText program (Some text) (Log why) = (why ≡ log.Memory) ⊎ (log_of_records (records_of text) ≡ Err why)
+IsNoLegalText program None (Illegal why) = ⊥
+IsNoLegalText program (Some text) (Illegal why) =
+    (events : List Event) × IsLogOf text events × IsFirstFault (words_of program) events why
+IsNoLegalText program text (Program why) = ⊥
+IsNoLegalText program text NoHart = ⊥
+IsNoLegalText program text Range = ⊥
+
+-- The texts, of which the first begins here and each further one where the one before ends, are those of these legal
+-- logs.
+abbrev pub AreLogs : Image → List ℕ → ℕ → List ℕ → List ProgramLog → Type 0
+AreLogs program bytes from [] [] = Unit {0}
+AreLogs program bytes from [] (log ∷ logs) = ⊥
+AreLogs program bytes from (end ∷ ends) [] = ⊥
+AreLogs program bytes from (end ∷ ends) (log ∷ logs) =
+    IsLegalText program (text_between bytes from end) log × AreLogs program bytes end ends logs
+
+-- Where the last of texts ends, the first of which begins here.
+abbrev pub last_end : ℕ → List ℕ → ℕ
+last_end from [] = from
+last_end from (end ∷ ends) = last_end end ends
+
+-- The first of the texts that is no legal log's has this number, and this is why.
+pub record IsRefusedLog (program : Image) (bytes ends : List ℕ) (place : ℕ) (fault : Fault) : Type 0 where
+  pub front : List ℕ
+  pub end : ℕ
+  pub rest : List ℕ
+  pub logs : List ProgramLog
+  pub whole : ends ≡ front ++ end ∷ rest
+  pub before : AreLogs program bytes 0 front logs
+  pub counted : place ≡ length front
+  pub refused : IsNoLegalText program (text_between bytes (last_end 0 front) end) fault
+
+-- The capture of the legal logs of texts, by the program of an image.
+pub record IsCaptureOfTexts (base : ℕ) (image bytes ends : List ℕ) (period mode version : ℕ) (capture : List ℕ)
+    : Type 0 where
+  pub program : Image
+  pub logs : List ProgramLog
+  pub named_mode : Mode
+  pub named_version : Version
+  pub made : program_of base image ≡ Ok program
+  pub are : AreLogs program bytes 0 ends logs
+  pub mode_is : mode_of mode ≡ Some named_mode
+  pub version_is : version_of version ≡ Some named_version
+  pub written : capture ≡ capture_of named_version period named_mode logs
+
+-- A number is out of its range.
+abbrev pub IsOutOfRange : List ℕ → ℕ → ℕ → ℕ → Type 0
+IsOutOfRange ends period mode version =
+    (mode_of mode ≡ None) ⊎ (version_of version ≡ None) ⊎ (period ≡ 0) ⊎ (length ends ≡ 0) ⊎ (1024 < length ends)
+
+-- An image makes a program, and one of the texts is no legal log's.
+abbrev pub HasRefusedLog : ℕ → List ℕ → List ℕ → List ℕ → ℕ → Fault → Type 0
+HasRefusedLog base image bytes ends place fault =
+    (program : Image) × (program_of base image ≡ Ok program) × IsRefusedLog program bytes ends place fault
+
+-- What comes of an image and the texts of logs: a capture; or a number is out of its range, the image makes no program,
+-- a text is no legal log's, or memory was refused.
+abbrev pub IsEncoded : ℕ → List ℕ → List ℕ → List ℕ → ℕ → ℕ → ℕ → Result (Vec ℕ Global) (ℕ × Fault) → Type 0
+IsEncoded base image bytes ends period mode version (Ok capture) =
+    IsCaptureOfTexts base image bytes ends period mode version capture.items
+IsEncoded base image bytes ends period mode version (Err (place, Memory)) = Unit {0}
+IsEncoded base image bytes ends period mode version (Err (place, Range)) =
+    (place ≡ 0) × IsOutOfRange ends period mode version
+IsEncoded base image bytes ends period mode version (Err (place, Program why)) =
+    (place ≡ 0) × (program_of base image ≡ Err why)
+IsEncoded base image bytes ends period mode version (Err (place, Log why)) =
+    HasRefusedLog base image bytes ends place (Log why)
+IsEncoded base image bytes ends period mode version (Err (place, Illegal why)) =
+    HasRefusedLog base image bytes ends place (Illegal why)
+IsEncoded base image bytes ends period mode version (Err (place, Ends)) =
+    HasRefusedLog base image bytes ends place Ends
+IsEncoded base image bytes ends period mode version (Err (place, NoHart)) = ⊥
+
+-- A capture was handed out; or it was not, and the status says why, and of which log and row.
+pub data IsEncodeTold (base : ℕ) (image bytes ends : List ℕ) (period mode version status wanted_before wanted : ℕ)
+    (place_before place : LogPlace) (old new : List ℕ) : Type 0 where
+  Encoded : (capture : List ℕ) → IsCaptureOfTexts base image bytes ends period mode version capture
+      → IsHandedOut capture status wanted old new → place ≡ place_before
+      → IsEncodeTold base image bytes ends period mode version status wanted_before wanted place_before place old new
+  Refused : (log : ℕ) (fault : Fault) → IsEncoded base image bytes ends period mode version (Err (log, fault))
+      → status ≡ fault_status fault → place ≡ record { log = log; row = fault_row fault } → wanted ≡ wanted_before
+      → new ≡ old
+      → IsEncodeTold base image bytes ends period mode version status wanted_before wanted place_before place old new

@@ -1,0 +1,9 @@
+pub mod Handed
+pub mod Statuses
+pub mod Numbers
+pub mod Packed
+pub mod Checked
+pub mod Decoded
+pub mod Dumped
+pub mod Encoded
+pub mod steps

@@ -1,0 +1,156 @@
+//! Why a call gives no answer.
+
+ghost use Rattle.std.specs.Prelude.{◌≡◌};
+ghost use Rattle.tracebench_c.specs.Statuses.{fault_row, fault_status, log_row, log_status, program_status, why_status};
+ghost use Rattle.tracebench_c.specs.declared.fault.Fault.TheVariants.{Memory, Program, Log, Illegal};
+
+use crate::status::*;
+use legalpath::{PathFault, Why};
+use retire::LogFault;
+use rvclass::ProgramFault;
+use std::alloc::AllocError;
+
+/// Why a call gives no answer.
+#[derive(Clone, Copy)]
+pub enum Fault {
+    /// Memory was refused.
+    Memory,
+    /// The image makes no program.
+    Program(ProgramFault),
+    /// The text is no log.
+    Log(LogFault),
+    /// The log is illegal.
+    Illegal(PathFault),
+    /// The capture has no such hart.
+    NoHart,
+    /// A number is out of its range.
+    Range,
+    /// A log ends before its beginning, or past the texts.
+    Ends,
+}
+
+impl From<AllocError> for Fault {
+    ghost from_gives = { λ _ fault. fault ≡ Memory };
+
+    fn from(_error: AllocError) -> Fault {
+        Fault::Memory
+    }
+}
+
+impl From<ProgramFault> for Fault {
+    ghost from_gives = { λ why fault. fault ≡ Program why };
+
+    fn from(why: ProgramFault) -> Fault {
+        Fault::Program(why)
+    }
+}
+
+impl From<LogFault> for Fault {
+    ghost from_gives = { λ why fault. fault ≡ Log why };
+
+    fn from(why: LogFault) -> Fault {
+        Fault::Log(why)
+    }
+}
+
+impl From<PathFault> for Fault {
+    ghost from_gives = { λ why fault. fault ≡ Illegal why };
+
+    fn from(why: PathFault) -> Fault {
+        Fault::Illegal(why)
+    }
+}
+
+impl Fault {
+    /// The fault as a status.
+    pub(crate) fn status(self) -> u32
+        ensures { result ≡ fault_status self }
+    {
+        match self {
+            Fault::Memory => MEMORY,
+            Fault::Program(why) => program_status(why),
+            Fault::Log(why) => log_status(why),
+            Fault::Illegal(why) => why_status(why.why),
+            Fault::NoHart => NO_HART,
+            Fault::Range => OUT_OF_RANGE,
+            Fault::Ends => BAD_ENDS,
+        }
+    }
+
+    /// The row that the fault names, counted from 1; 0 where it names none.
+    pub(crate) fn row(self) -> u64
+        ensures { result ≡ fault_row self }
+    {
+        match self {
+            Fault::Memory => 0,
+            Fault::Program(_) => 0,
+            Fault::Log(why) => log_row(why),
+            Fault::Illegal(why) => u64::from(why.row),
+            Fault::NoHart => 0,
+            Fault::Range => 0,
+            Fault::Ends => 0,
+        }
+    }
+}
+
+/// Why bytes make no program.
+fn program_status(why: ProgramFault) -> u32
+    ensures { result ≡ program_status why }
+{
+    match why {
+        ProgramFault::OddBase => ODD_BASE,
+        ProgramFault::TooLarge => TOO_LARGE,
+        ProgramFault::PastEnd => PAST_END,
+    }
+}
+
+/// Why a text is no log.
+fn log_status(why: LogFault) -> u32
+    ensures { result ≡ log_status why }
+{
+    match why {
+        LogFault::Header => WRONG_HEADER,
+        LogFault::Fields(_) => WRONG_FIELDS,
+        LogFault::Number(_) => NO_NUMBER,
+        LogFault::Odd(_) => ODD_ADDRESS,
+        LogFault::RowType(_) => WRONG_ROW_TYPE,
+        LogFault::Privilege(_) => WRONG_ROW_PRIVILEGE,
+        LogFault::Cause(_) => LARGE_CAUSE,
+        LogFault::TrapFields(_) => WRONG_TRAP_FIELDS,
+        LogFault::InterruptValue(_) => VALUED_INTERRUPT,
+        LogFault::TooLong => TOO_MANY_ROWS,
+        LogFault::Read => UNREAD,
+        LogFault::Memory => MEMORY,
+    }
+}
+
+/// The row that a fault of a text names.
+fn log_row(why: LogFault) -> u64
+    ensures { result ≡ log_row why }
+{
+    match why {
+        LogFault::Fields(row) => u64::from(row),
+        LogFault::Number(row) => u64::from(row),
+        LogFault::Odd(row) => u64::from(row),
+        LogFault::RowType(row) => u64::from(row),
+        LogFault::Privilege(row) => u64::from(row),
+        LogFault::Cause(row) => u64::from(row),
+        LogFault::TrapFields(row) => u64::from(row),
+        LogFault::InterruptValue(row) => u64::from(row),
+        _ => 0,
+    }
+}
+
+/// Why a row is illegal.
+fn why_status(why: Why) -> u32
+    ensures { result ≡ why_status why }
+{
+    match why {
+        Why::OffProgram => OFF_PROGRAM,
+        Why::NotRetirable => NOT_RETIRABLE,
+        Why::WrongType => WRONG_TYPE,
+        Why::WrongNext => WRONG_NEXT,
+        Why::WrongPrivilege => WRONG_PRIVILEGE,
+        Why::WrongEpc => WRONG_EPC,
+    }
+}

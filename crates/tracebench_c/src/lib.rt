@@ -1,0 +1,30 @@
+//! The bench for C: calls on numbers and bytes, each a few lines over a proved call.
+//!
+//! A call reads the slices that it is given, writes to those that it is given to write, and returns a status. It keeps
+//! nothing from one call to the next. What it gives back as bytes goes into a buffer of the caller's. Where that is too
+//! small, the call says how many bytes it wants and writes none of them.
+//!
+//! C passes a slice as a pointer and a length, and a reference as a pointer; `include/tracebench.h` declares the calls
+//! as C sees them, and says what a caller owes: no pointer is null, and what is written to overlaps nothing else.
+#![tactic(auto)]
+
+mod checking;
+mod decoding;
+mod dumping;
+mod encoding;
+mod fault;
+mod handing;
+mod numbers;
+mod packing;
+pub mod status;
+
+pub use checking::tracebench_check;
+pub use decoding::{DecodeEnd, HartText, tracebench_decode};
+pub use dumping::{DumpEnd, tracebench_dump};
+pub use encoding::{LogPlace, VERSION_ONE, VERSION_TWO, tracebench_encode};
+pub use fault::Fault;
+pub use numbers::{
+    ADDRESS, DIFFERENTIAL, ENDED_NTR, ENDED_REP, FULL, MAP, NOTIFY, OPEN, PLAIN, PacketNumbers,
+    SYNC, TRAP, UPDISCON,
+};
+pub use packing::{tracebench_pack, tracebench_unpack};
