@@ -1,0 +1,134 @@
+/*
+ * Encodes the logs of two harts, loses a message on the way, dumps what came, and decodes both captures.
+ *
+ *     round_trip IMAGE LOG LOG
+ */
+#include "tracebench.h"
+
+#include <inttypes.h>
+#include <stdio.h>
+#include <stdlib.h>
+#include <string.h>
+
+/* The address of the image's first byte. */
+#define BASE UINT64_C(0x80000000)
+
+/* Bytes of the heap. There is always one more than are counted, so that `at` is not null. */
+struct bytes {
+    uint8_t *at;
+    size_t length;
+};
+
+static void stop(const char *what, uint32_t status) {
+    fprintf(stderr, "round_trip: %s: status %" PRIu32 "\n", what, status);
+    exit(1);
+}
+
+static struct bytes room(size_t length) {
+    struct bytes bytes = {(uint8_t *)malloc(length + 1), length};
+    if (bytes.at == NULL) stop("memory", TRACEBENCH_MEMORY);
+    return bytes;
+}
+
+static struct bytes read_file(const char *path) {
+    FILE *file = fopen(path, "rb");
+    if (file == NULL) stop(path, 0);
+    struct bytes bytes = room((size_t)1 << 20);
+    bytes.length = fread(bytes.at, 1, bytes.length, file);
+    fclose(file);
+    return bytes;
+}
+
+/* The capture of two logs. The first call asks how long it is. */
+static struct bytes encode(struct bytes image, struct bytes logs, const uint64_t ends[2]) {
+    uint64_t wanted = 0;
+    struct tracebench_log_place place = {0, 0};
+    struct bytes capture = room(0);
+    uint32_t status = tracebench_encode(BASE, image.at, image.length, logs.at, logs.length, ends, 2, 1024,
+                                        TRACEBENCH_DIFFERENTIAL, TRACEBENCH_VERSION_TWO, capture.at, 0, &wanted,
+                                        &place);
+    if (status != TRACEBENCH_TOO_SMALL) {
+        fprintf(stderr, "log %" PRIu64 " row %" PRIu64 "\n", place.log, place.row);
+        stop("encode", status);
+    }
+    free(capture.at);
+    capture = room((size_t)wanted);
+    status = tracebench_encode(BASE, image.at, image.length, logs.at, logs.length, ends, 2, 1024,
+                               TRACEBENCH_DIFFERENTIAL, TRACEBENCH_VERSION_TWO, capture.at, capture.length, &wanted,
+                               &place);
+    if (status != TRACEBENCH_DONE) stop("encode", status);
+    return capture;
+}
+
+/* Prints the log of each hart of a capture, and how decoding ended. */
+static void decode(struct bytes image, struct bytes capture) {
+    static uint8_t text[1 << 20];
+    struct tracebench_decode_end ended = {0, 0, 0, 0};
+    uint64_t wanted = 0;
+    for (uint16_t hart = 0; hart < 2; hart++) {
+        uint32_t status = tracebench_decode(BASE, image.at, image.length, 2, capture.at, capture.length, hart, text,
+                                            sizeof text, &wanted, &ended);
+        if (status != TRACEBENCH_DONE) stop("decode", status);
+        printf("hart %u of %" PRIu64 ": closed %" PRIu32 ", ends at message %" PRIu64 " with status %" PRIu32 "\n",
+               hart, ended.harts, ended.closed, ended.place, ended.fault);
+        fwrite(text, 1, (size_t)wanted, stdout);
+    }
+}
+
+static void dump(struct bytes capture) {
+    static uint8_t text[1 << 20];
+    struct tracebench_dump_end ended = {0, 0, 0};
+    uint64_t wanted = 0;
+    uint32_t status = tracebench_dump(capture.at, capture.length, text, sizeof text, &wanted, &ended);
+    if (status != TRACEBENCH_DONE) stop("dump", status);
+    fwrite(text, 1, (size_t)wanted, stdout);
+    printf("bad %" PRIu32 ", ends at message %" PRIu64 " with status %" PRIu32 "\n", ended.bad, ended.place,
+           ended.fault);
+}
+
+/* Takes the second message out of a capture with a header of 16 bytes. A message has 11 bytes before its payload, the
+ * last of which is the payload's length. */
+static void lose_second(struct bytes *capture) {
+    size_t second = 16 + 11 + capture->at[16 + 10];
+    size_t third = second + 11 + capture->at[second + 10];
+    memmove(capture->at + second, capture->at + third, capture->length - third);
+    capture->length -= third - second;
+}
+
+int main(int count, char **words) {
+    if (count != 4) stop("round_trip IMAGE LOG LOG", 0);
+    struct bytes image = read_file(words[1]);
+    struct bytes first = read_file(words[2]);
+    struct bytes second = read_file(words[3]);
+    uint64_t row = 0;
+    uint32_t status = tracebench_check(BASE, image.at, image.length, first.at, first.length, &row);
+    printf("check: status %" PRIu32 ", row %" PRIu64 "\n", status, row);
+    struct bytes logs = room(first.length + second.length);
+    memcpy(logs.at, first.at, first.length);
+    memcpy(logs.at + first.length, second.at, second.length);
+    const uint64_t ends[2] = {first.length, first.length + second.length};
+    struct bytes capture = encode(image, logs, ends);
+    printf("capture of %zu bytes\n", capture.length);
+    dump(capture);
+    decode(image, capture);
+    lose_second(&capture);
+    puts("without the second message");
+    decode(image, capture);
+    struct tracebench_packet packet;
+    memset(&packet, 0, sizeof packet);
+    packet.kind = TRACEBENCH_SYNC;
+    packet.privilege = 3;
+    packet.address = BASE;
+    uint8_t payload[18];
+    uint64_t wanted = 0;
+    status = tracebench_pack(&packet, payload, sizeof payload, &wanted);
+    printf("pack: status %" PRIu32 ", %" PRIu64 " bytes\n", status, wanted);
+    status = tracebench_unpack(payload, (size_t)wanted, &packet);
+    printf("unpack: status %" PRIu32 ", address %" PRIx64 "\n", status, packet.address);
+    free(image.at);
+    free(first.at);
+    free(second.at);
+    free(logs.at);
+    free(capture.at);
+    return 0;
+}

@@ -1,0 +1,317 @@
+/*
+ * The bench for C and C++: which logs are legal, which capture they give, what a capture holds and decodes to, and
+ * packets and their payloads. Each call is a few lines over one whose promises are proved.
+ *
+ * A call keeps nothing from one call to the next, and writes only where it is given room to write. A slice is a pointer
+ * and the number of elements behind it. What every caller owes:
+ *
+ * - No pointer is null, also where the slice has no element.
+ * - What a call is given to write overlaps nothing else that it is given.
+ * - No call is made in a signal handler, or in a forked child of a process with threads.
+ *
+ * What comes back as bytes goes into a buffer of the caller's. `*wanted` is then how many bytes there are. Where the
+ * buffer has fewer, none is written to it, and the status is TRACEBENCH_TOO_SMALL. So a first call with a buffer of one
+ * byte and a length of 0 asks for the size.
+ *
+ * Each call returns a status. After a status that says why a call gives no answer, nothing was written but the place
+ * that the call names.
+ */
+#ifndef TRACEBENCH_H
+#define TRACEBENCH_H
+
+#include <stddef.h>
+#include <stdint.h>
+
+#ifdef __cplusplus
+extern "C" {
+#endif
+
+/* How a call ends, and why a capture stops. */
+
+/* All is done. */
+#define TRACEBENCH_DONE 0u
+
+/* The buffer is too small: nothing was written to it. */
+#define TRACEBENCH_TOO_SMALL 1u
+
+/* Memory was refused. */
+#define TRACEBENCH_MEMORY 2u
+
+/* The capture has no hart of this number. */
+#define TRACEBENCH_NO_HART 3u
+
+/* A number is out of its range. */
+#define TRACEBENCH_OUT_OF_RANGE 4u
+
+/* A log ends before its beginning, or past the texts. */
+#define TRACEBENCH_BAD_ENDS 5u
+
+/* The capture ends inside a message, or inside its header. */
+#define TRACEBENCH_SHORT 16u
+
+/* The byte for a payload's length is 0 or above 18. */
+#define TRACEBENCH_BAD_LENGTH 17u
+
+/* A reader failed. No call of this library returns it. */
+#define TRACEBENCH_UNREAD 18u
+
+/* A writer failed. No call of this library returns it. */
+#define TRACEBENCH_UNWRITTEN 19u
+
+/* The capture begins as one of version 2 does, but its header is not valid. */
+#define TRACEBENCH_BAD_HEADER 20u
+
+/* A payload is empty. */
+#define TRACEBENCH_EMPTY 32u
+
+/* A payload has more than 18 bytes. */
+#define TRACEBENCH_TOO_LONG 33u
+
+/* A bit past the packet differs from the packet's last bit. */
+#define TRACEBENCH_BAD_PAD 34u
+
+/* The profile has no packet of this format, subformat, encoder mode, options or status. */
+#define TRACEBENCH_UNSUPPORTED 35u
+
+/* The privilege is 2, the reserved level. */
+#define TRACEBENCH_BAD_PRIVILEGE 36u
+
+/* The bits notify, updiscon and irreport stand for no report. */
+#define TRACEBENCH_BAD_REPORT 37u
+
+/* No packet of the profile has these numbers. */
+#define TRACEBENCH_NO_PACKET 38u
+
+/* An image has an odd base. */
+#define TRACEBENCH_ODD_BASE 48u
+
+/* An image has more than 2^24 bytes. */
+#define TRACEBENCH_TOO_LARGE 49u
+
+/* The address behind an image's last byte is 2^64 or more. */
+#define TRACEBENCH_PAST_END 50u
+
+/* The first record of a log is not addr,itype,priv,cause,tval, or there is none. */
+#define TRACEBENCH_WRONG_HEADER 64u
+
+/* A row has more or fewer than five fields. */
+#define TRACEBENCH_WRONG_FIELDS 65u
+
+/* A field of a row spells no number. */
+#define TRACEBENCH_NO_NUMBER 66u
+
+/* A row's address is odd. */
+#define TRACEBENCH_ODD_ADDRESS 67u
+
+/* A row's type is 7 or more. */
+#define TRACEBENCH_WRONG_ROW_TYPE 68u
+
+/* A row's privilege is none of 0, 1 and 3. */
+#define TRACEBENCH_WRONG_ROW_PRIVILEGE 69u
+
+/* A row's cause is above 3f. */
+#define TRACEBENCH_LARGE_CAUSE 70u
+
+/* A row's cause or value is missing or not wanted. */
+#define TRACEBENCH_WRONG_TRAP_FIELDS 71u
+
+/* An interrupt has a value that is not zero. */
+#define TRACEBENCH_VALUED_INTERRUPT 72u
+
+/* A log has more than 2^24 rows. */
+#define TRACEBENCH_TOO_MANY_ROWS 73u
+
+/* No whole word of the program stands at a retirement's address. */
+#define TRACEBENCH_OFF_PROGRAM 80u
+
+/* The word at a retirement's address does not retire. */
+#define TRACEBENCH_NOT_RETIRABLE 81u
+
+/* A retirement's type is not that of its word, or a trap's cause or value is out of range. */
+#define TRACEBENCH_WRONG_TYPE 82u
+
+/* A retirement does not stand where the event before leads. */
+#define TRACEBENCH_WRONG_NEXT 83u
+
+/* A row's privilege is not one at which its word may retire, or to which the event before leads. */
+#define TRACEBENCH_WRONG_PRIVILEGE 84u
+
+/* A trap's exception program counter is odd, or not where the event before leads. */
+#define TRACEBENCH_WRONG_EPC 85u
+
+/* A message is of a hart that is not known. */
+#define TRACEBENCH_STRANGER 96u
+
+/* A message's number is below the one that is expected. */
+#define TRACEBENCH_REPEAT 97u
+
+/* A message's number is above the one that is expected. */
+#define TRACEBENCH_GAP 98u
+
+/* A message stands behind its hart's closing packet. */
+#define TRACEBENCH_AFTER_CLOSE 99u
+
+/* A packet opens a trace in another mode than the header's. */
+#define TRACEBENCH_OTHER_MODE 100u
+
+/* Another packet than the one that opens the trace comes first. */
+#define TRACEBENCH_NOT_OPENED 112u
+
+/* No whole word that retires stands at an address that is to be retired. */
+#define TRACEBENCH_WALKS_OFF_PROGRAM 113u
+
+/* A walk would go on behind a backward jump that no packet reported. */
+#define TRACEBENCH_MISSED_NOTIFY 114u
+
+/* Outcomes of branches are missing, or left over. */
+#define TRACEBENCH_WRONG_BRANCHES 115u
+
+/* A packet does not stand where it may. */
+#define TRACEBENCH_WRONG_PLACE 116u
+
+/* A word does not retire at the privilege, or the event before does not lead to it. */
+#define TRACEBENCH_WALKS_AT_WRONG_PRIVILEGE 117u
+
+/* A packet stands behind the one that closes the trace. */
+#define TRACEBENCH_AFTER_CLOSING_PACKET 118u
+
+/* Packets. */
+
+/* What a packet is. */
+#define TRACEBENCH_SYNC 0u      /* where the trace is: format 3, subformat 0 */
+#define TRACEBENCH_TRAP 1u      /* an exception or an interrupt: format 3, subformat 1 */
+#define TRACEBENCH_OPEN 2u      /* the trace is opened: format 3, subformat 3 */
+#define TRACEBENCH_ENDED_REP 3u /* the trace is closed, and the last address was reported only because of that */
+#define TRACEBENCH_ENDED_NTR 4u /* the trace is closed, and the last address would have been reported anyway */
+#define TRACEBENCH_ADDRESS 5u   /* an address, with outcomes or without: format 1 or 2 */
+#define TRACEBENCH_MAP 6u       /* the outcomes of 31 branches, without an address: format 1 without branches */
+
+/* What address fields hold. */
+#define TRACEBENCH_DIFFERENTIAL 0u /* differences */
+#define TRACEBENCH_FULL 1u         /* addresses */
+
+/* Why an address is reported. */
+#define TRACEBENCH_PLAIN 0u    /* neither of the other two */
+#define TRACEBENCH_UPDISCON 1u /* the instruction follows an uninferable discontinuity */
+#define TRACEBENCH_NOTIFY 2u   /* the instruction is a backward jump */
+
+/* Versions of a capture. */
+#define TRACEBENCH_VERSION_ONE 1u /* without a header */
+#define TRACEBENCH_VERSION_TWO 2u /* with one */
+
+/* A packet as numbers. A flag is 0 or 1. What a packet of this kind does not have is 0. */
+struct tracebench_packet {
+    uint32_t kind;      /* TRACEBENCH_SYNC to TRACEBENCH_MAP */
+    uint32_t taken;     /* of a sync or trap: the address holds a branch that was taken */
+    uint32_t privilege; /* of a sync or trap: 0, 1 or 3 */
+    uint32_t cause;     /* of a trap: below 64 */
+    uint32_t interrupt; /* of a trap: it is an interrupt */
+    uint32_t handler;   /* of a trap: address and privilege are those of the handler's first instruction */
+    uint32_t mode;      /* of an open: TRACEBENCH_DIFFERENTIAL or TRACEBENCH_FULL */
+    uint32_t report;    /* of an address: TRACEBENCH_PLAIN, TRACEBENCH_UPDISCON or TRACEBENCH_NOTIFY */
+    uint32_t outcomes;  /* of an address or a map: how many outcomes of branches there are, 0 to 31 */
+    uint32_t map;       /* these outcomes, the oldest in the lowest bit; a taken branch is 0 */
+    uint64_t address;   /* of a sync or trap the address, of an address what names it; even */
+    uint64_t tval;      /* of an exception: the trap value */
+};
+
+/*
+ * Writes the shortest payload of a packet, at most 18 bytes. The status is TRACEBENCH_DONE, TRACEBENCH_TOO_SMALL, or
+ * TRACEBENCH_NO_PACKET where no packet of the profile has these numbers.
+ *
+ *     uint8_t payload[18];
+ *     uint64_t length;
+ *     uint32_t status = tracebench_pack(&packet, payload, sizeof payload, &length);
+ */
+uint32_t tracebench_pack(const struct tracebench_packet *packet, uint8_t *buffer, size_t buffer_length,
+                         uint64_t *wanted);
+
+/*
+ * Writes the packet that a payload stands for. The status is TRACEBENCH_DONE, or says why the bytes stand for none:
+ * TRACEBENCH_EMPTY to TRACEBENCH_BAD_REPORT.
+ *
+ *     struct tracebench_packet packet;
+ *     uint32_t status = tracebench_unpack(payload, (size_t)length, &packet);
+ */
+uint32_t tracebench_unpack(const uint8_t *payload, size_t payload_length, struct tracebench_packet *packet);
+
+/*
+ * Checks that a text is that of a legal log of the program whose image begins at `base`. Where it is, the status is
+ * TRACEBENCH_DONE and `*row` the count of events. Else the status says what is wrong with the image
+ * (TRACEBENCH_ODD_BASE to TRACEBENCH_PAST_END), with the text (TRACEBENCH_WRONG_HEADER to TRACEBENCH_TOO_MANY_ROWS), or
+ * with the log (TRACEBENCH_OFF_PROGRAM to TRACEBENCH_WRONG_EPC), and `*row` is the row that is named, counted from 1, or
+ * 0. Or it is TRACEBENCH_MEMORY.
+ *
+ *     uint64_t row;
+ *     uint32_t status = tracebench_check(base, image, image_length, log, log_length, &row);
+ */
+uint32_t tracebench_check(uint64_t base, const uint8_t *image, size_t image_length, const uint8_t *log,
+                          size_t log_length, uint64_t *row);
+
+/* The log, counted from 0, and its row, counted from 1, that are at fault; 0 where none is named. */
+struct tracebench_log_place {
+    uint64_t log;
+    uint64_t row;
+};
+
+/*
+ * Writes the capture of harts' logs, hart 0 first. `logs` holds the texts of 1 to 1,024 logs one behind the other, and
+ * `ends` where each ends. The period is 1 or more. The status is TRACEBENCH_DONE, TRACEBENCH_TOO_SMALL,
+ * TRACEBENCH_OUT_OF_RANGE where a number is out of its range, TRACEBENCH_BAD_ENDS where an end is before the one before
+ * it or past the texts, TRACEBENCH_MEMORY, or one that tracebench_check returns, for the first log that is no legal
+ * log. `*place` is written where there is no capture.
+ *
+ *     uint64_t ends[] = {first_length, first_length + second_length};
+ *     uint32_t status = tracebench_encode(base, image, image_length, logs, logs_length, ends, 2, 1024,
+ *                                         TRACEBENCH_DIFFERENTIAL, TRACEBENCH_VERSION_TWO, buffer, buffer_length,
+ *                                         &wanted, &place);
+ */
+uint32_t tracebench_encode(uint64_t base, const uint8_t *image, size_t image_length, const uint8_t *logs,
+                           size_t logs_length, const uint64_t *ends, size_t ends_length, uint16_t period, uint32_t mode,
+                           uint32_t version, uint8_t *buffer, size_t buffer_length, uint64_t *wanted,
+                           struct tracebench_log_place *place);
+
+/* How a dump ends. */
+struct tracebench_dump_end {
+    uint64_t place; /* behind how many messages it ends before the capture does; 0 where `fault` is 0 */
+    uint32_t fault; /* why no message stands there: TRACEBENCH_SHORT to TRACEBENCH_BAD_HEADER; 0 at the end */
+    uint32_t bad;   /* 1 where the payload of some message is no packet */
+};
+
+/*
+ * Writes a capture as text: a line for its header, if it has one, and a line for each message. The status is
+ * TRACEBENCH_DONE, TRACEBENCH_TOO_SMALL or TRACEBENCH_MEMORY. `*ended` is written with the first two.
+ *
+ *     struct tracebench_dump_end ended;
+ *     uint32_t status = tracebench_dump(capture, capture_length, text, sizeof text, &wanted, &ended);
+ */
+uint32_t tracebench_dump(const uint8_t *capture, size_t capture_length, uint8_t *buffer, size_t buffer_length,
+                         uint64_t *wanted, struct tracebench_dump_end *ended);
+
+/* How decoding a capture ends. */
+struct tracebench_decode_end {
+    uint64_t harts;  /* how many harts the capture has */
+    uint64_t place;  /* the message, counted from 0, at which decoding stops before the end; 0 where `fault` is 0 */
+    uint32_t fault;  /* why it stops there, as a status; 0 where it comes to the end */
+    uint32_t closed; /* 1 where the closing packet of the hart was decoded */
+};
+
+/*
+ * Decodes a capture, and writes the log of one of its harts as text, as far as its messages settle it. The harts are
+ * those that the capture's header counts, or without a header those below `harts`. The status is TRACEBENCH_DONE,
+ * TRACEBENCH_TOO_SMALL, TRACEBENCH_NO_HART, TRACEBENCH_MEMORY, or says what is wrong with the image. `*ended` is
+ * written with the first two.
+ *
+ *     struct tracebench_decode_end ended;
+ *     uint32_t status = tracebench_decode(base, image, image_length, 1, capture, capture_length, 0, text, sizeof text,
+ *                                         &wanted, &ended);
+ */
+uint32_t tracebench_decode(uint64_t base, const uint8_t *image, size_t image_length, uint16_t harts,
+                           const uint8_t *capture, size_t capture_length, uint16_t hart, uint8_t *buffer,
+                           size_t buffer_length, uint64_t *wanted, struct tracebench_decode_end *ended);
+
+#ifdef __cplusplus
+}
+#endif
+
+#endif
