@@ -1,6 +1,6 @@
 /*
- * What libtracebench_c.a wants of its program besides memcpy, memmove and memset: memory, here over malloc. It stands for
- * the toolchain's own library.
+ * What libtracebench_c.a wants of its program besides memcpy, memmove and memset: memory, here over malloc. It stands
+ * for the toolchain's own library.
  */
 #include <stdbool.h>
 #include <stddef.h>

@@ -239,8 +239,8 @@ uint32_t tracebench_unpack(const uint8_t *payload, size_t payload_length, struct
  * Checks that a text is that of a legal log of the program whose image begins at `base`. Where it is, the status is
  * TRACEBENCH_DONE and `*row` the count of events. Else the status says what is wrong with the image
  * (TRACEBENCH_ODD_BASE to TRACEBENCH_PAST_END), with the text (TRACEBENCH_WRONG_HEADER to TRACEBENCH_TOO_MANY_ROWS), or
- * with the log (TRACEBENCH_OFF_PROGRAM to TRACEBENCH_WRONG_EPC), and `*row` is the row that is named, counted from 1, or
- * 0. Or it is TRACEBENCH_MEMORY.
+ * with the log (TRACEBENCH_OFF_PROGRAM to TRACEBENCH_WRONG_EPC), and `*row` is the row that is named, from 1 on, or 0.
+ * Or it is TRACEBENCH_MEMORY.
  *
  *     uint64_t row;
  *     uint32_t status = tracebench_check(base, image, image_length, log, log_length, &row);
@@ -309,6 +309,39 @@ struct tracebench_decode_end {
 uint32_t tracebench_decode(uint64_t base, const uint8_t *image, size_t image_length, uint16_t harts,
                            const uint8_t *capture, size_t capture_length, uint16_t hart, uint8_t *buffer,
                            size_t buffer_length, uint64_t *wanted, struct tracebench_decode_end *ended);
+
+/* What became of the messages of a hart. */
+struct tracebench_tally {
+    uint64_t sent;     /* how many messages of the hart SENT has */
+    uint64_t came;     /* how many messages of the hart RECEIVED has, strangers among them */
+    uint64_t lost;     /* how many numbers of the hart no true message of RECEIVED has */
+    uint64_t repeated; /* how many messages of the hart are repeats */
+    uint64_t late;     /* how many messages of the hart are late */
+    uint64_t changed;  /* how many messages of the hart are changed */
+    uint32_t whole;    /* 1 where the messages of the hart in RECEIVED are just those in SENT, in order */
+};
+
+/* What an audit finds besides. */
+struct tracebench_audit_end {
+    uint64_t harts;     /* how many harts SENT has */
+    uint64_t strangers; /* how many strangers came, of whatever hart */
+    uint64_t place;     /* behind how many messages RECEIVED stops before its end; 0 where `fault` is 0 */
+    uint32_t fault;     /* why no message stands there: TRACEBENCH_SHORT to TRACEBENCH_BAD_HEADER; 0 at the end */
+};
+
+/*
+ * Audits RECEIVED against SENT, both captures, and says what became of the messages of one hart of SENT. SENT is judged
+ * to its end first. Where RECEIVED stops before its end, what stands before that place is audited. Headers are not
+ * compared. The status is TRACEBENCH_DONE, TRACEBENCH_NO_HART, TRACEBENCH_MEMORY, or says why SENT is refused:
+ * TRACEBENCH_SHORT, TRACEBENCH_BAD_LENGTH, TRACEBENCH_BAD_HEADER, TRACEBENCH_STRANGER, TRACEBENCH_REPEAT or
+ * TRACEBENCH_GAP. `*tally` and `*ended` are written with the first.
+ *
+ *     struct tracebench_tally tally;
+ *     struct tracebench_audit_end ended;
+ *     uint32_t status = tracebench_audit(sent, sent_length, received, received_length, 0, &tally, &ended);
+ */
+uint32_t tracebench_audit(const uint8_t *sent, size_t sent_length, const uint8_t *received, size_t received_length,
+                          uint16_t hart, struct tracebench_tally *tally, struct tracebench_audit_end *ended);
 
 #ifdef __cplusplus
 }

@@ -1,5 +1,6 @@
 /*
- * Encodes the logs of two harts, loses a message on the way, dumps what came, and decodes both captures.
+ * Encodes the logs of two harts, dumps and decodes the capture, loses a message of it, and audits and decodes what
+ * came.
  *
  *     round_trip IMAGE LOG LOG
  */
@@ -75,6 +76,19 @@ static void decode(struct bytes image, struct bytes capture) {
     }
 }
 
+/* Prints what became of the messages of each hart. */
+static void audit(struct bytes sent, struct bytes received) {
+    struct tracebench_tally tally;
+    struct tracebench_audit_end ended;
+    for (uint16_t hart = 0; hart < 2; hart++) {
+        uint32_t status = tracebench_audit(sent.at, sent.length, received.at, received.length, hart, &tally, &ended);
+        if (status != TRACEBENCH_DONE) stop("audit", status);
+        printf("hart %u of %" PRIu64 ": %" PRIu64 " sent, %" PRIu64 " came, %" PRIu64 " lost, whole %" PRIu32
+               ", strangers %" PRIu64 ", ends with status %" PRIu32 "\n",
+               hart, ended.harts, tally.sent, tally.came, tally.lost, tally.whole, ended.strangers, ended.fault);
+    }
+}
+
 static void dump(struct bytes capture) {
     static uint8_t text[1 << 20];
     struct tracebench_dump_end ended = {0, 0, 0};
@@ -111,9 +125,12 @@ int main(int count, char **words) {
     printf("capture of %zu bytes\n", capture.length);
     dump(capture);
     decode(image, capture);
-    lose_second(&capture);
+    struct bytes received = room(capture.length);
+    memcpy(received.at, capture.at, capture.length);
+    lose_second(&received);
     puts("without the second message");
-    decode(image, capture);
+    audit(capture, received);
+    decode(image, received);
     struct tracebench_packet packet;
     memset(&packet, 0, sizeof packet);
     packet.kind = TRACEBENCH_SYNC;
@@ -130,5 +147,6 @@ int main(int count, char **words) {
     free(second.at);
     free(logs.at);
     free(capture.at);
+    free(received.at);
     return 0;
 }

@@ -1,5 +1,7 @@
 mod HartFound
 mod HeaderMade
+mod Hearing
 mod MapSteps
 mod PacketsBack
 mod TextsRead
+mod WorkedNumbers

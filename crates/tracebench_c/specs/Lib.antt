@@ -4,6 +4,7 @@ pub mod Numbers
 pub mod Packed
 pub mod Checked
 pub mod Decoded
+pub mod Audited
 pub mod Dumped
 pub mod Encoded
 pub mod steps

@@ -143,7 +143,7 @@ fn capture_status(why: CaptureFault) -> u32
 }
 
 /// Why a message is not accepted.
-fn demux_status(why: DemuxFault) -> u32
+pub(crate) fn demux_status(why: DemuxFault) -> u32
     ensures { result ≡ demux_status why }
 {
     match why {

@@ -16,6 +16,7 @@ mod fault;
 mod handing;
 mod numbers;
 mod packing;
+mod path_audit;
 pub mod status;
 
 pub use checking::tracebench_check;
@@ -28,3 +29,4 @@ pub use numbers::{
     SYNC, TRAP, UPDISCON,
 };
 pub use packing::{tracebench_pack, tracebench_unpack};
+pub use path_audit::{AuditEnd, AuditFault, HartAudited, HartTally, tracebench_audit};

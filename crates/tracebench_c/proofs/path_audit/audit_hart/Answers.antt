@@ -1,0 +1,35 @@
+-- What was taken of both captures is what is told: no tactic puts the audit together.
+use Rattle.std.proofs.Common.{◌<◌, ◌^◌, length, ap, ◌∙◌, arith}
+use Rattle.auditing.specs.Sent.{harts_of}
+use Rattle.auditing.specs.Tallies.{tally_of}
+use Rattle.tracebench_c.specs.Audited.{tally_told}
+use Rattle.tracebench_c.proofs.path_audit.audit_hart.Goals as goal
+
+pub returns : goal.returns
+returns c =
+    let started = c.in-Ok.ensures.audits in
+    let was_sent = started.0 in
+    let header = c.in-Ok.path.header in
+    let taken = c.take_capture-stop.ensures.heard was_sent started.2 in
+    let heard = taken.few in
+    let few : length taken.received < 2 ^ 64 = omega (arith, heard) in
+    let at = c.from-place.ensures in
+    let count = c.harts.ensures ∙ started.2.count in
+    let within = c.if-place-harts.false in
+    let known : c.args.hart < harts_of header was_sent = omega (arith, at, count, within) in
+    record {
+      header = header;
+      was_sent = was_sent;
+      came = taken.received;
+      stop = c.take_capture-stop.result;
+      is_sent = started.1;
+      heard = taken.heard;
+      known = known;
+      tally_is = c.tally_told.ensures
+          ∙ ap tally_told (c.tally.ensures was_sent taken.received taken.audits few
+          ∙ ap (tally_of was_sent taken.received) at);
+      harts_are = c.harts-2.ensures ∙ c.take_capture-stop.ensures.harts ∙ started.2.count;
+      strangers_are = c.strangers.ensures was_sent taken.received taken.audits few;
+      stops_at = c.heard_place.ensures;
+      stops_for = c.heard_fault.ensures;
+    }
