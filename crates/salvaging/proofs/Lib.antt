@@ -34,3 +34,4 @@ pub mod Distributed
 pub mod HartSalvaged
 pub mod SalvagedEach
 pub mod DistributedAll
+pub mod OneWay

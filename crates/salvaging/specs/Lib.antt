@@ -11,4 +11,5 @@ pub mod Salvaged
 pub mod FromLogs
 pub mod LogsSalvaged
 pub mod LossyParts
+pub mod AlikeParts
 pub mod steps

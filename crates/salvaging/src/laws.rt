@@ -11,10 +11,12 @@ ghost use Rattle.message.specs.declared.message.Message.{Message};
 ghost use Rattle.losses.specs.DescribedParts.{AreDescribed};
 ghost use Rattle.losses.specs.Stops.{AreAcceptedLossy};
 ghost use Rattle.losses.specs.declared.part.HartPieces.{HartPieces as AnyPieces};
+ghost use Rattle.salvaging.specs.AlikeParts.{AreAlikeHarts};
 ghost use Rattle.salvaging.specs.FromLogs.{AreFromLogs};
 ghost use Rattle.salvaging.specs.LogsSalvaged.{AreLogsSalvaged};
 ghost use Rattle.salvaging.specs.LossyParts.{AreCollectedToo};
-ghost use Rattle.salvaging.specs.Salvaged.{IsSalvaged};
+ghost use Rattle.salvaging.specs.Salvaged.{IsSalvaged, IsSalvagedHart};
+ghost use Rattle.salvaging.specs.declared.salvaged.SalvagedHart.{SalvagedHart as AnyHart};
 ghost use Rattle.salvaging.specs.declared.salvaged.Salvaged.{Salvaged as AnySalvaged};
 
 use std::alloc::Allocator;
@@ -37,4 +39,12 @@ pub fn what_is_collected_is_salvaged<A: Allocator, B: Allocator>()
         (salvaged : AnySalvaged B) → IsProgram words → AreAcceptedLossy (newcomers harts) messages
         → AreDescribed words mode messages pieces → IsSalvaged words mode harts messages salvaged
         → AreCollectedToo pieces salvaged }
+{}
+
+/// What is salvaged of a hart is a function of its own messages and the mode handed in, but for which fault of a decoder
+/// a message has whose packet is not decoded.
+pub fn harts_are_salvaged_in_one_way<A: Allocator, B: Allocator>()
+    ensures { (words : Words) (mode : Mode) (messages : List Message) (one : AnyHart A) (other : AnyHart B)
+        → IsProgram words → IsSalvagedHart words mode messages one → IsSalvagedHart words mode messages other
+        → AreAlikeHarts one other }
 {}

@@ -22,7 +22,7 @@ mod salvaged;
 mod salvaging;
 mod trail;
 
-pub use laws::{logs_are_salvaged, what_is_collected_is_salvaged};
+pub use laws::{harts_are_salvaged_in_one_way, logs_are_salvaged, what_is_collected_is_salvaged};
 pub use part::Part;
 pub use reason::Reason;
 pub use salvaged::{Salvaged, SalvagedHart};

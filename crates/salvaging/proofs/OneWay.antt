@@ -1,0 +1,385 @@
+-- The same messages leave the same, but for which fault of a decoder a bad number has.
+use Rattle.std.proofs.Common.{◌≡◌, ◌⊎◌, inl, inr, ℕ, zero, suc, ◌+◌, ◌-◌, ◌≤◌, ◌<◌, ◌++◌, All, Bool, true}
+use Rattle.std.proofs.Common.{false, Contains, List, [], ◌∷◌, map, Option, Some, None, length, slice_get, refl, sym, ap}
+use Rattle.std.proofs.Common.{subst, ◌∙◌, arith}
+use Rattle.std.specs.Prelude.{Ok, Err}
+use Rattle.std.proofs.lemmas.Bool.{cases_lt}
+use Rattle.std.proofs.lemmas.List.Elements.{All-contains, All-head, All-tail}
+use Rattle.retire.specs.declared.event.Event.{Event}
+use Rattle.rvclass.specs.Words.{Words, IsProgram}
+use Rattle.payload.specs.Closing.{is_closing, is_closing_packet, is_closing_reading}
+use Rattle.payload.specs.Reading.{reading}
+use Rattle.payload.specs.declared.fault.PackFault.{PackFault}
+use Rattle.payload.specs.declared.mode.Mode.{Mode}
+use Rattle.payload.specs.declared.packet.Packet.{Packet}
+use Rattle.decoder.proofs.UniqueLemmas.{one_log}
+use Rattle.decoder.specs.Describes.{Describes}
+use Rattle.decoder.specs.Order.{IsOpen}
+use Rattle.message.specs.declared.message.Message.{Message}
+use Rattle.losses.specs.Runs.{Run, longer, run_behind, run_of, trace_of_run}
+use Rattle.losses.specs.WholeStretches.{NumberCame}
+use Rattle.salvaging.specs.AlikeParts.{AreAlikeHarts, AreAlikeParts, AreAlikeReasons}
+use Rattle.salvaging.specs.Bad.{IsBad, IsGood}
+use Rattle.salvaging.specs.Copies.{AllDiffer, AreAlike, AreCopies, HasLike}
+use Rattle.salvaging.specs.Entries.{Entry, Used, Doubtful, AreEntries, IsEntryOf, entry_number, is_closed, next_used}
+use Rattle.salvaging.specs.Late.{late}
+use Rattle.salvaging.specs.Leaving.{EntriesLeave, LeavesBefore, RunLeaves, UsedLeaves, kept, own_mode}
+use Rattle.salvaging.specs.LeftParts.{LeftPart, Missing, Events, BadNumbers, DoubtfulNumber, gap, one_by_one, stretch}
+use Rattle.salvaging.specs.PartsIn.{parts_in}
+use Rattle.salvaging.specs.Salvaged.{IsSalvagedHart}
+use Rattle.salvaging.specs.declared.reason.Reason.{Reason}
+use Rattle.salvaging.specs.declared.reason.Reason.TheVariants as reason
+use Rattle.salvaging.specs.declared.salvaged.SalvagedHart.{SalvagedHart}
+use Rattle.salvaging.proofs.EntriesOfLog.{same_packet}
+use Rattle.salvaging.proofs.Members.{IsIn, came_of_contains, contains_of_in, in_of_contains}
+use Rattle.salvaging.proofs.OneHart.{all_at, in_at, message_with, number_in}
+use Rattle.salvaging.proofs.RisingNumbers.{rising_same}
+use Rattle.salvaging.proofs.RunsOfLog.{number_of}
+
+-- Messages have one list of entries.
+same_entry : (messages : List Message) (one other : Entry) → IsEntryOf messages one → IsEntryOf messages other
+    → entry_number one ≡ entry_number other → one ≡ other
+same_entry messages (Used number place payload) (Used again there bytes) used too is =
+    by_place (cases_lt place there) (cases_lt there place)
+  where
+    by_place : (place < there) ⊎ (there ≤ place) → (there < place) ⊎ (place ≤ there)
+        → Used number place payload ≡ Used again there bytes
+    by_place (inl below) other_way =
+        absurd (too.first place used.message below used.here (used.number_here ∙ is))
+    by_place (inr over) (inl below) =
+        absurd (used.first there too.message below too.here (too.number_here ∙ sym is))
+    by_place (inr over) (inr least) =
+        let places : place ≡ there = omega (arith, over, least) in
+        let same = all_at (λ (m : Message). m.number ≡ again → m.payload ≡ bytes) messages place used.message
+        used.here too.alone (used.number_here ∙ is) in
+        ap (λ n. Used n place payload) is ∙ ap (λ p. Used again p payload) places
+        ∙ ap (Used again there) (sym used.payload_here ∙ same)
+same_entry messages (Used number place payload) (Doubtful again) used doubtful is =
+    let payload_of_one = All-contains (λ (m : Message). m.number ≡ number → m.payload ≡ payload) messages doubtful.one
+    used.alone doubtful.one_came (doubtful.one_number ∙ sym is) in
+    let payload_of_other = All-contains (λ (m : Message). m.number ≡ number → m.payload ≡ payload) messages
+    doubtful.other used.alone doubtful.other_came (doubtful.other_number ∙ sym is) in
+    absurd (doubtful.differ (payload_of_one ∙ sym payload_of_other))
+same_entry messages (Doubtful number) (Used again place payload) doubtful used is =
+    let payload_of_one = All-contains (λ (m : Message). m.number ≡ again → m.payload ≡ payload) messages doubtful.one
+    used.alone doubtful.one_came (doubtful.one_number ∙ is) in
+    let payload_of_other = All-contains (λ (m : Message). m.number ≡ again → m.payload ≡ payload) messages
+    doubtful.other used.alone doubtful.other_came (doubtful.other_number ∙ is) in
+    absurd (doubtful.differ (payload_of_one ∙ sym payload_of_other))
+same_entry messages (Doubtful number) (Doubtful again) doubtful too is = ap Doubtful is
+
+same_entries : (messages : List Message) (entries others : List Entry) → All (IsEntryOf messages) entries
+    → All (IsEntryOf messages) others → map entry_number entries ≡ map entry_number others → entries ≡ others
+same_entries messages [] [] each every numbers = refl
+same_entries messages [] (other ∷ others) each every numbers = cc
+same_entries messages (entry ∷ entries) [] each every numbers = cc
+same_entries messages (entry ∷ entries) (other ∷ others) each every numbers =
+    let first : entry_number entry ≡ entry_number other = cc in
+    let rest : map entry_number entries ≡ map entry_number others = cc in
+    let same = same_entry messages entry other (All-head (IsEntryOf messages) entry entries each)
+    (All-head (IsEntryOf messages) other others every) first in
+    ap (λ e. e ∷ entries) same
+    ∙ ap (λ l. other ∷ l) (same_entries messages entries others (All-tail (IsEntryOf messages) entry entries each)
+    (All-tail (IsEntryOf messages) other others every) rest)
+
+entry_number_came : (messages : List Message) (entry : Entry) → IsEntryOf messages entry
+    → NumberCame (entry_number entry) (map number_of messages)
+entry_number_came messages (Used number place payload) used =
+    subst (λ n. NumberCame n (map number_of messages)) used.number_here
+    (number_in messages used.message (in_at messages place used.message used.here))
+entry_number_came messages (Doubtful number) doubtful =
+    subst (λ n. NumberCame n (map number_of messages)) doubtful.one_number
+    (number_in messages doubtful.one (in_of_contains messages doubtful.one doubtful.one_came))
+
+numbers_came : (messages : List Message) (entries : List Entry) → All (IsEntryOf messages) entries → (number : ℕ)
+    → NumberCame number (map entry_number entries) → NumberCame number (map number_of messages)
+numbers_came messages [] each number there = absurd there
+numbers_came messages (entry ∷ entries) each number (inl is) =
+    subst (λ n. NumberCame n (map number_of messages)) (sym is)
+    (entry_number_came messages entry (All-head (IsEntryOf messages) entry entries each))
+numbers_came messages (entry ∷ entries) each number (inr there) =
+    numbers_came messages entries (All-tail (IsEntryOf messages) entry entries each) number there
+
+numbers_have : (messages : List Message) (entries : List Entry) → AreEntries messages entries → (number : ℕ)
+    → NumberCame number (map number_of messages) → NumberCame number (map entry_number entries)
+numbers_have messages entries are number there =
+    let found = message_with messages number there in
+    let contained = All-contains (λ (m : Message). Contains (map entry_number entries) m.number) messages found.0
+    are.none_left_out (contains_of_in messages found.0 found.1) in
+    subst (λ n. NumberCame n (map entry_number entries)) (sym found.2)
+    (came_of_contains (map entry_number entries) found.0.number contained)
+
+entries_once : (messages : List Message) (entries others : List Entry) → AreEntries messages entries
+    → AreEntries messages others → entries ≡ others
+entries_once messages entries others are too =
+    same_entries messages entries others are.each too.each
+    (rising_same 0 (map entry_number entries) (map entry_number others) are.rising too.rising
+    (λ number there. numbers_have messages others too number (numbers_came messages entries are.each number there))
+    (λ number there. numbers_have messages entries are number (numbers_came messages others too.each number there)))
+
+-- Of distinct messages there are as many.
+abbrev without_one : (message : Message) (messages : List Message) → IsIn message messages → List Message
+without_one message [] there = absurd there
+without_one message (first ∷ messages) (inl is) = messages
+without_one message (first ∷ messages) (inr there) = first ∷ without_one message messages there
+
+one_less : (message : Message) (messages : List Message) → (there : IsIn message messages)
+    → length messages ≡ suc (length (without_one message messages there))
+one_less message [] there = absurd there
+one_less message (first ∷ messages) (inl is) = refl
+one_less message (first ∷ messages) (inr there) = let less = one_less message messages there in omega (arith, less)
+
+others_stay : (message : Message) (messages : List Message) → (there : IsIn message messages) → (other : Message)
+    → IsIn other messages → ¬ (other ≡ message) → IsIn other (without_one message messages there)
+others_stay message [] there other too apart = absurd there
+others_stay message (first ∷ messages) (inl is) other (inl here) apart = absurd (apart (here ∙ sym is))
+others_stay message (first ∷ messages) (inl is) other (inr too) apart = too
+others_stay message (first ∷ messages) (inr there) other (inl here) apart = inl here
+others_stay message (first ∷ messages) (inr there) other (inr too) apart =
+    inr (others_stay message messages there other too apart)
+
+fewer : (distinct others : List Message) → AllDiffer distinct
+    → ((message : Message) → IsIn message distinct
+    → (like : Message) × IsIn like others × AreAlike message like) → length distinct ≤ length others
+fewer [] others differ likes = omega arith
+fewer (message ∷ distinct) others (apart, differ) likes =
+    let like = likes message (inl refl) in
+    let rest = fewer distinct (without_one like.0 others like.1) differ (λ other there.
+    let its = likes other (inr there) in (
+      its.0,
+      others_stay like.0 others like.1 its.0 its.1 (λ same.
+          apart (other, contains_of_in distinct other there, (
+            like.2.0 ∙ sym (ap (λ (m : Message). m.number) same) ∙ sym its.2.0,
+            like.2.1 ∙ sym (ap (λ (m : Message). m.payload) same) ∙ sym its.2.1,
+          ))),
+      its.2,
+    )) in
+    let less = one_less like.0 others like.1 in
+    omega (arith, rest, less)
+
+copies_once : (messages : List Message) (count other : ℕ) → AreCopies messages count → AreCopies messages other
+    → count ≡ other
+copies_once messages count other copies too =
+    let one = fewer copies.distinct too.distinct copies.are_distinct.differ (λ message there.
+    let came = All-contains (Contains messages) copies.distinct message copies.are_distinct.some
+    (contains_of_in copies.distinct message there) in
+    let like = All-contains (HasLike too.distinct) messages message too.are_distinct.all came in
+    (like.0, in_of_contains too.distinct like.0 like.1, like.2)) in
+    let back = fewer too.distinct copies.distinct too.are_distinct.differ (λ message there.
+    let came = All-contains (Contains messages) too.distinct message too.are_distinct.some
+    (contains_of_in too.distinct message there) in
+    let like = All-contains (HasLike copies.distinct) messages message copies.are_distinct.all came in
+    (like.0, in_of_contains copies.distinct like.0 like.1, like.2)) in
+    let first = copies.others in
+    let second = too.others in
+    omega (arith, one, back, first, second)
+
+-- Parts behind one another.
+alike_append : (left more others further : List LeftPart) → AreAlikeParts left others → AreAlikeParts more further
+    → AreAlikeParts (left ++ more) (others ++ further)
+alike_append [] more [] further are too = too
+alike_append [] more (Missing n ∷ others) further are too = absurd are
+alike_append [] more (Events f l e ∷ others) further are too = absurd are
+alike_append [] more (BadNumbers f l w ∷ others) further are too = absurd are
+alike_append [] more (DoubtfulNumber n ∷ others) further are too = absurd are
+alike_append (Missing n ∷ left) more (Missing m ∷ others) further are too =
+    (are.0, alike_append left more others further are.1 too)
+alike_append (Events f l e ∷ left) more (Events b d s ∷ others) further are too =
+    (are.0, are.1, are.2, alike_append left more others further are.3 too)
+alike_append (BadNumbers f l w ∷ left) more (BadNumbers b d v ∷ others) further are too =
+    (are.0, are.1, are.2, alike_append left more others further are.3 too)
+alike_append (DoubtfulNumber n ∷ left) more (DoubtfulNumber m ∷ others) further are too =
+    (are.0, alike_append left more others further are.1 too)
+alike_append (Missing n ∷ left) more [] further are too = absurd are
+alike_append (Missing n ∷ left) more (Events b d s ∷ others) further are too = absurd are
+alike_append (Missing n ∷ left) more (BadNumbers b d v ∷ others) further are too = absurd are
+alike_append (Missing n ∷ left) more (DoubtfulNumber m ∷ others) further are too = absurd are
+alike_append (Events f l e ∷ left) more [] further are too = absurd are
+alike_append (Events f l e ∷ left) more (Missing m ∷ others) further are too = absurd are
+alike_append (Events f l e ∷ left) more (BadNumbers b d v ∷ others) further are too = absurd are
+alike_append (Events f l e ∷ left) more (DoubtfulNumber m ∷ others) further are too = absurd are
+alike_append (BadNumbers f l w ∷ left) more [] further are too = absurd are
+alike_append (BadNumbers f l w ∷ left) more (Missing m ∷ others) further are too = absurd are
+alike_append (BadNumbers f l w ∷ left) more (Events b d s ∷ others) further are too = absurd are
+alike_append (BadNumbers f l w ∷ left) more (DoubtfulNumber m ∷ others) further are too = absurd are
+alike_append (DoubtfulNumber n ∷ left) more [] further are too = absurd are
+alike_append (DoubtfulNumber n ∷ left) more (Missing m ∷ others) further are too = absurd are
+alike_append (DoubtfulNumber n ∷ left) more (Events b d s ∷ others) further are too = absurd are
+alike_append (DoubtfulNumber n ∷ left) more (BadNumbers b d v ∷ others) further are too = absurd are
+
+gap_alike : (missing : ℕ) → AreAlikeParts (gap missing) (gap missing)
+gap_alike zero = tt
+gap_alike (suc missing) = (refl, tt)
+
+stretch_alike : (next count : ℕ) (events : List Event)
+    → AreAlikeParts (stretch next count events) (stretch next count events)
+stretch_alike next count [] = tt
+stretch_alike next count (event ∷ events) = (refl, refl, refl, tt)
+
+by_both : (left others one other : List LeftPart) → left ≡ one → others ≡ other → AreAlikeParts one other
+    → AreAlikeParts left others
+by_both left others one other is too are =
+    subst (λ l. AreAlikeParts l others) (sym is) (subst (AreAlikeParts one) (sym too) are)
+
+module _ (words : Words) (program : IsProgram words) (mode : Mode) where
+  run_once : (run : Run) (next : ℕ) (left others : List LeftPart) → RunLeaves words mode run next left
+      → RunLeaves words mode run next others → AreAlikeParts left others
+  run_once run next left others (events, described, is) (again, too, other_is) =
+      let same = one_log words program (trace_of_run mode run) events again described too in
+      let count = length (kept run.missing run.packets) in
+      by_both left others (stretch next count events) (stretch next count events) is
+      (other_is ∙ ap (stretch next count) (sym same)) (stretch_alike next count events)
+
+  before_once : (run : Run) (next missed : ℕ) (left others : List LeftPart) → LeavesBefore words mode run next missed left
+      → LeavesBefore words mode run next missed others → AreAlikeParts left others
+  before_once run next zero left others is too = by_both left others [] [] is too tt
+  before_once run next (suc missed) left others (one, leaves, is) (other, leaves_too, too) =
+      by_both left others (one ++ Missing (suc missed) ∷ []) (other ++ Missing (suc missed) ∷ []) is too
+      (alike_append one (Missing (suc missed) ∷ []) other (Missing (suc missed) ∷ [])
+      (run_once run next one other leaves leaves_too) (refl, tt))
+
+  good_not_bad : (run : Run) (payload : List ℕ) (following : Option ℕ) (packet : Packet) (why : Reason)
+      → IsGood words mode run payload following packet → ¬ IsBad words mode run payload following why
+  good_not_bad run payload following packet (reason.Packet why) good bad = let fine = good.read in cc
+  good_not_bad run payload following packet (reason.Decode why) good bad =
+      let same = same_packet payload packet bad.packet good.read bad.read in
+      bad.not_described good.described.0 (subst (λ p. Describes words (trace_of_run mode (longer run (p ∷ [])))
+      good.described.0) same good.described.1)
+  good_not_bad run payload following packet (reason.Closing next) good (closes, follows) =
+      let closes_packet : is_closing_packet packet ≡ true = sym (ap is_closing_reading good.read) ∙ closes in
+      let none = good.not_early closes_packet in
+      cc
+
+  opened_same : (run : Run) (one other : Packet) → one ≡ other
+      → (((run.missing ≡ 0) × (run.packets ≡ [])) × ¬ IsOpen one)
+      → (((run.missing ≡ 0) × (run.packets ≡ [])) × ¬ IsOpen other)
+  opened_same run one other same (first, opens) = (first, subst (λ p. ¬ IsOpen p) same opens)
+
+  early_decode : (run : Run) (payload : List ℕ) (following : Option ℕ) (packet : Packet) (next : ℕ)
+      → reading payload ≡ Ok packet → (is_closing_packet packet ≡ true → following ≡ None)
+      → is_closing payload ≡ true → following ≡ Some next → ⊥
+  early_decode run payload following packet next read not_early closes follows =
+      let closes_packet : is_closing_packet packet ≡ true = sym (ap is_closing_reading read) ∙ closes in
+      let none = not_early closes_packet in
+      cc
+
+  unread_closing : (payload : List ℕ) (why : PackFault) → reading payload ≡ Err why → is_closing payload ≡ true → ⊥
+  unread_closing payload why read closes =
+      let never : false ≡ true = sym (ap is_closing_reading read) ∙ closes in cc
+
+  one_fault : (payload : List ℕ) (one other : PackFault) → reading payload ≡ Err one → reading payload ≡ Err other
+      → one ≡ other
+  one_fault payload one other read too = cc
+
+  not_read : (payload : List ℕ) (why : PackFault) (packet : Packet) → reading payload ≡ Err why
+      → reading payload ≡ Ok packet → ⊥
+  not_read payload why packet unread read = cc
+
+  reasons_alike : (run : Run) (payload : List ℕ) (following : Option ℕ) (one other : Reason)
+      → IsBad words mode run payload following one → IsBad words mode run payload following other
+      → AreAlikeReasons one other
+  reasons_alike run payload following (reason.Packet why) (reason.Packet fault) bad too =
+      one_fault payload why fault bad too
+  reasons_alike run payload following (reason.Packet why) (reason.Decode fault) bad too =
+      absurd (not_read payload why too.packet bad too.read)
+  reasons_alike run payload following (reason.Packet why) (reason.Closing next) bad (closes, follows) =
+      absurd (unread_closing payload why bad closes)
+  reasons_alike run payload following (reason.Decode why) (reason.Packet fault) bad too =
+      absurd (not_read payload fault bad.packet too bad.read)
+  reasons_alike run payload following (reason.Decode why) (reason.Decode fault) bad too =
+      let same = same_packet payload bad.packet too.packet bad.read too.read in (
+        λ is. too.not_opened.1 (opened_same run bad.packet too.packet same (bad.not_opened.0 is)),
+        λ is. bad.not_opened.1 (opened_same run too.packet bad.packet (sym same) (too.not_opened.0 is)),
+      )
+  reasons_alike run payload following (reason.Decode why) (reason.Closing next) bad (closes, follows) =
+      absurd (early_decode run payload following bad.packet next bad.read bad.not_early closes follows)
+  reasons_alike run payload following (reason.Closing next) (reason.Packet fault) (closes, follows) too =
+      absurd (unread_closing payload fault too closes)
+  reasons_alike run payload following (reason.Closing next) (reason.Decode fault) (closes, follows) too =
+      absurd (early_decode run payload following too.packet next too.read too.not_early closes follows)
+  reasons_alike run payload following (reason.Closing next) (reason.Closing other) (closes, follows) (close, behind) =
+      let both : Some next ≡ Some other = sym follows ∙ behind in cc
+
+  module _ (run : Run) (number : ℕ) (payload : List ℕ) (following : Option ℕ) (goods others : List Bool)
+      (Leaves LeavesToo : Run → List LeftPart → Type 0)
+      (later : (behind : Run) (left parts : List LeftPart) → Leaves behind left → LeavesToo behind parts
+      → (goods ≡ others) × AreAlikeParts left parts) where
+    used_once : (good other : Bool) (left parts : List LeftPart)
+        → UsedLeaves words mode run number payload following good Leaves left
+        → UsedLeaves words mode run number payload following other LeavesToo parts
+        → (good ∷ goods ≡ other ∷ others) × AreAlikeParts left parts
+    used_once true true left parts (packet, is_good, leave) (again, good_too, leave_too) =
+        let same = same_packet payload packet again is_good.read good_too.read in
+        let behind = later (longer run (again ∷ [])) left parts
+        (subst (λ p. Leaves (longer run (p ∷ [])) left) same leave) leave_too in
+        (ap (λ l. true ∷ l) behind.0, behind.1)
+    used_once true false left parts (packet, is_good, leave) (why, bad, before, leaves, rest, whole, behind) =
+        absurd (good_not_bad run payload following packet why is_good bad)
+    used_once false true left parts (why, bad, before, leaves, rest, whole, behind) (packet, is_good, leave) =
+        absurd (good_not_bad run payload following packet why is_good bad)
+    used_once false false left parts (why, bad, before, leaves, rest, whole, behind)
+        (fault, bad_too, begun, leaves_too, further, whole_too, behind_too) =
+        let below = later (run_of 1 []) rest further behind behind_too in (
+          ap (λ l. false ∷ l) below.0,
+          by_both left parts (before ++ BadNumbers number number why ∷ rest)
+              (begun ++ BadNumbers number number fault ∷ further) whole whole_too
+              (alike_append before (BadNumbers number number why ∷ rest) begun
+              (BadNumbers number number fault ∷ further) (run_once run number before begun leaves leaves_too)
+              (refl, refl, reasons_alike run payload following why fault bad bad_too, below.1)),
+        )
+
+  -- The entries leave the same, and the same of them are good.
+  leaves_once : (entries : List Entry) (run : Run) (next : ℕ) (goods others : List Bool) (left parts : List LeftPart)
+      → EntriesLeave words mode run next entries goods left → EntriesLeave words mode run next entries others parts
+      → (goods ≡ others) × AreAlikeParts left parts
+  leaves_once [] run next [] [] left parts leave too = (refl, run_once run next left parts leave too)
+  leaves_once [] run next [] (other ∷ others) left parts leave too = absurd too
+  leaves_once [] run next (good ∷ goods) others left parts leave too = absurd leave
+  leaves_once (Used number place payload ∷ entries) run next [] others left parts leave too = absurd leave
+  leaves_once (Used number place payload ∷ entries) run next (good ∷ goods) [] left parts leave too = absurd too
+  leaves_once (Used number place payload ∷ entries) run next (good ∷ goods) (other ∷ others) left parts leave too =
+      let used = used_once (run_behind (number - next) run) number payload (next_used entries) goods others
+      (λ behind. EntriesLeave words mode behind (number + 1) entries goods)
+      (λ behind. EntriesLeave words mode behind (number + 1) entries others)
+      (λ behind left parts. leaves_once entries behind (number + 1) goods others left parts) good other leave.2 too.2
+      leave.4 too.4 in (
+        used.0,
+        by_both left parts (leave.0 ++ leave.2) (too.0 ++ too.2) leave.3 too.3
+            (alike_append leave.0 leave.2 too.0 too.2 (before_once run next (number - next) leave.0 too.0 leave.1 too.1)
+            used.1),
+      )
+  leaves_once (Doubtful number ∷ entries) run next [] others left parts leave too = absurd leave
+  leaves_once (Doubtful number ∷ entries) run next (good ∷ goods) [] left parts leave too = absurd too
+  leaves_once (Doubtful number ∷ entries) run next (good ∷ goods) (other ∷ others) left parts
+      (is, before, leaves, rest, whole, behind) (is_too, begun, leaves_too, further, whole_too, behind_too) =
+      let below = leaves_once entries (run_of 1 []) number goods others rest further behind behind_too in (
+        ap (λ g. g ∷ goods) (is ∙ sym is_too) ∙ ap (λ l. other ∷ l) below.0,
+        by_both left parts (before ++ (gap (number - next) ++ DoubtfulNumber number ∷ rest))
+            (begun ++ (gap (number - next) ++ DoubtfulNumber number ∷ further)) whole whole_too
+            (alike_append before _ begun _ (run_once run next before begun leaves leaves_too)
+            (alike_append (gap (number - next)) (DoubtfulNumber number ∷ rest) (gap (number - next))
+            (DoubtfulNumber number ∷ further) (gap_alike (number - next)) (refl, below.1))),
+      )
+
+module _ (words : Words) (program : IsProgram words) (mode : Mode) where
+  -- A hart with these messages is salvaged in one way.
+  pub salvaged_once : {A B : Type 0} (messages : List Message) (one : SalvagedHart A) (other : SalvagedHart B)
+      → IsSalvagedHart words mode messages one → IsSalvagedHart words mode messages other → AreAlikeHarts one other
+  salvaged_once messages one other salvaged too =
+      let same = entries_once messages salvaged.entries too.entries salvaged.are_entries too.are_entries in
+      by_entries same too.parts
+    where
+      by_entries : salvaged.entries ≡ too.entries
+          → EntriesLeave words (own_mode mode too.entries) (run_of 0 []) 0 too.entries too.goods
+          (one_by_one (parts_in other.parts.items)) → AreAlikeHarts one other
+      by_entries same leave =
+          let moved = subst (λ es. EntriesLeave words (own_mode mode es) (run_of 0 []) 0 es too.goods
+          (one_by_one (parts_in other.parts.items))) (sym same) leave in
+          let once = leaves_once words program (own_mode mode salvaged.entries) salvaged.entries (run_of 0 []) 0 salvaged.goods too.goods
+          (one_by_one (parts_in one.parts.items)) (one_by_one (parts_in other.parts.items)) salvaged.parts moved in
+          record {
+            parts = once.1;
+            copies = copies_once messages one.copies other.copies salvaged.copies too.copies;
+            late = salvaged.late ∙ ap (late salvaged.entries) once.0 ∙ ap (λ es. late es too.goods) same ∙ sym too.late;
+            closed = salvaged.closed ∙ ap is_closed same ∙ sym too.closed;
+          }
