@@ -29,9 +29,9 @@ use std::thread::Threads;
 use subcommands::Check;
 
 /// Writes a line for each log, which says whether it is legal, and below that of an illegal one, if it is asked for, a
-/// line that explains the first illegal row. Returns that all is done where all logs are legal, and
-/// else that the input is refused. A log that is not read ends the run, after the lines of the logs before it. At most as
-/// many logs are held at once as the machine has processors.
+/// line that explains the first illegal row. Returns that all is done where all logs are legal, and else that the input
+/// is refused. A log that is not read ends the run, after the lines of the logs before it. At most as many logs are held
+/// at once as the machine has processors.
 pub fn check<'a, F: Files, O: Write, R: Threads + Sync>(
     alloc: Global,
     rt: &R,
@@ -55,8 +55,8 @@ pub fn check<'a, F: Files, O: Write, R: Threads + Sync>(
     ended
 }
 
-/// Judges the logs, and writes the lines of each, in order. As many as the machine has processors are read in turn, then
-/// judged side by side, and then written.
+/// Judges the logs, and writes the lines of each, in order. As many as the machine has processors are read in turn,
+/// then judged side by side, and then written.
 fn judge_all<'a, F: Files, O: Write, R: Threads + Sync>(
     alloc: Global,
     rt: &R,

@@ -148,10 +148,14 @@ fewer (message ∷ distinct) others (apart, differ) likes =
     let its = likes other (inr there) in (
       its.0,
       others_stay like.0 others like.1 its.0 its.1 (λ same.
-          apart (other, contains_of_in distinct other there, (
-            like.2.0 ∙ sym (ap (λ (m : Message). m.number) same) ∙ sym its.2.0,
-            like.2.1 ∙ sym (ap (λ (m : Message). m.payload) same) ∙ sym its.2.1,
-          ))),
+          apart (
+            other,
+            contains_of_in distinct other there,
+            (
+              like.2.0 ∙ sym (ap (λ (m : Message). m.number) same) ∙ sym its.2.0,
+              like.2.1 ∙ sym (ap (λ (m : Message). m.payload) same) ∙ sym its.2.1,
+            ),
+          )),
       its.2,
     )) in
     let less = one_less like.0 others like.1 in

@@ -26,7 +26,8 @@ AreAlikeParts (DoubtfulNumber one ∷ left) (DoubtfulNumber other ∷ others) =
     (one ≡ other) × AreAlikeParts left others
 AreAlikeParts left others = ⊥
 
--- The same is salvaged of a hart, but for which fault of a decoder a bad number has. Each bad number is looked at alone.
+-- The same is salvaged of a hart, but for which fault of a decoder a bad number has. Each bad number is looked at by
+-- itself.
 pub record AreAlikeHarts {A B : Type 0} (one : SalvagedHart A) (other : SalvagedHart B) : Type 0 where
   pub parts : AreAlikeParts (one_by_one (parts_in one.parts.items)) (one_by_one (parts_in other.parts.items))
   pub copies : one.copies ≡ other.copies

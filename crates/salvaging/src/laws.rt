@@ -41,8 +41,8 @@ pub fn what_is_collected_is_salvaged<A: Allocator, B: Allocator>()
         → AreCollectedToo pieces salvaged }
 {}
 
-/// What is salvaged of a hart is a function of its own messages and the mode handed in, but for which fault of a decoder
-/// a message has whose packet is not decoded.
+/// What is salvaged of a hart is a function of its own messages and the mode handed in, but for which fault of a
+/// decoder a message has whose packet is not decoded.
 pub fn harts_are_salvaged_in_one_way<A: Allocator, B: Allocator>()
     ensures { (words : Words) (mode : Mode) (messages : List Message) (one : AnyHart A) (other : AnyHart B)
         → IsProgram words → IsSalvagedHart words mode messages one → IsSalvagedHart words mode messages other

@@ -1,8 +1,8 @@
 //! From the texts of logs to a capture.
 
 ghost use Rattle.std.specs.Prelude.{◌≡◌, IfErr, IfOk, option_map};
-ghost use Rattle.tracebench_c.specs.Encoded.{AreLogs, IsEncodeTold, IsEncoded, IsLegalText, IsNoLegalText, IsRefusedLog};
-ghost use Rattle.tracebench_c.specs.Encoded.{mode_of, text_between, version_of};
+ghost use Rattle.tracebench_c.specs.Encoded.{AreLogs, IsEncodeTold, IsEncoded, IsLegalText, IsNoLegalText};
+ghost use Rattle.tracebench_c.specs.Encoded.{IsRefusedLog, mode_of, text_between, version_of};
 
 use crate::checking::program_of;
 use crate::fault::Fault;

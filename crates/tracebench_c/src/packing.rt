@@ -19,8 +19,8 @@ use payload::{PackFault, pack, unpack};
 
 /// Writes the shortest payload of the packet that has these numbers to a buffer; at most 18 bytes are wanted.
 ///
-/// The status is [`DONE`], [`TOO_SMALL`](crate::status::TOO_SMALL), or [`NO_PACKET`] where no packet of the profile has these
-/// numbers. The last writes nothing. No memory is taken.
+/// The status is [`DONE`], [`TOO_SMALL`](crate::status::TOO_SMALL), or [`NO_PACKET`] where no packet of the profile has
+/// these numbers. The last writes nothing. No memory is taken.
 #[unsafe(no_mangle)]
 pub extern "C" fn tracebench_pack(
     numbers: &PacketNumbers,
