@@ -12,3 +12,4 @@ pub use Rattle.salvaging.specs.Salvaged
 pub use Rattle.salvaging.specs.FromLogs
 pub use Rattle.salvaging.specs.LogsSalvaged
 pub use Rattle.salvaging.specs.LossyParts
+pub use Rattle.salvaging.specs.AlikeParts

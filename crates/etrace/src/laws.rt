@@ -16,4 +16,6 @@ pub use legalpath::{
 pub use losses::{stretches_are_whole, stretches_stand_apart};
 pub use retire::{plain_is_parted, read_is_in_range, written_is_plain, written_is_read_back};
 pub use roundtrip::first_packets_settle_the_first_events;
-pub use salvaging::{logs_are_salvaged, what_is_collected_is_salvaged};
+pub use salvaging::{
+    harts_are_salvaged_in_one_way, logs_are_salvaged, what_is_collected_is_salvaged,
+};
