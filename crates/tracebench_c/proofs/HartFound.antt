@@ -26,19 +26,19 @@ list_found lists slice hart place events same is within found =
     (subst (λ n. slice_get slice n ≡ Some events) is
     (slice_get-get_or slice place events within ∙ ap Some (sym found))))
 
--- What is told of it is what was found.
+-- What is reported of it is what was found.
 pub hart_found : (base : ℕ) (image : List ℕ) (harts : ℕ) (capture : List ℕ) (hart : ℕ) (program : Image)
     → program_of base image ≡ Ok program → (lists : List (Vec Event Global)) (closed : List Bool)
     (stop : Option (ℕ × CaptureFault)) → IsDecoded (words_of program) harts capture (events_in lists) closed stop
     → (slice : List (Vec Event Global)) (place : ℕ) (events : Vec Event Global) → slice ≡ lists → place ≡ hart
     → place < length slice → events ≡ slice_index_or slice place events
     → (text : List ℕ) → text ≡ log_text events.items
-    → (many place_told why_told flag_told : ℕ) → many ≡ length lists → place_told ≡ stop_place stop
-    → why_told ≡ stop_fault stop → flag_told ≡ closed_at closed hart
+    → (many place_reported why_reported flag_reported : ℕ) → many ≡ length lists → place_reported ≡ stop_place stop
+    → why_reported ≡ stop_fault stop → flag_reported ≡ closed_at closed hart
     → HasHart base image harts capture hart text
-    (record { harts = many; place = place_told; fault = why_told; closed = flag_told })
+    (record { harts = many; place = place_reported; fault = why_reported; closed = flag_reported })
 hart_found base image harts capture hart program made lists closed stop decoded slice place events same is within found
-    text written many place_told why_told flag_told count stops why flagged = record {
+    text written many place_reported why_reported flag_reported count stops why flagged = record {
       lists = events_in lists;
       closed = closed;
       stop = stop;
@@ -52,12 +52,12 @@ hart_found base image harts capture hart program made lists closed stop decoded 
     all : many ≡ length (events_in lists)
     all = count ∙ sym (length-map lists (λ (list : Vec Event Global). list.items))
 
-    told : ℕ → ℕ → ℕ → ℕ → DecodeEnd
-    told a b c d = record { harts = a; place = b; fault = c; closed = d }
+    reported : ℕ → ℕ → ℕ → ℕ → DecodeEnd
+    reported a b c d = record { harts = a; place = b; fault = c; closed = d }
 
-    ends_are : told many place_told why_told flag_told ≡ decode_end (events_in lists) closed stop hart
+    ends_are : reported many place_reported why_reported flag_reported ≡ decode_end (events_in lists) closed stop hart
     ends_are =
-        ap (λ n. told n place_told why_told flag_told) all
-        ∙ ap (λ n. told (length (events_in lists)) n why_told flag_told) stops
-        ∙ ap (λ n. told (length (events_in lists)) (stop_place stop) n flag_told) why
-        ∙ ap (told (length (events_in lists)) (stop_place stop) (stop_fault stop)) flagged
+        ap (λ n. reported n place_reported why_reported flag_reported) all
+        ∙ ap (λ n. reported (length (events_in lists)) n why_reported flag_reported) stops
+        ∙ ap (λ n. reported (length (events_in lists)) (stop_place stop) n flag_reported) why
+        ∙ ap (reported (length (events_in lists)) (stop_place stop) (stop_fault stop)) flagged

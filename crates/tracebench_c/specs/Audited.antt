@@ -1,4 +1,4 @@
--- What C is told of an audit.
+-- What a call reports of an audit.
 use Rattle.std.specs.Prelude.{ℕ, ◌≡◌, ◌<◌, ◌≤◌, ◌++◌, All, List, [], Option, Some, None, Result, Ok, Err, length}
 use Rattle.message.specs.Capture.{capture}
 use Rattle.message.specs.Cut.{IsMessage}
@@ -39,8 +39,8 @@ pub data IsHeard (bytes : List ℕ) (messages : List Message) (stop : Option (�
       → IsHeard bytes messages stop
 
 -- A tally in numbers.
-abbrev pub tally_told : Tally → HartTally
-tally_told tally = record {
+abbrev pub tally_reported : Tally → HartTally
+tally_reported tally = record {
   sent = tally.sent;
   came = tally.came;
   lost = tally.lost;
@@ -70,7 +70,7 @@ pub record IsAudited (sent received : List ℕ) (hart : ℕ) (tally : HartTally)
   pub is_sent : IsSent sent header was_sent
   pub heard : IsHeard received came stop
   pub known : hart < harts_of header was_sent
-  pub tally_is : tally ≡ tally_told (tally_of was_sent came hart)
+  pub tally_is : tally ≡ tally_reported (tally_of was_sent came hart)
   pub harts_are : end.harts ≡ harts_of header was_sent
   pub strangers_are : end.strangers ≡ strangers_in was_sent came
   pub stops_at : end.place ≡ heard_place stop
@@ -101,11 +101,11 @@ abbrev pub audit_status : AuditFault → ℕ
 audit_status NoHart = NO_HART
 audit_status (Sent why) = sent_status why
 
--- A hart was audited, and C was told of it; or nothing was written, and the status says why.
-pub data IsAuditTold (sent received : List ℕ) (hart status : ℕ) (tally_before tally : HartTally)
+-- A hart was audited, and it was reported; or nothing was written, and the status says why.
+pub data ReportsAudit (sent received : List ℕ) (hart status : ℕ) (tally_before tally : HartTally)
     (end_before end : AuditEnd) : Type 0 where
   Found : IsAudited sent received hart tally end → status ≡ DONE
-      → IsAuditTold sent received hart status tally_before tally end_before end
+      → ReportsAudit sent received hart status tally_before tally end_before end
   Refused : (fault : AuditFault) → IsHartAudited sent received hart (Err fault) → status ≡ audit_status fault
       → tally ≡ tally_before → end ≡ end_before
-      → IsAuditTold sent received hart status tally_before tally end_before end
+      → ReportsAudit sent received hart status tally_before tally end_before end

@@ -1,4 +1,4 @@
--- What C is told of a log.
+-- What a call reports of a log.
 use Rattle.std.specs.Prelude.{ℕ, ◌≡◌, ◌⊎◌, List, Result, Ok, Err, length}
 use Rattle.legalpath.specs.FirstFault.{IsFirstFault}
 use Rattle.legalpath.specs.Legal.{Legal}
@@ -39,15 +39,15 @@ IsChecked base image text (Err NoHart) = ⊥
 IsChecked base image text (Err Range) = ⊥
 IsChecked base image text (Err Ends) = ⊥
 
--- What is told of it: the status, and the row that the fault names or how many events there are.
-abbrev pub IsTold : Result ℕ Fault → ℕ → ℕ → Type 0
-IsTold (Ok count) status row = (status ≡ DONE) × (row ≡ count)
-IsTold (Err fault) status row = (status ≡ fault_status fault) × (row ≡ fault_row fault)
+-- What is reported of it: the status, and the row that the fault names or how many events there are.
+abbrev pub IsReported : Result ℕ Fault → ℕ → ℕ → Type 0
+IsReported (Ok count) status row = (status ≡ DONE) × (row ≡ count)
+IsReported (Err fault) status row = (status ≡ fault_status fault) × (row ≡ fault_row fault)
 
--- A log was checked, and C was told what came of it.
-abbrev pub IsCheckTold : ℕ → List ℕ → List ℕ → ℕ → ℕ → Type 0
-IsCheckTold base image text status row =
-    (checked : Result ℕ Fault) × IsChecked base image text checked × IsTold checked status row
+-- A log was checked, and it was reported what came of it.
+abbrev pub ReportsCheck : ℕ → List ℕ → List ℕ → ℕ → ℕ → Type 0
+ReportsCheck base image text status row =
+    (checked : Result ℕ Fault) × IsChecked base image text checked × IsReported checked status row
 
 -- An image makes no program, for this reason; or memory was refused.
 abbrev pub IsNoProgram : ℕ → List ℕ → Fault → Type 0

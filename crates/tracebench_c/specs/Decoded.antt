@@ -1,4 +1,4 @@
--- What C is told of a hart of a capture.
+-- What a call reports of a hart of a capture.
 use Rattle.std.specs.Prelude.{ℕ, ◌≡◌, Bool, List, Option, Some, None, Result, Ok, Err, ◌≤◌, length, slice_get}
 use Rattle.captures.specs.Decoded.{IsDecoded}
 use Rattle.captures.specs.declared.outcome.CaptureFault.{CaptureFault}
@@ -74,7 +74,8 @@ pub record HasNoHart (base : ℕ) (image : List ℕ) (harts : ℕ) (capture : Li
 -- What comes of a capture and a hart: the text of its log and how decoding ends; or there is no such hart, or the image
 -- makes no program; or memory was refused.
 abbrev pub IsHartDecoded : ℕ → List ℕ → ℕ → List ℕ → ℕ → Result HartText Fault → Type 0
-IsHartDecoded base image harts capture hart (Ok found) = HasHart base image harts capture hart found.text.items found.end
+IsHartDecoded base image harts capture hart (Ok found) =
+    HasHart base image harts capture hart found.text.items found.end
 IsHartDecoded base image harts capture hart (Err Memory) = Unit {0}
 IsHartDecoded base image harts capture hart (Err (Program why)) = program_of base image ≡ Err why
 IsHartDecoded base image harts capture hart (Err NoHart) = HasNoHart base image harts capture hart
@@ -83,13 +84,13 @@ IsHartDecoded base image harts capture hart (Err (Illegal why)) = ⊥
 IsHartDecoded base image harts capture hart (Err Range) = ⊥
 IsHartDecoded base image harts capture hart (Err Ends) = ⊥
 
--- A hart's log was decoded and handed out, and C was told how decoding ends; or nothing was written, and the status says
--- why.
-pub data IsDecodeTold (base : ℕ) (image : List ℕ) (harts : ℕ) (capture : List ℕ) (hart status : ℕ)
+-- A hart's log was decoded and handed out, and it was reported how decoding ends; or nothing was written, and the status
+-- says why.
+pub data ReportsDecode (base : ℕ) (image : List ℕ) (harts : ℕ) (capture : List ℕ) (hart status : ℕ)
     (wanted_before wanted : ℕ) (ended_before ended : DecodeEnd) (old new : List ℕ) : Type 0 where
   Found : (text : List ℕ) → HasHart base image harts capture hart text ended
       → IsHandedOut text status wanted old new
-      → IsDecodeTold base image harts capture hart status wanted_before wanted ended_before ended old new
+      → ReportsDecode base image harts capture hart status wanted_before wanted ended_before ended old new
   Refused : (fault : Fault) → IsHartDecoded base image harts capture hart (Err fault) → status ≡ fault_status fault
       → wanted ≡ wanted_before → ended ≡ ended_before → new ≡ old
-      → IsDecodeTold base image harts capture hart status wanted_before wanted ended_before ended old new
+      → ReportsDecode base image harts capture hart status wanted_before wanted ended_before ended old new

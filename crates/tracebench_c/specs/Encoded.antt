@@ -1,4 +1,4 @@
--- What C is told of a capture of logs.
+-- What a call reports of a capture of logs.
 use Rattle.std.specs.Prelude.{ℕ, ◌≡◌, ◌⊎◌, ◌-◌, ◌<◌, ◌++◌, ◌==◌, ◌&&◌, nat_le, if◌then◌else◌, List, [], ◌∷◌, Option, Some, None}
 use Rattle.std.specs.Prelude.{Result, Ok, Err, drop, length, take}
 use Rattle.std.specs.declared.alloc.Global.{Global}
@@ -124,12 +124,12 @@ IsEncoded base image bytes ends period mode version (Err (place, Ends)) =
 IsEncoded base image bytes ends period mode version (Err (place, NoHart)) = ⊥
 
 -- A capture was handed out; or it was not, and the status says why, and of which log and row.
-pub data IsEncodeTold (base : ℕ) (image bytes ends : List ℕ) (period mode version status wanted_before wanted : ℕ)
+pub data ReportsEncode (base : ℕ) (image bytes ends : List ℕ) (period mode version status wanted_before wanted : ℕ)
     (place_before place : LogPlace) (old new : List ℕ) : Type 0 where
   Encoded : (capture : List ℕ) → IsCaptureOfTexts base image bytes ends period mode version capture
       → IsHandedOut capture status wanted old new → place ≡ place_before
-      → IsEncodeTold base image bytes ends period mode version status wanted_before wanted place_before place old new
+      → ReportsEncode base image bytes ends period mode version status wanted_before wanted place_before place old new
   Refused : (log : ℕ) (fault : Fault) → IsEncoded base image bytes ends period mode version (Err (log, fault))
       → status ≡ fault_status fault → place ≡ record { log = log; row = fault_row fault } → wanted ≡ wanted_before
       → new ≡ old
-      → IsEncodeTold base image bytes ends period mode version status wanted_before wanted place_before place old new
+      → ReportsEncode base image bytes ends period mode version status wanted_before wanted place_before place old new

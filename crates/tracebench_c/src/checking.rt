@@ -2,7 +2,7 @@
 
 ghost use Rattle.std.specs.Prelude.{◌≡◌, IfErr, IfOk, Ok};
 ghost use Rattle.rvclass.specs.Program.{program_of};
-ghost use Rattle.tracebench_c.specs.Checked.{IsCheckTold, IsChecked, IsNoProgram};
+ghost use Rattle.tracebench_c.specs.Checked.{ReportsCheck, IsChecked, IsNoProgram};
 
 use crate::fault::Fault;
 use crate::status::DONE;
@@ -24,7 +24,7 @@ pub extern "C" fn tracebench_check(
     log: &[u8],
     row: &mut u64,
 ) -> u32
-    ensures { IsCheckTold base image.now log.now result row.new }
+    ensures { ReportsCheck base image.now log.now result row.new }
 {
     match check_log(alloc, base, image, log) {
         Ok(count) => {

@@ -1,7 +1,7 @@
 //! The log of a hart, from a capture.
 
 ghost use Rattle.std.specs.Prelude.{◌≡◌};
-ghost use Rattle.tracebench_c.specs.Decoded.{IsDecodeTold, IsHartDecoded, closed_at, stop_fault, stop_place};
+ghost use Rattle.tracebench_c.specs.Decoded.{ReportsDecode, IsHartDecoded, closed_at, stop_fault, stop_place};
 ghost use Rattle.tracebench_c.specs.Statuses.{capture_status, decode_status, demux_status};
 
 use crate::checking::program_of;
@@ -57,7 +57,7 @@ pub extern "C" fn tracebench_decode(
     wanted: &mut u64,
     ended: &mut DecodeEnd,
 ) -> u32
-    ensures { IsDecodeTold base image.now harts capture.now hart result wanted.old wanted.new ended.old ended.new
+    ensures { ReportsDecode base image.now harts capture.now hart result wanted.old wanted.new ended.old ended.new
         buffer.old buffer.new }
 {
     match decode_hart(alloc, base, image, harts, capture, hart) {

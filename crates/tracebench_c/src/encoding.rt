@@ -1,7 +1,7 @@
 //! From the texts of logs to a capture.
 
 ghost use Rattle.std.specs.Prelude.{◌≡◌, IfErr, IfOk, option_map};
-ghost use Rattle.tracebench_c.specs.Encoded.{AreLogs, IsEncodeTold, IsEncoded, IsLegalText, IsNoLegalText};
+ghost use Rattle.tracebench_c.specs.Encoded.{AreLogs, ReportsEncode, IsEncoded, IsLegalText, IsNoLegalText};
 ghost use Rattle.tracebench_c.specs.Encoded.{IsRefusedLog, mode_of, text_between, version_of};
 
 use crate::checking::program_of;
@@ -54,7 +54,7 @@ pub extern "C" fn tracebench_encode(
     wanted: &mut u64,
     place: &mut LogPlace,
 ) -> u32
-    ensures { IsEncodeTold base image.now logs.now ends.now period mode version result wanted.old wanted.new place.old
+    ensures { ReportsEncode base image.now logs.now ends.now period mode version result wanted.old wanted.new place.old
         place.new buffer.old buffer.new }
 {
     match encode_logs(alloc, base, image, logs, ends, period, mode, version) {

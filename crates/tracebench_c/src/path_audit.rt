@@ -3,8 +3,8 @@
 ghost use Rattle.std.specs.Prelude.{◌≡◌, List, [], length};
 ghost use Rattle.message.specs.declared.message.Message.{Message as AnyMessage};
 ghost use Rattle.auditing.specs.Audits.{Audits};
-ghost use Rattle.tracebench_c.specs.Audited.{IsAuditTold, IsHartAudited, audit_status, heard_fault, heard_place};
-ghost use Rattle.tracebench_c.specs.Audited.{sent_status, tally_told};
+ghost use Rattle.tracebench_c.specs.Audited.{ReportsAudit, IsHartAudited, audit_status, heard_fault, heard_place};
+ghost use Rattle.tracebench_c.specs.Audited.{sent_status, tally_reported};
 ghost use Rattle.tracebench_c.specs.steps.Hearing.{HasHeard, HasTakenCapture};
 
 use crate::decoding::demux_status;
@@ -82,7 +82,7 @@ pub extern "C" fn tracebench_audit(
     tally: &mut HartTally,
     ended: &mut AuditEnd,
 ) -> u32
-    ensures { IsAuditTold sent.now received.now hart result tally.old tally.new ended.old ended.new }
+    ensures { ReportsAudit sent.now received.now hart result tally.old tally.new ended.old ended.new }
 {
     match audit_hart(alloc, sent, received, hart) {
         Ok(found) => {
@@ -119,7 +119,7 @@ fn audit_hart(
         fault: heard_fault(stop),
     };
     Ok(HartAudited {
-        tally: tally_told(path.tally(place)),
+        tally: tally_reported(path.tally(place)),
         end,
     })
 }
@@ -177,8 +177,8 @@ fn heard_fault(stop: Option<(u64, MessageFault)>) -> u32
 }
 
 /// A tally in numbers.
-fn tally_told(tally: Tally) -> HartTally
-    ensures { result ≡ tally_told tally }
+fn tally_reported(tally: Tally) -> HartTally
+    ensures { result ≡ tally_reported tally }
 {
     HartTally {
         sent: tally.sent,

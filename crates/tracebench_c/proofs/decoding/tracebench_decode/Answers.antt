@@ -1,4 +1,4 @@
--- What was found, or why nothing was, is told: by the constructor for each.
+-- What was found, or why nothing was, is reported: by the constructor for each.
 use Rattle.std.proofs.Common.{subst, refl}
 use Rattle.tracebench_c.specs.Decoded.{Found, Refused}
 use Rattle.tracebench_c.specs.Handed.{IsHandedOut}

@@ -1,13 +1,13 @@
--- A capture, or why there is none, is told: by the constructor for each.
+-- A capture, or why there is none, is reported: by the constructor for each.
 use Rattle.std.proofs.Common.{ℕ, ap, subst, refl}
 use Rattle.tracebench_c.specs.Encoded.{Encoded, Refused}
 use Rattle.tracebench_c.specs.Handed.{IsHandedOut}
 use Rattle.tracebench_c.specs.declared.encoding.LogPlace.{LogPlace}
 use Rattle.tracebench_c.proofs.encoding.tracebench_encode.Goals as goal
 
--- The place that is told.
-abbrev told : ℕ → ℕ → LogPlace
-told log row = record { log = log; row = row }
+-- The place that is reported.
+abbrev reported : ℕ → ℕ → LogPlace
+reported log row = record { log = log; row = row }
 
 pub returns-in-Ok : goal.returns-in-Ok
 returns-in-Ok c =
@@ -18,4 +18,4 @@ returns-in-Ok c =
 pub returns-in-Err : goal.returns-in-Err
 returns-in-Err c =
     Refused c.in-Err.log c.in-Err.fault c.in-Err.ensures c.status.ensures
-    (ap (λ row. told c.in-Err.log row) c.row.ensures) refl refl
+    (ap (λ row. reported c.in-Err.log row) c.row.ensures) refl refl

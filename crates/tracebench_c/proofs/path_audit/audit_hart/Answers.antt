@@ -1,8 +1,8 @@
--- What was taken of both captures is what is told: no tactic puts the audit together.
+-- What was taken of both captures is what is reported: no tactic puts the audit together.
 use Rattle.std.proofs.Common.{◌<◌, ◌^◌, length, ap, ◌∙◌, arith}
 use Rattle.auditing.specs.Sent.{harts_of}
 use Rattle.auditing.specs.Tallies.{tally_of}
-use Rattle.tracebench_c.specs.Audited.{tally_told}
+use Rattle.tracebench_c.specs.Audited.{tally_reported}
 use Rattle.tracebench_c.proofs.path_audit.audit_hart.Goals as goal
 
 pub returns : goal.returns
@@ -25,8 +25,8 @@ returns c =
       is_sent = started.1;
       heard = taken.heard;
       known = known;
-      tally_is = c.tally_told.ensures
-          ∙ ap tally_told (c.tally.ensures was_sent taken.received taken.audits few
+      tally_is = c.tally_reported.ensures
+          ∙ ap tally_reported (c.tally.ensures was_sent taken.received taken.audits few
           ∙ ap (tally_of was_sent taken.received) at);
       harts_are = c.harts-2.ensures ∙ c.take_capture-stop.ensures.harts ∙ started.2.count;
       strangers_are = c.strangers.ensures was_sent taken.received taken.audits few;

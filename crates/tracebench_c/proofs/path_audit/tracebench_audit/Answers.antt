@@ -1,4 +1,4 @@
--- Why there is no audit is told.
+-- Why there is no audit is reported.
 use Rattle.std.proofs.Common.{refl}
 use Rattle.tracebench_c.specs.Audited.{Refused}
 use Rattle.tracebench_c.proofs.path_audit.tracebench_audit.Goals as goal
