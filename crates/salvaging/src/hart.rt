@@ -17,19 +17,20 @@ use rvclass::Program;
 use std::alloc::{AllocError, Allocator};
 
 /// Salvages what is left of a hart, whose messages these are in the order in which they came. They are put in the order
-/// of their numbers.
+/// of their numbers, and their list is dropped before a packet is decoded.
 pub(crate) fn salvage_hart<A: Allocator + Copy>(
     alloc: A,
     program: &Program,
     mode: Mode,
-    came: &mut [Came<'_>],
+    mut came: Vec<Came<'_>, A>,
 ) -> Result<SalvagedHart<A>, AllocError>
-    requires { HaveNumbers (arrivals_in came.old) }
-    ensures { (messages : List AnyMessage) → arrivals_in came.old ≡ placed_from 0 messages
+    requires { HaveNumbers (arrivals_in came.items) }
+    ensures { (messages : List AnyMessage) → arrivals_in came.entry.items ≡ placed_from 0 messages
         → IfOk result (IsSalvagedHart (words_of program.now) mode messages) }
 {
-    put_in_order(came);
-    let found = entries_of(alloc, came)?;
+    put_in_order(came.as_mut_slice());
+    let found = entries_of(alloc, came.as_slice())?;
+    drop(came);
     let entries = found.entries.as_slice();
     let mut trail = take_all(alloc, program, mode, entries)?;
     trail.end_run(alloc, mode)?;

@@ -4,8 +4,11 @@ ghost use Rattle.std.specs.Prelude.{ℕ, ◌≡◌, All, IfOk, List, length};
 ghost use Rattle.rvclass.specs.Fetch.{words_of};
 ghost use Rattle.legalpath.specs.ProgramLog.{ProgramLog};
 ghost use Rattle.payload.specs.declared.mode.Mode.{Mode as AnyMode};
+ghost use Rattle.losses.specs.Collects.{GivesPieces};
+ghost use Rattle.losses.specs.declared.part.HartPieces.{HartPieces as AnyPieces};
 ghost use Rattle.salvaging.specs.FromLogs.{AreFromLogs};
 ghost use Rattle.salvaging.specs.LogsSalvaged.{AreLogsSalvaged};
+ghost use Rattle.salvaging.specs.LossyParts.{AreCollectedToo};
 ghost use Rattle.salvaging.specs.Salvaged.{IsSalvaged};
 ghost use Rattle.salvaging.specs.steps.Arrivals.{HaveNumbers, arrivals_in};
 ghost use Rattle.salvaging.specs.steps.Distributing.{AreSalvagedOf};
@@ -18,8 +21,10 @@ use message::Message;
 use payload::Mode;
 use rvclass::Program;
 use std::alloc::{AllocError, Allocator};
+use std::mem;
 
-/// Salvages what is left of each hart, whose messages these are.
+/// Salvages what is left of each hart, whose messages these are. Each list is taken out, so that it is dropped before
+/// the hart's packets are decoded.
 fn salvage_each<A: Allocator + Copy>(
     alloc: A,
     program: &Program,
@@ -31,7 +36,8 @@ fn salvage_each<A: Allocator + Copy>(
 {
     let mut harts = Vec::with_capacity(alloc, lists.len())?;
     for hart in 0..lists.len() {
-        harts.push_reserved(salvage_hart(alloc, program, mode, &mut lists[hart])?);
+        let came = mem::replace(&mut lists[hart], Vec::new(alloc));
+        harts.push_reserved(salvage_hart(alloc, program, mode, came)?);
     }
     Ok(harts)
 }
@@ -40,7 +46,8 @@ fn salvage_each<A: Allocator + Copy>(
 /// repeated, out of order, damaged, or of no hart. The logs are of this program.
 ///
 /// The harts are those below `harts`. `mode` is the mode of a hart whose packet that opens the trace is not used. What
-/// is salvaged of a hart depends on its own messages and on `mode` alone.
+/// is salvaged of a hart depends on its own messages and on `mode` alone, but for which of several faults a decoder
+/// names.
 ///
 /// A stretch without an event is left out. A gap says how many numbers did not come or are doubtful; behind the last
 /// number that came there is none. Neighbouring numbers that are bad for one reason are one part.
@@ -60,9 +67,16 @@ pub fn salvage<A: Allocator + Copy>(
         → AreFromLogs program.now period mode own logs messages.now → length logs ≡ harts
         → IfOk result (λ salvaged. AreLogsSalvaged program.now period own logs messages.now salvaged) }
 
+    // Of messages of which `losses::collect_lossy` returns pieces, with as many harts and the same mode: the same parts,
+    // none of them bad or doubtful, and the same flags. No message is a copy, late or a stranger.
+    ensures collected { (pieces : List (AnyPieces A)) → GivesPieces program.now harts mode messages.now pieces
+        → IfOk result (AreCollectedToo pieces) }
+
     // Of any messages.
     ensures salvaged { IfOk result (IsSalvaged (words_of program.now) mode harts messages.now) }
 {
+    // From this call the proof learns that the program is sound.
+    let _ = program.base();
     let mut lists = distribute(alloc, harts, messages)?;
     let salvaged = salvage_each(alloc, program, mode, &mut lists)?;
     Ok(Salvaged {

@@ -1,5 +1,7 @@
 -- What is salvaged is put together from the steps, by lemmas.
-use Rattle.std.proofs.Common.{◌<◌, length, sym, ap, subst, ◌∙◌}
+use Rattle.std.proofs.Common.{◌≡◌, ◌<◌, ◌++◌, drop, length, take, sym, ap, subst, ◌∙◌, arith}
+use Rattle.std.proofs.Math.Seq.{take-append_seam}
+use Rattle.std.proofs.lemmas.Grind.{common_steps}
 use Rattle.std.proofs.lemmas.List.{length-map}
 use Rattle.std.proofs.lemmas.List.Sorted.{All-permutation}
 use Rattle.std.specs.List.Sorted.{IsPermutation}
@@ -13,12 +15,29 @@ use Rattle.salvaging.specs.steps.Arrivals.{Arrival, arrivals_in}
 use Rattle.salvaging.specs.steps.Grouping.{entries_in, entry_of}
 use Rattle.salvaging.proofs.EntriesTaken.{all_taken}
 use Rattle.salvaging.proofs.HartSalvaged.{leaves_count}
+use Rattle.salvaging.proofs.hart.salvage_hart.Goals.{After-as_slice}
 use Rattle.salvaging.proofs.hart.salvage_hart.Goals as goal
+
+module _ (g : _) (c : After-as_slice g) where
+  -- The list is what was put in order.
+  in_order : c.as_slice.result.now ≡ c.put_in_order.new.came
+  in_order =
+      let new = c.put_in_order.new.came in
+      let rest = drop (length new) c.args.came.items in
+      let count : c.args.came.len ≡ length new = grind (arith, common_steps) in
+      c.as_slice.ensures.value ∙ subst (λ n. take n (new ++ rest) ≡ new) (sym count) (take-append_seam new rest)
+
+  -- Its messages are those that came.
+  moved : IsPermutation (arrivals_in c.args.came.items) (arrivals_in c.as_slice.result.now)
+  moved =
+      subst (λ l. IsPermutation (arrivals_in c.args.came.items) (arrivals_in l)) (sym in_order)
+      (subst (λ l. IsPermutation (arrivals_in l) (arrivals_in c.put_in_order.new.came)) c.as_mut_slice.ensures.value
+      c.put_in_order.ensures.permuted)
 
 pub entries_of-requires-clause-small : goal.entries_of-requires-clause-small
 entries_of-requires-clause-small g c =
-    All-permutation (λ (one : Arrival). one.message.number < end_of_numbers) (arrivals_in c.args.came.now)
-    (arrivals_in c.put_in_order.new.came) c.put_in_order.ensures.permuted c.requires
+    All-permutation (λ (one : Arrival). one.message.number < end_of_numbers) (arrivals_in c.args.came.items)
+    (arrivals_in c.as_slice.result.now) (moved g c) c.requires
 
 pub late-late-requires : goal.late-late-requires
 late-late-requires g c =
@@ -45,17 +64,17 @@ returns g c = λ messages placed.
     let t = c.in_ok-trail.ensures in
     let ends = c.in_ok-end_run.ensures.ends words (own_mode mode all) t.run old.next t.closed t.under_way in
     let left = all_taken words mode all old new t ends (ap (λ (v : _). v.items) c.in_ok-end_run.ensures.goods) in
-    let moved = subst (λ l. IsPermutation l (arrivals_in c.put_in_order.new.came)) placed
-    c.put_in_order.ensures.permuted in
+    let permuted = subst (λ l. IsPermutation l (arrivals_in c.as_slice.result.now)) placed
+    (moved g (goal.at.returns g c).After-as_slice) in
     let found = c.in_ok-found.ensures in
     record {
       entries = all;
       goods = new.goods.items;
       are_entries = subst (λ l. AreEntries messages (entries_in l)) (sym c.as_slice-entries.ensures.value)
-          (found.entries messages moved);
+          (found.entries messages permuted);
       parts = left.0;
       joined = left.1;
-      copies = found.copies messages moved;
+      copies = found.copies messages permuted;
       late = c.late-late.ensures ∙ ap (late all) c.deref.ensures.value;
       closed = c.is_closed.ensures;
     }

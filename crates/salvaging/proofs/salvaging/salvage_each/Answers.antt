@@ -2,9 +2,11 @@
 use Rattle.std.proofs.Common.{◌<◌, ◌+◌, length, refl, ap, ◌∙◌, arith}
 use Rattle.std.proofs.lemmas.List.{length-set, length_push}
 use Rattle.std.proofs.lemmas.Option.{slice_get_read}
+use Rattle.std.specs.declared.vec.Vec.{Vec}
 use Rattle.rvclass.specs.Fetch.{words_of}
 use Rattle.losses.proofs.Ending.{left_behind}
 use Rattle.salvaging.specs.steps.Arrivals.{arrivals_in}
+use Rattle.salvaging.specs.declared.came.Came.{Came}
 use Rattle.salvaging.proofs.SalvagedEach.{salvaged_more}
 use Rattle.salvaging.proofs.salvaging.salvage_each.Goals as goal
 
@@ -36,5 +38,5 @@ loop-hart-preserved g c =
       left = left_behind first lists i _ inv.left;
       done = salvaged_more (words_of c.args.program.now) c.args.mode first harts new i list own inv.count at pushed
           (λ messages placed. c.in_ok-salvage_hart.ensures messages
-          (ap arrivals_in c.deref_mut.ensures.value ∙ placed)) inv.done;
+          (ap (λ (v : Vec Came _). arrivals_in v.items) c.replace-came.ensures.value ∙ placed)) inv.done;
     }
