@@ -7,25 +7,25 @@ use Rattle.rvclass.specs.declared.class.Class.TheVariants.{Plain}
 use Rattle.payload.specs.declared.mode.Mode.TheVariants.{Differential}
 use Rattle.losses.specs.Parts.{LogPart, Events, Missing, parts}
 
-abbrev base : ℕ
+abbrev pub base : ℕ
 base = 0x8000_0000
 
 -- Three plain words of four bytes.
-abbrev words : Words
+abbrev pub words : Words
 words addr =
     cond (addr == base) (Some (Plain, 4)) (cond (addr == base + 4) (Some (Plain, 4))
     (cond (addr == base + 8) (Some (Plain, 4)) None))
 
-abbrev at : ℕ → Event
+abbrev pub at : ℕ → Event
 at offset = Retire (base + offset) 0 3
+
+abbrev pub all : List Event
+all = at 0 ∷ at 4 ∷ at 8 ∷ []
 
 -- Its packets at period 2 are Open, a synchronisation at the first word, an address, a synchronisation at the third
 -- word, and the closing one.
 abbrev left : List ℕ → List LogPart
-left numbers = parts words 2 Differential (at 0 ∷ at 4 ∷ at 8 ∷ []) numbers
-
-abbrev all : List Event
-all = at 0 ∷ at 4 ∷ at 8 ∷ []
+left numbers = parts words 2 Differential all numbers
 
 none_lost : left (0 ∷ 1 ∷ 2 ∷ 3 ∷ 4 ∷ []) ≡ Events all ∷ []
 none_lost = refl

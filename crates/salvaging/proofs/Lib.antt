@@ -1,3 +1,5 @@
+mod WorkedSalvaged
+mod WorkedEntries
 pub mod Members
 pub mod BlockTraces
 pub mod RunsOfLog
