@@ -1,0 +1,308 @@
+//! A safe wrapper over the bench for C, with `std` alone. `include/tracebench.h` says what each call promises.
+//!
+//! A slice of Rust is never null, and what a call writes is borrowed by `&mut`, so it overlaps nothing. That is all
+//! that the header asks of a caller in one thread.
+#![warn(missing_docs)]
+
+use std::{error, fmt};
+
+/// Why a call gives no answer: a status of the header that is not `TRACEBENCH_DONE`.
+#[derive(Clone, Copy, Debug, PartialEq, Eq)]
+pub struct Status(pub u32);
+
+const DONE: Status = Status(0);
+const TOO_SMALL: Status = Status(1);
+
+impl fmt::Display for Status {
+    fn fmt(&self, f: &mut fmt::Formatter<'_>) -> fmt::Result {
+        write!(f, "status {}", self.0)
+    }
+}
+
+impl error::Error for Status {}
+
+/// What address fields hold.
+#[derive(Clone, Copy, Debug, PartialEq, Eq)]
+#[repr(u32)]
+pub enum Mode {
+    /// Differences.
+    Differential = 0,
+    /// Addresses.
+    Full = 1,
+}
+
+/// The version of a capture.
+#[derive(Clone, Copy, Debug, PartialEq, Eq)]
+#[repr(u32)]
+pub enum Version {
+    /// Without a header.
+    One = 1,
+    /// With a header.
+    Two = 2,
+}
+
+/// A packet as numbers, `struct tracebench_packet`. What a packet of this kind does not have is 0.
+#[derive(Clone, Copy, Debug, Default, PartialEq, Eq)]
+#[repr(C)]
+#[allow(missing_docs)]
+pub struct Packet {
+    pub kind: u32,
+    pub taken: u32,
+    pub privilege: u32,
+    pub cause: u32,
+    pub interrupt: u32,
+    pub handler: u32,
+    pub mode: u32,
+    pub report: u32,
+    pub outcomes: u32,
+    pub map: u32,
+    pub address: u64,
+    pub tval: u64,
+}
+
+impl Packet {
+    /// A packet that says where the trace is.
+    pub fn sync(address: u64, privilege: u32) -> Packet {
+        Packet {
+            kind: 0,
+            privilege,
+            address,
+            ..Packet::default()
+        }
+    }
+}
+
+/// The log, counted from 0, and its row, counted from 1, that are at fault; 0 where none is named.
+#[derive(Clone, Copy, Debug, Default, PartialEq, Eq)]
+#[repr(C)]
+#[allow(missing_docs)]
+pub struct LogPlace {
+    pub log: u64,
+    pub row: u64,
+}
+
+/// How a dump ends, `struct tracebench_dump_end`.
+#[derive(Clone, Copy, Debug, Default, PartialEq, Eq)]
+#[repr(C)]
+#[allow(missing_docs)]
+pub struct DumpEnd {
+    pub place: u64,
+    pub fault: u32,
+    pub bad: u32,
+}
+
+/// How decoding a capture ends, `struct tracebench_decode_end`.
+#[derive(Clone, Copy, Debug, Default, PartialEq, Eq)]
+#[repr(C)]
+#[allow(missing_docs)]
+pub struct DecodeEnd {
+    pub harts: u64,
+    pub place: u64,
+    pub fault: u32,
+    pub closed: u32,
+}
+
+/// What became of the messages of a hart, `struct tracebench_tally`.
+#[derive(Clone, Copy, Debug, Default, PartialEq, Eq)]
+#[repr(C)]
+#[allow(missing_docs)]
+pub struct Tally {
+    pub sent: u64,
+    pub came: u64,
+    pub lost: u64,
+    pub repeated: u64,
+    pub late: u64,
+    pub changed: u64,
+    pub whole: u32,
+}
+
+/// What an audit finds besides, `struct tracebench_audit_end`.
+#[derive(Clone, Copy, Debug, Default, PartialEq, Eq)]
+#[repr(C)]
+#[allow(missing_docs)]
+pub struct AuditEnd {
+    pub harts: u64,
+    pub strangers: u64,
+    pub place: u64,
+    pub fault: u32,
+}
+
+#[rustfmt::skip]
+extern "C" {
+    fn tracebench_pack(packet: *const Packet, buffer: *mut u8, buffer_length: usize, wanted: *mut u64) -> u32;
+    fn tracebench_unpack(payload: *const u8, payload_length: usize, packet: *mut Packet) -> u32;
+    fn tracebench_check(base: u64, image: *const u8, image_length: usize, log: *const u8, log_length: usize,
+        row: *mut u64) -> u32;
+    fn tracebench_encode(base: u64, image: *const u8, image_length: usize, logs: *const u8, logs_length: usize,
+        ends: *const u64, ends_length: usize, period: u16, mode: u32, version: u32, buffer: *mut u8,
+        buffer_length: usize, wanted: *mut u64, place: *mut LogPlace) -> u32;
+    fn tracebench_dump(capture: *const u8, capture_length: usize, buffer: *mut u8, buffer_length: usize,
+        wanted: *mut u64, ended: *mut DumpEnd) -> u32;
+    fn tracebench_decode(base: u64, image: *const u8, image_length: usize, harts: u16, capture: *const u8,
+        capture_length: usize, hart: u16, buffer: *mut u8, buffer_length: usize, wanted: *mut u64,
+        ended: *mut DecodeEnd) -> u32;
+    fn tracebench_audit(sent: *const u8, sent_length: usize, received: *const u8, received_length: usize, hart: u16,
+        tally: *mut Tally, ended: *mut AuditEnd) -> u32;
+}
+
+/// Nothing where the status is that all is done.
+fn done(status: u32) -> Result<(), Status> {
+    if Status(status) == DONE {
+        Ok(())
+    } else {
+        Err(Status(status))
+    }
+}
+
+/// The bytes that a call hands out. Where the first buffer is too small, the call is made again with one that is not.
+fn handed_out(mut call: impl FnMut(&mut [u8], &mut u64) -> u32) -> Result<Vec<u8>, Status> {
+    let mut bytes = vec![0; 4096];
+    loop {
+        let mut wanted = 0;
+        match Status(call(&mut bytes, &mut wanted)) {
+            DONE => {
+                bytes.truncate(wanted as usize);
+                return Ok(bytes);
+            }
+            TOO_SMALL => bytes.resize(wanted as usize, 0),
+            status => return Err(status),
+        }
+    }
+}
+
+/// The shortest payload of a packet.
+pub fn pack(packet: &Packet) -> Result<Vec<u8>, Status> {
+    // SAFETY: each pointer with its length is that of a slice or a value that is borrowed for the call.
+    handed_out(|buffer, wanted| unsafe {
+        tracebench_pack(packet, buffer.as_mut_ptr(), buffer.len(), wanted)
+    })
+}
+
+/// The packet that a payload stands for.
+pub fn unpack(payload: &[u8]) -> Result<Packet, Status> {
+    let mut packet = Packet::default();
+    // SAFETY: as above.
+    done(unsafe { tracebench_unpack(payload.as_ptr(), payload.len(), &mut packet) })?;
+    Ok(packet)
+}
+
+/// How many events a legal log has; or why the text is that of none, and the row that is named, or 0.
+pub fn check(base: u64, image: &[u8], log: &[u8]) -> Result<u64, (Status, u64)> {
+    let mut row = 0;
+    // SAFETY: as above.
+    let status = unsafe {
+        tracebench_check(
+            base,
+            image.as_ptr(),
+            image.len(),
+            log.as_ptr(),
+            log.len(),
+            &mut row,
+        )
+    };
+    done(status).map(|()| row).map_err(|status| (status, row))
+}
+
+/// The capture of harts' logs, hart 0 first; or why there is none, and the log and row that are at fault.
+pub fn encode(
+    base: u64,
+    image: &[u8],
+    logs: &[&[u8]],
+    period: u16,
+    mode: Mode,
+    version: Version,
+) -> Result<Vec<u8>, (Status, LogPlace)> {
+    let texts = logs.concat();
+    let mut end = 0;
+    let ends: Vec<u64> = logs
+        .iter()
+        .map(|log| {
+            end += log.len() as u64;
+            end
+        })
+        .collect();
+    let mut place = LogPlace::default();
+    // SAFETY: as above.
+    let capture = handed_out(|buffer, wanted| unsafe {
+        tracebench_encode(
+            base,
+            image.as_ptr(),
+            image.len(),
+            texts.as_ptr(),
+            texts.len(),
+            ends.as_ptr(),
+            ends.len(),
+            period,
+            mode as u32,
+            version as u32,
+            buffer.as_mut_ptr(),
+            buffer.len(),
+            wanted,
+            &mut place,
+        )
+    });
+    capture.map_err(|status| (status, place))
+}
+
+/// A capture as text, and how it ends.
+pub fn dump(capture: &[u8]) -> Result<(Vec<u8>, DumpEnd), Status> {
+    let mut ended = DumpEnd::default();
+    // SAFETY: as above.
+    let text = handed_out(|buffer, wanted| unsafe {
+        tracebench_dump(
+            capture.as_ptr(),
+            capture.len(),
+            buffer.as_mut_ptr(),
+            buffer.len(),
+            wanted,
+            &mut ended,
+        )
+    })?;
+    Ok((text, ended))
+}
+
+/// The log of a hart of a capture, as text, and how decoding ended. A capture without a header has so many harts.
+pub fn decode(
+    base: u64,
+    image: &[u8],
+    harts: u16,
+    capture: &[u8],
+    hart: u16,
+) -> Result<(Vec<u8>, DecodeEnd), Status> {
+    let mut ended = DecodeEnd::default();
+    // SAFETY: as above.
+    let text = handed_out(|buffer, wanted| unsafe {
+        tracebench_decode(
+            base,
+            image.as_ptr(),
+            image.len(),
+            harts,
+            capture.as_ptr(),
+            capture.len(),
+            hart,
+            buffer.as_mut_ptr(),
+            buffer.len(),
+            wanted,
+            &mut ended,
+        )
+    })?;
+    Ok((text, ended))
+}
+
+/// What became of the messages of a hart of SENT in RECEIVED, and what was found besides.
+pub fn audit(sent: &[u8], received: &[u8], hart: u16) -> Result<(Tally, AuditEnd), Status> {
+    let (mut tally, mut ended) = (Tally::default(), AuditEnd::default());
+    // SAFETY: as above.
+    done(unsafe {
+        tracebench_audit(
+            sent.as_ptr(),
+            sent.len(),
+            received.as_ptr(),
+            received.len(),
+            hart,
+            &mut tally,
+            &mut ended,
+        )
+    })?;
+    Ok((tally, ended))
+}

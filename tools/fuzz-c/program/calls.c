@@ -1,0 +1,177 @@
+#include "calls.h"
+
+#include <string.h>
+
+/* Bytes up to and with a field. */
+#define UP_TO(type, field) (offsetof(type, field) + sizeof(((type *)0)->field))
+
+#define IMAGE given->base, given->image.at, given->image.length
+#define BYTES given->bytes.at, given->bytes.length
+#define OTHER given->other.at, given->other.length
+#define BUFFER answer->buffer.at, answer->buffer.length, (uint64_t *)(void *)answer->wanted.at
+#define FIRST (void *)answer->first.at
+#define SECOND (void *)answer->second.at
+
+static uint32_t make_pack(const struct given *given, struct answer *answer) {
+    return tracebench_pack((const struct tracebench_packet *)(const void *)given->other.at, BUFFER);
+}
+
+static uint32_t make_unpack(const struct given *given, struct answer *answer) {
+    return tracebench_unpack(BYTES, FIRST);
+}
+
+static uint32_t make_check(const struct given *given, struct answer *answer) {
+    return tracebench_check(IMAGE, BYTES, FIRST);
+}
+
+static uint32_t make_encode(const struct given *given, struct answer *answer) {
+    const uint64_t *ends = (const uint64_t *)(const void *)given->other.at;
+    return tracebench_encode(IMAGE, BYTES, ends, given->other.length / sizeof *ends, given->period, given->mode,
+                             given->version, BUFFER, FIRST);
+}
+
+static uint32_t make_dump(const struct given *given, struct answer *answer) {
+    return tracebench_dump(BYTES, BUFFER, FIRST);
+}
+
+static uint32_t make_decode(const struct given *given, struct answer *answer) {
+    return tracebench_decode(IMAGE, given->harts, BYTES, given->hart, BUFFER, FIRST);
+}
+
+static uint32_t make_audit(const struct given *given, struct answer *answer) {
+    return tracebench_audit(BYTES, OTHER, given->hart, FIRST, SECOND);
+}
+
+struct tracebench_packet packet_of(const struct answer *answer) {
+    struct tracebench_packet packet;
+    memcpy(&packet, answer->first.at, sizeof packet);
+    return packet;
+}
+
+struct tracebench_dump_end dump_end_of(const struct answer *answer) {
+    struct tracebench_dump_end ended;
+    memcpy(&ended, answer->first.at, sizeof ended);
+    return ended;
+}
+
+struct tracebench_decode_end decode_end_of(const struct answer *answer) {
+    struct tracebench_decode_end ended;
+    memcpy(&ended, answer->first.at, sizeof ended);
+    return ended;
+}
+
+struct tracebench_tally tally_of(const struct answer *answer) {
+    struct tracebench_tally tally;
+    memcpy(&tally, answer->first.at, sizeof tally);
+    return tally;
+}
+
+struct tracebench_audit_end audit_end_of(const struct answer *answer) {
+    struct tracebench_audit_end ended;
+    memcpy(&ended, answer->second.at, sizeof ended);
+    return ended;
+}
+
+static uint32_t dump_fault(const struct answer *answer) { return dump_end_of(answer).fault; }
+static uint32_t decode_fault(const struct answer *answer) { return decode_end_of(answer).fault; }
+static uint32_t audit_fault(const struct answer *answer) { return audit_end_of(answer).fault; }
+
+#define END {1, 0}
+#define ONE(status) {TRACEBENCH_##status, TRACEBENCH_##status}
+#define SPAN(from, to) {TRACEBENCH_##from, TRACEBENCH_##to}
+
+static const struct span of_pack[] = {ONE(DONE), ONE(TOO_SMALL), ONE(NO_PACKET), END};
+static const struct span of_unpack[] = {ONE(DONE), SPAN(EMPTY, BAD_REPORT), END};
+static const struct span of_check[] = {ONE(DONE), ONE(MEMORY), SPAN(ODD_BASE, PAST_END),
+                                       SPAN(WRONG_HEADER, TOO_MANY_ROWS), SPAN(OFF_PROGRAM, WRONG_EPC), END};
+static const struct span of_encode[] = {ONE(DONE), ONE(TOO_SMALL), ONE(MEMORY), ONE(OUT_OF_RANGE), ONE(BAD_ENDS),
+                                        SPAN(ODD_BASE, PAST_END), SPAN(WRONG_HEADER, TOO_MANY_ROWS),
+                                        SPAN(OFF_PROGRAM, WRONG_EPC), END};
+static const struct span of_dump[] = {ONE(DONE), ONE(TOO_SMALL), ONE(MEMORY), END};
+static const struct span of_decode[] = {ONE(DONE), ONE(TOO_SMALL), ONE(NO_HART), ONE(MEMORY),
+                                        SPAN(ODD_BASE, PAST_END), END};
+static const struct span of_audit[] = {ONE(DONE), ONE(NO_HART), ONE(MEMORY), ONE(SHORT), ONE(BAD_LENGTH),
+                                       ONE(BAD_HEADER), ONE(STRANGER), ONE(REPEAT), ONE(GAP), END};
+
+/* Why a capture is not read on; and why it is not decoded on. */
+static const struct span unread[] = {ONE(DONE), ONE(SHORT), ONE(BAD_LENGTH), ONE(BAD_HEADER), END};
+static const struct span undecoded[] = {ONE(DONE), ONE(MEMORY), ONE(SHORT), ONE(BAD_LENGTH), ONE(BAD_HEADER),
+                                        SPAN(EMPTY, BAD_REPORT), SPAN(STRANGER, OTHER_MODE),
+                                        SPAN(NOT_OPENED, AFTER_CLOSING_PACKET), END};
+
+#define ALL_OF(type) {sizeof(type), sizeof(type)}
+
+const struct call pack = {
+    .name = "pack", .make = make_pack, .statuses = of_pack, .unit = 1,
+};
+const struct call unpack = {
+    .name = "unpack", .make = make_unpack, .statuses = of_unpack, .first = ALL_OF(struct tracebench_packet),
+    .written = WITH_DONE,
+};
+const struct call check = {
+    .name = "check", .make = make_check, .statuses = of_check, .first = ALL_OF(uint64_t),
+    .written = WITH_DONE | WITH_REFUSAL,
+};
+const struct call encode = {
+    .name = "encode", .make = make_encode, .statuses = of_encode, .first = ALL_OF(struct tracebench_log_place),
+    .unit = 1, .written = WITH_REFUSAL,
+};
+const struct call dump = {
+    .name = "dump", .make = make_dump, .statuses = of_dump, .faults = unread, .fault = dump_fault,
+    .first = ALL_OF(struct tracebench_dump_end), .unit = 1, .written = WITH_DONE | WITH_TOO_SMALL,
+};
+const struct call decode = {
+    .name = "decode", .make = make_decode, .statuses = of_decode, .faults = undecoded, .fault = decode_fault,
+    .first = ALL_OF(struct tracebench_decode_end), .unit = 1, .written = WITH_DONE | WITH_TOO_SMALL,
+};
+const struct call audit = {
+    .name = "audit", .make = make_audit, .statuses = of_audit, .faults = unread, .fault = audit_fault,
+    .first = {sizeof(struct tracebench_tally), UP_TO(struct tracebench_tally, whole)},
+    .second = {sizeof(struct tracebench_audit_end), UP_TO(struct tracebench_audit_end, fault)},
+    .written = WITH_DONE,
+};
+
+const struct call *const calls[CALLS] = {&pack, &unpack, &check, &encode, &dump, &decode, &audit};
+
+bool is_listed(const struct span *spans, uint32_t status) {
+    for (; spans->from <= spans->to; spans++)
+        if (spans->from <= status && status <= spans->to) return true;
+    return false;
+}
+
+bool is_answer(uint32_t status) { return status == TRACEBENCH_DONE || status == TRACEBENCH_TOO_SMALL; }
+
+bool is_written(const struct call *call, uint32_t status) {
+    int with = status == TRACEBENCH_DONE        ? WITH_DONE
+               : status == TRACEBENCH_TOO_SMALL ? WITH_TOO_SMALL
+                                                : WITH_REFUSAL;
+    return (call->written & with) != 0;
+}
+
+uint64_t wanted_of(const struct answer *answer) {
+    uint64_t wanted;
+    memcpy(&wanted, answer->wanted.at, sizeof wanted);
+    return wanted;
+}
+
+struct given given_bytes(struct slice bytes) {
+    struct given given;
+    memset(&given, 0, sizeof given);
+    given.image = room(0);
+    given.bytes = bytes;
+    given.other = room(0);
+    return given;
+}
+
+void give_back_given(struct given *given) {
+    give_back(&given->image);
+    give_back(&given->bytes);
+    give_back(&given->other);
+}
+
+void give_back_answer(struct answer *answer) {
+    give_back(&answer->buffer);
+    give_back(&answer->wanted);
+    give_back(&answer->first);
+    give_back(&answer->second);
+}

@@ -1,0 +1,88 @@
+/* The calls of the library, what each is given and what the header says that it writes. */
+#ifndef CALLS_H
+#define CALLS_H
+
+#include "slices.h"
+#include "tracebench.h"
+
+/* What a call is given to read; each call takes some of it. */
+struct given {
+    uint64_t base;
+    struct slice image;
+    struct slice bytes; /* a payload, the text of a log or of several, a capture, or SENT */
+    struct slice other; /* RECEIVED, or where each log ends, or a packet's numbers */
+    uint16_t harts;
+    uint16_t hart;
+    uint16_t period;
+    uint32_t mode;
+    uint32_t version;
+};
+
+/* The status of a call, and what it was given to write. */
+struct answer {
+    uint32_t status;
+    struct slice buffer;
+    struct slice wanted;
+    struct slice first;  /* the struct, or the row, that is written besides */
+    struct slice second; /* and one more, of an audit */
+};
+
+/* A struct that a call writes: its size, and how many bytes of it have a meaning; padding has none. */
+struct written {
+    size_t size;
+    size_t meaning;
+};
+
+/* From one status to another. The last of a list begins behind its end. */
+struct span {
+    uint32_t from;
+    uint32_t to;
+};
+
+/* The statuses with which a struct is written: with all done, with a buffer that is too small, with any other. */
+enum { WITH_DONE = 1, WITH_TOO_SMALL = 2, WITH_REFUSAL = 4 };
+
+struct call {
+    const char *name;
+    uint32_t (*make)(const struct given *given, struct answer *answer);
+    const struct span *statuses; /* those that the header lists */
+    const struct span *faults;   /* those that may be written as a fault; NULL for a call that writes none */
+    uint32_t (*fault)(const struct answer *answer);
+    struct written first;
+    struct written second;
+    size_t unit; /* how many bytes an element has that it hands out through a buffer; 0 where it hands out none */
+    int written; /* with which statuses `first` and `second` are written */
+};
+
+enum { CALLS = 7, STATUSES = 128 };
+
+extern const struct call pack, unpack, check, encode, dump, decode, audit;
+
+/* All of them. */
+extern const struct call *const calls[CALLS];
+
+/* Whether one of the spans has the status. */
+bool is_listed(const struct span *spans, uint32_t status);
+
+/* Whether a status is one of an answer: all is done, or but for a buffer that is too small. */
+bool is_answer(uint32_t status);
+
+/* Whether `first` and `second` are written with this status. */
+bool is_written(const struct call *call, uint32_t status);
+
+uint64_t wanted_of(const struct answer *answer);
+
+/* The structs that are written, with what stands for the padding as it is. */
+struct tracebench_packet packet_of(const struct answer *answer);
+struct tracebench_dump_end dump_end_of(const struct answer *answer);
+struct tracebench_decode_end decode_end_of(const struct answer *answer);
+struct tracebench_tally tally_of(const struct answer *answer);
+struct tracebench_audit_end audit_end_of(const struct answer *answer);
+
+/* What a call is given that takes these bytes and no program. */
+struct given given_bytes(struct slice bytes);
+
+void give_back_given(struct given *given);
+void give_back_answer(struct answer *answer);
+
+#endif

@@ -1,0 +1,21 @@
+/* What a call is given, at random: good things, damaged ones, and any bytes. */
+#ifndef DRAWS_H
+#define DRAWS_H
+
+#include "calls.h"
+#include "corpus.h"
+
+struct given drawn_for_pack(void);
+struct given drawn_for_unpack(const struct program *program);
+struct given drawn_for_check(const struct program *program);
+
+/* `*plain` is whether each log is one whose text decoding it gives again. */
+struct given drawn_for_encode(const struct program *program, bool *plain);
+struct given drawn_for_dump(const struct program *program);
+struct given drawn_for_decode(const struct program *program);
+struct given drawn_for_audit(const struct program *program);
+
+/* A log of one row too many for a log. It takes 134 MB. */
+struct given of_too_many_rows(const struct program *program);
+
+#endif

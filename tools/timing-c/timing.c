@@ -1,0 +1,176 @@
+/*
+ * What the calls of the library for C take over a log, beside the phases of the crate `timing`.
+ *
+ *     timing-c BASE IMAGE LOG
+ *
+ * BASE is hexadecimal. Each call is made nine times, into a buffer that is large enough. A line has the least time in
+ * nanoseconds: for each event, of an audit for each message, of `pack` and `unpack` for each packet. Captures are of
+ * version 1, in differential mode, at period 1,024, and of an audit at period 64, as in `timing`.
+ */
+#define _POSIX_C_SOURCE 199309L
+#include "tracebench.h"
+
+#include <inttypes.h>
+#include <stdio.h>
+#include <stdlib.h>
+#include <string.h>
+#include <time.h>
+
+enum { RUNS = 9, PERIOD = 1024, DENSE_PERIOD = 64, HEAD = 11, LONGEST_PAYLOAD = 18 };
+
+struct bytes {
+    uint8_t *at;
+    size_t length;
+};
+
+/* What the calls are given, and room for what they write. */
+struct input {
+    uint64_t base;
+    struct bytes image, log, capture, dense, text;
+    struct tracebench_packet *packets;
+    uint8_t (*payloads)[LONGEST_PAYLOAD];
+    uint64_t *lengths;
+    size_t events, messages, dense_messages;
+};
+
+static void stop(const char *what, uint32_t status) {
+    fprintf(stderr, "timing-c: %s: status %" PRIu32 "\n", what, status);
+    exit(1);
+}
+
+static void *room(size_t length) {
+    void *at = malloc(length + 1);
+    if (at == NULL) stop("memory", TRACEBENCH_MEMORY);
+    return at;
+}
+
+static struct bytes read_file(const char *path) {
+    FILE *file = fopen(path, "rb");
+    if (file == NULL || fseek(file, 0, SEEK_END) != 0) stop(path, 0);
+    struct bytes bytes = {NULL, (size_t)ftell(file)};
+    bytes.at = room(bytes.length);
+    rewind(file);
+    if (fread(bytes.at, 1, bytes.length, file) != bytes.length) stop(path, 0);
+    fclose(file);
+    return bytes;
+}
+
+/* Encodes the log into a buffer. Returns how many bytes are wanted. */
+static uint64_t encode(const struct input *input, uint16_t period, struct bytes buffer, uint32_t expected) {
+    uint64_t wanted = 0;
+    const uint64_t ends[1] = {input->log.length};
+    struct tracebench_log_place place;
+    uint32_t status = tracebench_encode(input->base, input->image.at, input->image.length, input->log.at,
+                                        input->log.length, ends, 1, period, TRACEBENCH_DIFFERENTIAL,
+                                        TRACEBENCH_VERSION_ONE, buffer.at, buffer.length, &wanted, &place);
+    if (status != expected) stop("encode", status);
+    return wanted;
+}
+
+static struct bytes encoded(const struct input *input, uint16_t period) {
+    uint8_t none[1];
+    uint64_t wanted = encode(input, period, (struct bytes){none, 0}, TRACEBENCH_TOO_SMALL);
+    struct bytes capture = {room((size_t)wanted), (size_t)wanted};
+    encode(input, period, capture, TRACEBENCH_DONE);
+    return capture;
+}
+
+static size_t messages_of(struct bytes capture) {
+    size_t count = 0;
+    for (size_t at = 0; at < capture.length; at += HEAD + capture.at[at + HEAD - 1]) count++;
+    return count;
+}
+
+static uint64_t run_check(const struct input *input) {
+    uint64_t row = 0;
+    uint32_t status =
+        tracebench_check(input->base, input->image.at, input->image.length, input->log.at, input->log.length, &row);
+    if (status != TRACEBENCH_DONE) stop("check", status);
+    return row;
+}
+
+static uint64_t run_encode(const struct input *input) { return encode(input, PERIOD, input->capture, TRACEBENCH_DONE); }
+
+static uint64_t run_decode(const struct input *input) {
+    uint64_t wanted = 0;
+    struct tracebench_decode_end ended;
+    uint32_t status =
+        tracebench_decode(input->base, input->image.at, input->image.length, 1, input->capture.at,
+                          input->capture.length, 0, input->text.at, input->text.length, &wanted, &ended);
+    if (status != TRACEBENCH_DONE || ended.fault != TRACEBENCH_DONE) stop("decode", status);
+    return wanted;
+}
+
+static uint64_t run_audit(const struct input *input) {
+    struct tracebench_tally tally;
+    struct tracebench_audit_end ended;
+    const struct bytes *capture = &input->dense;
+    uint32_t status =
+        tracebench_audit(capture->at, capture->length, capture->at, capture->length, 0, &tally, &ended);
+    if (status != TRACEBENCH_DONE || tally.whole != 1) stop("audit", status);
+    return tally.came;
+}
+
+static uint64_t run_unpack(const struct input *input) {
+    const uint8_t *at = input->capture.at;
+    for (size_t place = 0; place < input->messages; place++) {
+        uint32_t status = tracebench_unpack(at + HEAD, at[HEAD - 1], &input->packets[place]);
+        if (status != TRACEBENCH_DONE) stop("unpack", status);
+        at += HEAD + at[HEAD - 1];
+    }
+    return input->messages;
+}
+
+static uint64_t run_pack(const struct input *input) {
+    uint64_t bytes = 0;
+    for (size_t place = 0; place < input->messages; place++) {
+        uint32_t status = tracebench_pack(&input->packets[place], input->payloads[place], LONGEST_PAYLOAD,
+                                          &input->lengths[place]);
+        if (status != TRACEBENCH_DONE) stop("pack", status);
+        bytes += input->lengths[place];
+    }
+    return bytes;
+}
+
+/* Makes a call several times, and prints the least time for each of so many items, and the number that it gives. */
+static void measure(const char *name, uint64_t (*call)(const struct input *), const struct input *input, size_t items) {
+    double least = 1e300;
+    uint64_t answer = 0;
+    for (int run = 0; run < RUNS; run++) {
+        struct timespec start, end;
+        clock_gettime(CLOCK_MONOTONIC, &start);
+        answer = call(input);
+        clock_gettime(CLOCK_MONOTONIC, &end);
+        double taken = (double)(end.tv_sec - start.tv_sec) * 1e9 + (double)(end.tv_nsec - start.tv_nsec);
+        least = taken < least ? taken : least;
+    }
+    printf("%-18s %9.2f ns  (%" PRIu64 ")\n", name, least / (double)items, answer);
+}
+
+int main(int count, char **words) {
+    if (count != 4) {
+        fputs("usage: timing-c BASE IMAGE LOG\n", stderr);
+        return 2;
+    }
+    struct input input;
+    memset(&input, 0, sizeof input);
+    input.base = strtoull(words[1], NULL, 16);
+    input.image = read_file(words[2]);
+    input.log = read_file(words[3]);
+    input.text = (struct bytes){room(input.log.length), input.log.length};
+    input.events = (size_t)run_check(&input);
+    input.capture = encoded(&input, PERIOD);
+    input.dense = encoded(&input, DENSE_PERIOD);
+    input.messages = messages_of(input.capture);
+    input.dense_messages = messages_of(input.dense);
+    input.packets = room(input.messages * sizeof *input.packets);
+    input.payloads = room(input.messages * sizeof *input.payloads);
+    input.lengths = room(input.messages * sizeof *input.lengths);
+    measure("check", run_check, &input, input.events);
+    measure("encode", run_encode, &input, input.events);
+    measure("decode", run_decode, &input, input.events);
+    measure("audit", run_audit, &input, input.dense_messages);
+    measure("unpack", run_unpack, &input, input.messages);
+    measure("pack", run_pack, &input, input.messages);
+    return 0;
+}
