@@ -2,8 +2,9 @@
  * The bench for C and C++: which logs are legal, which capture they give, what a capture holds and decodes to, and
  * packets and their payloads. Each call is a few lines over one whose promises are proved.
  *
- * A call keeps nothing from one call to the next, and writes only where it is given room to write. A slice is a pointer
- * and the number of elements behind it. What every caller owes:
+ * A call keeps nothing from one call to the next, and writes only where it is given room to write. What stands for the
+ * events so far, step by step, is a struct of the caller's. A slice is a pointer and the number of elements behind it.
+ * What every caller owes:
  *
  * - No pointer is null, also where the slice has no element.
  * - What a call is given to write overlaps nothing else that it is given.
@@ -11,7 +12,7 @@
  *
  * What comes back as bytes goes into a buffer of the caller's. `*wanted` is then how many bytes there are. Where the
  * buffer has fewer, none is written to it, and the status is TRACEBENCH_TOO_SMALL. So a first call with a buffer of one
- * byte and a length of 0 asks for the size.
+ * byte and a length of 0 asks for the size. With packets in place of bytes, `*count` is how many there are.
  *
  * Each call returns a status. After a status that says why a call gives no answer, nothing was written but the place
  * that the call names.
@@ -175,6 +176,12 @@ extern "C" {
 /* A packet stands behind the one that closes the trace. */
 #define TRACEBENCH_AFTER_CLOSING_PACKET 118u
 
+/* The state is none that a call for it gives. */
+#define TRACEBENCH_BAD_STATE 128u
+
+/* No event has these numbers. */
+#define TRACEBENCH_NO_EVENT 129u
+
 /* Packets. */
 
 /* What a packet is. */
@@ -234,6 +241,90 @@ uint32_t tracebench_pack(const struct tracebench_packet *packet, uint8_t *buffer
  *     uint32_t status = tracebench_unpack(payload, (size_t)length, &packet);
  */
 uint32_t tracebench_unpack(const uint8_t *payload, size_t payload_length, struct tracebench_packet *packet);
+
+/* Step by step: one event in, its packets out. */
+
+/* What an event is. */
+#define TRACEBENCH_RETIREMENT 0u /* an instruction retired */
+#define TRACEBENCH_TRAP_TAKEN 1u /* an exception or an interrupt was taken */
+
+/* An event as numbers. What an event of this kind does not have is 0. */
+struct tracebench_event {
+    uint32_t kind;     /* TRACEBENCH_RETIREMENT or TRACEBENCH_TRAP_TAKEN */
+    uint8_t itype;     /* of a retirement: 0 for none of the others, 3 for a return from a trap, 4 for a branch not
+                          taken, 5 for a branch taken, 6 for an uninferable jump */
+    uint8_t privilege; /* that the instruction retired at, or that the trap was taken from: 0, 1 or 3 */
+    uint8_t cause;     /* of a trap: below 64 */
+    uint8_t interrupt; /* of a trap: 1 where it is an interrupt */
+    uint64_t address;  /* of a retirement the address, of a trap the exception program counter; even */
+    uint64_t tval;     /* of an exception: the trap value */
+};
+
+/* What is due for the event that an encoder holds back. */
+#define TRACEBENCH_DUE_NOTHING 0u         /* nothing, unless what comes next or the event itself calls for a packet */
+#define TRACEBENCH_DUE_SYNC 1u            /* a sync */
+#define TRACEBENCH_DUE_TARGET 2u          /* an address, as the target of an uninferable discontinuity */
+#define TRACEBENCH_DUE_TRAP 3u            /* a trap, with its own address */
+#define TRACEBENCH_DUE_TRAP_OR_HANDLER 4u /* a trap, with its handler if a retirement comes next */
+#define TRACEBENCH_DUE_HANDLER 5u         /* nothing more: the event is a handler, and was reported with its trap */
+
+/* What an encoder keeps from one event to the next. It may be copied, and goes on from each copy. */
+struct tracebench_encoder_state {
+    uint16_t between;             /* how many retirements come between two periodic syncs: the period less 1 */
+    uint16_t left;                /* how many retirements come before the next periodic sync */
+    uint32_t mode;                /* TRACEBENCH_DIFFERENTIAL or TRACEBENCH_FULL */
+    uint32_t holds;               /* 1 where an event is held back until it is known what follows, and else 0 */
+    uint32_t due;                 /* TRACEBENCH_DUE_NOTHING to TRACEBENCH_DUE_HANDLER */
+    uint32_t outcomes;            /* how many outcomes of branches no packet has reported yet, 0 to 31 */
+    uint32_t map;                 /* these outcomes, the oldest in the lowest bit; a taken branch is 0 */
+    uint64_t reported;            /* the last reported address; 0 before the first */
+    struct tracebench_event held; /* the event that is held back; all 0 where none is */
+};
+
+/*
+ * Writes the state of an encoder before the first event of a log, and the packet that opens the trace. There is a
+ * periodic sync at each retirement whose number, from 0, the period divides. The period is 1 or more. The status is
+ * TRACEBENCH_DONE, or TRACEBENCH_OUT_OF_RANGE where the period or the mode is out of its range.
+ *
+ *     struct tracebench_encoder_state state;
+ *     struct tracebench_packet opening;
+ *     uint32_t status = tracebench_encoder(1024, TRACEBENCH_DIFFERENTIAL, &state, &opening);
+ */
+uint32_t tracebench_encoder(uint16_t period, uint32_t mode, struct tracebench_encoder_state *state,
+                            struct tracebench_packet *opening);
+
+/*
+ * Takes the next event of a log of the program whose image begins at `base`, and writes the packets that it makes due:
+ * 0 to 2, so room for two is always enough. `*state` stands for the events before, and then for this one too. Only with
+ * TRACEBENCH_DONE it changes. Where there is too little room, `*count` says how many packets there are, and the status
+ * is TRACEBENCH_TOO_SMALL: the event was not taken. Else the status is TRACEBENCH_BAD_STATE where no encoder has this
+ * state, TRACEBENCH_NO_EVENT where no event has these numbers, TRACEBENCH_MEMORY, or says what is wrong with the image
+ * (TRACEBENCH_ODD_BASE to TRACEBENCH_PAST_END).
+ *
+ * The packets are those of the log where it is legal. This call does not look at that; tracebench_check does. It copies
+ * the image each time, so an event costs as much as a copy of the image at least.
+ *
+ *     struct tracebench_event event = {TRACEBENCH_RETIREMENT, 0, 3, 0, 0, base, 0};
+ *     struct tracebench_packet packets[2];
+ *     uint64_t count;
+ *     uint32_t status = tracebench_push(base, image, image_length, &state, &event, packets, 2, &count);
+ */
+uint32_t tracebench_push(uint64_t base, const uint8_t *image, size_t image_length,
+                         struct tracebench_encoder_state *state, const struct tracebench_event *event,
+                         struct tracebench_packet *packets, size_t packets_length, uint64_t *count);
+
+/*
+ * Takes the end of a log, and writes the packets that are left, 1 or 2. The last of them closes the trace. `*state`
+ * stands for all events of the log, and stays. The status is TRACEBENCH_DONE, TRACEBENCH_TOO_SMALL,
+ * TRACEBENCH_BAD_STATE, TRACEBENCH_MEMORY, or says what is wrong with the image.
+ *
+ *     uint32_t status = tracebench_finish(base, image, image_length, &state, packets, 2, &count);
+ */
+uint32_t tracebench_finish(uint64_t base, const uint8_t *image, size_t image_length,
+                           const struct tracebench_encoder_state *state, struct tracebench_packet *packets,
+                           size_t packets_length, uint64_t *count);
+
+/* Whole logs and captures. */
 
 /*
  * Checks that a text is that of a legal log of the program whose image begins at `base`. Where it is, the status is

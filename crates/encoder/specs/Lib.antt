@@ -6,6 +6,7 @@ pub mod Payloads
 pub mod PacketsSoFar
 pub mod Due
 pub mod EncoderStands
+pub mod StateStands
 pub mod Profile
 pub mod FewPackets
 pub mod SourceAt

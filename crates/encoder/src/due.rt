@@ -25,7 +25,7 @@ pub enum Due {
 impl Due {
     /// Whether this is due for a trap, or for a retirement that is a new start.
     #[inline]
-    pub fn cuts_off(self) -> bool
+    pub(crate) fn cuts_off(self) -> bool
         ensures { result ≡ cuts_off self }
     {
         matches!(self, Due::Sync | Due::Trap | Due::TrapOrHandler)
@@ -33,7 +33,7 @@ impl Due {
 
     /// Whether this is due for a handler.
     #[inline]
-    pub fn is_handler(self) -> bool
+    pub(crate) fn is_handler(self) -> bool
         ensures { result ≡ is_handler_due self }
     {
         matches!(self, Due::Handler)

@@ -13,12 +13,14 @@ ghost use Rattle.payload.specs.declared.mode.Mode.{Mode};
 ghost use Rattle.encoder.specs.Packets.{packets, closing};
 ghost use Rattle.encoder.specs.PacketsSoFar.{packets_so_far};
 ghost use Rattle.encoder.specs.EncoderStands.{EncoderStands};
+ghost use Rattle.encoder.specs.StateStands.{StateStands, encoder_of, state_of};
 ghost use Rattle.encoder.specs.steps.Stepping as stepping;
 
 use crate::due::{Due, due_behind};
 use crate::packet::{handler_packet, packet_by, reported_by};
 use crate::passing::passes;
 use crate::rule::{Rule, rule_at_end, rule_before};
+use crate::state::EncoderState;
 use arrayvec::ArrayVec;
 use payload::{MOST_OUTCOMES, Mode, Outcomes, Packet, Support};
 use retire::Event;
@@ -111,6 +113,42 @@ impl Encoder {
         let mut burst = burst_of(self.last());
         burst.push(Packet::Support(self.closing()));
         burst
+    }
+
+    /// What this encoder keeps, from which [`Encoder::from_state`] makes the same encoder.
+    pub fn state(&self) -> EncoderState
+        ensures stands { (words : Words) (period : ℕ) (mode : Mode) (log : List Event) →
+            EncoderStands words period mode log self.now →
+            StateStands words period mode log result }
+        ensures back { encoder_of result ≡ self.now }
+    {
+        EncoderState {
+            between: self.between,
+            left: self.left,
+            held: self.held,
+            due: self.due,
+            pending: self.pending,
+            mode: self.mode,
+            reported: self.reported,
+        }
+    }
+
+    /// The encoder that keeps this, from which [`Encoder::state`] gives the same state.
+    pub fn from_state(state: EncoderState) -> Encoder
+        ensures stands { (words : Words) (period : ℕ) (mode : Mode) (log : List Event) →
+            StateStands words period mode log state →
+            EncoderStands words period mode log result }
+        ensures back { state_of result ≡ state }
+    {
+        Encoder {
+            between: state.between,
+            left: state.left,
+            held: state.held,
+            due: state.due,
+            pending: state.pending,
+            mode: state.mode,
+            reported: state.reported,
+        }
     }
 
     /// Takes the next event, and returns the packet that this event makes due.

@@ -23,6 +23,7 @@ pub use Rattle.encoder.specs.Payloads
 pub use Rattle.encoder.specs.PacketsSoFar
 pub use Rattle.encoder.specs.Due
 pub use Rattle.encoder.specs.EncoderStands
+pub use Rattle.encoder.specs.StateStands
 pub use Rattle.encoder.specs.Profile as LogProfile
 pub use Rattle.encoder.specs.FewPackets
 pub use Rattle.encoder.specs.SourceAt

@@ -2,7 +2,7 @@
 //! log back.
 
 pub use decoder::{DecodeFault, Decoder};
-pub use encoder::{Burst, Encoder, Source};
+pub use encoder::{Burst, Due, Encoder, EncoderState, Source};
 pub use measuring::{Measures, measure, write_measures};
 pub use payload::{
     MOST_BYTES, MOST_OUTCOMES, Mode, Outcomes, PackFault, Packet, Payload, Report, Support, pack,

@@ -1,7 +1,11 @@
+mod EventsBack
 mod HartFound
 mod HeaderMade
 mod Hearing
 mod MapSteps
 mod PacketsBack
+mod StatesBack
+mod StepsTaken
 mod TextsRead
 mod WorkedNumbers
+mod WrittenInTurn

@@ -15,7 +15,7 @@ use Rattle.tracebench_c.specs.Numbers.{flag, number_of_report, numbers_of}
 use Rattle.tracebench_c.specs.steps.Reading.{packet_in, report_in}
 
 -- A flag comes back.
-flag_back : (b : Bool) → not (flag b == 0) ≡ b
+pub flag_back : (b : Bool) → not (flag b == 0) ≡ b
 flag_back true = refl
 flag_back false = refl
 
@@ -30,7 +30,7 @@ small : (n : ℕ) → n ≤ 255 → min n 255 ≡ n
 small n h = omega arith
 
 -- Outcomes come back.
-outcomes_back : (os : List Bool) → length os ≤ most_outcomes
+pub outcomes_back : (os : List Bool) → length os ≤ most_outcomes
     → outcomes_in_map (min (length os) most_outcomes) (map_of os) ≡ os
 outcomes_back os few =
     let all : min (length os) most_outcomes ≡ length os = omega arith in

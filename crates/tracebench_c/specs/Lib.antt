@@ -1,10 +1,13 @@
 pub mod Handed
 pub mod Statuses
 pub mod Numbers
+pub mod Events
+pub mod EncoderKept
 pub mod Packed
 pub mod Checked
 pub mod Decoded
 pub mod Audited
 pub mod Dumped
 pub mod Encoded
+pub mod Pushed
 pub mod steps

@@ -1,6 +1,7 @@
 -- Packets as numbers.
 use Rattle.std.specs.Prelude.{ℕ, Bool, true, false, length}
 use Rattle.payload.specs.Outcomes.{map_of}
+use Rattle.payload.specs.declared.mode.Mode.{Mode}
 use Rattle.payload.specs.declared.mode.Mode.TheVariants.{Differential, Full}
 use Rattle.payload.specs.declared.packet.Packet.{Packet}
 use Rattle.payload.specs.declared.packet.Packet.TheVariants as packet
@@ -15,6 +16,11 @@ use Rattle.tracebench_c.specs.declared.numbers.TheConstants.{DIFFERENTIAL, FULL,
 abbrev pub flag : Bool → ℕ
 flag true = 1
 flag false = 0
+
+-- The number of a mode.
+abbrev pub number_of_mode : Mode → ℕ
+number_of_mode Differential = DIFFERENTIAL
+number_of_mode Full = FULL
 
 -- The number of a report.
 abbrev pub number_of_report : Report → ℕ
@@ -52,8 +58,7 @@ numbers_of (packet.Trap taken privilege cause interrupt handler address tval) = 
   address = address;
   tval = tval;
 }
-numbers_of (packet.Support (Open Differential)) = record (of_kind OPEN) { mode = DIFFERENTIAL }
-numbers_of (packet.Support (Open Full)) = record (of_kind OPEN) { mode = FULL }
+numbers_of (packet.Support (Open mode)) = record (of_kind OPEN) { mode = number_of_mode mode }
 numbers_of (packet.Support EndedRep) = of_kind ENDED_REP
 numbers_of (packet.Support EndedNtr) = of_kind ENDED_NTR
 numbers_of (packet.Address outcomes delta report) = record (of_kind ADDRESS) {

@@ -1,2 +1,4 @@
 pub mod Reading
+pub mod ReadingEvents
+pub mod ReadingStates
 pub mod Hearing

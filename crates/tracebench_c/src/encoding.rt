@@ -104,7 +104,7 @@ fn encode_logs(
 }
 
 /// The mode of a number.
-fn mode_of(number: u32) -> Option<Mode>
+pub(crate) fn mode_of(number: u32) -> Option<Mode>
     ensures { result ≡ mode_of number }
 {
     match number {

@@ -1,8 +1,13 @@
-//! Bytes that go into a caller's buffer.
+//! Bytes, and the numbers of packets, that go into a caller's buffer.
 
+ghost use Rattle.std.specs.Prelude.{◌≡◌, ◌⊎◌, ◌<◌, length, map};
 ghost use Rattle.tracebench_c.specs.Handed.{IsHandedOut};
+ghost use Rattle.tracebench_c.specs.Numbers.{numbers_of};
+ghost use Rattle.tracebench_c.specs.declared.status.TheConstants.{DONE, TOO_SMALL};
 
+use crate::numbers::{PacketNumbers, numbers_of};
 use crate::status::{DONE, TOO_SMALL};
+use payload::Packet;
 
 /// Writes bytes to the beginning of a buffer, and how many they are. Where the buffer is too small, none is written to
 /// it.
@@ -14,5 +19,26 @@ pub(crate) fn hand_out(bytes: &[u8], buffer: &mut [u8], wanted: &mut u64) -> u32
         return TOO_SMALL;
     }
     buffer[..bytes.len()].copy_from_slice(bytes);
+    DONE
+}
+
+/// Writes the numbers of packets to the beginning of a buffer, and how many packets there are. Where the buffer is too
+/// small, nothing is written to it.
+pub(crate) fn hand_out_packets(
+    given: &[Packet],
+    packets: &mut [PacketNumbers],
+    count: &mut u64,
+) -> u32
+    ensures handed { IsHandedOut (map numbers_of given.now) result count.new packets.old packets.new }
+    ensures small { result ≡ TOO_SMALL → length packets.old < length given.now }
+    ensures status { (result ≡ DONE) ⊎ (result ≡ TOO_SMALL) }
+{
+    *count = given.len() as u64;
+    if packets.len() < given.len() {
+        return TOO_SMALL;
+    }
+    for place in 0..given.len() {
+        packets[place] = numbers_of(&given[place]);
+    }
     DONE
 }

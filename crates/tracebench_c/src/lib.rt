@@ -1,8 +1,9 @@
 //! The bench for C: calls on numbers and bytes, each a few lines over a proved call.
 //!
 //! A call reads the slices that it is given, writes to those that it is given to write, and returns a status. It keeps
-//! nothing from one call to the next. What it gives back as bytes goes into a buffer of the caller's. Where that is too
-//! small, the call says how many bytes it wants and writes none of them.
+//! nothing from one call to the next; what a log's packets want kept from one event to the next is a struct of the
+//! caller's. What a call gives back as bytes or as packets goes into a buffer of the caller's. Where that is too small,
+//! the call says how many it wants and writes none of them.
 //!
 //! C passes a slice as a pointer and a length, and a reference as a pointer; `include/tracebench.h` declares the calls
 //! as C sees them, and says what a caller owes: no pointer is null, and what is written to overlaps nothing else.
@@ -11,18 +12,25 @@
 mod checking;
 mod decoding;
 mod dumping;
+mod encoder_state;
 mod encoding;
+mod events;
 mod fault;
 mod handing;
 mod numbers;
 mod packing;
 mod path_audit;
+mod pushing;
 pub mod status;
 
 pub use checking::tracebench_check;
 pub use decoding::{DecodeEnd, HartText, tracebench_decode};
 pub use dumping::{DumpEnd, tracebench_dump};
+pub use encoder_state::{
+    DUE_HANDLER, DUE_NOTHING, DUE_SYNC, DUE_TARGET, DUE_TRAP, DUE_TRAP_OR_HANDLER, EncoderNumbers,
+};
 pub use encoding::{LogPlace, VERSION_ONE, VERSION_TWO, tracebench_encode};
+pub use events::{EventNumbers, RETIREMENT, TRAP_TAKEN};
 pub use fault::Fault;
 pub use numbers::{
     ADDRESS, DIFFERENTIAL, ENDED_NTR, ENDED_REP, FULL, MAP, NOTIFY, OPEN, PLAIN, PacketNumbers,
@@ -30,3 +38,4 @@ pub use numbers::{
 };
 pub use packing::{tracebench_pack, tracebench_unpack};
 pub use path_audit::{AuditEnd, AuditFault, HartAudited, HartTally, tracebench_audit};
+pub use pushing::{tracebench_encoder, tracebench_finish, tracebench_push};

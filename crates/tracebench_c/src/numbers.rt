@@ -5,8 +5,8 @@ ghost use Rattle.payload.specs.Limits.{most_outcomes};
 ghost use Rattle.payload.specs.Outcomes.{map_of, outcomes_in_map};
 ghost use Rattle.payload.specs.Profile.{InProfile};
 ghost use Rattle.payload.specs.declared.packet.Packet.{Packet as AnyPacket};
-ghost use Rattle.tracebench_c.specs.Numbers.{number_of_report, numbers_of, of_kind};
-ghost use Rattle.tracebench_c.specs.steps.Reading.{bit_of, packet_in, report_in};
+ghost use Rattle.tracebench_c.specs.Numbers.{number_of_mode, number_of_report, numbers_of, of_kind};
+ghost use Rattle.tracebench_c.specs.steps.Reading.{bit_of, mode_in, packet_in, report_in};
 
 use payload::{MOST_OUTCOMES, Mode, Outcomes, Packet, Report, Support};
 
@@ -148,13 +148,22 @@ fn numbers_of_support(support: Support) -> PacketNumbers
     ensures { result ≡ numbers_of (Packet.Support support) }
 {
     match support {
-        Support::Open(Mode::Differential) => PacketNumbers::of_kind(OPEN),
-        Support::Open(Mode::Full) => PacketNumbers {
-            mode: FULL,
+        Support::Open(mode) => PacketNumbers {
+            mode: number_of_mode(mode),
             ..PacketNumbers::of_kind(OPEN)
         },
         Support::EndedRep => PacketNumbers::of_kind(ENDED_REP),
         Support::EndedNtr => PacketNumbers::of_kind(ENDED_NTR),
+    }
+}
+
+/// The number of a mode.
+pub(crate) fn number_of_mode(mode: Mode) -> u32
+    ensures { result ≡ number_of_mode mode }
+{
+    match mode {
+        Mode::Differential => DIFFERENTIAL,
+        Mode::Full => FULL,
     }
 }
 
@@ -170,7 +179,7 @@ fn number_of_report(report: Report) -> u32
 }
 
 /// The branch map of outcomes.
-fn map_of(outcomes: &Outcomes) -> u32
+pub(crate) fn map_of(outcomes: &Outcomes) -> u32
     ensures { result ≡ map_of outcomes.now }
 {
     let mut map = 0;
@@ -232,18 +241,15 @@ fn packet_in(numbers: &PacketNumbers) -> Packet
             address,
             tval: numbers.tval,
         },
-        OPEN if numbers.mode == DIFFERENTIAL => {
-            Packet::Support(Support::Open(Mode::Differential))
-        }
-        OPEN => Packet::Support(Support::Open(Mode::Full)),
+        OPEN => Packet::Support(Support::Open(mode_in(numbers.mode))),
         ENDED_REP => Packet::Support(Support::EndedRep),
         ENDED_NTR => Packet::Support(Support::EndedNtr),
         ADDRESS => Packet::Address {
-            outcomes: outcomes_in(numbers),
+            outcomes: outcomes_in(numbers.outcomes, numbers.map),
             delta: address,
             report: report_in(numbers.report),
         },
-        _ => Packet::Map(outcomes_in(numbers)),
+        _ => Packet::Map(outcomes_in(numbers.outcomes, numbers.map)),
     }
 }
 
@@ -258,13 +264,23 @@ fn report_in(number: u32) -> Report
     }
 }
 
-/// The outcomes of a map, at most 31.
-fn outcomes_in(numbers: &PacketNumbers) -> Outcomes
-    ensures { result ≡ outcomes_in_map (min numbers.now.outcomes most_outcomes) numbers.now.map }
+/// The mode that has this number, if any has.
+pub(crate) fn mode_in(number: u32) -> Mode
+    ensures { result ≡ mode_in number }
 {
-    let count = (numbers.outcomes as usize).min(MOST_OUTCOMES);
+    match number {
+        DIFFERENTIAL => Mode::Differential,
+        _ => Mode::Full,
+    }
+}
+
+/// As many outcomes of a map, at most 31.
+pub(crate) fn outcomes_in(wanted: u32, map: u32) -> Outcomes
+    ensures { result ≡ outcomes_in_map (min wanted most_outcomes) map }
+{
+    let count = (wanted as usize).min(MOST_OUTCOMES);
     let mut outcomes = Outcomes::new();
-    let mut left = numbers.map;
+    let mut left = map;
     for _place in 0..count {
         outcomes.push(left % 2 == 0);
         left /= 2;

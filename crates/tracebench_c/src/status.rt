@@ -146,3 +146,9 @@ pub const WALKS_AT_WRONG_PRIVILEGE: u32 = 117;
 
 /// A packet stands behind the one that closes the trace.
 pub const AFTER_CLOSING_PACKET: u32 = 118;
+
+/// The state is none that a call for it gives.
+pub const BAD_STATE: u32 = 128;
+
+/// No event has these numbers.
+pub const NO_EVENT: u32 = 129;

@@ -6,7 +6,7 @@ use Rattle.tracebench_c.proofs.numbers.outcomes_in.Goals as goal
 
 pub loop-place-init : goal.loop-place-init
 loop-place-init c =
-    let map = c.args.numbers.now.map in
+    let map = c.args.map in
     subst (λ outcomes. AreRead c.min-count.result map outcomes 0 map) (sym c.new-outcomes.ensures)
     (read_none c.min-count.result map)
 
@@ -18,7 +18,7 @@ push-requires c =
 
 pub loop-place-preserved : goal.loop-place-preserved
 loop-place-preserved c =
-    let map = c.args.numbers.now.map in
+    let map = c.args.map in
     subst (λ outcomes. AreRead c.min-count.result map outcomes (c.loop-place._place + 1) (c.loop-place.left / 2))
     (sym c.push.ensures)
     (read_more c.min-count.result map c.loop-place.outcomes c.loop-place._place c.loop-place.left
@@ -26,7 +26,7 @@ loop-place-preserved c =
 
 pub returns : goal.returns
 returns c =
-    let map = c.args.numbers.now.map in
+    let map = c.args.map in
     read_all c.min-count.result map c.loop-place.outcomes c.loop-place._place c.loop-place.left (omega arith)
     c.loop-place.invariant
     ∙ ap (λ n. outcomes_in_map n map) c.min-count.ensures

@@ -3,4 +3,4 @@ use Rattle.tracebench_c.proofs.MapSteps.{AreRead}
 use Rattle.tracebench_c.proofs.numbers.outcomes_in.Given as goal
 
 abbrev pub invariant-loop-place : goal.invariant-loop-place
-invariant-loop-place l = AreRead l.count l.numbers.map l.outcomes l._place l.left
+invariant-loop-place l = AreRead l.count l.map l.outcomes l._place l.left

@@ -1,0 +1,81 @@
+-- A step of an encoder is one of the log that the numbers of its state stand for.
+use Rattle.std.proofs.Common.{◌≡◌, ℕ, List, ◌∷◌, [], ◌++◌, Ok, Some, Result, sym, subst, ◌∙◌}
+use Rattle.std.proofs.lemmas.Option.{same_Some}
+use Rattle.encoder.specs.StateStands.{StateStands}
+use Rattle.encoder.specs.declared.state.EncoderState.{EncoderState}
+use Rattle.legalpath.specs.Legal.{Legal}
+use Rattle.payload.specs.declared.mode.Mode.{Mode}
+use Rattle.retire.specs.declared.event.Event.{Event}
+use Rattle.rvclass.specs.Fetch.{words_of}
+use Rattle.rvclass.specs.Image.{Image}
+use Rattle.rvclass.specs.Program.{program_of}
+use Rattle.rvclass.specs.Words.{Words}
+use Rattle.rvclass.specs.declared.fault.ProgramFault.{ProgramFault}
+use Rattle.tracebench_c.specs.EncoderKept.{IsOfState, NumbersStand}
+use Rattle.tracebench_c.specs.Events.{numbers_of_event}
+use Rattle.tracebench_c.specs.Pushed.{IsNext, IsOn}
+use Rattle.tracebench_c.specs.declared.encoder_state.EncoderNumbers.{EncoderNumbers}
+use Rattle.tracebench_c.specs.declared.events.EventNumbers.{EventNumbers}
+
+-- An image makes one program.
+one_program : (made program : Image) (answer : Result Image ProgramFault) → answer ≡ Ok made → answer ≡ Ok program
+    → made ≡ program
+one_program made program answer is found =
+    let same : Ok made ≡ Ok program = sym is ∙ found in
+    cc
+
+-- Numbers of which this state is read stand for what the state stands for.
+state_stands : (words : Words) (period : ℕ) (mode : Mode) (log : List Event) (numbers : EncoderNumbers)
+    (read : EncoderState) → ((state : EncoderState) → IsOfState numbers state → Some read ≡ Some state)
+    → NumbersStand words period mode log numbers → StateStands words period mode log read
+state_stands words period mode log numbers read only stand =
+    subst (StateStands words period mode log) (sym (same_Some read stand.state (only stand.state stand.is))) stand.stands
+
+-- What was read of an image and of numbers is what is known of them.
+pub record IsRead (program made : Image) (period : ℕ) (mode : Mode) (log : List Event) (next taken : Event)
+    (read : EncoderState) : Type 0 where
+  pub program_is : made ≡ program
+  pub event_is : taken ≡ next
+  pub stands : StateStands (words_of made) period mode log read
+  pub legal : Legal (words_of made) (log ++ taken ∷ [])
+
+pub is_read : (base : ℕ) (image : List ℕ) (program made : Image) (period : ℕ) (mode : Mode) (log : List Event)
+    (next taken : Event) (read : EncoderState) (numbers : EncoderNumbers) (event : EventNumbers)
+    → program_of base image ≡ Ok made
+    → ((state : EncoderState) → IsOfState numbers state → Some read ≡ Some state)
+    → ((e : Event) → event ≡ numbers_of_event e → Some taken ≡ Some e)
+    → IsNext base image program period mode log next numbers event
+    → IsRead program made period mode log next taken read
+is_read base image program made period mode log next taken read numbers event makes only_state only_event is =
+    let same = one_program made program (program_of base image) makes is.made in
+    let taken_is = same_Some taken next (only_event next is.is) in
+    record {
+      program_is = same;
+      event_is = taken_is;
+      stands = subst (λ p. StateStands (words_of p) period mode log read) (sym same)
+          (state_stands (words_of program) period mode log numbers read only_state is.stand);
+      legal = subst (λ p. Legal (words_of p) (log ++ taken ∷ [])) (sym same)
+          (subst (λ e. Legal (words_of program) (log ++ e ∷ [])) (sym taken_is) is.legal);
+    }
+
+-- So it is at the end of a log.
+pub record IsReadAtEnd (program made : Image) (period : ℕ) (mode : Mode) (log : List Event) (read : EncoderState)
+    : Type 0 where
+  pub program_is : made ≡ program
+  pub stands : StateStands (words_of made) period mode log read
+  pub legal : Legal (words_of made) log
+
+pub is_read_at_end : (base : ℕ) (image : List ℕ) (program made : Image) (period : ℕ) (mode : Mode) (log : List Event)
+    (read : EncoderState) (numbers : EncoderNumbers)
+    → program_of base image ≡ Ok made
+    → ((state : EncoderState) → IsOfState numbers state → Some read ≡ Some state)
+    → IsOn base image program period mode log numbers
+    → IsReadAtEnd program made period mode log read
+is_read_at_end base image program made period mode log read numbers makes only_state is =
+    let same = one_program made program (program_of base image) makes is.made in
+    record {
+      program_is = same;
+      stands = subst (λ p. StateStands (words_of p) period mode log read) (sym same)
+          (state_stands (words_of program) period mode log numbers read only_state is.stand);
+      legal = subst (λ p. Legal (words_of p) log) (sym same) is.legal;
+    }

@@ -1,0 +1,141 @@
+//! The packets of a log, step by step: one event in, its packets out.
+
+ghost use Rattle.std.specs.Prelude.{◌≡◌, ◌≢◌, ◌<◌, ◌++◌, ◌∷◌, [], ℕ, List, Some, length, map};
+ghost use Rattle.encoder.specs.Packets.{packets as packets_of};
+ghost use Rattle.encoder.specs.PacketsSoFar.{packets_so_far};
+ghost use Rattle.payload.specs.declared.mode.Mode.{Mode};
+ghost use Rattle.retire.specs.declared.event.Event.{Event};
+ghost use Rattle.rvclass.specs.Fetch.{words_of};
+ghost use Rattle.rvclass.specs.Image.{Image};
+ghost use Rattle.rvclass.specs.Words.{Words};
+ghost use Rattle.tracebench_c.specs.Encoded.{mode_of};
+ghost use Rattle.tracebench_c.specs.EncoderKept.{NumbersStand};
+ghost use Rattle.tracebench_c.specs.Numbers.{numbers_of};
+ghost use Rattle.tracebench_c.specs.Pushed.{AreMore, EndsFinish, EndsPush, IsNext, IsOn, new_status};
+ghost use Rattle.tracebench_c.specs.declared.status.TheConstants.{DONE, MEMORY, TOO_SMALL};
+
+use crate::checking::program_of;
+use crate::encoder_state::{EncoderNumbers, numbers_of_state, state_of};
+use crate::encoding::mode_of;
+use crate::events::{EventNumbers, event_of};
+use crate::handing::hand_out_packets;
+use crate::numbers::{PacketNumbers, numbers_of};
+use crate::status::{BAD_STATE, DONE, NO_EVENT, OUT_OF_RANGE};
+use encoder::Encoder;
+use std::alloc::Global;
+
+/// Writes the state of an encoder before the first event of a log, and the packet that opens the trace. There is a
+/// periodic sync at each retirement whose number, from 0, the period divides. The period is 1 or more, and the mode
+/// [`DIFFERENTIAL`](crate::DIFFERENTIAL) or [`FULL`](crate::FULL).
+///
+/// The status is [`DONE`], or [`OUT_OF_RANGE`] where the period or the mode is out of its range; then nothing is
+/// written. No memory is taken.
+#[unsafe(no_mangle)]
+pub extern "C" fn tracebench_encoder(
+    period: u16,
+    mode: u32,
+    state: &mut EncoderNumbers,
+    opening: &mut PacketNumbers,
+) -> u32
+    ensures status { result ≡ new_status period mode }
+    ensures stands { (words : Words) (named : Mode) → result ≡ DONE → mode_of mode ≡ Some named →
+        NumbersStand words period named [] state.new }
+    ensures opens { (words : Words) (named : Mode) → result ≡ DONE → mode_of mode ≡ Some named →
+        map numbers_of (packets_so_far words period named []) ≡ opening.new ∷ [] }
+    ensures refused { result ≢ DONE → (state.new ≡ state.old) × (opening.new ≡ opening.old) }
+{
+    if period == 0 {
+        return OUT_OF_RANGE;
+    }
+    let Some(mode) = mode_of(mode) else {
+        return OUT_OF_RANGE;
+    };
+    let mut encoder = Encoder::new(period, mode);
+    *opening = numbers_of(&encoder.open());
+    *state = numbers_of_state(&encoder.state());
+    DONE
+}
+
+/// Takes the next event of a log, and writes the packets that it makes due, 0 to 2, and how many they are. `state`
+/// stands for the events before, and then for this one too. Whether the log is legal is not looked at:
+/// [`tracebench_check`](crate::tracebench_check) does that, and the packets are those of the log where it is.
+///
+/// The status is [`DONE`]; or [`TOO_SMALL`](crate::status::TOO_SMALL) where there is too little room for the packets;
+/// or [`BAD_STATE`] where no encoder has this state, [`NO_EVENT`] where no event has these numbers,
+/// [`MEMORY`](crate::status::MEMORY), or what is wrong with the image; these write nothing. Only the first changes the
+/// state. The image is copied at each call.
+#[unsafe(no_mangle)]
+pub extern "C" fn tracebench_push(
+    alloc: Global,
+    base: u64,
+    image: &[u8],
+    state: &mut EncoderNumbers,
+    event: &EventNumbers,
+    packets: &mut [PacketNumbers],
+    count: &mut u64,
+) -> u32
+    ensures ends { EndsPush base image.now state.old event.now result }
+    ensures stands { (program : Image) (period : ℕ) (mode : Mode) (log : List Event) (next : Event) →
+        IsNext base image.now program period mode log next state.old event.now → result ≡ DONE →
+        NumbersStand (words_of program) period mode (log ++ next ∷ []) state.new }
+    ensures packets { (program : Image) (period : ℕ) (mode : Mode) (log : List Event) (next : Event) →
+        IsNext base image.now program period mode log next state.old event.now → result ≢ MEMORY →
+        AreMore (packets_so_far (words_of program) period mode log)
+        (packets_so_far (words_of program) period mode (log ++ next ∷ [])) result count.new packets.old packets.new }
+    ensures refused { result ≢ DONE → (state.new ≡ state.old) × (packets.new ≡ packets.old) }
+    ensures counted { result ≢ DONE → result ≢ TOO_SMALL → count.new ≡ count.old }
+    ensures two { result ≡ TOO_SMALL → length packets.old < 2 }
+{
+    let Some(before) = state_of(state) else {
+        return BAD_STATE;
+    };
+    let Some(event) = event_of(event) else {
+        return NO_EVENT;
+    };
+    let program = match program_of(alloc, base, image) {
+        Ok(program) => program,
+        Err(fault) => return fault.status(),
+    };
+    let mut encoder = Encoder::from_state(before);
+    let burst = encoder.push(&program, event);
+    let status = hand_out_packets(burst.as_slice(), packets, count);
+    if status == DONE {
+        *state = numbers_of_state(&encoder.state());
+    }
+    status
+}
+
+/// Takes the end of a log, and writes the packets that are left, 1 or 2, and how many they are. The last of them closes
+/// the trace. `state` stands for all events of the log, and stays.
+///
+/// The status is [`DONE`]; or [`TOO_SMALL`](crate::status::TOO_SMALL) where there is too little room for the packets;
+/// or [`BAD_STATE`] where no encoder has this state, [`MEMORY`](crate::status::MEMORY), or what is wrong with the
+/// image; these write nothing. The image is copied.
+#[unsafe(no_mangle)]
+pub extern "C" fn tracebench_finish(
+    alloc: Global,
+    base: u64,
+    image: &[u8],
+    state: &EncoderNumbers,
+    packets: &mut [PacketNumbers],
+    count: &mut u64,
+) -> u32
+    ensures ends { EndsFinish base image.now state.now result }
+    ensures packets { (program : Image) (period : ℕ) (mode : Mode) (log : List Event) →
+        IsOn base image.now program period mode log state.now → result ≢ MEMORY →
+        AreMore (packets_so_far (words_of program) period mode log) (packets_of (words_of program) period mode log)
+        result count.new packets.old packets.new }
+    ensures refused { result ≢ DONE → packets.new ≡ packets.old }
+    ensures counted { result ≢ DONE → result ≢ TOO_SMALL → count.new ≡ count.old }
+    ensures two { result ≡ TOO_SMALL → length packets.old < 2 }
+{
+    let Some(kept) = state_of(state) else {
+        return BAD_STATE;
+    };
+    let program = match program_of(alloc, base, image) {
+        Ok(program) => program,
+        Err(fault) => return fault.status(),
+    };
+    let burst = Encoder::from_state(kept).finish(&program);
+    hand_out_packets(burst.as_slice(), packets, count)
+}
