@@ -3,8 +3,8 @@
  * packets and their payloads. Each call is a few lines over one whose promises are proved.
  *
  * A call keeps nothing from one call to the next, and writes only where it is given room to write. What stands for the
- * events so far, step by step, is a struct of the caller's. A slice is a pointer and the number of elements behind it.
- * What every caller owes:
+ * events or the packets so far, step by step, is a struct of the caller's. A slice is a pointer and the number of
+ * elements behind it. What every caller owes:
  *
  * - No pointer is null, also where the slice has no element.
  * - What a call is given to write overlaps nothing else that it is given.
@@ -12,7 +12,7 @@
  *
  * What comes back as bytes goes into a buffer of the caller's. `*wanted` is then how many bytes there are. Where the
  * buffer has fewer, none is written to it, and the status is TRACEBENCH_TOO_SMALL. So a first call with a buffer of one
- * byte and a length of 0 asks for the size. With packets in place of bytes, `*count` is how many there are.
+ * byte and a length of 0 asks for the size. With packets or events in place of bytes, `*count` is how many there are.
  *
  * Each call returns a status. After a status that says why a call gives no answer, nothing was written but the place
  * that the call names.
@@ -323,6 +323,66 @@ uint32_t tracebench_push(uint64_t base, const uint8_t *image, size_t image_lengt
 uint32_t tracebench_finish(uint64_t base, const uint8_t *image, size_t image_length,
                            const struct tracebench_encoder_state *state, struct tracebench_packet *packets,
                            size_t packets_length, uint64_t *count);
+
+/* Step by step: one payload in, its events out. */
+
+/* How far a trace has come. */
+#define TRACEBENCH_UNOPENED 0u     /* no packet came */
+#define TRACEBENCH_RUNNING 1u      /* it was opened */
+#define TRACEBENCH_PASSING_OVER 2u /* packets were lost; no call of this library gives it */
+#define TRACEBENCH_CLOSED 3u       /* it was closed */
+
+/*
+ * What a decoder keeps from one payload to the next. It may be copied, and goes on from each copy. A flag is 0 or 1.
+ * What a flag says is not there is 0.
+ */
+struct tracebench_decoder_state {
+    uint32_t phase;               /* TRACEBENCH_UNOPENED to TRACEBENCH_CLOSED */
+    uint32_t mode;                /* TRACEBENCH_DIFFERENTIAL or TRACEBENCH_FULL */
+    uint32_t is_announced;        /* 1 where the packet that opens the trace came */
+    uint32_t announced;           /* the mode that it announced */
+    uint32_t has_last;            /* 1 where there is a last event */
+    uint32_t waits;               /* 1 where an address packet waits for the one that follows it */
+    uint32_t outcomes;            /* how many outcomes of branches it has, 0 to 31 */
+    uint32_t map;                 /* these outcomes, the oldest in the lowest bit; a taken branch is 0 */
+    uint64_t delta;               /* what its address field holds */
+    uint64_t reported;            /* the last reported address; 0 before the first */
+    struct tracebench_event last; /* the last event */
+};
+
+/*
+ * Writes the state of a decoder before the first packet.
+ *
+ *     struct tracebench_decoder_state state;
+ *     tracebench_decoder(&state);
+ */
+void tracebench_decoder(struct tracebench_decoder_state *state);
+
+/*
+ * Takes the next payload of a trace of the program whose image begins at `base`, and writes the events that it settles,
+ * the oldest first. `*state` stands for the packets before, and then for this one too. An address packet with plain
+ * bits is settled by the packet that follows it, so its events come with that packet's. All other events come at once.
+ * `*count` is how many there are: up to 64 for each two bytes of the image, and two.
+ *
+ * Only with TRACEBENCH_DONE `*state` and the events change. Where the events have too little room, `*count` says how
+ * many there are, and the status is TRACEBENCH_TOO_SMALL: the payload was not taken. Else the status is
+ *
+ * - TRACEBENCH_BAD_STATE where no decoder has this state,
+ * - TRACEBENCH_EMPTY to TRACEBENCH_BAD_REPORT where the bytes stand for no packet,
+ * - TRACEBENCH_ODD_BASE to TRACEBENCH_PAST_END where the image makes no program,
+ * - TRACEBENCH_NOT_OPENED to TRACEBENCH_AFTER_CLOSING_PACKET where no log has these packets,
+ * - TRACEBENCH_MEMORY, and the payload may be handed in again.
+ *
+ * The call copies the image each time, so a payload costs as much as a copy of the image at least.
+ *
+ *     struct tracebench_event events[64];
+ *     uint64_t count;
+ *     uint32_t status = tracebench_feed(base, image, image_length, &state, payload, (size_t)length, events, 64,
+ *                                       &count);
+ */
+uint32_t tracebench_feed(uint64_t base, const uint8_t *image, size_t image_length,
+                         struct tracebench_decoder_state *state, const uint8_t *payload, size_t payload_length,
+                         struct tracebench_event *events, size_t events_length, uint64_t *count);
 
 /* Whole logs and captures. */
 

@@ -15,8 +15,8 @@ use Rattle.decoder.specs.DecoderStands.{DecoderStands}
 use Rattle.decoder.specs.steps.Planning.{CanFollow, CanFollowAt, MayCome, admitted, decoder_after}
 use Rattle.decoder.specs.steps.Stretches.{Gives, RightBefore, stretch_count}
 use Rattle.decoder.specs.declared.decoding.Decoder.{Decoder}
-use Rattle.decoder.specs.declared.decoding.Phase.{Phase}
-use Rattle.decoder.specs.declared.decoding.Phase.TheVariants.{Running}
+use Rattle.decoder.specs.declared.state.Phase.{Phase}
+use Rattle.decoder.specs.declared.state.Phase.TheVariants.{Running}
 use Rattle.decoder.specs.declared.stretch.Stretch.{Stretch}
 
 -- The decoder as it is after the packet that opens a trace.

@@ -16,7 +16,7 @@ use Rattle.decoder.specs.steps.Planning.{MayCome, admitted, admitted_first}
 use Rattle.decoder.specs.steps.Planning.{reported_past}
 use Rattle.decoder.specs.Settling.{waits}
 use Rattle.decoder.specs.DecoderStands.{phase_after, waiting_after, running_or_closed}
-use Rattle.decoder.specs.declared.decoding.Phase.TheVariants.{Unopened, Running}
+use Rattle.decoder.specs.declared.state.Phase.TheVariants.{Unopened, Running}
 use Rattle.decoder.specs.declared.settling.Waiting.{Waiting}
 
 -- Packets with a last one.

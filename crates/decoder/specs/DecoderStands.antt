@@ -11,8 +11,8 @@ use Rattle.decoder.specs.Describes.{Describes}
 use Rattle.decoder.specs.ModeOf.{mode_of}
 use Rattle.decoder.specs.Pieces.{reported_end}
 use Rattle.decoder.specs.declared.decoding.Decoder.{Decoder}
-use Rattle.decoder.specs.declared.decoding.Phase.{Phase}
-use Rattle.decoder.specs.declared.decoding.Phase.TheVariants.{Unopened, Running, Closed}
+use Rattle.decoder.specs.declared.state.Phase.{Phase}
+use Rattle.decoder.specs.declared.state.Phase.TheVariants.{Unopened, Running, Closed}
 use Rattle.decoder.specs.declared.settling.Waiting.{Waiting}
 
 -- A trace is closed where this is true, and else it runs.

@@ -7,6 +7,7 @@ pub mod Pieces
 pub mod Describes
 pub mod SettledPieces
 pub mod DecoderStands
+pub mod StateStands
 pub mod Resuming
 pub mod FaultText
 pub mod steps

@@ -4,7 +4,7 @@ use Rattle.payload.specs.declared.mode.Mode.{Mode}
 use Rattle.payload.specs.declared.packet.Packet.{Packet}
 use Rattle.payload.specs.declared.packet.Packet.TheVariants as packet
 use Rattle.decoder.specs.declared.decoding.Decoder.{Decoder}
-use Rattle.decoder.specs.declared.decoding.Phase.TheVariants.{Closed, PassingOver}
+use Rattle.decoder.specs.declared.state.Phase.TheVariants.{Closed, PassingOver}
 
 -- The packet is a synchronisation.
 abbrev pub IsSync : Packet → Type 0

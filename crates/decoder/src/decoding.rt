@@ -17,31 +17,22 @@ ghost use Rattle.decoder.specs.steps.Stretches.{stretch_count, Suits, SuitsNone,
 ghost use Rattle.decoder.specs.steps.Planning.{MayCome, FitsWaiting, Plans, PlansNone, admitted, decoder_after};
 ghost use Rattle.decoder.specs.steps.Planning.{passed_over};
 ghost use Rattle.decoder.specs.DecoderStands.{DecoderStands};
+ghost use Rattle.decoder.specs.StateStands.{StateStands, decoder_of};
+ghost use Rattle.decoder.specs.declared.state.DecoderState.{DecoderState as AnyState};
 ghost use Rattle.decoder.specs.declared.fault.DecodeFault.TheVariants.{NotOpened, AfterClose, Memory};
 
 use crate::fault::DecodeFault;
+use crate::kinds::{is_open, is_sync};
 use crate::paths::Paths;
 use crate::remembering::{announced_past, mode_past, phase_after, reported_past, waiting_after};
 use crate::settling::{Waiting, events_of_packet, settle};
+use crate::state::{DecoderState, Phase};
 use crate::stretch::Stretch;
 use crate::walking::Progress;
 use payload::{Mode, Packet, Support};
 use retire::Event;
 use rvclass::Program;
 use std::alloc::Allocator;
-
-/// How far a trace has come.
-#[derive(Clone, Copy, Debug, PartialEq, Eq)]
-pub(crate) enum Phase {
-    /// No packet came.
-    Unopened,
-    /// The trace was opened.
-    Running,
-    /// Packets were lost: those that come are passed over until a synchronisation.
-    PassingOver,
-    /// The trace was closed.
-    Closed,
-}
 
 /// A decoder of one hart's trace: it takes the packets in their order, and adds to a log the events that they describe.
 ///
@@ -64,20 +55,6 @@ pub struct Decoder {
     reported: u64,
 }
 
-/// Whether a packet opens a trace.
-fn is_open(packet: &Packet) -> bool
-    ensures { IsTrue result ↔ IsOpen packet.now }
-{
-    matches!(packet, Packet::Support(Support::Open(_)))
-}
-
-/// Whether a packet is a synchronisation.
-fn is_sync(packet: &Packet) -> bool
-    ensures { IsTrue result ↔ IsSync packet.now }
-{
-    matches!(packet, Packet::Sync { .. })
-}
-
 impl Decoder {
     /// A decoder before the first packet.
     pub fn new() -> Decoder
@@ -91,6 +68,40 @@ impl Decoder {
             mode: Mode::Differential,
             announced: None,
             reported: 0,
+        }
+    }
+
+    /// All that the decoder remembers, from which [`Decoder::from_state`] makes it again.
+    pub fn state(&self) -> DecoderState
+        ensures stands { (words : Words) (packets : List Packet) (log : List Event)
+            → DecoderStands words packets log self.now → StateStands words packets log result }
+        ensures whole { decoder_of result ≡ self.now }
+    {
+        DecoderState {
+            phase: self.phase,
+            waiting: self.waiting,
+            last: self.last,
+            mode: self.mode,
+            announced: self.announced,
+            reported: self.reported,
+        }
+    }
+
+    /// The decoder that remembers this. Each state has one, also a state that no packets lead to: of that one
+    /// [`Decoder::feed`] promises only what it promises of every decoder.
+    pub fn from_state(state: DecoderState) -> Decoder
+        ensures stands { (words : Words) (packets : List Packet) (log : List Event)
+            → StateStands words packets log state → DecoderStands words packets log result }
+        ensures whole { result ≡ decoder_of state }
+        ensures only { (other : AnyState) → result ≡ decoder_of other → other ≡ state }
+    {
+        Decoder {
+            phase: state.phase,
+            waiting: state.waiting,
+            last: state.last,
+            mode: state.mode,
+            announced: state.announced,
+            reported: state.reported,
         }
     }
 
@@ -130,7 +141,7 @@ impl Decoder {
     }
 
     /// Takes the next packet, and adds the events that it settles to the log. Hand in the same program at each call,
-    /// and the log with the events of the packets before.
+    /// and the log with the events of the packets before, or any other list: it grows by the same events.
     ///
     /// A fault leaves the decoder and the log as they were: the packet may be fed again where memory was refused. What
     /// was written by then is cut off again, and the log grows only where it lacks the room.
@@ -168,6 +179,22 @@ impl Decoder {
             → DecoderStands (words_of program.now) [] [] self.old → OnOk result (HasMode (Some mode) self.new) }
         ensures mode_kept { (mode : Option AnyMode) → HasMode mode self.old → ¬ IsOpen packet.now
             → HasMode mode self.new }
+
+        // Any list: the events come behind those that it has.
+        ensures adds { (packets : List Packet) (before added : List Event)
+            → DecoderStands (words_of program.now) packets before self.old → log.new.items ≡ log.old.items ++ added
+            → OnOk result (DecoderStands (words_of program.now) (packets ++ packet.now ∷ []) (before ++ added)
+            self.new) }
+        ensures adds_none { (packets : List Packet) (before : List Event)
+            → DecoderStands (words_of program.now) packets before self.old
+            → IfErr result (λ fault. (fault ≡ Memory)
+            ⊎ ((other : List Event) → ¬ Describes (words_of program.now) (packets ++ packet.now ∷ []) other)) }
+        ensures adds_closed { (packets : List Packet) (before : List Event)
+            → DecoderStands (words_of program.now) packets before self.old
+            → (result ≡ Err AfterClose) ↔ (last_is_closing packets ≡ true) }
+        ensures adds_first { (packets : List Packet) (before : List Event)
+            → DecoderStands (words_of program.now) packets before self.old
+            → (result ≡ Err NotOpened) ↔ ((packets ≡ []) × ¬ IsOpen packet.now) }
 
         // A decoder that passes over packets. The events of the synchronisation come behind those that the list has.
         ensures passed_over { (mode : AnyMode) → PassesOver mode self.old → ¬ IsSync packet.now

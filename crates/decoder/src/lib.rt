@@ -4,12 +4,14 @@
 
 mod decoding;
 mod fault;
+mod kinds;
 mod laws;
 mod paths;
 mod remembering;
 mod reporting;
 mod retracing;
 mod settling;
+mod state;
 mod stepping;
 mod stretch;
 mod walking;
@@ -21,3 +23,5 @@ pub use laws::{
     more_packets_describe_a_longer_log, one_log_is_described, passing_over_stands_for_nothing,
     walks_are_short,
 };
+pub use settling::Waiting;
+pub use state::{DecoderState, Phase};

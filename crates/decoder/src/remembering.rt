@@ -4,8 +4,8 @@ ghost use Rattle.std.specs.Prelude.{◌≡◌, Some};
 ghost use Rattle.decoder.specs.steps.Planning.{mode_past, announced_past, reported_past};
 ghost use Rattle.decoder.specs.DecoderStands.{phase_after, waiting_after};
 
-use crate::decoding::Phase;
 use crate::settling::Waiting;
+use crate::state::Phase;
 use payload::{Mode, Packet, Report, Support};
 
 /// The phase after a packet.

@@ -21,11 +21,11 @@ use rvclass::Program;
 use std::alloc::Allocator;
 
 /// An address packet with plain bits, which waits for the packet that follows it.
-#[derive(Clone, Copy, Debug)]
+#[derive(Clone, Copy, Debug, PartialEq, Eq)]
 pub struct Waiting {
     /// The outcomes of its branches.
     pub outcomes: Outcomes,
-    /// What its address field holds.
+    /// What its address field holds, by the mode of the trace: a difference modulo 2^64, or an address.
     pub delta: u64,
 }
 

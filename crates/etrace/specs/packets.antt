@@ -36,6 +36,7 @@ pub use Rattle.decoder.specs.Pieces
 pub use Rattle.decoder.specs.Describes
 pub use Rattle.decoder.specs.SettledPieces
 pub use Rattle.decoder.specs.DecoderStands
+pub use Rattle.decoder.specs.StateStands as DecoderStateStands
 pub use Rattle.decoder.specs.Resuming
 pub use Rattle.decoder.specs.FaultText as DecodeFaultText
 pub use Rattle.roundtrip.specs.Reach

@@ -1,3 +1,4 @@
+mod DecodersBack
 mod EventsBack
 mod HartFound
 mod HeaderMade

@@ -2,10 +2,12 @@ pub mod Handed
 pub mod Statuses
 pub mod Numbers
 pub mod Events
+pub mod DecoderKept
 pub mod EncoderKept
 pub mod Packed
 pub mod Checked
 pub mod Decoded
+pub mod Fed
 pub mod Audited
 pub mod Dumped
 pub mod Encoded

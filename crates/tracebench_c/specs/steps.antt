@@ -1,4 +1,5 @@
 pub mod Reading
 pub mod ReadingEvents
+pub mod ReadingDecoders
 pub mod ReadingStates
 pub mod Hearing

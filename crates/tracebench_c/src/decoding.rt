@@ -156,7 +156,7 @@ pub(crate) fn demux_status(why: DemuxFault) -> u32
 }
 
 /// Why a packet is not decoded.
-fn decode_status(why: DecodeFault) -> u32
+pub(crate) fn decode_status(why: DecodeFault) -> u32
     ensures { result ≡ decode_status why }
 {
     match why {

@@ -1,13 +1,16 @@
-//! Bytes, and the numbers of packets, that go into a caller's buffer.
+//! Bytes, and the numbers of packets and events, that go into a caller's buffer.
 
 ghost use Rattle.std.specs.Prelude.{◌≡◌, ◌⊎◌, ◌<◌, length, map};
+ghost use Rattle.tracebench_c.specs.Events.{numbers_of_event};
 ghost use Rattle.tracebench_c.specs.Handed.{IsHandedOut};
 ghost use Rattle.tracebench_c.specs.Numbers.{numbers_of};
 ghost use Rattle.tracebench_c.specs.declared.status.TheConstants.{DONE, TOO_SMALL};
 
+use crate::events::{EventNumbers, numbers_of_event};
 use crate::numbers::{PacketNumbers, numbers_of};
 use crate::status::{DONE, TOO_SMALL};
 use payload::Packet;
+use retire::Event;
 
 /// Writes bytes to the beginning of a buffer, and how many they are. Where the buffer is too small, none is written to
 /// it.
@@ -39,6 +42,21 @@ pub(crate) fn hand_out_packets(
     }
     for place in 0..given.len() {
         packets[place] = numbers_of(&given[place]);
+    }
+    DONE
+}
+
+/// Writes the numbers of events to the beginning of a buffer, and how many events there are. Where the buffer is too
+/// small, nothing is written to it.
+pub(crate) fn hand_out_events(given: &[Event], events: &mut [EventNumbers], count: &mut u64) -> u32
+    ensures { IsHandedOut (map numbers_of_event given.now) result count.new events.old events.new }
+{
+    *count = given.len() as u64;
+    if events.len() < given.len() {
+        return TOO_SMALL;
+    }
+    for place in 0..given.len() {
+        events[place] = numbers_of_event(&given[place]);
     }
     DONE
 }

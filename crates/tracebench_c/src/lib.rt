@@ -1,21 +1,23 @@
 //! The bench for C: calls on numbers and bytes, each a few lines over a proved call.
 //!
 //! A call reads the slices that it is given, writes to those that it is given to write, and returns a status. It keeps
-//! nothing from one call to the next; what a log's packets want kept from one event to the next is a struct of the
-//! caller's. What a call gives back as bytes or as packets goes into a buffer of the caller's. Where that is too small,
-//! the call says how many it wants and writes none of them.
+//! nothing from one call to the next; what an encoder or a decoder keeps from one step to the next is a struct of the
+//! caller's. What a call gives back as bytes, packets or events goes into a buffer of the caller's. Where that is too
+//! small, the call says how many it wants and writes none of them.
 //!
 //! C passes a slice as a pointer and a length, and a reference as a pointer; `include/tracebench.h` declares the calls
 //! as C sees them, and says what a caller owes: no pointer is null, and what is written to overlaps nothing else.
 #![tactic(auto)]
 
 mod checking;
+mod decoder_state;
 mod decoding;
 mod dumping;
 mod encoder_state;
 mod encoding;
 mod events;
 mod fault;
+mod feeding;
 mod handing;
 mod numbers;
 mod packing;
@@ -24,6 +26,7 @@ mod pushing;
 pub mod status;
 
 pub use checking::tracebench_check;
+pub use decoder_state::{CLOSED, DecoderNumbers, PASSING_OVER, RUNNING, UNOPENED};
 pub use decoding::{DecodeEnd, HartText, tracebench_decode};
 pub use dumping::{DumpEnd, tracebench_dump};
 pub use encoder_state::{
@@ -32,6 +35,7 @@ pub use encoder_state::{
 pub use encoding::{LogPlace, VERSION_ONE, VERSION_TWO, tracebench_encode};
 pub use events::{EventNumbers, RETIREMENT, TRAP_TAKEN};
 pub use fault::Fault;
+pub use feeding::{FedPayload, FeedFault, tracebench_decoder, tracebench_feed};
 pub use numbers::{
     ADDRESS, DIFFERENTIAL, ENDED_NTR, ENDED_REP, FULL, MAP, NOTIFY, OPEN, PLAIN, PacketNumbers,
     SYNC, TRAP, UPDISCON,

@@ -17,8 +17,8 @@ use Rattle.decoder.specs.steps.Stretches.{stretch_last, stretch_place, Gives, Ri
 use Rattle.decoder.specs.Settling.{settled_by}
 use Rattle.decoder.specs.DecoderStands.{phase_after, waiting_after}
 use Rattle.decoder.specs.declared.decoding.Decoder.{Decoder}
-use Rattle.decoder.specs.declared.decoding.Phase.{Phase}
-use Rattle.decoder.specs.declared.decoding.Phase.TheVariants.{Unopened, Running, PassingOver, Closed}
+use Rattle.decoder.specs.declared.state.Phase.{Phase}
+use Rattle.decoder.specs.declared.state.Phase.TheVariants.{Unopened, Running, PassingOver, Closed}
 use Rattle.decoder.specs.declared.fault.DecodeFault.{DecodeFault}
 use Rattle.decoder.specs.declared.fault.DecodeFault.TheVariants.{NotOpened, AfterClose}
 use Rattle.decoder.specs.declared.stretch.Stretch.{Stretch}

@@ -17,20 +17,26 @@ use Rattle.decoder.specs.DecoderStands.{DecoderStands}
 use Rattle.decoder.proofs.decoding.Decoder.feed.Goals.{After-write-2}
 use Rattle.decoder.proofs.decoding.Decoder.feed.Goals as goal
 
-pub returns-in-Err-clause-none : goal.returns-in-Err-clause-none
-returns-in-Err-clause-none g c = λ packets s. inr (λ other all.
+pub returns-in-Err-clause-adds_none : goal.returns-in-Err-clause-adds_none
+returns-in-Err-clause-adds_none g c = λ packets before s. inr (λ other all.
     let w = words_of c.args.program.now in
-    let one = stands_only w c.plan.ensures.words packets c.args.log.now.items c.args.self.now c.args.packet.now other s
-    all in
-    c.in-Err.ensures.none.none (stands_right w packets c.args.log.now.items c.args.self.now s) one.piece one.more
-    one.can)
+    let one = stands_only w c.plan.ensures.words packets before c.args.self.now c.args.packet.now other s all in
+    c.in-Err.ensures.none.none (stands_right w packets before c.args.self.now s) one.piece one.more one.can)
 
-pub returns-in-Err-clause-not_opened : goal.returns-in-Err-clause-not_opened
-returns-in-Err-clause-not_opened g c = λ packets s.
+pub returns-in-Err-clause-none : goal.returns-in-Err-clause-none
+returns-in-Err-clause-none g c = λ packets s.
+    returns-in-Err-clause-adds_none g c packets c.args.log.now.items s
+
+pub returns-in-Err-clause-adds_first : goal.returns-in-Err-clause-adds_first
+returns-in-Err-clause-adds_first g c = λ packets before s.
     let named = subst (λ x. IsNamed (admitted x c.args.packet.now) c.in-Err.fault) s.phase
     c.in-Err.ensures.none.named in
     let one = named_not_opened packets c.args.packet.now c.in-Err.fault named in
     (λ is. one.0 cc, λ is. let is_not = one.1 is in cc)
+
+pub returns-in-Err-clause-not_opened : goal.returns-in-Err-clause-not_opened
+returns-in-Err-clause-not_opened g c = λ packets s.
+    returns-in-Err-clause-adds_first g c packets c.args.log.now.items s
 
 -- What the room lacked that was asked for, it lacks for all of the events.
 no_room : {cap cap' n' len' left left' a a' : ℕ} → (n both : ℕ) → cap' < len' + (left + left')
@@ -85,21 +91,29 @@ module _ (g : _) (c : After-write-2 g) where
       (subst (λ l. AddsStretch (words_of c.args.program.now) (left_of c.plan.new.first) l c.write.new.log.items)
       c.reserve.ensures.items c.write.ensures.adds) c.write-2.new.log.items c.write-2.ensures.adds
 
-pub returns-clause-stands : goal.returns-clause-stands
-returns-clause-stands g c = λ packets s.
+pub returns-clause-adds : goal.returns-clause-adds
+returns-clause-adds g c = λ packets before added s is.
     let w = words_of c.args.program.now in
-    let log = c.args.log.now.items in
     let d = c.args.self.now in
     let p = c.args.packet.now in
     let first = c.plan.new.first in
     let second = c.plan.new.second in
     let found = c.in_default.ensures.found in
-    let can = found.can (stands_right w packets log d s) in
-    let new = stands_more w packets log d p first second found.settled found.of_packet s found.gives_settled
+    let can = found.can (stands_right w packets before d s) in
+    let new = stands_more w packets before d p first second found.settled found.of_packet s found.gives_settled
     found.gives_of_packet can in
+    let same = append_cancel_left c.args.log.now.items (found.settled ++ found.of_packet) added
+    (sym (all g (goal.at.returns-clause-adds g c).After-write-2) ∙ is) in
+    subst (λ x. DecoderStands w (packets ++ p ∷ []) (before ++ added) x) (sym c.after.ensures)
+    (subst (λ l. DecoderStands w (packets ++ p ∷ []) (before ++ l) (decoder_after d p first second)) same new)
+
+pub returns-clause-stands : goal.returns-clause-stands
+returns-clause-stands g c = λ packets s.
+    let found = c.in_default.ensures.found in
     let whole = all g (goal.at.returns-clause-stands g c).After-write-2 in
-    let logs = subst (λ l. DecoderStands w (packets ++ p ∷ []) l (decoder_after d p first second)) (sym whole) new in
-    subst (λ x. DecoderStands w (packets ++ p ∷ []) c.write-2.new.log.items x) (sym c.after.ensures) logs
+    let new = returns-clause-adds g c packets c.args.log.now.items (found.settled ++ found.of_packet) s whole in
+    subst (λ l. DecoderStands (words_of c.args.program.now) (packets ++ c.args.packet.now ∷ []) l c.after.result)
+    (sym whole) new
 
 pub returns-clause-only : goal.returns-clause-only
 returns-clause-only g c = λ packets s other all.

@@ -1,0 +1,140 @@
+//! Decoding step by step: one payload in, its events out.
+
+ghost use Rattle.std.specs.Prelude.{◌≡◌, []};
+ghost use Rattle.rvclass.specs.Words.{Words};
+ghost use Rattle.tracebench_c.specs.DecoderKept.{NumbersStand};
+ghost use Rattle.tracebench_c.specs.Fed.{GoesOnIfDone, IsFed, ReportsFeed, feed_status};
+
+use crate::checking::program_of;
+use crate::decoder_state::{DecoderNumbers, numbers_of_state, state_of};
+use crate::decoding::decode_status;
+use crate::events::EventNumbers;
+use crate::fault::Fault;
+use crate::handing::hand_out_events;
+use crate::packing::pack_status;
+use crate::status::{BAD_STATE, DONE};
+use decoder::{DecodeFault, Decoder};
+use payload::{PackFault, unpack};
+use retire::Event;
+use std::alloc::Global;
+
+/// What a payload gives that a decoder takes.
+#[derive(Drop)]
+pub struct FedPayload {
+    /// What the decoder remembers then.
+    pub numbers: DecoderNumbers,
+    /// The events that are added.
+    pub events: Vec<Event>,
+}
+
+/// Why a payload is not taken.
+#[derive(Clone, Copy)]
+pub enum FeedFault {
+    /// No decoder has these numbers.
+    State,
+    /// The payload stands for no packet.
+    Payload(PackFault),
+    /// The image makes no program, or memory was refused.
+    Image(Fault),
+    /// The decoder refuses the packet.
+    Decode(DecodeFault),
+}
+
+/// Writes the numbers of a decoder before the first packet. No memory is taken.
+#[unsafe(no_mangle)]
+pub extern "C" fn tracebench_decoder(state: &mut DecoderNumbers)
+    ensures { (words : Words) → NumbersStand words [] [] state.new }
+{
+    *state = numbers_of_state(&Decoder::new().state());
+}
+
+/// Feeds a payload to the decoder with these numbers, and writes the events that it settles, oldest first, and the
+/// decoder's new numbers. `count` is how many events there are.
+///
+/// An address packet with plain bits is not settled before the next packet, so its events come with that packet's. Hand
+/// in the same image at each call; it is copied each time.
+///
+/// The status is [`DONE`], or one of these, which leave the numbers and the events as they were:
+///
+/// - [`TOO_SMALL`](crate::status::TOO_SMALL): the events have no room, and `count` is how many there are.
+/// - [`BAD_STATE`]: no decoder has these numbers.
+/// - [`EMPTY`](crate::status::EMPTY) to [`BAD_REPORT`](crate::status::BAD_REPORT): the payload stands for no packet.
+/// - [`ODD_BASE`](crate::status::ODD_BASE) to [`PAST_END`](crate::status::PAST_END): the image makes no program.
+/// - [`NOT_OPENED`](crate::status::NOT_OPENED) to
+///   [`AFTER_CLOSING_PACKET`](crate::status::AFTER_CLOSING_PACKET): the packet does not follow those before.
+/// - [`MEMORY`](crate::status::MEMORY): memory was refused.
+#[unsafe(no_mangle)]
+pub extern "C" fn tracebench_feed(
+    alloc: Global,
+    base: u64,
+    image: &[u8],
+    state: &mut DecoderNumbers,
+    payload: &[u8],
+    events: &mut [EventNumbers],
+    count: &mut u64,
+) -> u32
+    ensures { ReportsFeed base image.now payload.now result state.old state.new count.old count.new events.old
+        events.new }
+{
+    match feed_payload(alloc, base, image, state, payload) {
+        Ok(fed) => {
+            let status = hand_out_events(fed.events.as_slice(), events, count);
+            go_on_if_done(status, state, fed.numbers);
+            status
+        }
+        Err(fault) => feed_status(fault),
+    }
+}
+
+/// Goes on with these numbers where all is done.
+fn go_on_if_done(status: u32, state: &mut DecoderNumbers, next: DecoderNumbers)
+    ensures { GoesOnIfDone status state.old next state.new }
+{
+    if status == DONE {
+        *state = next;
+    }
+}
+
+/// The numbers of the decoder behind a payload, and the events that are added.
+fn feed_payload(
+    alloc: Global,
+    base: u64,
+    image: &[u8],
+    numbers: &DecoderNumbers,
+    payload: &[u8],
+) -> Result<FedPayload, FeedFault>
+    ensures { IsFed base image.now payload.now numbers.now result }
+{
+    let Some(state) = state_of(numbers) else {
+        return Err(FeedFault::State);
+    };
+    let packet = match unpack(payload) {
+        Ok(packet) => packet,
+        Err(why) => return Err(FeedFault::Payload(why)),
+    };
+    let program = match program_of(alloc, base, image) {
+        Ok(program) => program,
+        Err(why) => return Err(FeedFault::Image(why)),
+    };
+    let mut decoder = Decoder::from_state(state);
+    let mut events = Vec::new(alloc);
+    match decoder.feed(&program, &packet, &mut events) {
+        Ok(()) => Ok(FedPayload {
+            numbers: numbers_of_state(&decoder.state()),
+            events,
+        }),
+        Err(why) => Err(FeedFault::Decode(why)),
+    }
+}
+
+/// Why a payload is not taken, as a status.
+fn feed_status(fault: FeedFault) -> u32
+    ensures { result ≡ feed_status fault }
+{
+    match fault {
+        FeedFault::State => BAD_STATE,
+        FeedFault::Payload(why) => pack_status(why),
+        FeedFault::Image(why) => why.status(),
+        FeedFault::Decode(why) => decode_status(why),
+    }
+}
