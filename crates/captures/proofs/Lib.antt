@@ -1,4 +1,5 @@
 pub mod MessageTexts
+pub mod CaptureStarts
 pub mod Elements
 pub mod FoundInFront
 pub mod CapturesSplit

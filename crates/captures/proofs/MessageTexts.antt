@@ -113,22 +113,22 @@ messages_of_harts-snoc period mode hart (first ∷ logs) log =
     (append_assoc (messages_from hart 0 (payloads period mode first)) (messages_of_harts period mode (hart + 1) logs)
     (messages_from (hart + suc (length logs)) 0 (payloads period mode log)))
 
--- One hart more.
-pub text-take_more_harts : (text : Message → List ℕ) (period : ℕ) (mode : Mode) (i : ℕ) (logs : List ProgramLog)
-    (log : ProgramLog) → i < length logs → log ≡ get_or logs i log
-    → flat_map text (messages_of_harts period mode 0 (take (i + 1) logs))
-    ≡ flat_map text (messages_of_harts period mode 0 (take i logs)) ++ flat_map text
-    (messages_from i 0 (payloads period mode log))
-text-take_more_harts text period mode i logs log within is =
+-- One hart more. The first has this number, and it has that one.
+pub text-take_more_harts : (text : Message → List ℕ) (period : ℕ) (mode : Mode) (first i hart : ℕ)
+    (logs : List ProgramLog) (log : ProgramLog) → i < length logs → log ≡ get_or logs i log → first + i ≡ hart
+    → flat_map text (messages_of_harts period mode first (take (i + 1) logs))
+    ≡ flat_map text (messages_of_harts period mode first (take i logs)) ++ flat_map text
+    (messages_from hart 0 (payloads period mode log))
+text-take_more_harts text period mode first i hart logs log within is number =
     let count : length (take i logs) ≡ i = length-take-le i logs (omega arith) in
-    ap (λ l. flat_map text (messages_of_harts period mode 0 l))
+    ap (λ l. flat_map text (messages_of_harts period mode first l))
     (take_more logs i log within ∙ ap (λ l. take i logs ++ l ∷ []) (sym is))
-    ∙ ap (flat_map text) (messages_of_harts-snoc period mode 0 (take i logs) log)
-    ∙ flat_map-append text (messages_of_harts period mode 0 (take i logs))
-    (messages_from (0 + length (take i logs)) 0 (payloads period mode log))
+    ∙ ap (flat_map text) (messages_of_harts-snoc period mode first (take i logs) log)
+    ∙ flat_map-append text (messages_of_harts period mode first (take i logs))
+    (messages_from (first + length (take i logs)) 0 (payloads period mode log))
     ∙ ap
-    (λ h. flat_map text (messages_of_harts period mode 0 (take i logs)) ++ flat_map text
-    (messages_from h 0 (payloads period mode log))) (omega (arith, count))
+    (λ h. flat_map text (messages_of_harts period mode first (take i logs)) ++ flat_map text
+    (messages_from h 0 (payloads period mode log))) (omega (arith, count, number))
 
 messages_from-append : (hart number : ℕ) (front back : List (List ℕ))
     → messages_from hart number (front ++ back)
@@ -159,7 +159,7 @@ next_begun text old mid new hart i items payload found first begun =
     subst (λ l. AppendsBeginning l old new) (sym all)
     (begun_in_front (before ++ here) (flat_map text later) old new (begun_behind before here old mid new first begun))
 
-messages_of_harts-append : (period : ℕ) (mode : Mode) (hart : ℕ) (front back : List ProgramLog)
+pub messages_of_harts-append : (period : ℕ) (mode : Mode) (hart : ℕ) (front back : List ProgramLog)
     → messages_of_harts period mode hart (front ++ back)
     ≡ messages_of_harts period mode hart front ++ messages_of_harts period mode (hart + length front) back
 messages_of_harts-append period mode hart [] back = ap (λ h. messages_of_harts period mode h back) (omega arith)
@@ -173,21 +173,20 @@ messages_of_harts-append period mode hart (first ∷ front) back =
     (messages_of_harts period mode (hart + suc (length front)) back))
 
 -- The messages of harts were written, and a beginning of those of the next.
-pub next_hart_begun : (text : Message → List ℕ) (old mid new : Option (List ℕ)) (period : ℕ) (mode : Mode) (i : ℕ)
-    (logs : List ProgramLog)
-    (log : ProgramLog) → i < length logs → log ≡ get_or logs i log
-    → Appends old mid (flat_map text (messages_of_harts period mode 0 (take i logs)))
-    → AppendsBeginning (flat_map text (messages_from i 0 (payloads period mode log))) mid new
-    → AppendsBeginning (flat_map text (messages_of_harts period mode 0 logs)) old new
-next_hart_begun text old mid new period mode i logs log within is first begun =
-    let before = flat_map text (messages_of_harts period mode 0 (take i logs)) in
-    let here = flat_map text (messages_from i 0 (payloads period mode log)) in
-    let front = messages_of_harts period mode 0 (take (i + 1) logs) in
-    let later = messages_of_harts period mode (0 + length (take (i + 1) logs)) (drop (i + 1) logs) in
-    let all : flat_map text (messages_of_harts period mode 0 logs) ≡ (before ++ here) ++ flat_map text later =
-    ap (λ l. flat_map text (messages_of_harts period mode 0 l)) (sym (take-append-drop (i + 1) logs))
-    ∙ ap (flat_map text) (messages_of_harts-append period mode 0 (take (i + 1) logs) (drop (i + 1) logs))
+pub next_hart_begun : (text : Message → List ℕ) (old mid new : Option (List ℕ)) (period : ℕ) (mode : Mode)
+    (first i hart : ℕ) (logs : List ProgramLog) (log : ProgramLog) → i < length logs → log ≡ get_or logs i log
+    → first + i ≡ hart → Appends old mid (flat_map text (messages_of_harts period mode first (take i logs)))
+    → AppendsBeginning (flat_map text (messages_from hart 0 (payloads period mode log))) mid new
+    → AppendsBeginning (flat_map text (messages_of_harts period mode first logs)) old new
+next_hart_begun text old mid new period mode first i hart logs log within is number written begun =
+    let before = flat_map text (messages_of_harts period mode first (take i logs)) in
+    let here = flat_map text (messages_from hart 0 (payloads period mode log)) in
+    let front = messages_of_harts period mode first (take (i + 1) logs) in
+    let later = messages_of_harts period mode (first + length (take (i + 1) logs)) (drop (i + 1) logs) in
+    let all : flat_map text (messages_of_harts period mode first logs) ≡ (before ++ here) ++ flat_map text later =
+    ap (λ l. flat_map text (messages_of_harts period mode first l)) (sym (take-append-drop (i + 1) logs))
+    ∙ ap (flat_map text) (messages_of_harts-append period mode first (take (i + 1) logs) (drop (i + 1) logs))
     ∙ flat_map-append text front later
-    ∙ ap (λ l. l ++ flat_map text later) (text-take_more_harts text period mode i logs log within is) in
+    ∙ ap (λ l. l ++ flat_map text later) (text-take_more_harts text period mode first i hart logs log within is number) in
     subst (λ l. AppendsBeginning l old new) (sym all)
-    (begun_in_front (before ++ here) (flat_map text later) old new (begun_behind before here old mid new first begun))
+    (begun_in_front (before ++ here) (flat_map text later) old new (begun_behind before here old mid new written begun))

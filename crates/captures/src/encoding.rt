@@ -10,7 +10,7 @@ ghost use Rattle.captures.specs.Messages.{messages_of_harts};
 ghost use Rattle.captures.specs.Versions.{MayStart, capture_of, header_of, start_bytes};
 ghost use Rattle.encoder.specs.Payloads.{payloads};
 
-use crate::form::{Capture, Form, HexLines};
+use crate::form::{CaptureBytes, Form, HexLines};
 use encoder::Source;
 use legalpath::LegalLog;
 use message::{Header, MOST_HARTS, Message, MessageFault, Version, write_header};
@@ -41,29 +41,38 @@ pub fn encode_capture<W: Write, A: Allocator>(
         (W.contents sink.old) (W.contents sink.new) }
     ensures fault { IfErr result (λ fault. fault ≡ MessageFault.Write) }
 {
-    let header = Header {
-        mode,
-        period,
-        harts: logs.len().min(usize::from(MOST_HARTS)) as u16,
-    };
-    write_start(sink, version, &header)?;
-    encode::<Capture, W, A>(logs, period, mode, sink)
+    write_start(sink, version, period, mode, logs.len())?;
+    encode::<CaptureBytes, W, A>(logs, period, mode, sink)
 }
 
-/// Writes what stands before the messages in this version: nothing, or this header.
-fn write_start<W: Write>(
+/// Writes what stands before the messages of this many harts: nothing in version 1, and in version 2 the header.
+///
+/// The only fault is [`MessageFault::Write`], where the writer failed; what was written then is a beginning of the
+/// header. No memory is taken, and the writer is not flushed.
+pub fn write_start<W: Write>(
     sink: &mut W,
     version: Version,
-    header: &Header,
+    period: u16,
+    mode: Mode,
+    harts: usize,
 ) -> Result<(), MessageFault>
+    requires header { MayStart version (record { mode = mode; period = period; harts = harts }) }
     ensures written { OnOk result (Appends (W.contents sink.old) (W.contents sink.new)
-        (start_bytes version header.now)) }
-    ensures begun { AppendsBeginning (start_bytes version header.now) (W.contents sink.old) (W.contents sink.new) }
+        (start_bytes version (record { mode = mode; period = period; harts = harts }))) }
+    ensures begun { AppendsBeginning (start_bytes version (record { mode = mode; period = period; harts = harts }))
+        (W.contents sink.old) (W.contents sink.new) }
     ensures fault { IfErr result (λ fault. fault ≡ MessageFault.Write) }
 {
     match version {
         Version::One => Ok(()),
-        Version::Two => write_header(sink, header),
+        Version::Two => write_header(
+            sink,
+            &Header {
+                mode,
+                period,
+                harts: harts.min(usize::from(MOST_HARTS)) as u16,
+            },
+        ),
     }
 }
 
@@ -105,20 +114,23 @@ fn encode<F: Form, W: Write, A: Allocator>(
     ensures fault { IfErr result (λ fault. fault ≡ MessageFault.Write) }
 {
     for (hart, log) in logs.iter().enumerate() {
-        encode_log::<F, W, A>(hart as u16, log, period, mode, sink)?;
+        encode_hart::<F, W, A>(hart as u16, log, period, mode, sink)?;
     }
     Ok(())
 }
 
-/// Writes the messages of a hart's log in a form.
-fn encode_log<F: Form, W: Write, A: Allocator>(
+/// Writes the messages of a hart's log in a form. They are numbered from 0 on, and nothing stands before them.
+///
+/// The only fault is [`MessageFault::Write`], where the writer failed; what was written then is a beginning of the text.
+/// No memory is taken, and the writer is not flushed.
+pub fn encode_hart<F: Form, W: Write, A: Allocator>(
     hart: u16,
     log: &LegalLog<'_, A>,
     period: u16,
     mode: Mode,
     sink: &mut W,
 ) -> Result<(), MessageFault>
-    requires { 1 ≤ period }
+    requires period { 1 ≤ period }
     ensures text { OnOk result (Appends (W.contents sink.old) (W.contents sink.new)
         (flat_map F.text (messages_from hart 0 (payloads period mode log.now)))) }
     ensures begun { AppendsBeginning (flat_map F.text (messages_from hart 0 (payloads period mode log.now)))

@@ -12,19 +12,21 @@ use message::{Message, MessageFault, write_message};
 use std::io::Write;
 
 /// A form in which messages are written.
-pub(crate) trait Form {
-    // What a message is written as.
+pub trait Form {
+    /// What a message is written as.
     ghost text: { AnyMessage → List ℕ };
 
-    /// Writes a message.
+    /// Writes a message. The only fault is [`MessageFault::Write`], where the writer failed; what was written then is a
+    /// beginning of the text. No memory is taken, and the writer is not flushed.
     fn write<W: Write>(sink: &mut W, message: &Message) -> Result<(), MessageFault>
         ensures text { OnOk result (Appends (W.contents sink.old) (W.contents sink.new) (text message.now)) }
         ensures begun { AppendsBeginning (text message.now) (W.contents sink.old) (W.contents sink.new) }
         ensures fault { IfErr result (λ fault. fault ≡ MessageFault.Write) };
 }
 
-/// Lines of hexadecimal.
-pub(crate) struct HexLines;
+/// The lines that [`encode_hex`](crate::encode_hex) writes.
+#[derive(Clone, Copy)]
+pub struct HexLines;
 
 impl Form for HexLines {
     ghost text = { hex_line };
@@ -37,10 +39,11 @@ impl Form for HexLines {
     }
 }
 
-/// The bytes of a capture.
-pub(crate) struct Capture;
+/// The bytes that [`encode_capture`](crate::encode_capture) writes.
+#[derive(Clone, Copy)]
+pub struct CaptureBytes;
 
-impl Form for Capture {
+impl Form for CaptureBytes {
     ghost text = { message_bytes };
 
     fn write<W: Write>(sink: &mut W, message: &Message) -> Result<(), MessageFault> {

@@ -1,9 +1,10 @@
 //! Whole captures: from the logs of harts to the bytes of a capture, and from such bytes to text and to logs.
 //!
 //! [`encode_capture`] writes the messages of logs as a capture, and [`encode_hex`] as lines of hexadecimal;
-//! [`hex_lines`] writes those of a hart's payloads as such lines. [`decode_capture`] returns the events of each hart of
-//! a capture, [`read_messages`] its messages as they are, [`read_front`] those up to the first place where none stands.
-//! [`dump_capture`] writes a line of text for each message.
+//! [`write_start`] and [`encode_hart`] write the same hart by hart, in a [`Form`]; [`hex_lines`] writes the messages of a
+//! hart's payloads as lines. [`decode_capture`] returns the events of each hart of a capture, [`read_messages`] its
+//! messages as they are, [`read_front`] those up to the first place where none stands. [`dump_capture`] writes a line of
+//! text for each message.
 #![tactic(auto)]
 
 mod capture_decoding;
@@ -18,7 +19,8 @@ mod packet_text;
 pub use capture_decoding::decode_capture;
 pub use capture_reading::{CaptureFront, ReadFault, WholeCapture, read_front, read_messages};
 pub use dumping::{Dumped, dump_capture, write_header_line};
-pub use encoding::{encode_capture, encode_hex};
+pub use encoding::{encode_capture, encode_hart, encode_hex, write_start};
+pub use form::{CaptureBytes, Form, HexLines};
 pub use lines::hex_lines;
 pub use outcome::{CaptureFault, CaptureOutcome};
 pub use packet_text::ReadingText;

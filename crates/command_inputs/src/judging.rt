@@ -112,9 +112,9 @@ struct Judging<'p> {
 }
 
 impl<'a, 'p> Task<LogText<'a>, Result<JudgedLog<'a, 'p>, Fault<'a>>> for Judging<'p> {
-    ghost Gives = { λ task text found. ComesOfText task.program.now text found };
+    ghost Gives = { λ task place text found. ComesOfText task.program.now text found };
 
-    fn call(&self, text: &LogText<'a>) -> Result<JudgedLog<'a, 'p>, Fault<'a>> {
+    fn call(&self, _: usize, text: &LogText<'a>) -> Result<JudgedLog<'a, 'p>, Fault<'a>> {
         log_of_text(self.alloc, self.program, text)
     }
 }

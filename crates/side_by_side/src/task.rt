@@ -1,7 +1,7 @@
 //! Jobs that are done side by side.
 
-ghost use Rattle.std.specs.Prelude.{◌≤◌, ◌<◌, IfOk, length, slice_index_or};
-ghost use Rattle.std.specs.List.{AllZip};
+ghost use Rattle.std.specs.Prelude.{◌≡◌, ℕ, ◌≤◌, ◌<◌, IfOk, length, slice_index_or};
+ghost use Rattle.side_by_side.specs.Places.{HoldsBelow};
 
 use std::alloc::{AllocError, Global};
 use std::thread;
@@ -9,12 +9,12 @@ use std::thread::Threads;
 
 /// How a job is done.
 pub trait Task<J, X> {
-    /// This may come of the job.
-    ghost Gives: { Self → J → X → Type 0 };
+    /// This may come of the job at this place.
+    ghost Gives: { Self → ℕ → J → X → Type 0 };
 
-    /// Does the job.
-    fn call(&self, job: &J) -> X
-        ensures { Gives self.now job.now result };
+    /// Does the job, which stands at this place among the jobs. The first stands at 0.
+    fn call(&self, place: usize, job: &J) -> X
+        ensures { Gives self.now place job.now result };
 }
 
 /// How many threads can run at once: the processors that this program may use, or 1 where their count is not known.
@@ -38,12 +38,13 @@ pub fn results<R: Threads + Sync, J: Sync, X: Send + Drop, T: Task<J, X> + Sync>
     task: &T,
     jobs: &[J],
 ) -> Result<Vec<X>, AllocError>
-    ensures { IfOk result (λ found. AllZip (T.Gives task.now) jobs.now found.items) }
+    ensures count { IfOk result (λ found. length found.items ≡ length jobs.now) }
+    ensures each { IfOk result (λ found. HoldsBelow (T.Gives task.now) (length jobs.now) jobs.now found.items) }
 {
     let one = move |place: usize| -> X
         requires { place < length jobs.now }
-        ensures { (d : _) → T.Gives task.entry.now (slice_index_or jobs.entry.now place d) result }
-    { task.call(&jobs[place]) };
+        ensures { (d : _) → T.Gives task.entry.now place (slice_index_or jobs.entry.now place d) result }
+    { task.call(place, &jobs[place]) };
     match thread::map_indices(rt, alloc, jobs.len(), &one) {
         Ok(found) => Ok(found),
         Err(_) => results_in_turn(alloc, task, jobs),
@@ -56,12 +57,13 @@ fn results_in_turn<J, X: Drop, T: Task<J, X>>(
     task: &T,
     jobs: &[J],
 ) -> Result<Vec<X>, AllocError>
-    ensures { IfOk result (λ found. AllZip (T.Gives task.now) jobs.now found.items) }
+    ensures count { IfOk result (λ found. length found.items ≡ length jobs.now) }
+    ensures each { IfOk result (λ found. HoldsBelow (T.Gives task.now) (length jobs.now) jobs.now found.items) }
 {
     let mut found = Vec::new(alloc);
     found.reserve(jobs.len())?;
-    for job in jobs {
-        found.push(task.call(job))?;
+    for (place, job) in jobs.iter().enumerate() {
+        found.push(task.call(place, job))?;
     }
     Ok(found)
 }

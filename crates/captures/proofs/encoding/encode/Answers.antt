@@ -1,5 +1,5 @@
 -- The messages of the harts so far and those of one more are put together by a lemma on lists.
-use Rattle.std.proofs.Common.{take, sym, subst}
+use Rattle.std.proofs.Common.{take, sym, subst, zero-add}
 use Rattle.std.proofs.lemmas.List.{take_all}
 use Rattle.std.specs.Io.KnownBytes.{Appends}
 use Rattle.std.specs.List.{flat_map}
@@ -19,18 +19,18 @@ loop-hart-preserved g c =
     let before = flat_map text (messages_of_harts c.args.period c.args.mode 0 (take hart c.args.logs.now)) in
     let here = flat_map text (messages_from hart 0 (payloads c.args.period c.args.mode c.index-logs-hart.result)) in
     let more =
-    text-take_more_harts text c.args.period c.args.mode hart c.args.logs.now c.index-logs-hart.result
-    c.loop-hart-test.true c.index-logs-hart.is in
-    subst (Appends (g.W.Write.contents c.args.sink.now) (g.W.Write.contents c.encode_log.new.sink)) (sym more)
+    text-take_more_harts text c.args.period c.args.mode 0 hart hart c.args.logs.now c.index-logs-hart.result
+    c.loop-hart-test.true c.index-logs-hart.is (zero-add hart) in
+    subst (Appends (g.W.Write.contents c.args.sink.now) (g.W.Write.contents c.encode_hart.new.sink)) (sym more)
     (Appends-trans (g.W.Write.contents c.args.sink.now) (g.W.Write.contents c.loop-hart.sink)
-    (g.W.Write.contents c.encode_log.new.sink) before here c.loop-hart.invariant c.in_ok-encode_log.ensures.text)
+    (g.W.Write.contents c.encode_hart.new.sink) before here c.loop-hart.invariant c.in_ok-encode_hart.ensures.text)
 
-pub returns-in_err-encode_log-clause-begun : goal.returns-in_err-encode_log-clause-begun
-returns-in_err-encode_log-clause-begun g c =
+pub returns-in_err-encode_hart-clause-begun : goal.returns-in_err-encode_hart-clause-begun
+returns-in_err-encode_hart-clause-begun g c =
     next_hart_begun g.F.Form.text (g.W.Write.contents c.args.sink.now) (g.W.Write.contents c.loop-hart.sink)
-    (g.W.Write.contents c.encode_log.new.sink) c.args.period c.args.mode c.loop-hart.hart c.args.logs.now
-    c.index-logs-hart.result
-    c.loop-hart-test.true c.index-logs-hart.is c.loop-hart.invariant c.encode_log.ensures.begun
+    (g.W.Write.contents c.encode_hart.new.sink) c.args.period c.args.mode 0 c.loop-hart.hart c.loop-hart.hart
+    c.args.logs.now c.index-logs-hart.result c.loop-hart-test.true c.index-logs-hart.is (zero-add c.loop-hart.hart)
+    c.loop-hart.invariant c.encode_hart.ensures.begun
 
 pub returns-clause-begun : goal.returns-clause-begun
 returns-clause-begun g c =

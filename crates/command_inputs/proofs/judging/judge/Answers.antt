@@ -2,6 +2,7 @@
 use Rattle.std.proofs.Common.{◌≡◌, arith, subst, sym}
 use Rattle.std.proofs.lemmas.Grind.{common_steps}
 use Rattle.std.specs.List.{AllZip}
+use Rattle.side_by_side.proofs.Places.{all_zipped_by_place}
 use Rattle.command_inputs.specs.Turns.{ComeInTurn}
 use Rattle.command_inputs.specs.steps.Texts.{ComesOfText, IsFoundFault, IsFoundLog, IsLogOfText, IsNoLog}
 use Rattle.command_inputs.proofs.TextLogs.{found_fault, found_log}
@@ -15,7 +16,8 @@ returns-in-Ok g c =
     let texts = c.args.texts.items in
     let found = c.in-Ok.found.items in
     let logs = c.take_logs.new.logs.items in
-    let came = subst (λ texts. AllZip (ComesOfText program) texts found) c.as_slice.ensures.value c.in-Ok.ensures in
+    let came = subst (λ texts. AllZip (ComesOfText program) texts found) c.as_slice.ensures.value
+    (all_zipped_by_place (ComesOfText program) c.as_slice.result.now found c.in-Ok.ensures.count c.in-Ok.ensures.each) in
     let same : c.match-take_logs.result ≡ c.take_logs.result = elim c.match-take_logs.branch [
       | in_default w ↦ let is = w.result-is in grind (arith, common_steps)
       | in_default-2 w ↦ let is = w.result-is in grind (arith, common_steps)

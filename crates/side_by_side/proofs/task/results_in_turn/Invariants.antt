@@ -1,7 +1,10 @@
-use Rattle.std.proofs.Common.{take}
-use Rattle.std.specs.List.{AllZip}
+use Rattle.std.proofs.Common.{◌≡◌, length}
+use Rattle.side_by_side.specs.Places.{HoldsBelow}
 use Rattle.side_by_side.proofs.task.results_in_turn.Given as goal
 
 -- The results so far are those of the jobs so far.
-abbrev pub invariant-loop-job : goal.invariant-loop-job
-invariant-loop-job g l = AllZip (g.T.Task.Gives l.task) (take l.job-index l.jobs) l.found.items
+abbrev pub invariant-loop-place : goal.invariant-loop-place
+invariant-loop-place g l = record {
+  count : length l.found.items ≡ l.place;
+  each : HoldsBelow (g.T.Task.Gives l.task) l.place l.jobs l.found.items;
+}

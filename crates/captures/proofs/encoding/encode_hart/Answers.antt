@@ -4,8 +4,8 @@ use Rattle.encoder.specs.Payloads.{payloads}
 use Rattle.encoder.specs.SourceAt.{IsAt, number_behind}
 use Rattle.output.proofs.Beginnings.{whole_begun}
 use Rattle.captures.proofs.MessageTexts.{few_payloads, next_begun, written_more, written_all, written_through}
-use Rattle.captures.proofs.encoding.encode_log.Goals.{After-write}
-use Rattle.captures.proofs.encoding.encode_log.Goals as goal
+use Rattle.captures.proofs.encoding.encode_hart.Goals.{After-write}
+use Rattle.captures.proofs.encoding.encode_hart.Goals as goal
 
 module _ (g : _) (c : After-write g) where
   -- The payload is the one with this number.

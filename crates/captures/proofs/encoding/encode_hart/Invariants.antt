@@ -4,7 +4,7 @@ use Rattle.std.specs.List.{flat_map}
 use Rattle.message.specs.Numbered.{messages_from}
 use Rattle.encoder.specs.Payloads.{payloads}
 use Rattle.encoder.specs.SourceAt.{IsAt}
-use Rattle.captures.proofs.encoding.encode_log.Given as goal
+use Rattle.captures.proofs.encoding.encode_hart.Given as goal
 
 -- The messages below this number are written, and the source stands before the next one's payload.
 abbrev pub invariant-loop-number : goal.invariant-loop-number
