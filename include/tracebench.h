@@ -10,6 +10,8 @@
  * - What a call is given to write overlaps nothing else that it is given.
  * - No call is made in a signal handler, or in a forked child of a process with threads.
  *
+ * Several threads may call at once, where none of them writes what another is given.
+ *
  * What comes back as bytes goes into a buffer of the caller's. `*wanted` is then how many bytes there are. Where the
  * buffer has fewer, none is written to it, and the status is TRACEBENCH_TOO_SMALL. So a first call with a buffer of one
  * byte and a length of 0 asks for the size. With packets or events in place of bytes, `*count` is how many there are.
@@ -164,7 +166,7 @@ extern "C" {
 /* A walk would go on behind a backward jump that no packet reported. */
 #define TRACEBENCH_MISSED_NOTIFY 114u
 
-/* Outcomes of branches are missing, or left over. */
+/* Outcomes of branches are missing or left over, or a branch is said to be taken where none stands that is. */
 #define TRACEBENCH_WRONG_BRANCHES 115u
 
 /* A packet does not stand where it may. */
@@ -406,11 +408,13 @@ struct tracebench_log_place {
 };
 
 /*
- * Writes the capture of harts' logs, hart 0 first. `logs` holds the texts of 1 to 1,024 logs one behind the other, and
- * `ends` where each ends. The period is 1 or more. The status is TRACEBENCH_DONE, TRACEBENCH_TOO_SMALL,
- * TRACEBENCH_OUT_OF_RANGE where a number is out of its range, TRACEBENCH_BAD_ENDS where an end is before the one before
- * it or past the texts, TRACEBENCH_MEMORY, or one that tracebench_check returns, for the first log that is no legal
- * log. `*place` is written where there is no capture.
+ * Writes the capture of harts' logs, hart 0 first. `logs` holds the texts of the logs one behind the other, and `ends`
+ * where each ends; what is behind the last end is not looked at. There are 1 to 1,024 logs, in version 1 at most 64, and
+ * the period is 1 or more. The status is TRACEBENCH_DONE, TRACEBENCH_TOO_SMALL, TRACEBENCH_OUT_OF_RANGE where one of
+ * these numbers is out of its range, one of those of tracebench_check for the image, or TRACEBENCH_MEMORY. Else it is
+ * of the first log that is no legal log: one of those of tracebench_check, or TRACEBENCH_BAD_ENDS where the log's end is
+ * before its beginning or past the texts. `*place` is written where there is no capture; it is 0 and 0 where no log is
+ * at fault.
  *
  *     uint64_t ends[] = {first_length, first_length + second_length};
  *     uint32_t status = tracebench_encode(base, image, image_length, logs, logs_length, ends, 2, 1024,
@@ -425,7 +429,7 @@ uint32_t tracebench_encode(uint64_t base, const uint8_t *image, size_t image_len
 /* How a dump ends. */
 struct tracebench_dump_end {
     uint64_t place; /* behind how many messages it ends before the capture does; 0 where `fault` is 0 */
-    uint32_t fault; /* why no message stands there: TRACEBENCH_SHORT to TRACEBENCH_BAD_HEADER; 0 at the end */
+    uint32_t fault; /* why: TRACEBENCH_SHORT, TRACEBENCH_BAD_LENGTH or TRACEBENCH_BAD_HEADER; 0 at the end */
     uint32_t bad;   /* 1 where the payload of some message is no packet */
 };
 
@@ -439,9 +443,15 @@ struct tracebench_dump_end {
 uint32_t tracebench_dump(const uint8_t *capture, size_t capture_length, uint8_t *buffer, size_t buffer_length,
                          uint64_t *wanted, struct tracebench_dump_end *ended);
 
-/* How decoding a capture ends. */
+/*
+ * How decoding a capture ends. Where it stops before the end, `fault` is the status of what is wrong with the bytes
+ * (TRACEBENCH_SHORT, TRACEBENCH_BAD_LENGTH or TRACEBENCH_BAD_HEADER), with a payload (TRACEBENCH_BAD_PAD to
+ * TRACEBENCH_BAD_REPORT), with a message (TRACEBENCH_STRANGER to TRACEBENCH_OTHER_MODE) or with a packet
+ * (TRACEBENCH_NOT_OPENED to TRACEBENCH_WALKS_AT_WRONG_PRIVILEGE); or it is TRACEBENCH_MEMORY, where memory was refused
+ * for events: the call ends as if decoding had stopped there for another reason.
+ */
 struct tracebench_decode_end {
-    uint64_t harts;  /* how many harts the capture has */
+    uint64_t harts;  /* how many harts there are: as the header counts, or else as are asked for */
     uint64_t place;  /* the message, counted from 0, at which decoding stops before the end; 0 where `fault` is 0 */
     uint32_t fault;  /* why it stops there, as a status; 0 where it comes to the end */
     uint32_t closed; /* 1 where the closing packet of the hart was decoded */
@@ -477,7 +487,7 @@ struct tracebench_audit_end {
     uint64_t harts;     /* how many harts SENT has */
     uint64_t strangers; /* how many strangers came, of whatever hart */
     uint64_t place;     /* behind how many messages RECEIVED stops before its end; 0 where `fault` is 0 */
-    uint32_t fault;     /* why no message stands there: TRACEBENCH_SHORT to TRACEBENCH_BAD_HEADER; 0 at the end */
+    uint32_t fault;     /* why: TRACEBENCH_SHORT, TRACEBENCH_BAD_LENGTH or TRACEBENCH_BAD_HEADER; 0 at the end */
 };
 
 /*

@@ -3,6 +3,7 @@ pub mod Messages
 pub mod Versions
 pub mod NoMessage
 pub mod Whole
+pub mod Heard
 pub mod Decoded
 pub mod Returned
 pub mod FaultText

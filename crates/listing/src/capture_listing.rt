@@ -5,7 +5,6 @@ ghost use Rattle.std.specs.Prelude.{option_map, replicate};
 ghost use Rattle.std.specs.Io.KnownBytes.{Appends};
 ghost use Rattle.output.specs.Begun.{AppendsBeginning};
 ghost use Rattle.rvclass.specs.Fetch.{words_of};
-ghost use Rattle.message.specs.Capture.{message_bytes};
 ghost use Rattle.receiver.specs.Holds.{HasReceived};
 ghost use Rattle.listing.specs.Begun.{BeginsPart, IsPartOfListing};
 ghost use Rattle.listing.specs.Listing.{AppendsListing, AreMessagesListed, IsListing};
@@ -17,7 +16,7 @@ use crate::lines::write_offset_line;
 use crate::message_listing::list_message;
 use crate::outcome::Listed;
 use captures::{CaptureFault, write_header_line};
-use message::{Header, Message, MessageFault, Messages};
+use message::{Header, MessageFault, Messages};
 use payload::Mode;
 use receiver::Receiver;
 use retire::WriteFault;
@@ -28,9 +27,6 @@ use symbols::Symbols;
 
 /// The bytes of a capture's header.
 const HEADER_SIZE: u64 = 16;
-
-/// The bytes of a message before its payload.
-const HEAD_SIZE: u64 = 11;
 
 /// Writes what each message of a capture says and settles. Of a capture of version 2 the first line is that of its
 /// header, as [`dump_capture`](captures::dump_capture) writes it. Then comes a line for each message, in the capture's
@@ -179,18 +175,16 @@ fn list_started<A: Allocator + Copy, S: Allocator, W: Write>(
         (option_map (λ file. file.now) symbols.entry) messages.entry) (W.contents sink.old) (W.contents sink.new)) }
     ensures fault { IfErr result (λ fault. fault ≡ WriteFault.Write) }
 {
-    match write_start(header, sink) {
-        Ok(()) => list_messages(
-            receiver,
-            program,
-            announced_by(header),
-            first_offset(header),
-            messages,
-            symbols,
-            sink,
-        ),
-        Err(fault) => Err(fault),
-    }
+    write_start(header, sink)?;
+    list_messages(
+        receiver,
+        program,
+        announced_by(header),
+        first_offset(header),
+        messages,
+        symbols,
+        sink,
+    )
 }
 
 /// Lists messages with a receiver that received none. The first of them has this offset. Returns where that stops
@@ -232,16 +226,9 @@ fn list_messages<A: Allocator + Copy, S: Allocator, W: Write>(
         )? {
             None => {
                 number += 1;
-                offset += size_of(&message);
+                offset += message.size() as u64;
             }
             Some(fault) => return Ok(Some((number, CaptureFault::from(fault)))),
         }
     }
-}
-
-/// How many bytes of a capture a message takes.
-fn size_of(message: &Message) -> u64
-    ensures { result ≡ length (message_bytes message.now) }
-{
-    HEAD_SIZE + message.payload.bytes().len() as u64
 }

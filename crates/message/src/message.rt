@@ -1,6 +1,7 @@
 //! One payload on its way.
 
 ghost use Rattle.std.specs.Prelude.{◌≡◌, ◌+◌, length};
+ghost use Rattle.message.specs.Capture.{message_bytes};
 
 use crate::head::HEAD;
 use payload::Payload;
@@ -18,8 +19,9 @@ pub struct Message {
 
 impl Message {
     /// How many bytes of a capture the message takes: 11, and those of its payload.
-    pub(crate) fn size(&self) -> usize
-        ensures { result ≡ 11 + length self.now.payload }
+    pub fn size(&self) -> usize
+        ensures bytes { result ≡ length (message_bytes self.now) }
+        ensures count { result ≡ 11 + length self.now.payload }
     {
         HEAD + self.payload.bytes().len()
     }

@@ -20,7 +20,8 @@ use Rattle.command_inputs.specs.declared.status.Status.{Status}
 use Rattle.path_commands.proofs.AuditRuns.{audit_printed, cut_in_fates, cut_in_rest, few_behind, few_heard, hears}
 use Rattle.path_commands.proofs.AuditRuns.{Hears, rest_bytes}
 use Rattle.path_commands.specs.AuditText.{fate_lines}
-use Rattle.path_commands.specs.Audited.{AreHeard, Behind, NoHeader, Sent, WritesAudit, behind_fates}
+use Rattle.captures.specs.Heard.{AreHeard, Behind, NoHeader}
+use Rattle.path_commands.specs.Audited.{Sent, WritesAudit, behind_fates}
 use Rattle.path_commands.specs.steps.Ending.{EndsRest}
 
 -- RECEIVED begins with a header, or without one.

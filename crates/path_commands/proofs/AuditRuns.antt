@@ -24,7 +24,8 @@ use Rattle.command_inputs.specs.declared.fault.Fault.{Fault}
 use Rattle.command_inputs.specs.declared.fault.Fault.TheVariants as fault
 use Rattle.command_inputs.specs.declared.status.Status.{Status}
 use Rattle.path_commands.specs.AuditText.{fate_lines}
-use Rattle.path_commands.specs.Audited.{AreHeard, Behind, IsHeard, Sent, WritesAudit, audit_text, behind_fates}
+use Rattle.captures.specs.Heard.{AreHeard, Behind, IsHeard}
+use Rattle.path_commands.specs.Audited.{Sent, WritesAudit, audit_text, behind_fates}
 use Rattle.path_commands.specs.Audited.{end_of_audit, is_whole_result}
 use Rattle.path_commands.specs.steps.Ending.{EndsRest}
 

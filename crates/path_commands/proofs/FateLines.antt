@@ -20,7 +20,7 @@ use Rattle.auditing.specs.Ledger.{Ledger}
 use Rattle.auditing.specs.declared.fate.Fate.{Fate}
 use Rattle.path_commands.proofs.Parts.{HasWritten, part_all, part_begun, part_more, part_none}
 use Rattle.path_commands.specs.AuditText.{fate_lines, line_or_none}
-use Rattle.path_commands.specs.Audited.{AreHeard}
+use Rattle.captures.specs.Heard.{AreHeard}
 
 -- The first messages of RECEIVED were taken, and their lines are written; these bytes are left.
 pub record HasTaken (sent received : List Message) (stop : Option (ℕ × MessageFault)) (left : List ℕ) (path : Ledger)

@@ -1,14 +1,10 @@
 -- What `audit` prints, and how it ends.
-use Rattle.std.specs.Prelude.{◌≡◌, ◌⊎◌, ⊤, ℕ, ◌==◌, ◌&&◌, ◌++◌, not, All, Bool, true, false, is_none, List, [], Option}
-use Rattle.std.specs.Prelude.{Some, None, Result, Ok, Err, length}
-use Rattle.message.specs.Capture.{capture}
-use Rattle.message.specs.Cut.{IsMessage}
+use Rattle.std.specs.Prelude.{◌≡◌, ⊤, ℕ, ◌==◌, ◌&&◌, ◌++◌, not, Bool, true, false, is_none, List, Option, Some, None}
+use Rattle.std.specs.Prelude.{Result, Ok, Err}
 use Rattle.message.specs.declared.fault.MessageFault.{MessageFault}
 use Rattle.message.specs.declared.header.Header.{Header}
 use Rattle.message.specs.declared.message.Message.{Message}
-use Rattle.captures.specs.Dump.{Ends}
-use Rattle.captures.specs.NoMessage.{BeginsNoHeader}
-use Rattle.captures.specs.Whole.{BeginsWith}
+use Rattle.captures.specs.Heard.{IsHeard}
 use Rattle.captures.specs.declared.outcome.CaptureFault.TheVariants as capture
 use Rattle.subcommands.specs.declared.words.Audit.{Audit}
 use Rattle.auditing.specs.Judged.{judged, strangers_in}
@@ -24,22 +20,6 @@ use Rattle.command_inputs.specs.declared.fault.Fault.{Fault}
 use Rattle.command_inputs.specs.declared.status.Status.{Status}
 use Rattle.command_inputs.specs.declared.status.Status.TheVariants.{NotWhole, Whole}
 use Rattle.path_commands.specs.AuditText.{all_lost_lines, are_whole, ending_text, fate_lines, headers_differ, tally_lines}
-
--- The bytes of RECEIVED hold these messages, behind which they end, or no whole message stands.
-pub record AreHeard (bytes : List ℕ) (messages : List Message) (stop : Option (ℕ × MessageFault)) : Type 0 where
-  pub rest : List ℕ
-  pub ranges : All IsMessage messages
-  pub whole : bytes ≡ capture messages ++ rest
-  pub ends : Ends (length messages) rest stop
-
--- RECEIVED holds a header, or none, and these messages, behind which it ends, or no whole message stands. Where its
--- header is cut short or bad, it holds nothing.
-pub data IsHeard (bytes : List ℕ) (header : Option Header) (messages : List Message)
-    (stop : Option (ℕ × MessageFault)) : Type 0 where
-  Behind : (rest : List ℕ) → BeginsWith header bytes rest → AreHeard rest messages stop
-      → IsHeard bytes header messages stop
-  NoHeader : (why : MessageFault) → BeginsNoHeader bytes why → header ≡ None → messages ≡ []
-      → stop ≡ Some (0, why) → IsHeard bytes header messages stop
 
 -- SENT: its header, if it has one, and its messages.
 pub record Sent : Type 0 where

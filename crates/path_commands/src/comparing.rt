@@ -6,6 +6,7 @@ ghost use Rattle.std.specs.Io.KnownBytes.{Appends};
 ghost use Rattle.output.specs.Begun.{AppendsBeginning};
 ghost use Rattle.message.specs.declared.fault.MessageFault.{MessageFault as AnyMessageFault};
 ghost use Rattle.message.specs.declared.message.Message.{Message as AnyMessage};
+ghost use Rattle.captures.specs.Heard.{AreHeard};
 ghost use Rattle.auditing.specs.Audits.{Audits as IsAudit};
 ghost use Rattle.auditing.specs.Judged.{judged};
 ghost use Rattle.auditing.specs.Losing.{lost_runs};
@@ -14,8 +15,7 @@ ghost use Rattle.command_inputs.specs.Faults.{final_status};
 ghost use Rattle.command_inputs.specs.Printed.{PrintsUnlessDenied};
 ghost use Rattle.path_commands.specs.AuditText.{all_lost_lines, are_whole, fate_lines, headers_differ, line_or_none};
 ghost use Rattle.path_commands.specs.AuditText.{lost_lines, tally_lines};
-ghost use Rattle.path_commands.specs.Audited.{AreHeard, Audits, CanAudit, WritesAudit};
-ghost use Rattle.path_commands.specs.Audited.{behind_fates, end_of_audit};
+ghost use Rattle.path_commands.specs.Audited.{Audits, CanAudit, WritesAudit, behind_fates, end_of_audit};
 ghost use Rattle.path_commands.specs.steps.Ending.{EndsRest};
 
 use crate::ending::Ending;

@@ -1,19 +1,20 @@
 -- The header of some logs has its numbers within their ranges.
-use Rattle.std.proofs.Common.{◌≡◌, ℕ, ◌^◌, ◌<◌, ◌≤◌, ◌==◌, zero, suc, false, true≢false, List, length, arith}
+use Rattle.std.proofs.Common.{ℕ, ◌^◌, ◌<◌, ◌≤◌, List, length, arith}
 use Rattle.captures.specs.Versions.{MayStart, header_of}
 use Rattle.legalpath.specs.ProgramLog.{ProgramLog}
+use Rattle.message.specs.Version.{most_harts}
 use Rattle.message.specs.declared.header.Version.{Version}
 use Rattle.message.specs.declared.header.Version.TheVariants.{One, Two}
 use Rattle.payload.specs.declared.mode.Mode.{Mode}
 
--- A period that is not 0, and 1 to 1,024 logs.
+-- A period that is not 0, and a log at least, and at most as many as the version has harts.
 pub may_start : (version : Version) (period : ℕ) (mode : Mode) (logs : List ProgramLog) → 1 ≤ period → period < 2 ^ 16
-    → 1 ≤ length logs → length logs ≤ 1024 → MayStart version (header_of period mode logs)
+    → 1 ≤ length logs → length logs ≤ most_harts version → MayStart version (header_of period mode logs)
 may_start One period mode logs some fits first few = tt
 may_start Two period mode logs some fits first few =
     record { some_period = some; period = fits; some_harts = first; harts = few }
 
--- A count that is not 0 is 1 or more.
-pub some_of : (n : ℕ) → (n == 0) ≡ false → 1 ≤ n
-some_of zero none = absurd (true≢false none)
-some_of (suc n) some = omega arith
+-- The harts of a version are few.
+pub few_harts : (version : Version) → most_harts version ≤ 1024
+few_harts One = omega arith
+few_harts Two = omega arith

@@ -9,11 +9,11 @@ use Rattle.message.specs.declared.fault.MessageFault.{MessageFault}
 use Rattle.message.specs.declared.header.Header.{Header}
 use Rattle.message.specs.declared.message.Message.{Message}
 use Rattle.captures.proofs.WholeCaptures.{HasRead, read_next}
+use Rattle.captures.specs.Heard.{Behind, NoHeader}
 use Rattle.captures.specs.NoMessage.{BeginsNone, BeginsNoHeader}
 use Rattle.captures.specs.Whole.{BeginsWith}
 use Rattle.auditing.specs.Audits.{Audits}
 use Rattle.auditing.specs.Ledger.{Ledger}
-use Rattle.tracebench_c.specs.Audited.{Behind, NoHeader}
 use Rattle.tracebench_c.specs.steps.Hearing.{HasHeard, HasTakenCapture}
 
 -- The first messages of the bytes were taken, and these bytes are left.
@@ -88,8 +88,9 @@ heard_behind sent bytes left header stop path begins has =
     let low = shorter bytes left header begins in
     let few = has.few in
     record {
+      header = header;
       received = has.received;
-      heard = Behind header left begins has.heard;
+      heard = Behind left begins has.heard;
       few = omega (arith, low, few);
       audits = has.audits;
     }
@@ -98,8 +99,9 @@ heard_behind sent bytes left header stop path begins has =
 pub heard_nothing : (sent : List Message) (bytes : List ℕ) (why : MessageFault) (path : Ledger)
     → BeginsNoHeader bytes why → Audits sent [] path → HasTakenCapture sent bytes (Some (0, why)) path
 heard_nothing sent bytes why path none audits = record {
+  header = None;
   received = [];
-  heard = NoHeader why none refl refl;
+  heard = NoHeader why none refl refl refl;
   few = omega arith;
   audits = audits;
 }

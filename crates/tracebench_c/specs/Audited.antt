@@ -1,13 +1,9 @@
 -- What a call reports of an audit.
-use Rattle.std.specs.Prelude.{ℕ, ◌≡◌, ◌<◌, ◌≤◌, ◌++◌, All, List, [], Option, Some, None, Result, Ok, Err, length}
-use Rattle.message.specs.Capture.{capture}
-use Rattle.message.specs.Cut.{IsMessage}
+use Rattle.std.specs.Prelude.{ℕ, ◌≡◌, ◌<◌, ◌≤◌, List, Option, Some, None, Result, Ok, Err}
 use Rattle.message.specs.declared.fault.MessageFault.{MessageFault}
 use Rattle.message.specs.declared.header.Header.{Header}
 use Rattle.message.specs.declared.message.Message.{Message}
-use Rattle.captures.specs.Dump.{Ends}
-use Rattle.captures.specs.NoMessage.{BeginsNoHeader}
-use Rattle.captures.specs.Whole.{BeginsWith}
+use Rattle.captures.specs.Heard.{IsHeard}
 use Rattle.auditing.specs.Judged.{strangers_in}
 use Rattle.auditing.specs.Sent.{IsSent, IsSentFault, harts_of}
 use Rattle.auditing.specs.Tallies.{tally_of}
@@ -22,21 +18,6 @@ use Rattle.tracebench_c.specs.declared.path_audit.AuditFault.TheVariants.{Sent, 
 use Rattle.tracebench_c.specs.declared.path_audit.HartAudited.{HartAudited}
 use Rattle.tracebench_c.specs.declared.path_audit.HartTally.{HartTally}
 use Rattle.tracebench_c.specs.declared.status.TheConstants.{DONE, MEMORY, NO_HART}
-
--- The bytes hold these messages, behind which they end, or no whole message stands.
-pub record AreHeard (bytes : List ℕ) (messages : List Message) (stop : Option (ℕ × MessageFault)) : Type 0 where
-  pub rest : List ℕ
-  pub ranges : All IsMessage messages
-  pub whole : bytes ≡ capture messages ++ rest
-  pub ends : Ends (length messages) rest stop
-
--- RECEIVED holds a header, or none, and these messages, behind which it ends, or no whole message stands. Where its
--- header is cut short or bad, it holds nothing.
-pub data IsHeard (bytes : List ℕ) (messages : List Message) (stop : Option (ℕ × MessageFault)) : Type 0 where
-  Behind : (header : Option Header) (rest : List ℕ) → BeginsWith header bytes rest → AreHeard rest messages stop
-      → IsHeard bytes messages stop
-  NoHeader : (why : MessageFault) → BeginsNoHeader bytes why → messages ≡ [] → stop ≡ Some (0, why)
-      → IsHeard bytes messages stop
 
 -- A tally in numbers.
 abbrev pub tally_reported : Tally → HartTally
@@ -65,10 +46,11 @@ heard_fault (Some stop) = message_status stop.1
 pub record IsAudited (sent received : List ℕ) (hart : ℕ) (tally : HartTally) (end : AuditEnd) : Type 0 where
   pub header : Option Header
   pub was_sent : List Message
+  pub came_with : Option Header
   pub came : List Message
   pub stop : Option (ℕ × MessageFault)
   pub is_sent : IsSent sent header was_sent
-  pub heard : IsHeard received came stop
+  pub heard : IsHeard received came_with came stop
   pub known : hart < harts_of header was_sent
   pub tally_is : tally ≡ tally_reported (tally_of was_sent came hart)
   pub harts_are : end.harts ≡ harts_of header was_sent

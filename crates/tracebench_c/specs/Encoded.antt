@@ -1,11 +1,12 @@
 -- What a call reports of a capture of logs.
-use Rattle.std.specs.Prelude.{ℕ, ◌≡◌, ◌⊎◌, ◌-◌, ◌<◌, ◌++◌, ◌==◌, ◌&&◌, nat_le, if◌then◌else◌, List, [], ◌∷◌, Option, Some, None}
-use Rattle.std.specs.Prelude.{Result, Ok, Err, drop, length, take}
+use Rattle.std.specs.Prelude.{ℕ, ◌≡◌, ◌⊎◌, ◌-◌, ◌<◌, ◌≤◌, ◌++◌, ◌==◌, ◌&&◌, nat_le, if◌then◌else◌, List, [], ◌∷◌, Option, Some}
+use Rattle.std.specs.Prelude.{None, Result, Ok, Err, drop, length, take}
 use Rattle.std.specs.declared.alloc.Global.{Global}
 use Rattle.std.specs.declared.vec.Vec.{Vec}
 use Rattle.captures.specs.Versions.{capture_of}
 use Rattle.legalpath.specs.FirstFault.{IsFirstFault}
 use Rattle.legalpath.specs.ProgramLog.{IsLegalLog, ProgramLog}
+use Rattle.message.specs.Version.{most_harts}
 use Rattle.message.specs.declared.header.Version.{Version}
 use Rattle.message.specs.declared.header.Version.TheVariants.{One, Two}
 use Rattle.payload.specs.declared.mode.Mode.{Mode}
@@ -83,53 +84,80 @@ pub record IsRefusedLog (program : Image) (bytes ends : List ℕ) (place : ℕ) 
   pub refused : IsNoLegalText program (text_between bytes (last_end 0 front) end) fault
 
 -- The capture of the legal logs of texts, by the program of an image.
-pub record IsCaptureOfTexts (base : ℕ) (image bytes ends : List ℕ) (period mode version : ℕ) (capture : List ℕ)
-    : Type 0 where
+pub record IsCaptureOfTexts (base : ℕ) (image bytes ends : List ℕ) (period : ℕ) (mode : Mode) (version : Version)
+    (capture : List ℕ) : Type 0 where
   pub program : Image
   pub logs : List ProgramLog
-  pub named_mode : Mode
-  pub named_version : Version
   pub made : program_of base image ≡ Ok program
   pub are : AreLogs program bytes 0 ends logs
-  pub mode_is : mode_of mode ≡ Some named_mode
-  pub version_is : version_of version ≡ Some named_version
-  pub written : capture ≡ capture_of named_version period named_mode logs
-
--- A number is out of its range.
-abbrev pub IsOutOfRange : List ℕ → ℕ → ℕ → ℕ → Type 0
-IsOutOfRange ends period mode version =
-    (mode_of mode ≡ None) ⊎ (version_of version ≡ None) ⊎ (period ≡ 0) ⊎ (length ends ≡ 0) ⊎ (1024 < length ends)
+  pub written : capture ≡ capture_of version period mode logs
 
 -- An image makes a program, and one of the texts is no legal log's.
 abbrev pub HasRefusedLog : ℕ → List ℕ → List ℕ → List ℕ → ℕ → Fault → Type 0
 HasRefusedLog base image bytes ends place fault =
     (program : Image) × (program_of base image ≡ Ok program) × IsRefusedLog program bytes ends place fault
 
--- What comes of an image and the texts of logs: a capture; or a number is out of its range, the image makes no program,
--- a text is no legal log's, or memory was refused.
-abbrev pub IsEncoded : ℕ → List ℕ → List ℕ → List ℕ → ℕ → ℕ → ℕ → Result (Vec ℕ Global) (ℕ × Fault) → Type 0
-IsEncoded base image bytes ends period mode version (Ok capture) =
-    IsCaptureOfTexts base image bytes ends period mode version capture.items
-IsEncoded base image bytes ends period mode version (Err (place, Memory)) = Unit {0}
-IsEncoded base image bytes ends period mode version (Err (place, Range)) =
-    (place ≡ 0) × IsOutOfRange ends period mode version
-IsEncoded base image bytes ends period mode version (Err (place, Program why)) =
-    (place ≡ 0) × (program_of base image ≡ Err why)
-IsEncoded base image bytes ends period mode version (Err (place, Log why)) =
-    HasRefusedLog base image bytes ends place (Log why)
-IsEncoded base image bytes ends period mode version (Err (place, Illegal why)) =
-    HasRefusedLog base image bytes ends place (Illegal why)
-IsEncoded base image bytes ends period mode version (Err (place, Ends)) =
-    HasRefusedLog base image bytes ends place Ends
-IsEncoded base image bytes ends period mode version (Err (place, NoHart)) = ⊥
+-- Why there is no capture of texts: the image makes no program, a text is no legal log's, or memory was refused, for a
+-- text or for something else.
+abbrev pub IsNoCapture : ℕ → List ℕ → List ℕ → List ℕ → ℕ → Fault → Type 0
+IsNoCapture base image bytes ends place Memory = (place ≡ 0) ⊎ HasRefusedLog base image bytes ends place Memory
+IsNoCapture base image bytes ends place (Program why) = (place ≡ 0) × (program_of base image ≡ Err why)
+IsNoCapture base image bytes ends place (Log why) = HasRefusedLog base image bytes ends place (Log why)
+IsNoCapture base image bytes ends place (Illegal why) = HasRefusedLog base image bytes ends place (Illegal why)
+IsNoCapture base image bytes ends place Ends = HasRefusedLog base image bytes ends place Ends
+IsNoCapture base image bytes ends place NoHart = ⊥
+IsNoCapture base image bytes ends place Range = ⊥
 
--- A capture was handed out; or it was not, and the status says why, and of which log and row.
-pub data ReportsEncode (base : ℕ) (image bytes ends : List ℕ) (period mode version status wanted_before wanted : ℕ)
+-- The numbers name this mode and this version, the period is 1 or more, and there is a log at least, and at most as
+-- many as the version has harts.
+pub record AreInRange (ends : List ℕ) (period mode version : ℕ) (named_mode : Mode) (named_version : Version)
+    : Type 0 where
+  pub mode_is : mode_of mode ≡ Some named_mode
+  pub version_is : version_of version ≡ Some named_version
+  pub some_period : 1 ≤ period
+  pub some_logs : 1 ≤ length ends
+  pub few_logs : length ends ≤ most_harts named_version
+
+-- There are more logs than the version that is named has harts.
+abbrev pub HasTooManyLogs : List ℕ → ℕ → Type 0
+HasTooManyLogs ends version =
+    (named : Version) × (version_of version ≡ Some named) × (most_harts named < length ends)
+
+-- A number is out of its range.
+abbrev pub IsOutOfRange : List ℕ → ℕ → ℕ → ℕ → Type 0
+IsOutOfRange ends period mode version =
+    (mode_of mode ≡ None) ⊎ (version_of version ≡ None) ⊎ (period ≡ 0) ⊎ (length ends ≡ 0)
+    ⊎ HasTooManyLogs ends version
+
+-- What comes of an image and the texts of logs, in a named mode and version: a capture, or the reason why there is none.
+abbrev pub IsMade : ℕ → List ℕ → List ℕ → List ℕ → ℕ → Mode → Version → Result (Vec ℕ Global) (ℕ × Fault) → Type 0
+IsMade base image bytes ends period mode version (Ok capture) =
+    IsCaptureOfTexts base image bytes ends period mode version capture.items
+IsMade base image bytes ends period mode version (Err (place, fault)) = IsNoCapture base image bytes ends place fault
+
+-- The same, where the mode and the version are numbers: these come first, and a number is out of its range, or all are
+-- within theirs.
+pub data IsEncoded (base : ℕ) (image bytes ends : List ℕ) (period mode version : ℕ)
+    (made : Result (Vec ℕ Global) (ℕ × Fault)) : Type 0 where
+  OutOfRange : IsOutOfRange ends period mode version → made ≡ Err (0, Range)
+      → IsEncoded base image bytes ends period mode version made
+  InRange : (named_mode : Mode) (named_version : Version)
+      → AreInRange ends period mode version named_mode named_version
+      → IsMade base image bytes ends period named_mode named_version made
+      → IsEncoded base image bytes ends period mode version made
+
+-- What was made is reported: a capture was handed out; or the status says why there is none, and of which log and row.
+pub data ReportsMade (made : Result (Vec ℕ Global) (ℕ × Fault)) (status wanted_before wanted : ℕ)
     (place_before place : LogPlace) (old new : List ℕ) : Type 0 where
-  Encoded : (capture : List ℕ) → IsCaptureOfTexts base image bytes ends period mode version capture
-      → IsHandedOut capture status wanted old new → place ≡ place_before
-      → ReportsEncode base image bytes ends period mode version status wanted_before wanted place_before place old new
-  Refused : (log : ℕ) (fault : Fault) → IsEncoded base image bytes ends period mode version (Err (log, fault))
-      → status ≡ fault_status fault → place ≡ record { log = log; row = fault_row fault } → wanted ≡ wanted_before
-      → new ≡ old
-      → ReportsEncode base image bytes ends period mode version status wanted_before wanted place_before place old new
+  Made : (capture : Vec ℕ Global) → made ≡ Ok capture → IsHandedOut capture.items status wanted old new
+      → place ≡ place_before → ReportsMade made status wanted_before wanted place_before place old new
+  Refused : (log : ℕ) (fault : Fault) → made ≡ Err (log, fault) → status ≡ fault_status fault
+      → place ≡ record { log = log; row = fault_row fault } → wanted ≡ wanted_before → new ≡ old
+      → ReportsMade made status wanted_before wanted place_before place old new
+
+-- The texts of logs were encoded, and it was reported what came of them.
+abbrev pub ReportsEncode : ℕ → List ℕ → List ℕ → List ℕ → ℕ → ℕ → ℕ → ℕ → ℕ → ℕ → LogPlace → LogPlace → List ℕ → List ℕ
+    → Type 0
+ReportsEncode base image bytes ends period mode version status wanted_before wanted place_before place old new =
+    (made : Result (Vec ℕ Global) (ℕ × Fault)) × IsEncoded base image bytes ends period mode version made
+    × ReportsMade made status wanted_before wanted place_before place old new

@@ -1,8 +1,10 @@
 //! From the texts of logs to a capture.
 
-ghost use Rattle.std.specs.Prelude.{◌≡◌, IfErr, IfOk, option_map};
-ghost use Rattle.tracebench_c.specs.Encoded.{AreLogs, ReportsEncode, IsEncoded, IsLegalText, IsNoLegalText};
-ghost use Rattle.tracebench_c.specs.Encoded.{IsRefusedLog, mode_of, text_between, version_of};
+ghost use Rattle.std.specs.Prelude.{◌≡◌, ◌≤◌, IfErr, IfOk, IfSome, None, length, option_map};
+ghost use Rattle.message.specs.Version.{most_harts};
+ghost use Rattle.tracebench_c.specs.Encoded.{AreInRange, AreLogs, IsEncoded, IsLegalText, IsMade, IsNoLegalText};
+ghost use Rattle.tracebench_c.specs.Encoded.{IsOutOfRange, IsRefusedLog, ReportsEncode, mode_of, text_between};
+ghost use Rattle.tracebench_c.specs.Encoded.{version_of};
 
 use crate::checking::program_of;
 use crate::fault::Fault;
@@ -10,7 +12,7 @@ use crate::handing::hand_out;
 use crate::numbers::{DIFFERENTIAL, FULL};
 use captures::encode_capture;
 use legalpath::LegalLog;
-use message::{MOST_HARTS, Version};
+use message::Version;
 use payload::Mode;
 use retire::read_log_from_slice;
 use rvclass::Program;
@@ -32,14 +34,15 @@ pub struct LogPlace {
 }
 
 /// Writes the capture of harts' logs to a buffer, hart 0 first. `logs` holds the texts of the logs, one behind the
-/// other, and `ends` where each ends; what is behind the last end is not looked at. There are 1 to 1,024 logs, the
-/// period is 1 or more, the mode is [`DIFFERENTIAL`] or [`FULL`], and the version [`VERSION_ONE`] or [`VERSION_TWO`].
+/// other, and `ends` where each ends; what is behind the last end is not looked at. There are 1 to 1,024 logs, in version
+/// 1 at most 64, the period is 1 or more, the mode is [`DIFFERENTIAL`] or [`FULL`], and the version [`VERSION_ONE`] or
+/// [`VERSION_TWO`].
 ///
 /// The status is [`DONE`](crate::status::DONE), [`TOO_SMALL`](crate::status::TOO_SMALL),
-/// [`MEMORY`](crate::status::MEMORY), [`OUT_OF_RANGE`](crate::status::OUT_OF_RANGE) where one of these numbers is out
-/// of its range, or says what is wrong with the image or with the first log that is no legal log. Then `place` names
-/// the log and its row. [`BAD_ENDS`](crate::status::BAD_ENDS) says that the log's end is before its beginning or past
-/// the texts.
+/// [`OUT_OF_RANGE`](crate::status::OUT_OF_RANGE) where one of these numbers is out of its range,
+/// [`MEMORY`](crate::status::MEMORY), or says what is wrong with the image or with the first log that is no legal log.
+/// [`BAD_ENDS`](crate::status::BAD_ENDS) says that the log's end is before its beginning or past the texts. Where there
+/// is no capture, `place` names the log and its row; both are 0 where no log is at fault.
 #[unsafe(no_mangle)]
 pub extern "C" fn tracebench_encode(
     alloc: Global,
@@ -82,15 +85,47 @@ fn encode_logs(
 ) -> Result<Vec<u8>, (u64, Fault)>
     ensures { IsEncoded base image.now logs.now ends.now period mode version result }
 {
+    match settings_of(ends, period, mode, version) {
+        Some((mode, version)) => {
+            capture_of_texts(alloc, base, image, logs, ends, period, mode, version)
+        }
+        None => Err((0, Fault::Range)),
+    }
+}
+
+/// The mode and the version that numbers name, where all are within their ranges.
+fn settings_of(ends: &[u64], period: u16, mode: u32, version: u32) -> Option<(Mode, Version)>
+    ensures within { IfSome result (λ named. AreInRange ends.now period mode version named.0 named.1) }
+    ensures out { result ≡ None → IsOutOfRange ends.now period mode version }
+{
     let Some(mode) = mode_of(mode) else {
-        return Err((0, Fault::Range));
+        return None;
     };
     let Some(version) = version_of(version) else {
-        return Err((0, Fault::Range));
+        return None;
     };
-    if period == 0 || ends.is_empty() || ends.len() > usize::from(MOST_HARTS) {
-        return Err((0, Fault::Range));
+    if period == 0 || ends.is_empty() || ends.len() > usize::from(version.most_harts()) {
+        return None;
     }
+    Some((mode, version))
+}
+
+/// The capture of logs in this version, or the log that is at fault and why.
+fn capture_of_texts(
+    alloc: Global,
+    base: u64,
+    image: &[u8],
+    logs: &[u8],
+    ends: &[u64],
+    period: u16,
+    mode: Mode,
+    version: Version,
+) -> Result<Vec<u8>, (u64, Fault)>
+    requires period { 1 ≤ period }
+    requires some { 1 ≤ length ends.now }
+    requires few { length ends.now ≤ most_harts version }
+    ensures { IsMade base image.now logs.now ends.now period mode version result }
+{
     let program = match program_of(alloc, base, image) {
         Ok(program) => program,
         Err(fault) => return Err((0, fault)),

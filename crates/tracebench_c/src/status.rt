@@ -135,7 +135,7 @@ pub const WALKS_OFF_PROGRAM: u32 = 113;
 /// A walk would go on behind a backward jump that no packet reported.
 pub const MISSED_NOTIFY: u32 = 114;
 
-/// Outcomes of branches are missing, or left over.
+/// Outcomes of branches are missing or left over, or a branch is said to be taken where none stands that is.
 pub const WRONG_BRANCHES: u32 = 115;
 
 /// A packet does not stand where it may.

@@ -10,8 +10,8 @@ use Rattle.listing.specs.steps.Part.{IsPartOfMessages}
 use Rattle.listing.specs.steps.Started.{first_offset, harts_by}
 use Rattle.listing.proofs.capture_listing.list_started.Goals as goal
 
-pub returns-in-Ok-clause-listed : goal.returns-in-Ok-clause-listed
-returns-in-Ok-clause-listed g c = λ harts has.
+pub returns-clause-listed : goal.returns-clause-listed
+returns-clause-listed g c = λ harts has.
     let words = words_of c.args.program.now in
     let symbols = option_map (λ file. file.now) c.args.symbols in
     let old = g.W.Write.contents c.args.sink.now in
@@ -22,15 +22,15 @@ returns-in-Ok-clause-listed g c = λ harts has.
     let count = harts_by header harts in
     IfOk-weaker c.list_messages.result _ _
     (λ stop all. messages_listed words harts symbols c.args.messages header old mid new closed stop
-    c.in-Ok.ensures.text all)
+    c.in_ok-write_start.ensures.text all)
     (subst (λ announced. IfOk c.list_messages.result (λ stop. AppendsListing (AreMessagesListed words count announced
     symbols (first_offset header) c.args.messages) closed stop mid new)) c.announced_by.ensures
     (subst (λ first. IfOk c.list_messages.result (λ stop. AppendsListing (AreMessagesListed words count
     c.announced_by.result symbols first c.args.messages) closed stop mid new)) c.first_offset.ensures
     (c.list_messages.ensures.listed count has)))
 
-pub returns-in-Ok-clause-begun : goal.returns-in-Ok-clause-begun
-returns-in-Ok-clause-begun g c = λ harts has.
+pub returns-clause-begun : goal.returns-clause-begun
+returns-clause-begun g c = λ harts has.
     let words = words_of c.args.program.now in
     let symbols = option_map (λ file. file.now) c.args.symbols in
     let old = g.W.Write.contents c.args.sink.now in
@@ -39,15 +39,15 @@ returns-in-Ok-clause-begun g c = λ harts has.
     let header = c.args.header in
     let count = harts_by header harts in
     on_err_weaker c.list_messages.result
-    (messages_begun words harts symbols c.args.messages header old mid new c.in-Ok.ensures.text)
+    (messages_begun words harts symbols c.args.messages header old mid new c.in_ok-write_start.ensures.text)
     (subst (λ announced. OnErr c.list_messages.result (BeginsPart (IsPartOfMessages words count announced symbols
     (first_offset header) c.args.messages) mid new)) c.announced_by.ensures
     (subst (λ first. OnErr c.list_messages.result (BeginsPart (IsPartOfMessages words count c.announced_by.result
     symbols first c.args.messages) mid new)) c.first_offset.ensures
     (c.list_messages.ensures.begun count has)))
 
-pub returns-in-Err-clause-begun : goal.returns-in-Err-clause-begun
-returns-in-Err-clause-begun g c = λ harts has.
+pub returns-in_err-write_start-clause-begun : goal.returns-in_err-write_start-clause-begun
+returns-in_err-write_start-clause-begun g c = λ harts has.
     start_begun (words_of c.args.program.now) harts (option_map (λ file. file.now) c.args.symbols) c.args.messages
     c.args.header (g.W.Write.contents c.args.sink.now) (g.W.Write.contents c.write_start.new.sink)
     c.write_start.ensures.begun

@@ -4,7 +4,7 @@ use Rattle.message.specs.declared.fault.MessageFault.{MessageFault}
 use Rattle.message.specs.declared.message.Message.{Message}
 use Rattle.auditing.specs.Audits.{Audits}
 use Rattle.path_commands.proofs.FateLines.{HasTaken}
-use Rattle.path_commands.specs.Audited.{AreHeard}
+use Rattle.captures.specs.Heard.{AreHeard}
 use Rattle.path_commands.proofs.comparing.write_fates.Given as goal
 
 abbrev pub invariant-loop-message : goal.invariant-loop-message

@@ -20,6 +20,7 @@ returns c =
     record {
       header = header;
       was_sent = was_sent;
+      came_with = taken.header;
       came = taken.received;
       stop = c.take_capture-stop.result;
       is_sent = started.1;
