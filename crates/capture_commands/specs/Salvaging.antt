@@ -9,11 +9,10 @@ use Rattle.message.specs.declared.fault.MessageFault.{MessageFault}
 use Rattle.message.specs.declared.header.Header.{Header}
 use Rattle.message.specs.declared.message.Message.{Message}
 use Rattle.retire.specs.Number.{number_of}
-use Rattle.rvclass.specs.Fetch.{words_of}
 use Rattle.rvclass.specs.Image.{Image}
 use Rattle.salvaging.specs.LeftParts.{LeftPart, Events}
 use Rattle.salvaging.specs.PartsIn.{parts_in}
-use Rattle.salvaging.specs.Salvaged.{IsSalvaged}
+use Rattle.salvaging.specs.Salvages.{GivesSalvaged}
 use Rattle.salvaging.specs.declared.salvaged.Salvaged.{Salvaged}
 use Rattle.salvaging.specs.declared.salvaged.SalvagedHart.{SalvagedHart}
 use Rattle.subcommands.specs.declared.words.Salvage.{Salvage}
@@ -63,7 +62,7 @@ pub record IsSalvagedCapture (harts : ℕ) (program : Image) (bytes : List ℕ) 
   pub messages : List Message
   pub front : IsFront bytes header messages stop
   pub counted : count ≡ length messages
-  pub left : IsSalvaged (words_of program) (mode_of_header header) (harts_counted harts header) messages salvaged
+  pub left : GivesSalvaged program (harts_counted harts header) (mode_of_header header) messages salvaged
 
 -- What is salvaged of a capture is written, and the run ends by where reading stopped and by what is salvaged.
 pub record WritesSalvaged (harts : ℕ) (program : Image) (bytes : List ℕ) (printed : Printed) : Type 0 where

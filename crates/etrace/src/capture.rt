@@ -1,9 +1,9 @@
 //! Messages of several harts and the captures that hold them: writing, reading, dumping, listing, decoding.
 
 pub use captures::{
-    CaptureFault, CaptureFront, CaptureOutcome, Dumped, ReadFault, ReadingText, WholeCapture,
-    decode_capture, dump_capture, encode_capture, encode_hex, hex_lines, read_front, read_messages,
-    write_header_line,
+    CaptureBytes, CaptureFault, CaptureFront, CaptureOutcome, Dumped, Form, HexLines, ReadFault,
+    ReadingText, WholeCapture, decode_capture, dump_capture, encode_capture, encode_hart,
+    encode_hex, hex_lines, read_front, read_messages, write_header_line, write_start,
 };
 pub use listing::{Listed, list_capture};
 pub use message::{
@@ -11,4 +11,5 @@ pub use message::{
     read_message, read_start, write_header, write_message,
 };
 pub use receiver::{ReceiveFault, Receiver};
+pub use side_encoding::{encode_capture_side_by_side, encode_hex_side_by_side};
 pub use symbols::{Named, Symbols, SymbolsFault, write_symbol};

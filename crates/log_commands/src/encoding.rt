@@ -2,6 +2,7 @@
 
 ghost use Rattle.std.specs.Prelude.{⊤, ◌≡◌, ◌≤◌, Err, IfErr, IfOk, IfSome, OnOk, length};
 ghost use Rattle.std.specs.Io.KnownBytes.{Appends};
+ghost use Rattle.std.specs.Thread.{IsSync};
 ghost use Rattle.message.specs.Version.{most_harts};
 ghost use Rattle.output.specs.Begun.{AppendsBeginning};
 ghost use Rattle.retire.specs.Number.{number_of};
@@ -12,9 +13,9 @@ ghost use Rattle.command_inputs.specs.Printed.{PrintsUnlessDenied};
 ghost use Rattle.log_commands.specs.Encoding.{CanEncode, Encodes, WritesMessages, written};
 
 use crate::legal_logs::{AskedLogs, OnLogs, over_legal_logs};
-use captures::{encode_capture, encode_hex};
 use command_inputs::{Fault, Files, Status};
 use legalpath::LegalLog;
+use side_encoding::{encode_capture_side_by_side, encode_hex_side_by_side};
 use std::alloc::Global;
 use std::io::Write;
 use std::thread::Threads;
@@ -47,29 +48,39 @@ pub fn encode<'a, F: Files, O: Write, R: Threads + Sync>(
         image: asked.image,
         paths: &asked.logs,
     };
-    over_legal_logs(alloc, rt, files, &logs, asked, out)
+    over_legal_logs(alloc, rt, files, &logs, &OverThreads { rt, asked }, out)
 }
 
-impl<'a> OnLogs<'a> for Encode<'a> {
-    ghost Takes = { λ asked count. (1 ≤ asked.period) × (1 ≤ count) × (count ≤ most_harts asked.version) };
+/// A run of `encode`, over threads of this runtime.
+#[derive(Drop)]
+struct OverThreads<'a, 'b, R> {
+    rt: &'b R,
+    asked: &'b Encode<'a>,
+}
 
-    ghost Prints = { λ asked content logs. WritesMessages asked logs };
+impl<'a, R: Threads + Sync> OnLogs<'a> for OverThreads<'a, '_, R> {
+    ghost Takes = { λ task count. IsSync R.row × (1 ≤ task.asked.now.period) × (1 ≤ count)
+        × (count ≤ most_harts task.asked.now.version) };
 
-    ghost CanWrite = { λ asked content logs. ⊤ };
+    ghost Prints = { λ task content logs. WritesMessages task.asked.now logs };
+
+    ghost CanWrite = { λ task content logs. ⊤ };
 
     fn go_on<F: Files, O: Write>(
         &self,
-        _: Global,
+        alloc: Global,
         _: &mut F,
         logs: &[LegalLog<'_>],
         out: &mut O,
     ) -> Result<Status, Fault<'a>> {
-        encode_logs(self, logs, out)
+        encode_logs(alloc, self.rt, self.asked, logs, out)
     }
 }
 
 /// Writes the messages of legal logs, flushes the output, and returns that all is done.
-fn encode_logs<'a, O: Write>(
+fn encode_logs<'a, O: Write, R: Threads + Sync>(
+    alloc: Global,
+    rt: &R,
     asked: &Encode<'a>,
     logs: &[LegalLog<'_>],
     out: &mut O,
@@ -82,14 +93,16 @@ fn encode_logs<'a, O: Write>(
     ensures text { OnOk result (Appends (O.contents out.old) (O.contents out.new) (written asked.now logs.now)) }
     ensures begun { AppendsBeginning (written asked.now logs.now) (O.contents out.old) (O.contents out.new) }
 {
-    write_messages(asked, logs, out)?;
+    write_messages(alloc, rt, asked, logs, out)?;
     out.flush()?;
     Ok(Status::Whole)
 }
 
 /// Writes the messages of legal logs.
 #[tactic(auto, using(crate::proofs::Headers::may_start))]
-fn write_messages<'a, O: Write>(
+fn write_messages<'a, O: Write, R: Threads + Sync>(
+    alloc: Global,
+    rt: &R,
     asked: &Encode<'a>,
     logs: &[LegalLog<'_>],
     out: &mut O,
@@ -103,10 +116,19 @@ fn write_messages<'a, O: Write>(
     ensures begun { AppendsBeginning (written asked.now logs.now) (O.contents out.old) (O.contents out.new) }
 {
     if asked.hex {
-        encode_hex(logs, asked.period, asked.mode, out).map_err(|_| Fault::Output)
-    } else {
-        encode_capture(logs, asked.period, asked.mode, asked.version, out).map_err(
+        encode_hex_side_by_side(alloc, rt, logs, asked.period, asked.mode, out).map_err(
             |_| Fault::Output,
         )
+    } else {
+        encode_capture_side_by_side(
+            alloc,
+            rt,
+            logs,
+            asked.period,
+            asked.mode,
+            asked.version,
+            out,
+        )
+        .map_err(|_| Fault::Output)
     }
 }

@@ -11,5 +11,6 @@ pub mod Salvaged
 pub mod FromLogs
 pub mod LogsSalvaged
 pub mod LossyParts
+pub mod Salvages
 pub mod AlikeParts
 pub mod steps
