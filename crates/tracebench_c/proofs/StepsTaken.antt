@@ -29,7 +29,8 @@ state_stands : (words : Words) (period : ℕ) (mode : Mode) (log : List Event) (
     (read : EncoderState) → ((state : EncoderState) → IsOfState numbers state → Some read ≡ Some state)
     → NumbersStand words period mode log numbers → StateStands words period mode log read
 state_stands words period mode log numbers read only stand =
-    subst (StateStands words period mode log) (sym (same_Some read stand.state (only stand.state stand.is))) stand.stands
+    subst (StateStands words period mode log) (sym (same_Some read stand.state (only stand.state stand.is)))
+    stand.stands
 
 -- What was read of an image and of numbers is what is known of them.
 pub record IsRead (program made : Image) (period : ℕ) (mode : Mode) (log : List Event) (next taken : Event)

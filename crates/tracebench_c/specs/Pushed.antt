@@ -52,8 +52,8 @@ pub record IsOn (base : ℕ) (image : List ℕ) (program : Image) (period : ℕ)
   pub stand : NumbersStand (words_of program) period mode log state
   pub legal : Legal (words_of program) log
 
--- An image makes a program, the numbers of a state stand for a log, and those of an event are of one that may come next:
--- the log with it is legal.
+-- An image makes a program, the numbers of a state stand for a log, and those of an event are of one that may come
+-- next: the log with it is legal.
 pub record IsNext (base : ℕ) (image : List ℕ) (program : Image) (period : ℕ) (mode : Mode) (log : List Event)
     (next : Event) (state : EncoderNumbers) (event : EventNumbers) : Type 0 where
   pub made : program_of base image ≡ Ok program

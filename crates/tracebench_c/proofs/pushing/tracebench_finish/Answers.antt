@@ -20,8 +20,8 @@ returns-clause-packets c = λ program period mode log is other.
     is_read_at_end c.args.base c.args.image.now program made period mode log c.in-Some.kept c.args.state.now
     c.in-Ok.ensures.program c.in-Some.ensures.only is in
     let stands = c.from_state.ensures.stands (words_of made) period mode log known.stands in
-    subst (λ p. AreMore (packets_so_far (words_of p) period mode log) (packets (words_of p) period mode log) status count
-    old new) known.program_is
+    subst (λ p. AreMore (packets_so_far (words_of p) period mode log) (packets (words_of p) period mode log) status
+    count old new) known.program_is
     (record {
       more = c.finish-burst.result.items;
       grown = c.finish-burst.ensures.packets period mode log stands;

@@ -25,7 +25,8 @@ returns-clause-stands c = λ program period mode log next is done.
           subst (NumbersStand (words_of program) period mode (log ++ next ∷ [])) (sym w.state-is)
           (subst (λ p. NumbersStand (words_of p) period mode (log ++ next ∷ []) w.numbers_of_state.result)
           known.program_is
-          (subst (λ e. NumbersStand (words_of made) period mode (log ++ e ∷ []) w.numbers_of_state.result) known.event_is
+          (subst (λ e. NumbersStand (words_of made) period mode (log ++ e ∷ []) w.numbers_of_state.result)
+          known.event_is
           (record {
             state = w.state.result;
             is = record { few = w.numbers_of_state.ensures.few; same = w.numbers_of_state.ensures.same };
