@@ -129,7 +129,7 @@ IsOutOfRange ends period mode version =
     (mode_of mode ≡ None) ⊎ (version_of version ≡ None) ⊎ (period ≡ 0) ⊎ (length ends ≡ 0)
     ⊎ HasTooManyLogs ends version
 
--- What comes of an image and the texts of logs, in a named mode and version: a capture, or the reason why there is none.
+-- What comes of an image and the texts of logs, in a named mode and version: a capture, or why there is none.
 abbrev pub IsMade : ℕ → List ℕ → List ℕ → List ℕ → ℕ → Mode → Version → Result (Vec ℕ Global) (ℕ × Fault) → Type 0
 IsMade base image bytes ends period mode version (Ok capture) =
     IsCaptureOfTexts base image bytes ends period mode version capture.items
