@@ -91,7 +91,7 @@ overflow_add-offset g c =
     let both = length-append (message_bytes c.in-Ok-Some.message) next in
     let room = c.requires.room in
     let stands = c.loop-message.invariant.1.0 in
-    let size = c.size_of-offset.ensures in
+    let size = c.size.ensures.bytes in
     omega (arith, here, both, room, stands, size)
 
 pub loop-message-preserved : goal.loop-message-preserved
@@ -112,7 +112,7 @@ loop-message-preserved g c =
     let stands = c.loop-message.invariant.1.0 in
     let few = c.loop-message.invariant.1.1 in
     let shorter = front.shorter in
-    let size = c.size_of-offset.ensures in (
+    let size = c.size.ensures.bytes in (
       λ harts has.
           let r = c.loop-message.invariant.0 harts has in
           let found = c.in_ok-list_message.ensures.listed harts r.taken.messages r.taken.takes in

@@ -1,6 +1,6 @@
 -- The line of the header stands before the messages: by lemmas on listings, which no tactic finds.
 use Rattle.std.proofs.Common.{option_map, subst}
-use Rattle.std.specs.Prelude.{IfOk, OnErr}
+use Rattle.std.specs.Prelude.{IfOk, OnErr, Result, Ok, Err}
 use Rattle.std.proofs.lemmas.Result.{IfOk-weaker, on_err_weaker}
 use Rattle.rvclass.specs.Fetch.{words_of}
 use Rattle.listing.proofs.Parts.{messages_begun, messages_listed, start_begun}
@@ -9,6 +9,11 @@ use Rattle.listing.specs.Listing.{AppendsListing, AreMessagesListed}
 use Rattle.listing.specs.steps.Part.{IsPartOfMessages}
 use Rattle.listing.specs.steps.Started.{first_offset, harts_by}
 use Rattle.listing.proofs.capture_listing.list_started.Goals as goal
+
+-- What holds, holds at an error.
+on_any : {T E : Type 0} (result : Result T E) {P : Type 0} → P → OnErr result P
+on_any (Ok value) holds = tt
+on_any (Err why) holds = holds
 
 pub returns-clause-listed : goal.returns-clause-listed
 returns-clause-listed g c = λ harts has.
@@ -48,6 +53,7 @@ returns-clause-begun g c = λ harts has.
 
 pub returns-in_err-write_start-clause-begun : goal.returns-in_err-write_start-clause-begun
 returns-in_err-write_start-clause-begun g c = λ harts has.
-    start_begun (words_of c.args.program.now) harts (option_map (λ file. file.now) c.args.symbols) c.args.messages
+    on_any c.from_residual.result
+    (start_begun (words_of c.args.program.now) harts (option_map (λ file. file.now) c.args.symbols) c.args.messages
     c.args.header (g.W.Write.contents c.args.sink.now) (g.W.Write.contents c.write_start.new.sink)
-    c.write_start.ensures.begun
+    c.write_start.ensures.begun)
