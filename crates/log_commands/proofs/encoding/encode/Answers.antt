@@ -33,3 +33,14 @@ returns-clause-cut g c =
     (First (AreAskedLogs (g.F.Files.content c.args.files.now) most asked.base.now asked.image asked.logs.items)
     (WritesMessages asked)) (g.O.Write.contents c.args.out.now) (g.O.Write.contents c.over_legal_logs.new.out))
     c.most_harts-most.ensures c.over_legal_logs.ensures.cut
+
+pub over_legal_logs-requires-sync-R : goal.over_legal_logs-requires-sync-R
+over_legal_logs-requires-sync-R g c κs within =
+    let sync = c.type_bounds.sync-R in (
+      search rules,
+      (
+        (refl, tt),
+        λ count some few.
+            (sync, c.requires, some, subst (λ most. count ≤ most) c.most_harts-most.ensures few),
+      ),
+    )
