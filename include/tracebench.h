@@ -303,8 +303,9 @@ uint32_t tracebench_encoder(uint16_t period, uint32_t mode, struct tracebench_en
  * state, TRACEBENCH_NO_EVENT where no event has these numbers, TRACEBENCH_MEMORY, or says what is wrong with the image
  * (TRACEBENCH_ODD_BASE to TRACEBENCH_PAST_END).
  *
- * The packets are those of the log where it is legal. This call does not look at that; tracebench_check does. It copies
- * the image each time, so an event costs as much as a copy of the image at least.
+ * The packets are those of the log where it is legal. This call does not look at that, nor at whether the event's type,
+ * privilege, cause, address and trap value are in their ranges; tracebench_check does. The image is copied each time,
+ * so an event costs as much as a copy of the image at least.
  *
  *     struct tracebench_event event = {TRACEBENCH_RETIREMENT, 0, 3, 0, 0, base, 0};
  *     struct tracebench_packet packets[2];
@@ -409,12 +410,12 @@ struct tracebench_log_place {
 
 /*
  * Writes the capture of harts' logs, hart 0 first. `logs` holds the texts of the logs one behind the other, and `ends`
- * where each ends; what is behind the last end is not looked at. There are 1 to 1,024 logs, in version 1 at most 64, and
- * the period is 1 or more. The status is TRACEBENCH_DONE, TRACEBENCH_TOO_SMALL, TRACEBENCH_OUT_OF_RANGE where one of
- * these numbers is out of its range, one of those of tracebench_check for the image, or TRACEBENCH_MEMORY. Else it is
- * of the first log that is no legal log: one of those of tracebench_check, or TRACEBENCH_BAD_ENDS where the log's end is
- * before its beginning or past the texts. `*place` is written where there is no capture; it is 0 and 0 where no log is
- * at fault.
+ * where each ends; what is behind the last end is not looked at. There are 1 to 1,024 logs, in version 1 at most 64,
+ * and the period is 1 or more. The status is TRACEBENCH_DONE, TRACEBENCH_TOO_SMALL, TRACEBENCH_OUT_OF_RANGE where one
+ * of these numbers is out of its range, one of those of tracebench_check for the image, or TRACEBENCH_MEMORY. Else it
+ * is of the first log that is no legal log: one of those of tracebench_check, or TRACEBENCH_BAD_ENDS where the log's
+ * end is before its beginning or past the texts. `*place` is written where there is no capture; it is 0 and 0 where no
+ * log is at fault.
  *
  *     uint64_t ends[] = {first_length, first_length + second_length};
  *     uint32_t status = tracebench_encode(base, image, image_length, logs, logs_length, ends, 2, 1024,

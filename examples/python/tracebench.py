@@ -5,13 +5,14 @@
     capture = library.encode(0x80000000, image, [log], 1024, tracebench.DIFFERENTIAL, tracebench.VERSION_TWO)
 """
 import ctypes
-from ctypes import POINTER, byref, c_char_p, c_size_t, c_uint16, c_uint32, c_uint64, c_void_p
+from ctypes import POINTER, byref, c_char_p, c_size_t, c_uint8, c_uint16, c_uint32, c_uint64, c_void_p
 from itertools import accumulate
 
 DONE, TOO_SMALL = 0, 1
 SYNC, TRAP, OPEN, ENDED_REP, ENDED_NTR, ADDRESS, MAP = range(7)
 DIFFERENTIAL, FULL = 0, 1
 PLAIN, UPDISCON, NOTIFY = range(3)
+RETIREMENT, TRAP_TAKEN = 0, 1
 VERSION_ONE, VERSION_TWO = 1, 2
 
 
@@ -23,25 +24,35 @@ class Refused(Exception):
         self.status, self.log, self.row = status, log, row
 
 
-def numbers(name, wide=(), narrow=(), last=()):
-    """A struct of C: numbers of 64 bits, then of 32, then of 64 again."""
-    fields = [(field, c_uint64) for field in wide] + [(field, c_uint32) for field in narrow]
-    return type(name, (ctypes.Structure,), {"_fields_": fields + [(field, c_uint64) for field in last]})
+def struct(name, *runs):
+    """A struct of C, by its fields: a type and the names of those that are of it, and so on."""
+    fields = [(field, kind) for kind, names in runs for field in names.split()]
+    return type(name, (ctypes.Structure,), {"_fields_": fields})
 
 
 FLAGS = "kind taken privilege cause interrupt handler mode report outcomes map"
-Packet = numbers("Packet", narrow=FLAGS.split(), last=("address", "tval"))
-LogPlace = numbers("LogPlace", ("log", "row"))
-DumpEnd = numbers("DumpEnd", ("place",), ("fault", "bad"))
-DecodeEnd = numbers("DecodeEnd", ("harts", "place"), ("fault", "closed"))
-Tally = numbers("Tally", ("sent", "came", "lost", "repeated", "late", "changed"), ("whole",))
-AuditEnd = numbers("AuditEnd", ("harts", "strangers", "place"), ("fault",))
+Packet = struct("Packet", (c_uint32, FLAGS), (c_uint64, "address tval"))
+Event = struct("Event", (c_uint32, "kind"), (c_uint8, "itype privilege cause interrupt"), (c_uint64, "address tval"))
+EncoderState = struct("EncoderState", (c_uint16, "between left"), (c_uint32, "mode holds due outcomes map"),
+                      (c_uint64, "reported"), (Event, "held"))
+DecoderState = struct("DecoderState", (c_uint32, "phase mode is_announced announced has_last waits outcomes map"),
+                      (c_uint64, "delta reported"), (Event, "last"))
+LogPlace = struct("LogPlace", (c_uint64, "log row"))
+DumpEnd = struct("DumpEnd", (c_uint64, "place"), (c_uint32, "fault bad"))
+DecodeEnd = struct("DecodeEnd", (c_uint64, "harts place"), (c_uint32, "fault closed"))
+Tally = struct("Tally", (c_uint64, "sent came lost repeated late changed"), (c_uint32, "whole"))
+AuditEnd = struct("AuditEnd", (c_uint64, "harts strangers place"), (c_uint32, "fault"))
 
 SLICE = [c_char_p, c_size_t]
 ROOM = [c_void_p, c_size_t, POINTER(c_uint64)]
 PARAMETERS = {
     "pack": [POINTER(Packet), *ROOM],
     "unpack": [*SLICE, POINTER(Packet)],
+    "encoder": [c_uint16, c_uint32, POINTER(EncoderState), POINTER(Packet)],
+    "push": [c_uint64, *SLICE, POINTER(EncoderState), POINTER(Event), *ROOM],
+    "finish": [c_uint64, *SLICE, POINTER(EncoderState), *ROOM],
+    "decoder": [POINTER(DecoderState)],
+    "feed": [c_uint64, *SLICE, POINTER(DecoderState), *SLICE, *ROOM],
     "check": [c_uint64, *SLICE, *SLICE, POINTER(c_uint64)],
     "encode": [c_uint64, *SLICE, *SLICE, POINTER(c_uint64), c_size_t, c_uint16, c_uint32, c_uint32, *ROOM,
                POINTER(LogPlace)],
@@ -63,7 +74,7 @@ class Library:
         shared = ctypes.CDLL(path)
         for name, parameters in PARAMETERS.items():
             call = getattr(shared, f"tracebench_{name}")
-            call.argtypes, call.restype = parameters, c_uint32
+            call.argtypes, call.restype = parameters, None if name == "decoder" else c_uint32
             setattr(self, f"_{name}", call)
 
     @staticmethod
@@ -91,6 +102,47 @@ class Library:
         if status := self._unpack(*sliced(payload), byref(packet)):
             raise Refused(status)
         return packet
+
+    def encoder(self, period, mode):
+        """The state of an encoder before the first event of a log, and the packet that opens the trace."""
+        state, opening = EncoderState(), Packet()
+        if status := self._encoder(period, mode, byref(state), byref(opening)):
+            raise Refused(status)
+        return state, opening
+
+    def push(self, base, image, state, event):
+        """The packets that the next event makes due. `state` then stands for this event too."""
+        packets, count = (Packet * 2)(), c_uint64()
+        if status := self._push(base, *sliced(image), byref(state), byref(event), packets, 2, byref(count)):
+            raise Refused(status)
+        return packets[: count.value]
+
+    def finish(self, base, image, state):
+        """The packets that are left at the end of a log."""
+        packets, count = (Packet * 2)(), c_uint64()
+        if status := self._finish(base, *sliced(image), byref(state), packets, 2, byref(count)):
+            raise Refused(status)
+        return packets[: count.value]
+
+    def decoder(self):
+        """The state of a decoder before the first packet."""
+        state = DecoderState()
+        self._decoder(byref(state))
+        return state
+
+    def feed(self, base, image, state, payload):
+        """The events that the next payload settles. `state` then stands for this payload too. Where the first room is
+        too small, the call is made again with one that is not."""
+        room, count = 64, c_uint64()
+        while True:
+            events = (Event * room)()
+            words = base, *sliced(image), byref(state), *sliced(payload), events, room, byref(count)
+            status = self._feed(*words)
+            if status == DONE:
+                return events[: count.value]
+            if status != TOO_SMALL:
+                raise Refused(status)
+            room = count.value
 
     def check(self, base, image, log):
         """How many events a legal log has."""

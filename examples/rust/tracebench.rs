@@ -4,6 +4,7 @@
 //! that the header asks of a caller in one thread.
 #![warn(missing_docs)]
 
+use std::mem::size_of;
 use std::{error, fmt};
 
 /// Why a call gives no answer: a status of the header that is not `TRACEBENCH_DONE`.
@@ -72,6 +73,54 @@ impl Packet {
     }
 }
 
+/// An event as numbers, `struct tracebench_event`. What an event of this kind does not have is 0.
+#[derive(Clone, Copy, Debug, Default, PartialEq, Eq)]
+#[repr(C)]
+#[allow(missing_docs)]
+pub struct Event {
+    pub kind: u32,
+    pub itype: u8,
+    pub privilege: u8,
+    pub cause: u8,
+    pub interrupt: u8,
+    pub address: u64,
+    pub tval: u64,
+}
+
+/// What an encoder keeps from one event to the next, `struct tracebench_encoder_state`.
+#[derive(Clone, Copy, Debug, Default, PartialEq, Eq)]
+#[repr(C)]
+#[allow(missing_docs)]
+pub struct EncoderState {
+    pub between: u16,
+    pub left: u16,
+    pub mode: u32,
+    pub holds: u32,
+    pub due: u32,
+    pub outcomes: u32,
+    pub map: u32,
+    pub reported: u64,
+    pub held: Event,
+}
+
+/// What a decoder keeps from one payload to the next, `struct tracebench_decoder_state`.
+#[derive(Clone, Copy, Debug, Default, PartialEq, Eq)]
+#[repr(C)]
+#[allow(missing_docs)]
+pub struct DecoderState {
+    pub phase: u32,
+    pub mode: u32,
+    pub is_announced: u32,
+    pub announced: u32,
+    pub has_last: u32,
+    pub waits: u32,
+    pub outcomes: u32,
+    pub map: u32,
+    pub delta: u64,
+    pub reported: u64,
+    pub last: Event,
+}
+
 /// The log, counted from 0, and its row, counted from 1, that are at fault; 0 where none is named.
 #[derive(Clone, Copy, Debug, Default, PartialEq, Eq)]
 #[repr(C)]
@@ -131,6 +180,14 @@ pub struct AuditEnd {
 extern "C" {
     fn tracebench_pack(packet: *const Packet, buffer: *mut u8, buffer_length: usize, wanted: *mut u64) -> u32;
     fn tracebench_unpack(payload: *const u8, payload_length: usize, packet: *mut Packet) -> u32;
+    fn tracebench_encoder(period: u16, mode: u32, state: *mut EncoderState, opening: *mut Packet) -> u32;
+    fn tracebench_push(base: u64, image: *const u8, image_length: usize, state: *mut EncoderState,
+        event: *const Event, packets: *mut Packet, packets_length: usize, count: *mut u64) -> u32;
+    fn tracebench_finish(base: u64, image: *const u8, image_length: usize, state: *const EncoderState,
+        packets: *mut Packet, packets_length: usize, count: *mut u64) -> u32;
+    fn tracebench_decoder(state: *mut DecoderState);
+    fn tracebench_feed(base: u64, image: *const u8, image_length: usize, state: *mut DecoderState,
+        payload: *const u8, payload_length: usize, events: *mut Event, events_length: usize, count: *mut u64) -> u32;
     fn tracebench_check(base: u64, image: *const u8, image_length: usize, log: *const u8, log_length: usize,
         row: *mut u64) -> u32;
     fn tracebench_encode(base: u64, image: *const u8, image_length: usize, logs: *const u8, logs_length: usize,
@@ -154,17 +211,20 @@ fn done(status: u32) -> Result<(), Status> {
     }
 }
 
-/// The bytes that a call hands out. Where the first buffer is too small, the call is made again with one that is not.
-fn handed_out(mut call: impl FnMut(&mut [u8], &mut u64) -> u32) -> Result<Vec<u8>, Status> {
-    let mut bytes = vec![0; 4096];
+/// What a call hands out: bytes, packets or events. Where the first buffer is too small, the call is made again with
+/// one that is not.
+fn handed_out<T: Clone + Default>(
+    mut call: impl FnMut(&mut [T], &mut u64) -> u32,
+) -> Result<Vec<T>, Status> {
+    let mut items = vec![T::default(); 4096 / size_of::<T>()];
     loop {
         let mut wanted = 0;
-        match Status(call(&mut bytes, &mut wanted)) {
+        match Status(call(&mut items, &mut wanted)) {
             DONE => {
-                bytes.truncate(wanted as usize);
-                return Ok(bytes);
+                items.truncate(wanted as usize);
+                return Ok(items);
             }
-            TOO_SMALL => bytes.resize(wanted as usize, 0),
+            TOO_SMALL => items.resize(wanted as usize, T::default()),
             status => return Err(status),
         }
     }
@@ -184,6 +244,83 @@ pub fn unpack(payload: &[u8]) -> Result<Packet, Status> {
     // SAFETY: as above.
     done(unsafe { tracebench_unpack(payload.as_ptr(), payload.len(), &mut packet) })?;
     Ok(packet)
+}
+
+/// The state of an encoder before the first event of a log, and the packet that opens the trace.
+pub fn encoder(period: u16, mode: Mode) -> Result<(EncoderState, Packet), Status> {
+    let (mut state, mut opening) = (EncoderState::default(), Packet::default());
+    // SAFETY: as above.
+    done(unsafe { tracebench_encoder(period, mode as u32, &mut state, &mut opening) })?;
+    Ok((state, opening))
+}
+
+/// The packets that the next event makes due. `state` then stands for this event too.
+pub fn push(
+    base: u64,
+    image: &[u8],
+    state: &mut EncoderState,
+    event: &Event,
+) -> Result<Vec<Packet>, Status> {
+    // SAFETY: as above.
+    handed_out(|packets: &mut [Packet], count| unsafe {
+        tracebench_push(
+            base,
+            image.as_ptr(),
+            image.len(),
+            state,
+            event,
+            packets.as_mut_ptr(),
+            packets.len(),
+            count,
+        )
+    })
+}
+
+/// The packets that are left at the end of a log.
+pub fn finish(base: u64, image: &[u8], state: &EncoderState) -> Result<Vec<Packet>, Status> {
+    // SAFETY: as above.
+    handed_out(|packets: &mut [Packet], count| unsafe {
+        tracebench_finish(
+            base,
+            image.as_ptr(),
+            image.len(),
+            state,
+            packets.as_mut_ptr(),
+            packets.len(),
+            count,
+        )
+    })
+}
+
+/// The state of a decoder before the first packet.
+pub fn decoder() -> DecoderState {
+    let mut state = DecoderState::default();
+    // SAFETY: as above.
+    unsafe { tracebench_decoder(&mut state) };
+    state
+}
+
+/// The events that the next payload settles. `state` then stands for this payload too.
+pub fn feed(
+    base: u64,
+    image: &[u8],
+    state: &mut DecoderState,
+    payload: &[u8],
+) -> Result<Vec<Event>, Status> {
+    // SAFETY: as above.
+    handed_out(|events: &mut [Event], count| unsafe {
+        tracebench_feed(
+            base,
+            image.as_ptr(),
+            image.len(),
+            state,
+            payload.as_ptr(),
+            payload.len(),
+            events.as_mut_ptr(),
+            events.len(),
+            count,
+        )
+    })
 }
 
 /// How many events a legal log has; or why the text is that of none, and the row that is named, or 0.

@@ -5,7 +5,8 @@
  *
  * BASE is hexadecimal. Each call is made nine times, into a buffer that is large enough. A line has the least time in
  * nanoseconds: for each event, of an audit for each message, of `pack` and `unpack` for each packet. Captures are of
- * version 1, in differential mode, at period 1,024, and of an audit at period 64, as in `timing`.
+ * version 1, in differential mode, at period 1,024, and of an audit at period 64, as in `timing`. `push` and `feed` go
+ * step by step over the first 1,000 events of the log, since each call copies the image.
  */
 #define _POSIX_C_SOURCE 199309L
 #include "tracebench.h"
@@ -16,7 +17,7 @@
 #include <string.h>
 #include <time.h>
 
-enum { RUNS = 9, PERIOD = 1024, DENSE_PERIOD = 64, HEAD = 11, LONGEST_PAYLOAD = 18 };
+enum { RUNS = 9, PERIOD = 1024, DENSE_PERIOD = 64, HEAD = 11, LONGEST_PAYLOAD = 18, MOST_STEPS = 1000 };
 
 struct bytes {
     uint8_t *at;
@@ -31,6 +32,9 @@ struct input {
     uint8_t (*payloads)[LONGEST_PAYLOAD];
     uint64_t *lengths;
     size_t events, messages, dense_messages;
+    struct bytes steps; /* the capture of the first events */
+    struct tracebench_event *first;
+    size_t count_of_first;
 };
 
 static void stop(const char *what, uint32_t status) {
@@ -55,24 +59,32 @@ static struct bytes read_file(const char *path) {
     return bytes;
 }
 
-/* Encodes the log into a buffer. Returns how many bytes are wanted. */
-static uint64_t encode(const struct input *input, uint16_t period, struct bytes buffer, uint32_t expected) {
+/* Encodes a log into a buffer. Returns how many bytes are wanted. */
+static uint64_t encode(const struct input *input, struct bytes log, uint16_t period, struct bytes buffer,
+                       uint32_t expected) {
     uint64_t wanted = 0;
-    const uint64_t ends[1] = {input->log.length};
+    const uint64_t ends[1] = {log.length};
     struct tracebench_log_place place;
-    uint32_t status = tracebench_encode(input->base, input->image.at, input->image.length, input->log.at,
-                                        input->log.length, ends, 1, period, TRACEBENCH_DIFFERENTIAL,
-                                        TRACEBENCH_VERSION_ONE, buffer.at, buffer.length, &wanted, &place);
+    uint32_t status = tracebench_encode(input->base, input->image.at, input->image.length, log.at, log.length, ends, 1,
+                                        period, TRACEBENCH_DIFFERENTIAL, TRACEBENCH_VERSION_ONE, buffer.at,
+                                        buffer.length, &wanted, &place);
     if (status != expected) stop("encode", status);
     return wanted;
 }
 
-static struct bytes encoded(const struct input *input, uint16_t period) {
+static struct bytes encoded(const struct input *input, struct bytes log, uint16_t period) {
     uint8_t none[1];
-    uint64_t wanted = encode(input, period, (struct bytes){none, 0}, TRACEBENCH_TOO_SMALL);
+    uint64_t wanted = encode(input, log, period, (struct bytes){none, 0}, TRACEBENCH_TOO_SMALL);
     struct bytes capture = {room((size_t)wanted), (size_t)wanted};
-    encode(input, period, capture, TRACEBENCH_DONE);
+    encode(input, log, period, capture, TRACEBENCH_DONE);
     return capture;
+}
+
+/* The header and the first so many rows of a log. */
+static struct bytes beginning(struct bytes log, size_t rows) {
+    size_t length = 0;
+    for (size_t lines = 0; length < log.length && lines <= rows; length++) lines += log.at[length] == '\n';
+    return (struct bytes){log.at, length};
 }
 
 static size_t messages_of(struct bytes capture) {
@@ -89,7 +101,9 @@ static uint64_t run_check(const struct input *input) {
     return row;
 }
 
-static uint64_t run_encode(const struct input *input) { return encode(input, PERIOD, input->capture, TRACEBENCH_DONE); }
+static uint64_t run_encode(const struct input *input) {
+    return encode(input, input->log, PERIOD, input->capture, TRACEBENCH_DONE);
+}
 
 static uint64_t run_decode(const struct input *input) {
     uint64_t wanted = 0;
@@ -132,6 +146,40 @@ static uint64_t run_pack(const struct input *input) {
     return bytes;
 }
 
+/* Feeds the payloads of the first events. Returns how many events come out. */
+static uint64_t run_feed(const struct input *input) {
+    struct tracebench_decoder_state state;
+    uint64_t all = 0, count = 0;
+    const struct bytes *capture = &input->steps;
+    tracebench_decoder(&state);
+    for (size_t at = 0; at < capture->length; at += HEAD + capture->at[at + HEAD - 1]) {
+        uint32_t status = tracebench_feed(input->base, input->image.at, input->image.length, &state,
+                                          capture->at + at + HEAD, capture->at[at + HEAD - 1], input->first + all,
+                                          input->count_of_first - (size_t)all, &count);
+        if (status != TRACEBENCH_DONE) stop("feed", status);
+        all += count;
+    }
+    return all;
+}
+
+/* Pushes the first events. Returns how many packets come out. */
+static uint64_t run_push(const struct input *input) {
+    struct tracebench_encoder_state state;
+    struct tracebench_packet packets[2];
+    uint64_t all = 1, count = 0;
+    uint32_t status = tracebench_encoder(PERIOD, TRACEBENCH_DIFFERENTIAL, &state, packets);
+    if (status != TRACEBENCH_DONE) stop("encoder", status);
+    for (size_t place = 0; place < input->count_of_first; place++) {
+        status = tracebench_push(input->base, input->image.at, input->image.length, &state, &input->first[place],
+                                 packets, 2, &count);
+        if (status != TRACEBENCH_DONE) stop("push", status);
+        all += count;
+    }
+    status = tracebench_finish(input->base, input->image.at, input->image.length, &state, packets, 2, &count);
+    if (status != TRACEBENCH_DONE) stop("finish", status);
+    return all + count;
+}
+
 /* Makes a call several times, and prints the least time for each of so many items, and the number that it gives. */
 static void measure(const char *name, uint64_t (*call)(const struct input *), const struct input *input, size_t items) {
     double least = 1e300;
@@ -159,8 +207,12 @@ int main(int count, char **words) {
     input.log = read_file(words[3]);
     input.text = (struct bytes){room(input.log.length), input.log.length};
     input.events = (size_t)run_check(&input);
-    input.capture = encoded(&input, PERIOD);
-    input.dense = encoded(&input, DENSE_PERIOD);
+    input.capture = encoded(&input, input.log, PERIOD);
+    input.dense = encoded(&input, input.log, DENSE_PERIOD);
+    input.count_of_first = input.events < MOST_STEPS ? input.events : MOST_STEPS;
+    input.steps = encoded(&input, beginning(input.log, input.count_of_first), PERIOD);
+    input.first = room(input.count_of_first * sizeof *input.first);
+    if (run_feed(&input) != input.count_of_first) stop("feed", TRACEBENCH_DONE);
     input.messages = messages_of(input.capture);
     input.dense_messages = messages_of(input.dense);
     input.packets = room(input.messages * sizeof *input.packets);
@@ -172,5 +224,7 @@ int main(int count, char **words) {
     measure("audit", run_audit, &input, input.dense_messages);
     measure("unpack", run_unpack, &input, input.messages);
     measure("pack", run_pack, &input, input.messages);
+    measure("push", run_push, &input, input.count_of_first);
+    measure("feed", run_feed, &input, input.count_of_first);
     return 0;
 }

@@ -11,6 +11,10 @@
 #define BUFFER answer->buffer.at, answer->buffer.length, (uint64_t *)(void *)answer->wanted.at
 #define FIRST (void *)answer->first.at
 #define SECOND (void *)answer->second.at
+#define PACKETS (struct tracebench_packet *)(void *)answer->buffer.at, \
+                answer->buffer.length / sizeof(struct tracebench_packet), (uint64_t *)(void *)answer->wanted.at
+#define EVENTS (struct tracebench_event *)(void *)answer->buffer.at, \
+               answer->buffer.length / sizeof(struct tracebench_event), (uint64_t *)(void *)answer->wanted.at
 
 static uint32_t make_pack(const struct given *given, struct answer *answer) {
     return tracebench_pack((const struct tracebench_packet *)(const void *)given->other.at, BUFFER);
@@ -40,6 +44,29 @@ static uint32_t make_decode(const struct given *given, struct answer *answer) {
 
 static uint32_t make_audit(const struct given *given, struct answer *answer) {
     return tracebench_audit(BYTES, OTHER, given->hart, FIRST, SECOND);
+}
+
+static uint32_t make_encoder(const struct given *given, struct answer *answer) {
+    return tracebench_encoder(given->period, given->mode, FIRST, SECOND);
+}
+
+static uint32_t make_push(const struct given *given, struct answer *answer) {
+    const struct tracebench_event *event = (const struct tracebench_event *)(const void *)given->other.at;
+    return tracebench_push(IMAGE, FIRST, event, PACKETS);
+}
+
+static uint32_t make_finish(const struct given *given, struct answer *answer) {
+    return tracebench_finish(IMAGE, (const struct tracebench_encoder_state *)(const void *)given->state.at, PACKETS);
+}
+
+static uint32_t make_decoder(const struct given *given, struct answer *answer) {
+    (void)given;
+    tracebench_decoder(FIRST);
+    return TRACEBENCH_DONE;
+}
+
+static uint32_t make_feed(const struct given *given, struct answer *answer) {
+    return tracebench_feed(IMAGE, FIRST, BYTES, EVENTS);
 }
 
 struct tracebench_packet packet_of(const struct answer *answer) {
@@ -93,11 +120,21 @@ static const struct span of_decode[] = {ONE(DONE), ONE(TOO_SMALL), ONE(NO_HART),
 static const struct span of_audit[] = {ONE(DONE), ONE(NO_HART), ONE(MEMORY), ONE(SHORT), ONE(BAD_LENGTH),
                                        ONE(BAD_HEADER), ONE(STRANGER), ONE(REPEAT), ONE(GAP), END};
 
+static const struct span of_encoder[] = {ONE(DONE), ONE(OUT_OF_RANGE), END};
+static const struct span of_push[] = {ONE(DONE), ONE(TOO_SMALL), ONE(MEMORY), SPAN(ODD_BASE, PAST_END),
+                                      ONE(BAD_STATE), ONE(NO_EVENT), END};
+static const struct span of_finish[] = {ONE(DONE), ONE(TOO_SMALL), ONE(MEMORY), SPAN(ODD_BASE, PAST_END),
+                                        ONE(BAD_STATE), END};
+static const struct span of_decoder[] = {ONE(DONE), END};
+static const struct span of_feed[] = {ONE(DONE), ONE(TOO_SMALL), ONE(MEMORY), SPAN(EMPTY, BAD_REPORT),
+                                      SPAN(ODD_BASE, PAST_END), SPAN(NOT_OPENED, AFTER_CLOSING_PACKET),
+                                      ONE(BAD_STATE), END};
+
 /* Why a capture is not read on; and why it is not decoded on. */
 static const struct span unread[] = {ONE(DONE), ONE(SHORT), ONE(BAD_LENGTH), ONE(BAD_HEADER), END};
 static const struct span undecoded[] = {ONE(DONE), ONE(MEMORY), ONE(SHORT), ONE(BAD_LENGTH), ONE(BAD_HEADER),
-                                        SPAN(EMPTY, BAD_REPORT), SPAN(STRANGER, OTHER_MODE),
-                                        SPAN(NOT_OPENED, AFTER_CLOSING_PACKET), END};
+                                        SPAN(BAD_PAD, BAD_REPORT), SPAN(STRANGER, OTHER_MODE),
+                                        SPAN(NOT_OPENED, WALKS_AT_WRONG_PRIVILEGE), END};
 
 #define ALL_OF(type) {sizeof(type), sizeof(type)}
 
@@ -131,7 +168,28 @@ const struct call audit = {
     .written = WITH_DONE,
 };
 
-const struct call *const calls[CALLS] = {&pack, &unpack, &check, &encode, &dump, &decode, &audit};
+const struct call encoder = {
+    .name = "encoder", .make = make_encoder, .statuses = of_encoder, .first = ALL_OF(struct tracebench_encoder_state),
+    .second = ALL_OF(struct tracebench_packet), .written = WITH_DONE,
+};
+const struct call push = {
+    .name = "push", .make = make_push, .statuses = of_push, .first = ALL_OF(struct tracebench_encoder_state),
+    .unit = sizeof(struct tracebench_packet), .written = WITH_DONE, .goes_on = true,
+};
+const struct call finish = {
+    .name = "finish", .make = make_finish, .statuses = of_finish, .unit = sizeof(struct tracebench_packet),
+};
+const struct call decoder = {
+    .name = "decoder", .make = make_decoder, .statuses = of_decoder, .first = ALL_OF(struct tracebench_decoder_state),
+    .written = WITH_DONE,
+};
+const struct call feed = {
+    .name = "feed", .make = make_feed, .statuses = of_feed, .first = ALL_OF(struct tracebench_decoder_state),
+    .unit = sizeof(struct tracebench_event), .written = WITH_DONE, .goes_on = true,
+};
+
+const struct call *const calls[CALLS] = {&pack, &unpack, &check, &encode, &dump, &decode,
+                                         &audit, &encoder, &push, &finish, &decoder, &feed};
 
 bool is_listed(const struct span *spans, uint32_t status) {
     for (; spans->from <= spans->to; spans++)
@@ -160,6 +218,7 @@ struct given given_bytes(struct slice bytes) {
     given.image = room(0);
     given.bytes = bytes;
     given.other = room(0);
+    given.state = room(0);
     return given;
 }
 
@@ -167,6 +226,7 @@ void give_back_given(struct given *given) {
     give_back(&given->image);
     give_back(&given->bytes);
     give_back(&given->other);
+    give_back(&given->state);
 }
 
 void give_back_answer(struct answer *answer) {

@@ -10,7 +10,8 @@ struct given {
     uint64_t base;
     struct slice image;
     struct slice bytes; /* a payload, the text of a log or of several, a capture, or SENT */
-    struct slice other; /* RECEIVED, or where each log ends, or a packet's numbers */
+    struct slice other; /* RECEIVED, or where each log ends, or the numbers of a packet or an event */
+    struct slice state; /* of an encoder or a decoder, before the call */
     uint16_t harts;
     uint16_t hart;
     uint16_t period;
@@ -24,7 +25,7 @@ struct answer {
     struct slice buffer;
     struct slice wanted;
     struct slice first;  /* the struct, or the row, that is written besides */
-    struct slice second; /* and one more, of an audit */
+    struct slice second; /* and one more */
 };
 
 /* A struct that a call writes: its size, and how many bytes of it have a meaning; padding has none. */
@@ -52,11 +53,12 @@ struct call {
     struct written second;
     size_t unit; /* how many bytes an element has that it hands out through a buffer; 0 where it hands out none */
     int written; /* with which statuses `first` and `second` are written */
+    bool goes_on; /* `first` is a state, which is at first the one that is given */
 };
 
-enum { CALLS = 7, STATUSES = 128 };
+enum { CALLS = 12, STATUSES = 256 };
 
-extern const struct call pack, unpack, check, encode, dump, decode, audit;
+extern const struct call pack, unpack, check, encode, dump, decode, audit, encoder, push, finish, decoder, feed;
 
 /* All of them. */
 extern const struct call *const calls[CALLS];

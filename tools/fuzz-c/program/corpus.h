@@ -30,6 +30,8 @@ struct program {
     struct list captures; /* captures, many of them damaged */
     struct pool encoded;  /* captures that tracebench_encode wrote */
     struct pool decoded;  /* texts that tracebench_decode wrote */
+    struct pool encoders; /* states that tracebench_push wrote */
+    struct pool decoders; /* states that tracebench_feed wrote */
 };
 
 extern struct program *programs;

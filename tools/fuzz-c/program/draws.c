@@ -42,12 +42,16 @@ static uint64_t drawn_base(const struct program *program, size_t image_length) {
     }
 }
 
+void draw_program(struct given *given, const struct program *program) {
+    give_back(&given->image);
+    given->image = drawn_image(program);
+    given->base = drawn_base(program, given->image.length);
+}
+
 /* What a call is given that takes a program and these bytes. */
 static struct given given_program(const struct program *program, struct slice bytes) {
     struct given given = given_bytes(bytes);
-    give_back(&given.image);
-    given.image = drawn_image(program);
-    given.base = drawn_base(program, given.image.length);
+    draw_program(&given, program);
     return given;
 }
 

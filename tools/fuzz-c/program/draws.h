@@ -5,6 +5,9 @@
 #include "calls.h"
 #include "corpus.h"
 
+/* The image and the base of a program, or now and then others. */
+void draw_program(struct given *given, const struct program *program);
+
 struct given drawn_for_pack(void);
 struct given drawn_for_unpack(const struct program *program);
 struct given drawn_for_check(const struct program *program);

@@ -43,7 +43,7 @@ static void judge_buffer(const struct call *call, const struct answer *answer) {
 }
 
 static void judge(const struct call *call, const struct given *given, const struct answer *answer) {
-    const struct slice *const read[] = {&given->image, &given->bytes, &given->other};
+    const struct slice *const read[] = {&given->image, &given->bytes, &given->other, &given->state};
     const struct slice *const written[] = {&answer->buffer, &answer->wanted, &answer->first, &answer->second};
     for (size_t place = 0; place < sizeof read / sizeof *read; place++)
         require(is_guarded(read[place]) && is_kept_from(read[place], 0), call, "what it was given to read changed");
@@ -57,8 +57,8 @@ static void judge(const struct call *call, const struct given *given, const stru
 
 struct answer run(const struct call *call, const struct given *given, size_t length) {
     struct answer answer = {
-        TRACEBENCH_DONE, room(length * call->unit), room(sizeof(uint64_t)), room(call->first.size),
-        room(call->second.size),
+        TRACEBENCH_DONE, room(length * call->unit), room(sizeof(uint64_t)),
+        call->goes_on ? again(&given->state) : room(call->first.size), room(call->second.size),
     };
     answer.status = call->make(given, &answer);
     count(call, &answer);

@@ -16,10 +16,12 @@
 #include "judge.h"
 #include "laws.h"
 #include "slices.h"
+#include "steps.h"
 
 int main(int count, char **words) {
-    static void (*const tries[])(struct program *) = {try_pack, try_unpack, try_check, try_encode,
-                                                      try_dump, try_decode, try_audit};
+    static void (*const tries[])(struct program *) = {try_pack,   try_unpack,  try_check, try_encode,
+                                                      try_dump,   try_decode,  try_audit, try_log_in_steps,
+                                                      try_encoder, try_push, try_finish, try_feed};
     if (count < 4 || count > 5 || (count == 5 && strcmp(words[4], "rows") != 0)) {
         fputs("usage: fuzz-c CORPUS SEED COUNT [rows]\n", stderr);
         return 2;

@@ -1,0 +1,223 @@
+#include "steps.h"
+
+#include <string.h>
+
+#include "draft.h"
+#include "draws.h"
+#include "judge.h"
+#include "states.h"
+
+/* Puts another slice where one stood. */
+static void exchange(struct slice *place, struct slice slice) {
+    give_back(place);
+    *place = slice;
+}
+
+/* How many packets or events there are is as the header says, and the last packet of a log closes the trace. */
+static void judge_count(const struct call *call, const struct given *given, const struct answer *answer) {
+    if (!is_answer(answer->status)) return;
+    uint64_t count = wanted_of(answer);
+    uint64_t most = call == &feed ? UINT64_C(32) * given->image.length + 2 : 2;
+    require(count <= most, call, "more packets or events than there may be");
+    if (call != &finish || answer->status != TRACEBENCH_DONE) return;
+    require(count >= 1, call, "no packet at the end of a log");
+    struct tracebench_packet last;
+    memcpy(&last, answer->buffer.at + (size_t)(count - 1) * sizeof last, sizeof last);
+    require(last.kind == TRACEBENCH_ENDED_REP || last.kind == TRACEBENCH_ENDED_NTR, call,
+            "the last packet does not close the trace");
+}
+
+/* Makes a call at a state several times. It is refused where there is no such state or event, and gives a state. */
+static struct answer step(const struct call *call, const struct given *given) {
+    bool (*const has_state)(const uint8_t *) = call == &feed ? has_decoder : has_encoder;
+    bool there = has_state(given->state.at);
+    struct answer answer = exercise(call, given);
+    require(there == (answer.status != TRACEBENCH_BAD_STATE), call, "a state is refused, or what is none is not");
+    if (call == &push && there)
+        require(has_event(given->other.at) == (answer.status != TRACEBENCH_NO_EVENT), call,
+                "an event is refused, or what is none is not");
+    if (call->goes_on && answer.status == TRACEBENCH_DONE)
+        require(has_state(answer.first.at), call, "it wrote what is no state");
+    judge_count(call, given, &answer);
+    return answer;
+}
+
+/* What a call is given that takes a program, and a state of so many random bytes. */
+static struct given over(const struct program *program, size_t state) {
+    struct given given = given_bytes(room(0));
+    exchange(&given.image, copy_of(program->image.at, program->image.length));
+    exchange(&given.state, room(state));
+    given.base = program->base;
+    return given;
+}
+
+/* Puts the message of a packet of hart 0. */
+static void put_packet(struct draft *capture, uint64_t number, const struct tracebench_packet *packet) {
+    struct given given = given_bytes(room(0));
+    exchange(&given.other, copy_of(packet, sizeof *packet));
+    struct answer answer = run(&pack, &given, 18);
+    require(answer.status == TRACEBENCH_DONE, &pack, "a packet of a log is not packed");
+    uint8_t head[HEAD] = {0};
+    for (size_t place = 0; place < 8; place++) head[2 + place] = (uint8_t)(number >> 8 * place);
+    head[HEAD - 1] = (uint8_t)wanted_of(&answer);
+    put(capture, head, HEAD);
+    put(capture, answer.buffer.at, head[HEAD - 1]);
+    give_back_given(&given);
+    give_back_answer(&answer);
+}
+
+/* Puts the packets that a call handed out, behind so many. Returns how many there are then. */
+static uint64_t put_packets(struct draft *capture, uint64_t number, const struct answer *answer) {
+    for (uint64_t place = 0; place < wanted_of(answer); place++) {
+        struct tracebench_packet packet;
+        memcpy(&packet, answer->buffer.at + place * sizeof packet, sizeof packet);
+        put_packet(capture, number++, &packet);
+    }
+    return number;
+}
+
+/* Takes an event. Returns the count of packets then. */
+static uint64_t push_event(struct program *program, struct given *given, struct draft *capture, uint64_t number,
+                           const struct tracebench_event *event) {
+    exchange(&given->other, copy_of(event, sizeof *event));
+    struct answer answer = step(&push, given);
+    require(answer.status == TRACEBENCH_DONE, &push, "an event of a legal log is not taken");
+    number = put_packets(capture, number, &answer);
+    exchange(&given->state, again(&answer.first));
+    keep(&program->encoders, answer.first.at, answer.first.length);
+    give_back_answer(&answer);
+    return number;
+}
+
+/* Puts the capture of a log, event by event. */
+static void encode_in_steps(struct program *program, const struct events *events, uint16_t period, uint32_t mode,
+                            struct draft *capture) {
+    struct given given = over(program, sizeof(struct tracebench_encoder_state));
+    given.period = period;
+    given.mode = mode;
+    struct answer begun = exercise(&encoder, &given);
+    require(begun.status == TRACEBENCH_DONE, &encoder, "there is no encoder at a good period and mode");
+    struct tracebench_packet open;
+    memcpy(&open, begun.second.at, sizeof open);
+    put_packet(capture, 0, &open);
+    exchange(&given.state, again(&begun.first));
+    give_back_answer(&begun);
+    uint64_t number = 1;
+    for (size_t place = 0; place < events->count; place++)
+        number = push_event(program, &given, capture, number, &events->at[place]);
+    struct answer ended = step(&finish, &given);
+    require(ended.status == TRACEBENCH_DONE, &finish, "the end of a legal log is not taken");
+    put_packets(capture, number, &ended);
+    give_back_given(&given);
+    give_back_answer(&ended);
+}
+
+/* The capture is the one that the whole log gives. */
+static void compare_capture(const struct program *program, const struct bytes *log, uint16_t period, uint32_t mode,
+                            const struct draft *capture) {
+    struct given given = over(program, 0);
+    const uint64_t end = log->length;
+    exchange(&given.bytes, copy_of(log->at, log->length));
+    exchange(&given.other, copy_of(&end, sizeof end));
+    given.period = period;
+    given.mode = mode;
+    given.version = TRACEBENCH_VERSION_ONE;
+    struct answer answer = run(&encode, &given, DRAFT);
+    require(answer.status == TRACEBENCH_DONE, &encode, "a legal log has no capture");
+    require(wanted_of(&answer) == capture->length && memcmp(answer.buffer.at, capture->at, capture->length) == 0,
+            &encode, "another capture than event by event");
+    give_back_given(&given);
+    give_back_answer(&answer);
+}
+
+/* The state of a decoder is that of a trace that was closed, of these events. */
+static void judge_end(const struct slice *numbers, const struct events *events) {
+    struct tracebench_decoder_state state;
+    memcpy(&state, numbers->at, sizeof state);
+    require(state.phase == TRACEBENCH_CLOSED && state.is_announced == 1 && state.announced == state.mode &&
+                state.waits == 0 && state.has_last == (events->count != 0),
+            &feed, "the state at the end of a log is not that of a trace that was closed");
+    require(events->count == 0 || memcmp(&state.last, &events->at[events->count - 1], sizeof state.last) == 0, &feed,
+            "the last event is not that of the log");
+}
+
+/* The payloads of a capture of hart 0, one by one, are decoded to these events. */
+static void decode_in_steps(struct program *program, const struct draft *capture, const struct events *events) {
+    struct given given = over(program, sizeof(struct tracebench_decoder_state));
+    struct answer begun = exercise(&decoder, &given);
+    exchange(&given.state, again(&begun.first));
+    give_back_answer(&begun);
+    size_t count = 0;
+    for (size_t at = 0; at < capture->length; at += HEAD + capture->at[at + HEAD - 1]) {
+        exchange(&given.bytes, copy_of(capture->at + at + HEAD, capture->at[at + HEAD - 1]));
+        struct answer answer = step(&feed, &given);
+        require(answer.status == TRACEBENCH_DONE, &feed, "a payload of a legal log is not decoded");
+        size_t more = (size_t)wanted_of(&answer);
+        require(more <= events->count - count &&
+                    memcmp(answer.buffer.at, &events->at[count], more * sizeof *events->at) == 0,
+                &feed, "other events than those of the log");
+        count += more;
+        exchange(&given.state, again(&answer.first));
+        keep(&program->decoders, answer.first.at, answer.first.length);
+        give_back_answer(&answer);
+    }
+    require(count == events->count, &feed, "fewer events than those of the log");
+    judge_end(&given.state, events);
+    give_back_given(&given);
+}
+
+void try_log_in_steps(struct program *program) {
+    static struct draft capture;
+    static const uint16_t periods[] = {1, 3, 64, 1024};
+    if (!one_in(4)) return; /* a log takes many calls */
+    const struct bytes *log = any_of(&program->logs);
+    struct events events = events_of(log);
+    if (events.count == MOST_EVENTS) return;
+    uint16_t period = periods[below(4)];
+    uint32_t mode = (uint32_t)below(2);
+    capture.length = 0;
+    encode_in_steps(program, &events, period, mode, &capture);
+    compare_capture(program, log, period, mode, &capture);
+    decode_in_steps(program, &capture, &events);
+}
+
+/* Makes a call over a program, or now and then another one. Keeps the state that it writes. */
+static void try_step(const struct call *call, struct program *program, struct pool *pool, struct given given) {
+    draw_program(&given, program);
+    struct answer answer = step(call, &given);
+    if (call->goes_on && answer.status == TRACEBENCH_DONE) keep(pool, answer.first.at, answer.first.length);
+    give_back_given(&given);
+    give_back_answer(&answer);
+}
+
+void try_push(struct program *program) {
+    struct given given = given_bytes(room(0));
+    exchange(&given.other, drawn_event(&program->logs));
+    exchange(&given.state, drawn_encoder(&program->encoders));
+    try_step(&push, program, &program->encoders, given);
+}
+
+void try_finish(struct program *program) {
+    struct given given = given_bytes(room(0));
+    exchange(&given.state, drawn_encoder(&program->encoders));
+    try_step(&finish, program, &program->encoders, given);
+}
+
+void try_feed(struct program *program) {
+    struct given given = drawn_for_unpack(program);
+    exchange(&given.state, drawn_decoder(&program->decoders));
+    try_step(&feed, program, &program->decoders, given);
+}
+
+void try_encoder(struct program *program) {
+    (void)program;
+    struct given given = given_bytes(room(0));
+    given.period = (uint16_t)below(3);
+    given.mode = one_in(8) ? (uint32_t)any_number() : (uint32_t)below(3);
+    struct answer answer = exercise(&encoder, &given);
+    bool there = given.period != 0 && given.mode <= TRACEBENCH_FULL;
+    require(there == (answer.status == TRACEBENCH_DONE), &encoder, "a period or a mode is refused, or should be");
+    require(!there || has_encoder(answer.first.at), &encoder, "it wrote what is no state");
+    give_back_given(&given);
+    give_back_answer(&answer);
+}
