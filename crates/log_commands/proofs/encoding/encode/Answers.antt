@@ -41,6 +41,6 @@ over_legal_logs-requires-sync-R g c κs within =
       (
         (refl, tt),
         λ count some few.
-            (sync, c.requires, some, subst (λ most. count ≤ most) c.most_harts-most.ensures few),
+            (search rules, c.requires, some, subst (λ most. count ≤ most) c.most_harts-most.ensures few),
       ),
     )
