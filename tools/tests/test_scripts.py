@@ -6,7 +6,7 @@ import unittest
 
 from support import TOOLS
 
-NEED_WORDS = ["examples", "fuzz/fuzz", "fuzz-c/fuzz-c", "record", "verdict"]
+NEED_WORDS = ["examples", "fuzz/fuzz", "fuzz-c/fuzz-c", "record", "side-by-side", "verdict"]
 SCRIPTS = NEED_WORDS + [
     "at-scale",
     "error-lines",
