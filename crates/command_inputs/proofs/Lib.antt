@@ -1,7 +1,8 @@
 pub mod Beginnings
 pub mod FirstSteps
-mod FromFiles
+pub mod FromFiles
 pub mod LegalLogs
+pub mod MadeOfTexts
 pub mod Runs
 pub mod TextLogs
 pub mod Turns

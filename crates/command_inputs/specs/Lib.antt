@@ -7,6 +7,8 @@ pub mod Finding
 pub mod Found
 pub mod Turns
 pub mod Judged
+pub mod Texts
+pub mod Made
 pub mod Printed
 pub mod Begun
 pub mod Meaning

@@ -1,3 +1,3 @@
+pub mod Found
 pub mod Legal
-pub mod Texts
 pub mod Turns

@@ -1,12 +1,13 @@
 //! Logs that are read in turn and judged side by side.
 
-ghost use Rattle.std.specs.Prelude.{◌≡◌, IfSome, []};
-ghost use Rattle.command_inputs.specs.Judged.{IsJudgedLogAt, IsUnjudgedAt, events_of, illegal_in};
+ghost use Rattle.std.specs.Prelude.{◌≡◌};
+ghost use Rattle.command_inputs.specs.Judged.{IsJudgedLogAt, IsUnjudgedAt};
 ghost use Rattle.command_inputs.specs.Turns.{ComeInTurn};
-ghost use Rattle.command_inputs.specs.steps.Texts.{ComesOfText, IsFoundFault, IsFoundLog, IsLogOfText, IsNoLog};
+ghost use Rattle.command_inputs.specs.Texts.{ComesOfText};
 
 use crate::fault::Fault;
 use crate::files::Files;
+use crate::making::made_of_texts;
 use crate::texts::{LogText, LogTexts, texts_of};
 use legalpath::{LegalLog, PathFault};
 use retire::{Event, read_log_from_slice};
@@ -22,28 +23,6 @@ pub struct JudgedLog<'a, 'p> {
     pub path: &'a str,
     /// The log, where it is legal. Else its first illegal row, and its events.
     pub verdict: Result<LegalLog<'p>, (PathFault, Vec<Event>)>,
-}
-
-impl<'a, 'p> JudgedLog<'a, 'p> {
-    /// The events of the log.
-    pub fn events(&self) -> &[Event]
-        ensures { result.now ≡ events_of self.now }
-    {
-        match &self.verdict {
-            Ok(legal) => legal.events(),
-            Err((_, events)) => events.as_slice(),
-        }
-    }
-
-    /// The first illegal row of the log, if it has one.
-    pub fn illegal(&self) -> Option<PathFault>
-        ensures { result ≡ illegal_in self.now.verdict }
-    {
-        match &self.verdict {
-            Ok(_) => None,
-            Err((why, _)) => Some(*why),
-        }
-    }
 }
 
 /// Logs that were read and judged, up to the first that was not.
@@ -72,35 +51,16 @@ pub fn judged_logs_of<'a, 'p, F: Files, R: Threads + Sync>(
         paths.now result.logs.items result.end }
     ensures kept { F.content files.new ≡ F.content files.old }
 {
-    let LogTexts { texts, end } = texts_of(alloc, files, paths);
+    let LogTexts { texts, end } = texts_of(alloc, files, 0, paths);
     let mut logs = Vec::new(alloc);
-    match judge(alloc, rt, program, texts, &mut logs) {
+    let judging = Judging { alloc, program };
+    let found = results(alloc, rt, &judging, texts.as_slice());
+    match made_of_texts(&judging, texts, found, &mut logs) {
         Ok(()) => JudgedLogs { logs, end },
         Err(why) => JudgedLogs {
             logs,
             end: Err(why),
         },
-    }
-}
-
-/// Judges texts side by side into a list that is empty at first, up to the first that is no log. Where memory is
-/// refused, judges them one after the other.
-fn judge<'a, 'p, R: Threads + Sync>(
-    alloc: Global,
-    rt: &R,
-    program: &'p Program,
-    texts: Vec<LogText<'a>>,
-    logs: &mut Vec<JudgedLog<'a, 'p>>,
-) -> Result<(), Fault<'a>>
-    requires { logs.old.items ≡ [] }
-    ensures { ComeInTurn (IsLogOfText program.now) IsNoLog texts.entry.items logs.new.items result }
-{
-    match results(alloc, rt, &Judging { alloc, program }, texts.as_slice()) {
-        Ok(found) => match take_logs(found, logs) {
-            Err(Fault::Memory) => judge_in_turn(alloc, program, texts, logs),
-            end => end,
-        },
-        Err(_) => judge_in_turn(alloc, program, texts, logs),
     }
 }
 
@@ -120,7 +80,7 @@ impl<'a, 'p> Task<LogText<'a>, Result<JudgedLog<'a, 'p>, Fault<'a>>> for Judging
 }
 
 /// The log of a text, judged by the program.
-fn log_of_text<'a, 'p>(
+pub fn log_of_text<'a, 'p>(
     alloc: Global,
     program: &'p Program,
     text: &LogText<'a>,
@@ -134,73 +94,4 @@ fn log_of_text<'a, 'p>(
         }),
         Err(why) => Err(Fault::of_log(text.path, why)),
     }
-}
-
-/// Moves logs that were found into a list that is empty at first, up to the first fault.
-fn take_logs<'a, 'p>(
-    found: Vec<Result<JudgedLog<'a, 'p>, Fault<'a>>>,
-    logs: &mut Vec<JudgedLog<'a, 'p>>,
-) -> Result<(), Fault<'a>>
-    requires { logs.old.items ≡ [] }
-    ensures { ComeInTurn IsFoundLog IsFoundFault found.entry.items logs.new.items result }
-{
-    for one in found {
-        let log = one?;
-        if logs.push(log).is_err() {
-            return Err(Fault::Memory);
-        }
-    }
-    Ok(())
-}
-
-/// Judges texts one after the other into a list, which is cleared first, up to the first that is no log.
-fn judge_in_turn<'a, 'p>(
-    alloc: Global,
-    program: &'p Program,
-    mut texts: Vec<LogText<'a>>,
-    logs: &mut Vec<JudgedLog<'a, 'p>>,
-) -> Result<(), Fault<'a>>
-    ensures { ComeInTurn (IsLogOfText program.now) IsNoLog texts.entry.items logs.new.items result }
-{
-    logs.clear();
-    match judge_each(alloc, program, texts.as_slice(), logs) {
-        Err(Fault::Memory) => {}
-        end => return end,
-    }
-    texts.truncate(logs.len() + 1);
-    let text = texts.pop();
-    drop(texts);
-    Err(fault_of_text(alloc, program, text))
-}
-
-/// Why there is no log of a text for which memory was refused: the fault of the text, where there is memory now.
-fn fault_of_text<'a>(alloc: Global, program: &Program, text: Option<LogText<'a>>) -> Fault<'a>
-    ensures { IfSome text.entry (λ text. IsNoLog text result) }
-{
-    let Some(text) = text else {
-        return Fault::Memory;
-    };
-    match log_of_text(alloc, program, &text) {
-        Ok(_) => Fault::Memory,
-        Err(why) => why,
-    }
-}
-
-/// Judges texts one after the other into a list that is empty at first, up to the first that is no log.
-fn judge_each<'a, 'p>(
-    alloc: Global,
-    program: &'p Program,
-    texts: &[LogText<'a>],
-    logs: &mut Vec<JudgedLog<'a, 'p>>,
-) -> Result<(), Fault<'a>>
-    requires { logs.old.items ≡ [] }
-    ensures { ComeInTurn (IsLogOfText program.now) IsNoLog texts.now logs.new.items result }
-{
-    for text in texts {
-        let log = log_of_text(alloc, program, text)?;
-        if logs.push(log).is_err() {
-            return Err(Fault::Memory);
-        }
-    }
-    Ok(())
 }

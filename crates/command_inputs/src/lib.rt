@@ -11,6 +11,7 @@ mod files;
 mod inputs;
 mod judging;
 mod legal_logs;
+mod making;
 mod status;
 mod texts;
 
@@ -18,6 +19,8 @@ pub use error_reporting::report_error;
 pub use fault::Fault;
 pub use files::{FileFault, Files};
 pub use inputs::{asked_program, base_of, content_of, program_of, symbols_of};
-pub use judging::{JudgedLog, JudgedLogs, judged_logs_of};
+pub use judging::{JudgedLog, JudgedLogs, judged_logs_of, log_of_text};
 pub use legal_logs::legal_logs_of;
+pub use making::made_of_texts;
 pub use status::Status;
+pub use texts::{LogText, LogTexts, texts_of};

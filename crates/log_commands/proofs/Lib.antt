@@ -1,5 +1,6 @@
+mod CheckedLogs
 mod Gots
 mod Headers
-mod JudgedLogs
+mod MadeLogs
 mod Reports
 mod Schedules

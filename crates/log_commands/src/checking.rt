@@ -1,6 +1,6 @@
 //! The subcommand `check`.
 
-ghost use Rattle.std.specs.Prelude.{⊤, ◌≡◌, ◌⊎◌, Err, IfErr, IfOk, IfSome, OnOk, length, map};
+ghost use Rattle.std.specs.Prelude.{⊤, ◌≡◌, ◌⊎◌, Err, IfErr, IfOk, IfSome, OnOk, Some, length};
 ghost use Rattle.std.specs.Io.KnownBytes.{Appends, Keeps};
 ghost use Rattle.std.specs.List.{flat_map, list_any};
 ghost use Rattle.message.specs.Version.{most_harts};
@@ -8,15 +8,16 @@ ghost use Rattle.message.specs.declared.header.Version.TheVariants.{Two};
 ghost use Rattle.output.specs.Begun.{AppendsBeginning};
 ghost use Rattle.retire.specs.Number.{number_of};
 ghost use Rattle.command_inputs.specs.Begun.{BeginsPrinted, IsCutOf};
-ghost use Rattle.command_inputs.specs.Judged.{judged_of};
 ghost use Rattle.command_inputs.specs.Order.{logs_fault};
 ghost use Rattle.command_inputs.specs.Printed.{PrintsUnlessDenied};
 ghost use Rattle.log_commands.specs.Checking.{AppendsFirstLines, BeginsLines, ChecksFirst, WritesFirstLines, CanCheck};
-ghost use Rattle.log_commands.specs.Checking.{Checks, WritesLines, check_lines, explained_line, is_illegal, log_lines};
+ghost use Rattle.log_commands.specs.Checking.{Checks, WritesLines, explained_line, log_lines};
 ghost use Rattle.log_commands.specs.Checking.{status_with, verdict_line};
+ghost use Rattle.log_commands.specs.steps.Checked.{kept_lines, was_refused};
 ghost use Rattle.log_commands.specs.steps.Groups.{end_of_both};
 
-use command_inputs::{Fault, Files, JudgedLog, JudgedLogs, Status, asked_program, judged_logs_of};
+use crate::checked::{CheckedLog, CheckedLogs, checked_logs_of};
+use command_inputs::{Fault, Files, Status, asked_program};
 use legalpath::PathFault;
 use message::MOST_HARTS;
 use output::write_text;
@@ -109,7 +110,7 @@ fn judge_group<'a, F: Files, O: Write, R: Threads + Sync>(
         (O.contents out.old) (O.contents out.new) }
     ensures kept { F.content files.new ≡ F.content files.old }
 {
-    let JudgedLogs { logs, end } = judged_logs_of(alloc, rt, files, program, paths);
+    let CheckedLogs { logs, end } = checked_logs_of(alloc, rt, files, program, paths);
     let status = match write_logs(program, logs.as_slice(), explain, out) {
         Ok(status) => status,
         Err(why) => return Err(why),
@@ -123,22 +124,21 @@ fn judge_group<'a, F: Files, O: Write, R: Threads + Sync>(
 /// Writes the lines of each log, in order, and returns how a run of these logs ends.
 fn write_logs<'a, O: Write>(
     program: &Program,
-    logs: &[JudgedLog<'_, '_>],
+    logs: &[CheckedLog<'_>],
     explain: bool,
     out: &mut O,
 ) -> Result<Status, Fault<'a>>
     ensures fault { IfErr result (λ fault. fault ≡ Fault.Output) }
-    ensures ended { IfOk result (λ status. status ≡ status_with (list_any is_illegal (map judged_of logs.now))) }
+    ensures ended { IfOk result (λ status. status ≡ status_with (list_any was_refused logs.now)) }
     ensures text { OnOk result (Appends (O.contents out.old) (O.contents out.new)
-        (flat_map (check_lines explain program.now) (map judged_of logs.now))) }
-    ensures begun { AppendsBeginning (flat_map (check_lines explain program.now) (map judged_of logs.now))
+        (flat_map (kept_lines explain program.now) logs.now)) }
+    ensures begun { AppendsBeginning (flat_map (kept_lines explain program.now) logs.now)
         (O.contents out.old) (O.contents out.new) }
 {
     let mut status = Status::Whole;
     for log in logs {
-        let illegal = log.illegal();
-        write_lines(log.path, program, log.events(), illegal, explain, out)?;
-        if illegal.is_some() {
+        write_lines(program, log, explain, out)?;
+        if log.verdict.is_err() {
             status = Status::Refused;
         }
     }
@@ -148,44 +148,59 @@ fn write_logs<'a, O: Write>(
 /// Writes the lines of a log: whether it is legal, and below that what explains its first illegal row, if it has one
 /// and that is asked for.
 fn write_lines<'a, O: Write>(
+    program: &Program,
+    log: &CheckedLog<'_>,
+    explain: bool,
+    out: &mut O,
+) -> Result<(), Fault<'a>>
+    ensures fault { IfErr result (λ fault. fault ≡ Fault.Output) }
+    ensures text { OnOk result (Appends (O.contents out.old) (O.contents out.new)
+        (kept_lines explain program.now log.now)) }
+    ensures begun { AppendsBeginning (kept_lines explain program.now log.now) (O.contents out.old) (O.contents out.new) }
+{
+    match &log.verdict {
+        Ok(count) => write_line(log.path, *count, None, out),
+        Err((illegal, events)) => write_illegal(log.path, program, events, *illegal, explain, out),
+    }
+}
+
+/// Writes the lines of an illegal log: its first illegal row, and below that what explains it, if that is asked for.
+fn write_illegal<'a, O: Write>(
     path: &str,
     program: &Program,
     log: &[Event],
-    illegal: Option<PathFault>,
+    illegal: PathFault,
     explain: bool,
     out: &mut O,
 ) -> Result<(), Fault<'a>>
     ensures fault { IfErr result (λ fault. fault ≡ Fault.Output) }
     ensures text { OnOk result (Appends (O.contents out.old) (O.contents out.new)
-        (log_lines explain program.now path.now log.now illegal)) }
-    ensures begun { AppendsBeginning (log_lines explain program.now path.now log.now illegal)
+        (log_lines explain program.now path.now log.now (Some illegal))) }
+    ensures begun { AppendsBeginning (log_lines explain program.now path.now log.now (Some illegal))
         (O.contents out.old) (O.contents out.new) }
 {
-    write_line(path, log.len(), illegal, out)?;
+    write_line(path, log.len(), Some(illegal), out)?;
     write_explanation(program, log, illegal, explain, out)
 }
 
-/// Writes the line that explains the first illegal row of a log, if it has one and that is asked for.
+/// Writes the line that explains the first illegal row of a log, if that is asked for.
 fn write_explanation<'a, O: Write>(
     program: &Program,
     log: &[Event],
-    illegal: Option<PathFault>,
+    illegal: PathFault,
     explain: bool,
     out: &mut O,
 ) -> Result<(), Fault<'a>>
     ensures fault { IfErr result (λ fault. fault ≡ Fault.Output) }
     ensures text { OnOk result (Appends (O.contents out.old) (O.contents out.new)
-        (explained_line explain program.now log.now illegal)) }
-    ensures begun { AppendsBeginning (explained_line explain program.now log.now illegal)
+        (explained_line explain program.now log.now (Some illegal))) }
+    ensures begun { AppendsBeginning (explained_line explain program.now log.now (Some illegal))
         (O.contents out.old) (O.contents out.new) }
 {
-    let Some(fault) = illegal else {
-        return Ok(());
-    };
     if !explain {
         return Ok(());
     }
-    match explaining::explain(program, log, fault, out) {
+    match explaining::explain(program, log, illegal, out) {
         Ok(()) => Ok(()),
         Err(_) => Err(Fault::Output),
     }

@@ -5,9 +5,11 @@
 #![tactic(auto)]
 
 mod benching;
+mod checked;
 mod checking;
 mod encoding;
 mod legal_logs;
+mod made;
 mod measures;
 mod replaying;
 mod reporting;

@@ -1,1 +1,3 @@
 mod HartTexts
+mod AddedPackets
+mod EncodedEvents

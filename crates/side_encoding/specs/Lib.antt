@@ -1,1 +1,2 @@
+pub mod IsEncodedText
 pub mod steps

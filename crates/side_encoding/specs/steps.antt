@@ -1,1 +1,4 @@
 pub mod Harts
+pub mod Adds
+pub mod Encodes
+pub mod TextSoFar

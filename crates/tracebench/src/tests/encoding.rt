@@ -363,4 +363,20 @@ $ tracebench encode --base 80000000 --v1 image.bin log.csv
 $ tracebench decode --base 80000000 image.bin log.capture
 > hart 0
 >< log.csv
+
+# Two events, and an empty line before the header, so that the text is read as a whole.
+file image.bin
+|= 13000000 13000000
+file log.csv
+|
+| addr,itype,priv,cause,tval
+| 80000000,0,3,,
+| 80000004,0,3,,
+$ tracebench encode --base 80000000 --hex image.bin log.csv
+> 0 0 1f
+> 0 1 7300000020
+> 0 2 0a
+> 0 3 4f
+$ tracebench check --base 80000000 image.bin log.csv
+> log.csv: legal, 2 events
 ";

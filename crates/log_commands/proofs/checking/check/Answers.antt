@@ -12,7 +12,7 @@ use Rattle.command_inputs.proofs.Beginnings.{cut_kept}
 use Rattle.command_inputs.proofs.FirstSteps.{early_ends, passes, program_ends, program_there}
 use Rattle.command_inputs.proofs.Runs.{goes_on, output_failed}
 use Rattle.log_commands.specs.Checking.{AppendsFirstLines, ChecksFirst, WritesFirstLines, CanCheck, Checks, WritesLines}
-use Rattle.log_commands.proofs.JudgedLogs.{lines_kept}
+use Rattle.log_commands.proofs.CheckedLogs.{lines_kept}
 use Rattle.log_commands.proofs.checking.check.Goals.{After-flush}
 use Rattle.log_commands.proofs.checking.check.Goals as goal
 

@@ -9,8 +9,8 @@ use Rattle.command_inputs.specs.declared.fault.Fault.TheVariants as fault
 use Rattle.command_inputs.specs.declared.status.Status.TheVariants.{Whole}
 use Rattle.log_commands.specs.Checking.{AppendsFirstLines, WritesFirstLines, WritesLines}
 use Rattle.log_commands.specs.steps.Groups.{LinesSoFar}
-use Rattle.log_commands.proofs.JudgedLogs.{all_lines, lines_begun, lines_cut, lines_end, lines_first, lines_more}
-use Rattle.log_commands.proofs.JudgedLogs.{no_lines}
+use Rattle.log_commands.proofs.CheckedLogs.{all_lines, lines_begun, lines_cut, lines_end, lines_first, lines_more}
+use Rattle.log_commands.proofs.CheckedLogs.{no_lines}
 use Rattle.log_commands.proofs.checking.judge_all.Goals as goal
 
 pub loop-group-init : goal.loop-group-init

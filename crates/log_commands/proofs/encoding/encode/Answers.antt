@@ -1,46 +1,142 @@
--- The prover does not put the most logs of a version in the place of the number that the call returned.
-use Rattle.std.proofs.Common.{◌≡◌, ◌≤◌, refl, rules, subst, Err, length}
+-- The prover tries no chain of steps by itself: what each step found is handed to it, in order.
+use Rattle.std.proofs.Common.{◌≡◌, ◌∙◌, inr, refl, subst, sym, arith, Ok, Err, List, length}
+use Rattle.std.proofs.lemmas.Grind.{common_steps}
 use Rattle.std.specs.Prelude.{⊤, IfSome}
+use Rattle.legalpath.specs.ProgramLog.{ProgramLog}
 use Rattle.retire.specs.Number.{number_of}
 use Rattle.command_inputs.specs.Begun.{IsCutOf}
 use Rattle.command_inputs.specs.Finding.{Once}
 use Rattle.command_inputs.specs.Found.{AreAskedLogs}
 use Rattle.command_inputs.specs.Order.{logs_fault}
 use Rattle.command_inputs.specs.Printed.{First, PrintsUnlessDenied}
-use Rattle.log_commands.specs.Encoding.{WritesMessages}
+use Rattle.command_inputs.specs.declared.status.Status.TheVariants.{Whole}
+use Rattle.command_inputs.proofs.Beginnings.{cut_leads, printed_begun}
+use Rattle.command_inputs.proofs.FirstSteps.{early_ends, logs_end, logs_there, no_logs, passes}
+use Rattle.command_inputs.proofs.Runs as runs
+use Rattle.log_commands.specs.Encoding.{WritesMessages, written}
+use Rattle.log_commands.specs.steps.Made.{AreMadeFrom, form_text}
+use Rattle.log_commands.proofs.encoding.encode.Goals.{After-write_made}
 use Rattle.log_commands.proofs.encoding.encode.Goals as goal
+
+pub returns-in_err-program-clause-early : goal.returns-in_err-program-clause-early
+returns-in_err-program-clause-early g c =
+    let asked = c.args.asked.now in
+    let why = c.in_err-program.field-0.0 in
+    let is : c.from_residual.result ≡ Err why = grind (arith, common_steps) in
+    subst (λ most. IfSome (logs_fault most (number_of asked.base.now) (length asked.logs.items))
+    (λ fault. c.from_residual.result ≡ Err fault)) c.most_harts-most.ensures
+    (early_ends c.most_harts-most.result asked.base.now asked.logs.items c.as_slice-paths.result.now
+    c.asked_program.result why c.from_residual.result c.as_slice-paths.ensures.value c.in_err-program.was is
+    c.asked_program.ensures.early)
+
+pub returns-in_err-program-clause-printed : goal.returns-in_err-program-clause-printed
+returns-in_err-program-clause-printed g c =
+    let content = g.F.Files.content c.args.files.now in
+    let asked = c.args.asked.now in
+    let why = c.in_err-program.field-0.0 in
+    let out = g.O.Write.contents c.args.out.now in
+    let is : c.from_residual.result ≡ Err why = grind (arith, common_steps) in
+    subst (λ most. PrintsUnlessDenied
+    (First (AreAskedLogs content most asked.base.now asked.image asked.logs.items) (WritesMessages asked))
+    (Once (AreAskedLogs content most asked.base.now asked.image asked.logs.items) (λ _. ⊤)) c.from_residual.result
+    out out) c.most_harts-most.ensures
+    (no_logs content c.most_harts-most.result asked.base.now asked.image asked.logs.items c.as_slice-paths.result.now
+    c.as_slice-paths.ensures.value
+    (Once (AreAskedLogs content c.most_harts-most.result asked.base.now asked.image asked.logs.items) (λ _. ⊤)) out why
+    c.from_residual.result is (WritesMessages asked) c.in_err-program.ensures.fault)
+
+pub returns-in_err-made-clause-early : goal.returns-in_err-made-clause-early
+returns-in_err-made-clause-early g c =
+    let asked = c.args.asked.now in
+    subst (λ most. IfSome (logs_fault most (number_of asked.base.now) (length asked.logs.items))
+    (λ fault. c.from_residual-in_err-made.result ≡ Err fault)) c.most_harts-most.ensures
+    (passes c.most_harts-most.result asked.base.now asked.logs.items c.as_slice-paths.result.now
+    c.asked_program.result c.in_ok-program.program c.from_residual-in_err-made.result c.as_slice-paths.ensures.value
+    c.in_ok-program.was c.asked_program.ensures.early)
+
+pub returns-in_err-made-clause-printed : goal.returns-in_err-made-clause-printed
+returns-in_err-made-clause-printed g c =
+    let content = g.F.Files.content c.args.files.now in
+    let asked = c.args.asked.now in
+    let why = c.in_err-made.field-0.0 in
+    let out = g.O.Write.contents c.args.out.now in
+    let is : c.from_residual-in_err-made.result ≡ Err why = grind (arith, common_steps) in
+    subst (λ most. PrintsUnlessDenied
+    (First (AreAskedLogs content most asked.base.now asked.image asked.logs.items) (WritesMessages asked))
+    (Once (AreAskedLogs content most asked.base.now asked.image asked.logs.items) (λ _. ⊤))
+    c.from_residual-in_err-made.result out out) c.most_harts-most.ensures
+    (logs_end content c.most_harts-most.result asked.base.now asked.image asked.logs.items c.as_slice-paths.result.now
+    c.as_slice-paths.ensures.value
+    (Once (AreAskedLogs content c.most_harts-most.result asked.base.now asked.image asked.logs.items) (λ _. ⊤)) out why
+    c.from_residual-in_err-made.result is (WritesMessages asked) c.in_ok-program.program
+    (g.F.Files.content c.asked_program.new.files) c.in_ok-program.ensures.program c.in_ok-program.ensures.kept
+    c.in_err-made.ensures.fault)
 
 pub returns-clause-early : goal.returns-clause-early
 returns-clause-early g c =
     let asked = c.args.asked.now in
     subst (λ most. IfSome (logs_fault most (number_of asked.base.now) (length asked.logs.items))
-    (λ fault. c.over_legal_logs.result ≡ Err fault)) c.most_harts-most.ensures c.over_legal_logs.ensures.early
+    (λ fault. c.write_made.result ≡ Err fault)) c.most_harts-most.ensures
+    (passes c.most_harts-most.result asked.base.now asked.logs.items c.as_slice-paths.result.now
+    c.asked_program.result c.in_ok-program.program c.write_made.result c.as_slice-paths.ensures.value
+    c.in_ok-program.was c.asked_program.ensures.early)
+
+module _ (g : _) (c : After-write_made g) where
+  -- The logs that were found.
+  abbrev logs : List ProgramLog
+  logs = c.in_ok-made.ensures.logs.logs
+
+  there : AreAskedLogs (g.F.Files.content c.args.files.now) c.most_harts-most.result c.args.asked.now.base.now
+      c.args.asked.now.image c.args.asked.now.logs.items (Ok logs)
+  there =
+      let asked = c.args.asked.now in
+      logs_there (g.F.Files.content c.args.files.now) c.most_harts-most.result asked.base.now asked.image
+      asked.logs.items c.as_slice-paths.result.now c.as_slice-paths.ensures.value c.in_ok-program.program
+      (g.F.Files.content c.asked_program.new.files) (Ok logs) c.in_ok-program.ensures.program
+      c.in_ok-program.ensures.kept c.in_ok-made.ensures.logs.legal
+
+  -- What was made of them is what is written.
+  each : AreMadeFrom (form_text c.args.asked.now.hex) c.args.asked.now.period c.args.asked.now.mode 0 logs
+      c.as_slice.result.now
+  each =
+      let asked = c.args.asked.now in
+      subst (AreMadeFrom (form_text asked.hex) asked.period asked.mode 0 logs) (sym c.as_slice.ensures.value)
+      c.in_ok-made.ensures.logs.each
 
 pub returns-clause-printed : goal.returns-clause-printed
 returns-clause-printed g c =
+    let at = (goal.at.returns-clause-printed g c).After-write_made in
     let content = g.F.Files.content c.args.files.now in
     let asked = c.args.asked.now in
+    let most = c.most_harts-most.result in
+    let finds = AreAskedLogs content most asked.base.now asked.image asked.logs.items in
+    let logs = logs g at in
+    let ended = c.write_made.result in
+    let old = g.O.Write.contents c.args.out.now in
+    let new = g.O.Write.contents c.write_made.new.out in
     subst (λ most. PrintsUnlessDenied
     (First (AreAskedLogs content most asked.base.now asked.image asked.logs.items) (WritesMessages asked))
-    (Once (AreAskedLogs content most asked.base.now asked.image asked.logs.items) (λ _. ⊤)) c.over_legal_logs.result
-    (g.O.Write.contents c.args.out.now) (g.O.Write.contents c.over_legal_logs.new.out)) c.most_harts-most.ensures
-    c.over_legal_logs.ensures.printed
+    (Once (AreAskedLogs content most asked.base.now asked.image asked.logs.items) (λ _. ⊤)) ended old new)
+    c.most_harts-most.ensures
+    (runs.leads_on (WritesMessages asked logs) (First finds (WritesMessages asked)) ⊤ (Once finds (λ _. ⊤)) ended old new
+    (λ printed is. (Ok logs, there g at, is)) (λ is. (logs, there g at, is))
+    (runs.written (WritesMessages asked logs) ⊤ (written asked logs) Whole ended old new refl tt
+    c.write_made.ensures.fault c.write_made.ensures.ended (c.write_made.ensures.text logs (each g at))))
 
 pub returns-clause-cut : goal.returns-clause-cut
 returns-clause-cut g c =
+    let at = (goal.at.returns-clause-cut g c).After-write_made in
+    let content = g.F.Files.content c.args.files.now in
     let asked = c.args.asked.now in
+    let most = c.most_harts-most.result in
+    let finds = AreAskedLogs content most asked.base.now asked.image asked.logs.items in
+    let logs = logs g at in
+    let old = g.O.Write.contents c.args.out.now in
+    let new = g.O.Write.contents c.write_made.new.out in
     subst (λ most. IsCutOf
-    (First (AreAskedLogs (g.F.Files.content c.args.files.now) most asked.base.now asked.image asked.logs.items)
-    (WritesMessages asked)) (g.O.Write.contents c.args.out.now) (g.O.Write.contents c.over_legal_logs.new.out))
-    c.most_harts-most.ensures c.over_legal_logs.ensures.cut
-
-pub over_legal_logs-requires-sync-R : goal.over_legal_logs-requires-sync-R
-over_legal_logs-requires-sync-R g c κs within =
-    let sync = c.type_bounds.sync-R in (
-      search rules,
-      (
-        (refl, tt),
-        λ count some few.
-            (search rules, c.requires, some, subst (λ most. count ≤ most) c.most_harts-most.ensures few),
-      ),
-    )
+    (First (AreAskedLogs content most asked.base.now asked.image asked.logs.items) (WritesMessages asked)) old new)
+    c.most_harts-most.ensures
+    (cut_leads (WritesMessages asked logs) (First finds (WritesMessages asked)) old new
+    (λ printed is. (Ok logs, there g at, is))
+    (inr (printed_begun (WritesMessages asked logs) (written asked logs) (Ok Whole) old new refl
+    (c.write_made.ensures.begun logs (each g at)))))

@@ -1,0 +1,14 @@
+-- What is made of the texts of logs.
+use Rattle.std.specs.Prelude.{◌≡◌, ◌⊎◌, ℕ, Result, Ok, Err}
+use Rattle.command_inputs.specs.declared.fault.Fault.{Fault}
+use Rattle.command_inputs.specs.declared.fault.Fault.TheVariants as fault
+use Rattle.command_inputs.specs.declared.texts.LogText.{LogText}
+
+module _ {X : Type 0} (Gives : ℕ → LogText → Result X Fault → Type 0) where
+  -- At some place among texts, this is made of the text.
+  abbrev pub IsMadeOf : LogText → X → Type 0
+  IsMadeOf text made = (place : ℕ) × Gives place text (Ok made)
+
+  -- At some place among texts, this fault comes of the text; or memory was refused.
+  abbrev pub IsNotMadeOf : LogText → Fault → Type 0
+  IsNotMadeOf text why = (why ≡ fault.Memory) ⊎ ((place : ℕ) × Gives place text (Err why))

@@ -1,0 +1,39 @@
+-- The texts of logs, and what comes of them.
+use Rattle.std.specs.Prelude.{◌≡◌, ◌⊎◌, ◌+◌, ℕ, List, [], ◌∷◌, Result, Ok, Err}
+use Rattle.rvclass.specs.Image.{Image}
+use Rattle.command_inputs.specs.Faults.{Path}
+use Rattle.command_inputs.specs.Found.{IsRead, log_at}
+use Rattle.command_inputs.specs.Judged.{IsVerdictOf, events_of}
+use Rattle.command_inputs.specs.Known.{Content}
+use Rattle.command_inputs.specs.declared.fault.Fault.{Fault}
+use Rattle.command_inputs.specs.declared.fault.Fault.TheVariants as fault
+use Rattle.command_inputs.specs.declared.judging.JudgedLog.{JudgedLog}
+use Rattle.command_inputs.specs.declared.texts.LogText.{LogText}
+
+-- This is the text of the log at a path.
+abbrev pub IsTextAt : Content → Path → LogText → Type 0
+IsTextAt content path text = (text.path ≡ path) × IsRead content path (Ok text.bytes.items)
+
+-- The places of these texts follow on one another, from this one on.
+abbrev pub ArePlacedFrom : ℕ → List LogText → Type 0
+ArePlacedFrom place [] = Unit {0}
+ArePlacedFrom place (text ∷ texts) = (text.place ≡ place) × ArePlacedFrom (place + 1) texts
+
+-- The file at a path is not read.
+abbrev pub IsUnreadAt : Content → Path → Fault → Type 0
+IsUnreadAt content path why = (why ≡ fault.Memory) ⊎ IsRead content path (Err why)
+
+-- This is the log of a text, judged by the program.
+pub record IsLogOfText (program : Image) (text : LogText) (log : JudgedLog) : Type 0 where
+  pub named : log.path ≡ text.path
+  pub read : Ok (events_of log) ≡ log_at text.path (Ok text.bytes.items)
+  pub verdict : IsVerdictOf program log
+
+-- A text is no log.
+abbrev pub IsNoLog : LogText → Fault → Type 0
+IsNoLog text why = (why ≡ fault.Memory) ⊎ (Err why ≡ log_at text.path (Ok text.bytes.items))
+
+-- What comes of a text: its log, or a fault.
+abbrev pub ComesOfText : Image → LogText → Result JudgedLog Fault → Type 0
+ComesOfText program text (Ok log) = IsLogOfText program text log
+ComesOfText program text (Err why) = IsNoLog text why

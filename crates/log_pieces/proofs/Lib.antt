@@ -1,0 +1,5 @@
+pub mod LineLemmas
+pub mod RowLemmas
+pub mod HeaderLemmas
+pub mod LastLemmas
+pub mod PieceLemmas

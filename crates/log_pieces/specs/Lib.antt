@@ -1,0 +1,3 @@
+pub mod steps
+pub mod HasPassed
+pub mod IsCount
