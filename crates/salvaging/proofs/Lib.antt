@@ -18,10 +18,12 @@ pub mod GroupedEntries
 pub mod GroupedMessages
 pub mod Sorted
 pub mod SmallEntries
-pub mod GroupSteps
+pub mod EntriesParted
+pub mod LastRead
+pub mod CountedCopies
+pub mod ClosedLast
 pub mod LateByEarliest
 pub mod LateSteps
-pub mod GroupedResults
 pub mod TakenInTurn
 pub mod SameMessages
 pub mod EntriesCollected
@@ -31,7 +33,7 @@ pub mod PushedParts
 pub mod RunsEnded
 pub mod TrailSteps
 pub mod EntriesTaken
-pub mod EntryLists
+pub mod TakenSoFar
 pub mod Distributed
 pub mod HartSalvaged
 pub mod SalvagedEach

@@ -1,9 +1,10 @@
-//! What came with each number of a hart.
+//! What came with a number of a hart.
 
-ghost use Rattle.std.specs.Prelude.{◌≡◌, [], ◌∷◌};
-ghost use Rattle.salvaging.specs.Entries.{closed_behind, is_closed, next_used};
-ghost use Rattle.salvaging.specs.steps.Grouping.{entries_in, entry_of};
+ghost use Rattle.std.specs.Prelude.{◌≡◌};
+ghost use Rattle.salvaging.specs.steps.Arrivals.{arrival_of};
+ghost use Rattle.salvaging.specs.steps.Grouping.{entry_before, entry_by, entry_of, entry_with};
 
+use crate::came::Came;
 use message::Message;
 
 /// What came with a number.
@@ -15,36 +16,48 @@ pub(crate) enum Entry<'a> {
     Doubtful { number: u64 },
 }
 
-/// The number of the first of these entries that is used, if one is.
-pub(crate) fn next_used(entries: &[Entry<'_>]) -> Option<u64>
-    ensures { result ≡ next_used (entries_in entries.now) }
+/// The entry of one message with a number.
+pub(crate) fn entry_by<'a>(one: &Came<'a>) -> Entry<'a>
+    ensures { entry_of result ≡ entry_by (arrival_of one.now) }
 {
-    for entry in entries {
-        match entry {
-            Entry::Used { message, .. } => return Some(message.number),
-            Entry::Doubtful { .. } => {}
-        }
+    Entry::Used {
+        place: one.place,
+        message: one.message,
     }
-    None
 }
 
-/// Whether a hart is closed behind an entry, where this says whether it is before it.
-fn is_closed_behind(closed: bool, entry: &Entry<'_>) -> bool
-    ensures { result ≡ closed_behind closed (entry_of entry.now ∷ []) }
+/// The entry of a number with one more message behind the others: where its payload is another, the number is doubtful.
+pub(crate) fn entry_with<'a>(entry: Entry<'a>, more: &Came<'a>) -> Entry<'a>
+    ensures { entry_of result ≡ entry_with (entry_of entry.entry) more.now.message.now.payload }
 {
     match entry {
-        Entry::Used { message, .. } => message.payload.is_closing(),
-        Entry::Doubtful { .. } => closed,
+        Entry::Used { message, .. } => {
+            if message.payload.bytes() == more.message.payload.bytes() {
+                entry
+            } else {
+                Entry::Doubtful {
+                    number: message.number,
+                }
+            }
+        }
+        Entry::Doubtful { .. } => entry,
     }
 }
 
-/// Whether the last of these entries that is used closes the hart.
-pub(crate) fn is_closed(entries: &[Entry<'_>]) -> bool
-    ensures { result ≡ is_closed (entries_in entries.now) }
+/// The entry of a number with one more message before the others: where the payloads are the same, it is the first.
+pub(crate) fn entry_before<'a>(first: &Came<'a>, entry: Entry<'a>) -> Entry<'a>
+    ensures { entry_of result ≡ entry_before (arrival_of first.now) (entry_of entry.entry) }
 {
-    let mut closed = false;
-    for entry in entries {
-        closed = is_closed_behind(closed, entry);
+    match entry {
+        Entry::Used { message, .. } => {
+            if first.message.payload.bytes() == message.payload.bytes() {
+                entry_by(first)
+            } else {
+                Entry::Doubtful {
+                    number: first.message.number,
+                }
+            }
+        }
+        Entry::Doubtful { .. } => entry,
     }
-    closed
 }

@@ -1,117 +1,55 @@
-//! From the messages of a hart to its entries.
+//! The entries of a hart's messages, read from the messages in the order of their numbers.
 
-ghost use Rattle.std.specs.Prelude.{◌≡◌, IfOk, List, map};
-ghost use Rattle.std.specs.List.Sorted.{IsPermutation};
-ghost use Rattle.message.specs.declared.message.Message.{Message};
-ghost use Rattle.losses.specs.Apart.{AreRising};
-ghost use Rattle.salvaging.specs.Copies.{AreCopies};
-ghost use Rattle.salvaging.specs.Entries.{AreEntries, entry_number};
-ghost use Rattle.salvaging.specs.steps.Arrivals.{AreOrdered, HaveNumbers, arrival_of, arrivals_in, placed_from};
-ghost use Rattle.salvaging.specs.steps.Grouping.{AreSmall, are_alike, copies_by, entries_by, entries_in, entry_by};
-ghost use Rattle.salvaging.specs.steps.Grouping.{entry_of, entry_with};
+ghost use Rattle.std.specs.Prelude.{◌≡◌, ◌<◌, ◌≤◌, ◌++◌, [], ◌∷◌, IfNone, IfSome, drop, length, take};
+ghost use Rattle.salvaging.specs.steps.Arrivals.{arrivals_in};
+ghost use Rattle.salvaging.specs.steps.Grouping.{entries_by, entry_of};
 
 use crate::came::Came;
-use crate::entry::Entry;
-use std::alloc::{AllocError, Allocator};
+use crate::entry::{Entry, entry_before, entry_by, entry_with};
 
-/// The entries of a hart's messages, and how many of the messages are copies.
-#[derive(Drop)]
-pub(crate) struct Grouped<'a, A: Allocator> {
-    /// One for each number that came, in the order of the numbers.
-    pub(crate) entries: Vec<Entry<'a>, A>,
-    pub(crate) copies: usize,
-}
-
-/// The entry of the first message with a number.
-fn entry_by<'a>(first: &Came<'a>) -> Entry<'a>
-    ensures { entry_of result ≡ entry_by (arrival_of first.now) }
+/// The entry of the first of these messages' numbers, and how many messages have the number; `None` where there is no
+/// message.
+pub(crate) fn first_entry<'a>(came: &[Came<'a>]) -> Option<(Entry<'a>, usize)>
+    ensures first { IfSome result (λ found. entries_by (arrivals_in came.now)
+        ≡ entry_of found.0 ∷ entries_by (arrivals_in (drop found.1 came.now))) }
+    ensures some { IfSome result (λ found. 0 < found.1) }
+    ensures within { IfSome result (λ found. found.1 ≤ length came.now) }
+    ensures none { IfNone result (entries_by (arrivals_in came.now) ≡ []) }
 {
-    Entry::Used {
-        place: first.place,
-        message: first.message,
-    }
-}
-
-/// The entry of a number with one more message: where its payload is another, the number is doubtful.
-fn entry_with<'a>(entry: Entry<'a>, more: &Came<'a>) -> Entry<'a>
-    ensures { entry_of result ≡ entry_with (entry_of entry.entry) more.now.message.now.payload }
-{
-    match entry {
-        Entry::Used { message, .. } => {
-            if message.payload.bytes() == more.message.payload.bytes() {
-                entry
-            } else {
-                Entry::Doubtful {
-                    number: message.number,
-                }
-            }
-        }
-        Entry::Doubtful { .. } => entry,
-    }
-}
-
-/// The number of an entry.
-fn entry_number(entry: Entry<'_>) -> u64
-    ensures { result ≡ entry_number (entry_of entry.entry) }
-{
-    match entry {
-        Entry::Used { message, .. } => message.number,
-        Entry::Doubtful { number } => number,
-    }
-}
-
-/// Whether two messages of a hart have the same number and the same payload.
-fn are_alike(one: &Came<'_>, other: &Came<'_>) -> bool
-    ensures { result ≡ are_alike (arrival_of one.now) (arrival_of other.now) }
-{
-    one.message.number == other.message.number
-        && one.message.payload.bytes() == other.message.payload.bytes()
-}
-
-/// The entries of a hart's messages, which are in the order of their numbers, and how many of them are alike with the
-/// one right before.
-fn group<'a, A: Allocator>(alloc: A, came: &[Came<'a>]) -> Result<Grouped<'a, A>, AllocError>
-    ensures entries { IfOk result (λ grouped. entries_in grouped.entries.items ≡ entries_by (arrivals_in came.now)) }
-    ensures copies { IfOk result (λ grouped. grouped.copies ≡ copies_by (arrivals_in came.now)) }
-{
-    let mut entries = Vec::with_capacity(alloc, came.len())?;
     if came.is_empty() {
-        return Ok(Grouped { entries, copies: 0 });
+        return None;
     }
-    let mut entry = entry_by(&came[0]);
-    let mut copies = 0;
+    let first = &came[0];
+    let mut entry = entry_by(first);
     for at in 1..came.len() {
-        let before = &came[at - 1];
-        let more = &came[at];
-        if are_alike(before, more) {
-            copies += 1;
+        let next = &came[at];
+        if next.message.number != first.message.number {
+            return Some((entry, at));
         }
-        if entry_number(entry) == more.message.number {
-            entry = entry_with(entry, more);
-        } else {
-            entries.push_reserved(entry);
-            entry = entry_by(more);
-        }
+        entry = entry_with(entry, next);
     }
-    entries.push_reserved(entry);
-    Ok(Grouped { entries, copies })
+    Some((entry, came.len()))
 }
 
-/// The entries of a hart's messages, and how many of the messages are copies, from the messages with their places in
-/// the order of their numbers.
-pub(crate) fn entries_of<'a, A: Allocator>(
-    alloc: A,
-    came: &[Came<'a>],
-) -> Result<Grouped<'a, A>, AllocError>
-    requires ordered { AreOrdered (arrivals_in came.now) }
-    requires small { HaveNumbers (arrivals_in came.now) }
-    ensures rising { IfOk result (λ found. AreRising 0 (map entry_number (entries_in found.entries.items))) }
-    ensures small { IfOk result (λ found. AreSmall (entries_in found.entries.items)) }
-    ensures entries { IfOk result (λ found. (messages : List Message)
-        → IsPermutation (placed_from 0 messages) (arrivals_in came.now)
-        → AreEntries messages (entries_in found.entries.items)) }
-    ensures copies { IfOk result (λ found. (messages : List Message)
-        → IsPermutation (placed_from 0 messages) (arrivals_in came.now) → AreCopies messages found.copies) }
+/// The entry of the last of these messages' numbers, and how many messages stand in front of those with the number;
+/// `None` where there is no message.
+pub(crate) fn last_entry<'a>(came: &[Came<'a>]) -> Option<(Entry<'a>, usize)>
+    ensures last { IfSome result (λ found. entries_by (arrivals_in came.now)
+        ≡ entries_by (arrivals_in (take found.1 came.now)) ++ entry_of found.0 ∷ []) }
+    ensures shorter { IfSome result (λ found. found.1 < length came.now) }
+    ensures none { IfNone result (entries_by (arrivals_in came.now) ≡ []) }
 {
-    group(alloc, came)
+    if came.is_empty() {
+        return None;
+    }
+    let last = &came[came.len() - 1];
+    let mut entry = entry_by(last);
+    for at in (0..came.len() - 1).rev() {
+        let before = &came[at];
+        if before.message.number != last.message.number {
+            return Some((entry, at + 1));
+        }
+        entry = entry_before(before, entry);
+    }
+    Some((entry, 0))
 }

@@ -7,17 +7,17 @@ ghost use Rattle.salvaging.specs.Salvaged.{IsSalvagedHart};
 ghost use Rattle.salvaging.specs.steps.Arrivals.{HaveNumbers, arrivals_in, placed_from};
 
 use crate::came::{Came, put_in_order};
-use crate::entry::is_closed;
-use crate::grouping::entries_of;
+use crate::copies::copies;
 use crate::late::late;
 use crate::salvaged::SalvagedHart;
 use crate::trail::take_all;
+use crate::used::is_closed;
 use payload::Mode;
 use rvclass::Program;
 use std::alloc::{AllocError, Allocator};
 
 /// Salvages what is left of a hart, whose messages these are in the order in which they came. They are put in the order
-/// of their numbers, and their list is dropped before a packet is decoded.
+/// of their numbers, and what came with each number is read from their list as it is needed.
 pub(crate) fn salvage_hart<A: Allocator + Copy>(
     alloc: A,
     program: &Program,
@@ -29,16 +29,15 @@ pub(crate) fn salvage_hart<A: Allocator + Copy>(
         → IfOk result (IsSalvagedHart (words_of program.now) mode messages) }
 {
     put_in_order(came.as_mut_slice());
-    let found = entries_of(alloc, came.as_slice())?;
-    drop(came);
-    let entries = found.entries.as_slice();
-    let mut trail = take_all(alloc, program, mode, entries)?;
+    let ordered = came.as_slice();
+    let copies = copies(ordered);
+    let mut trail = take_all(alloc, program, mode, ordered)?;
     trail.end_run(alloc, mode)?;
-    let late = late(entries, &trail.goods);
+    let late = late(ordered, &trail.goods);
     Ok(SalvagedHart {
         parts: trail.parts,
-        copies: found.copies,
+        copies,
         late,
-        closed: is_closed(entries),
+        closed: is_closed(ordered),
     })
 }

@@ -2,10 +2,13 @@
 
 ghost use Rattle.std.specs.Prelude.{◌≡◌, length};
 ghost use Rattle.salvaging.specs.Late.{late};
-ghost use Rattle.salvaging.specs.steps.Grouping.{entries_in, entry_of};
+ghost use Rattle.salvaging.specs.steps.Arrivals.{arrivals_in};
+ghost use Rattle.salvaging.specs.steps.Grouping.{entries_by, entry_of};
 ghost use Rattle.salvaging.specs.steps.Lateness.{comes_before, earliest_with, is_late_behind};
 
+use crate::came::Came;
 use crate::entry::Entry;
+use crate::grouping::last_entry;
 
 /// Whether there is a place, and it comes before this one.
 fn comes_before(first: Option<usize>, place: usize) -> bool
@@ -43,19 +46,23 @@ fn earliest_with(entry: Entry<'_>, good: bool, first: Option<usize>) -> Option<u
     }
 }
 
-/// How many used messages came behind a good one with a greater number, by which of the entries are good.
-pub(crate) fn late(entries: &[Entry<'_>], goods: &[bool]) -> usize
-    requires { length goods.now ≡ length entries.now }
-    ensures { result ≡ late (entries_in entries.now) goods.now }
+/// How many used messages came behind a good one with a greater number, by which of the entries are good. The messages
+/// are in the order of their numbers.
+pub(crate) fn late(came: &[Came<'_>], goods: &[bool]) -> usize
+    requires { length goods.now ≡ length (entries_by (arrivals_in came.now)) }
+    ensures { result ≡ late (entries_by (arrivals_in came.now)) goods.now }
 {
     let mut count = 0;
     let mut first = None;
-    for at in (0..entries.len()).rev() {
-        let entry = entries[at];
+    let mut rest = came;
+    let mut at = goods.len();
+    while let Some((entry, front)) = last_entry(rest) {
+        at -= 1;
         if is_late_behind(entry, first) {
             count += 1;
         }
         first = earliest_with(entry, goods[at], first);
+        rest = &rest[..front];
     }
     count
 }

@@ -10,6 +10,7 @@
 #![tactic(auto)]
 
 mod came;
+mod copies;
 mod distributing;
 mod entry;
 mod grouping;
@@ -21,6 +22,7 @@ mod reason;
 mod salvaged;
 mod salvaging;
 mod trail;
+mod used;
 
 pub use laws::{harts_are_salvaged_in_one_way, logs_are_salvaged, what_is_collected_is_salvaged};
 pub use part::Part;

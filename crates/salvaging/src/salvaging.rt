@@ -24,7 +24,7 @@ use std::alloc::{AllocError, Allocator};
 use std::mem;
 
 /// Salvages what is left of each hart, whose messages these are. Each list is taken out, so that it is dropped before
-/// the hart's packets are decoded.
+/// the next hart's packets are decoded.
 fn salvage_each<A: Allocator + Copy>(
     alloc: A,
     program: &Program,

@@ -11,15 +11,19 @@ ghost use Rattle.decoder.specs.declared.fault.DecodeFault.TheVariants.{Memory};
 ghost use Rattle.message.specs.Harts.{end_of_numbers};
 ghost use Rattle.losses.specs.Runs.{Run, first_run};
 ghost use Rattle.losses.specs.Apart.{AreRising};
-ghost use Rattle.salvaging.specs.Entries.{Entry as AnyEntry, entry_number};
-ghost use Rattle.salvaging.specs.steps.Grouping.{AreSmall, entries_in, entry_of};
+ghost use Rattle.salvaging.specs.Entries.{Entry as AnyEntry, entry_number, next_used};
+ghost use Rattle.salvaging.specs.steps.Arrivals.{arrivals_in};
+ghost use Rattle.salvaging.specs.steps.Grouping.{AreSmall, entries_by, entry_of};
 ghost use Rattle.salvaging.specs.steps.Trails.{TakesEntries};
 ghost use Rattle.salvaging.specs.steps.UnderWay.{BeginsWith, EndsRun, EndsStretch, GoesOn, IsUnderWay, Judged};
 ghost use Rattle.salvaging.specs.steps.UnderWay.{TakesBad, TakesDoubtful, TakesUsed, begun_by, early, is_sync};
 
-use crate::entry::{Entry, next_used};
+use crate::came::Came;
+use crate::entry::Entry;
+use crate::grouping::first_entry;
 use crate::part::{Part, push_bad, push_gap};
 use crate::reason::Reason;
+use crate::used::next_used;
 use decoder::{DecodeFault, Decoder};
 use payload::{Mode, Packet, Payload, unpack};
 use retire::Event;
@@ -62,11 +66,16 @@ fn reason_of(fault: DecodeFault) -> Result<Option<Reason>, AllocError>
     }
 }
 
-/// The number that is used behind a packet which closes the trace; `None` where none is, and for any other packet.
-fn early(packet: &Packet, following: Option<u64>) -> Option<u64>
-    ensures { result ≡ early (is_closing_packet packet.now) following }
+/// The number that is used behind a packet which closes the trace, by the messages behind it; `None` where none is, and
+/// for any other packet.
+fn early(packet: &Packet, behind: &[Came<'_>]) -> Option<u64>
+    ensures { result ≡ early (is_closing_packet packet.now) (next_used (entries_by (arrivals_in behind.now))) }
 {
-    if packet.is_closing() { following } else { None }
+    if packet.is_closing() {
+        next_used(behind)
+    } else {
+        None
+    }
 }
 
 /// The number of the packet that begins the stretch, where this packet comes and has this number.
@@ -164,18 +173,19 @@ impl<A: Allocator + Copy> Trail<A> {
         Ok(())
     }
 
-    /// Takes the message of the number that comes next, or finds why it is bad. A bad one changes nothing.
+    /// Takes the message of the number that comes next, or finds why it is bad. A bad one changes nothing. `behind` are
+    /// the messages with greater numbers.
     fn judge(
         &mut self,
         program: &Program,
         payload: &Payload,
-        following: Option<u64>,
+        behind: &[Came<'_>],
     ) -> Result<Option<Reason>, AllocError>
         requires { self.old.next < end_of_numbers }
         ensures judged { (mode reads : AnyMode) (run : Run) (next : ℕ)
             → IsUnderWay (words_of program.now) mode reads run next false self.old
-            → IfOk result (λ judged. Judged (words_of program.now) mode reads run next payload.now following judged
-            self.new) }
+            → IfOk result (λ judged. Judged (words_of program.now) mode reads run next payload.now
+            (next_used (entries_by (arrivals_in behind.now))) judged self.new) }
         ensures parts { self.new.parts ≡ self.old.parts }
         ensures goods { self.new.goods ≡ self.old.goods }
     {
@@ -183,7 +193,7 @@ impl<A: Allocator + Copy> Trail<A> {
             Ok(packet) => packet,
             Err(why) => return Ok(Some(Reason::Packet(why))),
         };
-        match early(&packet, following) {
+        match early(&packet, behind) {
             Some(next) => return Ok(Some(Reason::Closing { next })),
             None => {}
         }
@@ -196,7 +206,7 @@ impl<A: Allocator + Copy> Trail<A> {
         Ok(None)
     }
 
-    /// Takes the message of a used number, where `following` is the next greater one that is used.
+    /// Takes the message of a used number. `behind` are the messages with greater numbers.
     pub(crate) fn take_used(
         &mut self,
         alloc: A,
@@ -204,17 +214,17 @@ impl<A: Allocator + Copy> Trail<A> {
         mode: Mode,
         number: u64,
         payload: &Payload,
-        following: Option<u64>,
+        behind: &[Came<'_>],
     ) -> Result<(), AllocError>
-        requires behind { self.old.next ≤ number }
+        requires next { self.old.next ≤ number }
         requires small { number < end_of_numbers }
         ensures { (reads : AnyMode) (run : Run) (next : ℕ)
             → IsUnderWay (words_of program.now) mode reads run next false self.old
-            → OnOk result (TakesUsed (words_of program.now) mode reads run next number payload.now following self.old
-            self.new) }
+            → OnOk result (TakesUsed (words_of program.now) mode reads run next number payload.now
+            (next_used (entries_by (arrivals_in behind.now))) self.old self.new) }
     {
         self.go_on(alloc, mode, number)?;
-        match self.judge(program, payload, following)? {
+        match self.judge(program, payload, behind)? {
             None => {
                 self.goods.reserve(1)?;
                 self.goods.push_reserved(true);
@@ -260,54 +270,54 @@ impl<A: Allocator + Copy> Trail<A> {
         Ok(())
     }
 
-    /// Takes a hart's next entry, behind which these come.
+    /// Takes a hart's next entry. `behind` are the messages with greater numbers.
     pub(crate) fn take(
         &mut self,
         alloc: A,
         program: &Program,
         mode: Mode,
-        entry: &Entry<'_>,
-        behind: &[Entry<'_>],
+        entry: Entry<'_>,
+        behind: &[Came<'_>],
     ) -> Result<(), AllocError>
-        requires next { self.old.next ≤ entry_number (entry_of entry.now) }
-        requires small { entry_number (entry_of entry.now) < end_of_numbers }
+        requires next { self.old.next ≤ entry_number (entry_of entry) }
+        requires small { entry_number (entry_of entry) < end_of_numbers }
         ensures { (all done : List AnyEntry) → TakesEntries (words_of program.now) mode all done
-            (entry_of entry.now ∷ entries_in behind.now) self.old
-            → OnOk result (TakesEntries (words_of program.now) mode all (done ++ entry_of entry.now ∷ [])
-            (entries_in behind.now) self.new) }
+            (entry_of entry.entry ∷ entries_by (arrivals_in behind.now)) self.old
+            → OnOk result (TakesEntries (words_of program.now) mode all (done ++ entry_of entry.entry ∷ [])
+            (entries_by (arrivals_in behind.now)) self.new) }
     {
         match entry {
-            Entry::Used { message, .. } => {
-                let following = next_used(behind);
-                self.take_used(
-                    alloc,
-                    program,
-                    mode,
-                    message.number,
-                    &message.payload,
-                    following,
-                )
-            }
-            Entry::Doubtful { number } => self.take_doubtful(alloc, mode, *number),
+            Entry::Used { message, .. } => self.take_used(
+                alloc,
+                program,
+                mode,
+                message.number,
+                &message.payload,
+                behind,
+            ),
+            Entry::Doubtful { number } => self.take_doubtful(alloc, mode, number),
         }
     }
 }
 
-/// Takes the entries of a hart in turn. The last run is not ended.
+/// Takes the entries of a hart in turn, whose messages are in the order of their numbers. The last run is not ended.
 pub(crate) fn take_all<A: Allocator + Copy>(
     alloc: A,
     program: &Program,
     mode: Mode,
-    entries: &[Entry<'_>],
+    came: &[Came<'_>],
 ) -> Result<Trail<A>, AllocError>
-    requires rising { AreRising 0 (map entry_number (entries_in entries.now)) }
-    requires small { AreSmall (entries_in entries.now) }
-    ensures { IfOk result (TakesEntries (words_of program.now) mode (entries_in entries.now) (entries_in entries.now)
-        []) }
+    requires rising { AreRising 0 (map entry_number (entries_by (arrivals_in came.now))) }
+    requires small { AreSmall (entries_by (arrivals_in came.now)) }
+    ensures { IfOk result (TakesEntries (words_of program.now) mode (entries_by (arrivals_in came.now))
+        (entries_by (arrivals_in came.now)) []) }
 {
     let mut trail = Trail::new(alloc);
-    for (at, entry) in entries.iter().enumerate() {
-        trail.take(alloc, program, mode, entry, &entries[at + 1..])?;
+    let mut rest = came;
+    while let Some((entry, count)) = first_entry(rest) {
+        let behind = &rest[count..];
+        trail.take(alloc, program, mode, entry, behind)?;
+        rest = behind;
     }
     Ok(trail)
 }

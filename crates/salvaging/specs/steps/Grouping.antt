@@ -1,5 +1,5 @@
 -- From a hart's messages, in the order of their numbers, to the entries.
-use Rattle.std.specs.Prelude.{ℕ, suc, ◌<◌, ◌==◌, ◌&&◌, All, Bool, true, false, List, [], ◌∷◌, map}
+use Rattle.std.specs.Prelude.{ℕ, suc, ◌<◌, ◌==◌, ◌&&◌, All, Bool, true, false, List, [], ◌∷◌}
 use Rattle.std.specs.Str.{bytes_eq}
 use Rattle.message.specs.Harts.{end_of_numbers}
 use Rattle.salvaging.specs.Entries.{Entry, Used, Doubtful, entry_number}
@@ -11,10 +11,6 @@ use Rattle.salvaging.specs.steps.Arrivals.{Arrival}
 abbrev pub entry_of : Held → Entry
 entry_of (held.Used place message) = Used message.now.number place message.now.payload
 entry_of (held.Doubtful number) = Doubtful number
-
--- The entries that a list of the code's stands for.
-abbrev pub entries_in : List Held → List Entry
-entries_in entries = map entry_of entries
 
 -- The numbers of entries are those that a hart may have.
 abbrev pub AreSmall : List Entry → Type 0
@@ -33,6 +29,11 @@ kept_or_doubtful false entry = Doubtful (entry_number entry)
 abbrev pub entry_with : Entry → List ℕ → Entry
 entry_with (Used number place bytes) payload = kept_or_doubtful (bytes_eq bytes payload) (Used number place bytes)
 entry_with (Doubtful number) payload = Doubtful number
+
+-- The entry of a number with one more message before the others: where the payloads are the same, it is the first.
+abbrev pub entry_before : Arrival → Entry → Entry
+entry_before first (Used number place bytes) = kept_or_doubtful (bytes_eq first.message.payload bytes) (entry_by first)
+entry_before first (Doubtful number) = Doubtful number
 
 -- The entries of messages behind those of one number, by whether the next one has that number: it joins them, or begins
 -- the next entry.

@@ -1,6 +1,13 @@
--- The entries from this place on are looked at.
+-- The entries behind these messages are looked at.
+use Rattle.std.proofs.Common.{length}
+use Rattle.salvaging.specs.steps.Arrivals.{arrivals_in}
+use Rattle.salvaging.specs.steps.Grouping.{entries_by}
 use Rattle.salvaging.proofs.LateSteps.{LateSo}
 use Rattle.salvaging.proofs.late.late.Given as goal
 
-abbrev pub invariant-loop-at : goal.invariant-loop-at
-invariant-loop-at l = LateSo l.entries l.goods l.count l.first l.at
+abbrev pub invariant-loop-entry : goal.invariant-loop-entry
+invariant-loop-entry l =
+    LateSo (entries_by (arrivals_in l.came)) l.goods l.count l.first (entries_by (arrivals_in l.rest)) l.at
+
+abbrev pub decreases-loop-entry : goal.decreases-loop-entry
+decreases-loop-entry l = length l.rest

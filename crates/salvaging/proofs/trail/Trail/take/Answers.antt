@@ -4,17 +4,17 @@ use Rattle.std.specs.Prelude.{OnOk}
 use Rattle.rvclass.specs.Fetch.{words_of}
 use Rattle.salvaging.specs.Entries.{Doubtful}
 use Rattle.salvaging.specs.Leaving.{own_mode}
-use Rattle.salvaging.specs.steps.Grouping.{entries_in, entry_of}
+use Rattle.salvaging.specs.steps.Arrivals.{arrivals_in}
+use Rattle.salvaging.specs.steps.Grouping.{entries_by, entry_of}
 use Rattle.salvaging.specs.steps.Trails.{TakesEntries}
-use Rattle.salvaging.specs.steps.UnderWay.{TakesDoubtful, TakesUsed}
+use Rattle.salvaging.specs.steps.UnderWay.{TakesDoubtful}
 use Rattle.salvaging.proofs.EntriesTaken.{doubtful_taken, used_taken}
 use Rattle.salvaging.proofs.TrailSteps.{on_ok}
 use Rattle.salvaging.proofs.trail.Trail.take.Goals as goal
 
 pub returns-in-Used : goal.returns-in-Used
 returns-in-Used g c = λ all done t.
-    let rest = entries_in c.args.behind.now in
-    let is = c.next_used-following.ensures in
+    let rest = entries_by (arrivals_in c.args.behind.now) in
     let words = words_of c.args.program.now in
     let mode = c.args.mode in
     let old = c.args.self.now in
@@ -25,13 +25,11 @@ returns-in-Used g c = λ all done t.
     let t_shown = subst (λ x. TakesEntries words mode all done (x ∷ rest) old) shown t in
     subst (λ x. OnOk c.take_used.result (TakesEntries words mode all (done ++ x ∷ []) rest new)) (sym shown)
     (used_taken words mode all done rest old new number c.in-Used.place payload c.take_used.result t_shown
-    (λ run u. subst (λ following. OnOk c.take_used.result
-    (TakesUsed words mode (own_mode mode done) run old.next number payload following old new)) is
-    (c.take_used.ensures (own_mode mode done) run old.next u)))
+    (λ run u. c.take_used.ensures (own_mode mode done) run old.next u))
 
 pub returns-in-Doubtful : goal.returns-in-Doubtful
 returns-in-Doubtful g c = λ all done t.
-    let rest = entries_in c.args.behind.now in
+    let rest = entries_by (arrivals_in c.args.behind.now) in
     let words = words_of c.args.program.now in
     let mode = c.args.mode in
     let old = c.args.self.now in

@@ -3,6 +3,9 @@ use Rattle.std.proofs.Common.{◌<◌, ◌-◌, ◌++◌, true, [], ◌∷◌, r
 use Rattle.rvclass.specs.Fetch.{words_of}
 use Rattle.message.specs.Harts.{end_of_numbers}
 use Rattle.losses.specs.Runs.{run_behind}
+use Rattle.salvaging.specs.Entries.{next_used}
+use Rattle.salvaging.specs.steps.Arrivals.{arrivals_in}
+use Rattle.salvaging.specs.steps.Grouping.{entries_by}
 use Rattle.salvaging.specs.steps.UnderWay.{Judged, TakesBad, TakesUsed}
 use Rattle.salvaging.proofs.TrailSteps.{on_ok, takes_bad, takes_good}
 use Rattle.salvaging.proofs.trail.Trail.take_used.Goals as goal
@@ -16,7 +19,7 @@ returns-in_ok-reserve-in-None g c = λ reads run next u.
     let mode = c.args.mode in
     let number = c.args.number in
     let payload = c.args.payload.now in
-    let following = c.args.following in
+    let following = next_used (entries_by (arrivals_in c.args.behind.now)) in
     let old = c.args.self.now in
     let gone = c.go_on.new.self in
     let behind = run_behind (number - next) run in
@@ -34,7 +37,7 @@ returns-in-Some g c = λ reads run next u.
     let mode = c.args.mode in
     let number = c.args.number in
     let payload = c.args.payload.now in
-    let following = c.args.following in
+    let following = next_used (entries_by (arrivals_in c.args.behind.now)) in
     let old = c.args.self.now in
     let gone = c.go_on.new.self in
     let behind = run_behind (number - next) run in
