@@ -1,9 +1,12 @@
 -- What is made of texts.
-use Rattle.std.proofs.Common.{◌≡◌, inl, inr, refl, ℕ, ◌+◌, ◌-◌, ◌<◌, List, [], ◌∷◌, ◌++◌, Option, Some}
-use Rattle.std.proofs.Common.{Result, Ok, Err, IfSome, length, get_or, take, sym, ap, ◌∙◌, subst, arith}
+use Rattle.std.proofs.Common.{◌≡◌, inl, inr, ℕ, ◌+◌, ◌-◌, ◌<◌, List, [], ◌∷◌, ◌++◌, Option, Some}
+use Rattle.std.proofs.Common.{Result, IfOk, IfSome, length, get_or, take, sym, ap, ◌∙◌, subst, arith}
 use Rattle.std.proofs.lemmas.List.{append_assoc, get_or_at, length-append, take_at}
 use Rattle.std.proofs.lemmas.Slice.Zip.{AllZip-long}
 use Rattle.std.specs.List.{AllZip}
+use Rattle.std.specs.declared.alloc.AllocError.{AllocError}
+use Rattle.std.specs.declared.alloc.Global.{Global}
+use Rattle.std.specs.declared.vec.Vec.{Vec}
 use Rattle.side_by_side.proofs.Places.{all_zipped_by_place}
 use Rattle.side_by_side.specs.Places.{HoldsBelow}
 use Rattle.command_inputs.specs.Made.{IsMadeOf, IsNotMadeOf}
@@ -36,6 +39,17 @@ last_there front next rest kept last count long is found =
     (sym (ap (λ n. n - 1) (length-append front (next ∷ [])) ∙ omega arith)))
 
 module _ {X : Type 0} (Gives : ℕ → LogText → Result X Fault → Type 0) where
+  -- What was found of a slice of the texts was found of the texts.
+  pub found_of_slice : (slice texts : List LogText) (found : Result (Vec (Result X Fault) Global) AllocError)
+      → slice ≡ texts → IfOk found (λ found. length found.items ≡ length slice)
+      → IfOk found (λ found. HoldsBelow Gives (length slice) slice found.items)
+      → IfOk found (λ found. length found.items ≡ length texts)
+      × IfOk found (λ found. HoldsBelow Gives (length texts) texts found.items)
+  found_of_slice slice texts found same count each = (
+    subst (λ (texts : List LogText). IfOk found (λ found. length found.items ≡ length texts)) same count,
+    subst (λ (texts : List LogText). IfOk found (λ found. HoldsBelow Gives (length texts) texts found.items)) same each,
+  )
+
   -- Results, one for each text by its place, come of the texts.
   pub all_come : (texts : List LogText) (found : List (Result X Fault)) → length found ≡ length texts
       → HoldsBelow Gives (length texts) texts found → AllZip (ComesOf Gives) texts found

@@ -4,7 +4,6 @@ use Rattle.std.proofs.Common.{zero, suc, zero-add, get_or, sym, ap, ◌∙◌, s
 use Rattle.std.proofs.lemmas.Grind.{common_steps}
 use Rattle.std.proofs.lemmas.List.{length-append}
 use Rattle.std.proofs.lemmas.Slice.Zip.{AllZip-long}
-use native.Mathlib.Numerals.{unary_clauses}
 use Rattle.std.specs.List.{AllZip}
 use Rattle.legalpath.specs.ProgramLog.{ProgramLog}
 use Rattle.message.specs.declared.message.Message.{Message}

@@ -1,6 +1,6 @@
 //! The messages of logs, made side by side from the logs' texts.
 
-ghost use Rattle.std.specs.Prelude.{◌≡◌, ◌⊎◌, ◌+◌, ◌^◌, ◌≤◌, Err, IfErr, IfOk, IfSome, Ok, List, length};
+ghost use Rattle.std.specs.Prelude.{◌≡◌, ◌⊎◌, ◌+◌, ◌^◌, ◌≤◌, Err, IfErr, IfOk, IfSome, Ok, length};
 ghost use Rattle.command_inputs.specs.Found.{AreLegalLogs};
 ghost use Rattle.command_inputs.specs.declared.fault.Fault.TheVariants as fault;
 ghost use Rattle.side_encoding.specs.IsEncodedText.{IsEncodedText};

@@ -1,5 +1,5 @@
 -- The last event of a list.
-use Rattle.std.proofs.Common.{◌≡◌, ◌-◌, ◌++◌, List, [], ◌∷◌, Option, Some, length, refl, sym, suc, arith}
+use Rattle.std.proofs.Common.{◌≡◌, ◌-◌, List, [], ◌∷◌, Option, Some, length, sym, suc, arith}
 use Rattle.std.specs.List.{last_or, slice_get}
 use Rattle.retire.specs.declared.event.Event.{Event}
 
@@ -11,9 +11,3 @@ last_or-place before (event ∷ []) last e = sym e
 last_or-place before (event ∷ next ∷ events) last e =
     let place : length (event ∷ next ∷ events) - 1 ≡ suc (length (next ∷ events) - 1) = omega arith in
     last_or-place (Some event) (next ∷ events) last (rw place at e)
-
--- The last event of lists joined is that of the second, or else that of the first.
-pub last_or-append : (before : Option Event) (front back : List Event)
-    → last_or before (front ++ back) ≡ last_or (last_or before front) back
-last_or-append before [] back = refl
-last_or-append before (event ∷ front) back = last_or-append (Some event) front back

@@ -16,7 +16,7 @@ use Rattle.log_pieces.specs.declared.pieces.LegalPieces.{LegalPieces}
 use Rattle.log_pieces.specs.steps.Cut.{EndsAtLine, IsCut}
 use Rattle.log_pieces.specs.steps.StandsBehind.{StandsBehind, header_line}
 use Rattle.log_pieces.proofs.HeaderLemmas.{log-rows}
-use Rattle.log_pieces.proofs.LastLemmas.{last_or-append}
+use Rattle.legalpath.proofs.FollowOnLemmas.{last_or-append}
 use Rattle.log_pieces.proofs.LineLemmas.{is_plain-append, lines-join}
 use Rattle.log_pieces.proofs.RowLemmas.{events-join}
 

@@ -1,15 +1,15 @@
 -- The events of rows do not depend on the rows' numbers.
-use Rattle.std.proofs.Common.{◌≡◌, ◌≤◌, ◌+◌, ◌==◌, ◌%◌, ◌||◌, ◌++◌, ◌∙◌, ℕ, List, [], ◌∷◌, false, Result, Ok}
-use Rattle.std.proofs.Common.{Err, Option, Some, None, length, nat_lt, refl, ap, inl, inr, arith, rules}
+use Rattle.std.proofs.Common.{◌≡◌, ◌≤◌, ◌+◌, ◌==◌, ◌%◌, ◌||◌, ◌++◌, ◌∙◌, ℕ, List, [], ◌∷◌, false, Ok}
+use Rattle.std.proofs.Common.{Option, Some, None, length, nat_lt, refl, ap, inl, inr, arith, rules}
 use Rattle.std.specs.Option.{is_some, unwrap_or}
 use Rattle.std.proofs.lemmas.Bool.{cases_Bool}
 use Rattle.isa.specs.Privilege.{is_privilege}
-use Rattle.retire.specs.Log.{events_from, most_rows, with_event}
+use Rattle.retire.proofs.RangeLemmas.{with_event-ok}
+use Rattle.retire.specs.Log.{events_from, most_rows}
 use Rattle.retire.specs.Number.{number_of}
 use Rattle.retire.specs.Row.{exception_of, interrupt_of, is_garbled, known_event, numbers_event}
 use Rattle.retire.specs.Row.{retirement_of, row_event}
 use Rattle.retire.specs.declared.event.Event.{Event}
-use Rattle.retire.specs.declared.fault.LogFault.{LogFault}
 
 exception-any : (row other epc priv : ℕ) (cause tval : Option ℕ) (event : Event)
     → exception_of row epc priv cause tval ≡ Ok event → exception_of other epc priv cause tval ≡ Ok event
@@ -87,14 +87,6 @@ row_event-any row other (a ∷ b ∷ []) event e = cc e
 row_event-any row other (a ∷ b ∷ c ∷ []) event e = cc e
 row_event-any row other (a ∷ b ∷ c ∷ d ∷ []) event e = cc e
 row_event-any row other (a ∷ b ∷ c ∷ d ∷ f ∷ g ∷ rest) event e = cc e
-
--- The first event and the others.
-with_event-ok : (first : Result Event LogFault) (rest : Result (List Event) LogFault) (events : List Event)
-    → with_event first rest ≡ Ok events
-    → (event : Event) × (more : List Event) × (first ≡ Ok event) × (rest ≡ Ok more) × (event ∷ more ≡ events)
-with_event-ok (Err why) rest events e = cc e
-with_event-ok (Ok event) (Err why) events e = cc e
-with_event-ok (Ok event) (Ok more) events e = (event, more, refl, refl, cc e)
 
 -- No rows have no events.
 pub events-none : (row : ℕ) → events_from row [] ≡ Ok []

@@ -3,7 +3,6 @@
 ghost use Rattle.std.specs.Prelude.{◌≡◌, ◌≤◌, true, Ok, OnSome, IfSome, vec_len};
 ghost use Rattle.retire.specs.Log.{events_from, most_rows};
 ghost use Rattle.retire.specs.PlainText.{is_plain, lines_parted};
-ghost use Rattle.log_pieces.specs.steps.StandsBehind.{header_line};
 
 use retire::{Event, plain_is_parted, read_log_from_slice};
 use std::alloc::Global;

@@ -1,13 +1,10 @@
 -- The prover takes no second step behind the first: the lemmas on both are handed to it.
-use Rattle.std.proofs.Common.{◌≡◌, ℕ, IfOk, List, Result, length, refl, subst}
-use Rattle.side_by_side.specs.Places.{HoldsBelow}
-use Rattle.command_inputs.specs.declared.fault.Fault.{Fault}
-use Rattle.command_inputs.specs.declared.judging.JudgedLog.{JudgedLog}
-use Rattle.command_inputs.specs.declared.texts.LogText.{LogText}
+use Rattle.std.proofs.Common.{refl}
 use Rattle.command_inputs.specs.Made.{IsMadeOf, IsNotMadeOf}
 use Rattle.command_inputs.specs.Judged.{IsJudgedLogAt, IsUnjudgedAt}
 use Rattle.command_inputs.specs.Texts.{ComesOfText, IsTextAt, IsUnreadAt}
 use Rattle.command_inputs.proofs.TextLogs.{log_at_path, unmade_at_path, unread_at_path}
+use Rattle.command_inputs.proofs.MadeOfTexts.{found_of_slice}
 use Rattle.command_inputs.proofs.Turns.{turns_end, turns_stop}
 use Rattle.command_inputs.proofs.judging.judged_logs_of.Goals as goal
 
@@ -34,18 +31,12 @@ returns-in-Err-clause-logs g c =
     c.in-Err.why c.texts_of-texts.ensures.texts c.in-Err.ensures
 
 pub made_of_texts-requires : goal.made_of_texts-requires
-made_of_texts-requires g c κs =
-    let gives = λ (place : ℕ) (text : LogText) (found : Result JudgedLog Fault).
-    ComesOfText c.args.program.now text found in
-    let same = c.as_slice.ensures.value in (
-      (refl, tt),
-      (
-        c.new-logs.ensures.items,
-        (
-          subst (λ (texts : List LogText). IfOk c.results-found.result (λ found. length found.items ≡ length texts)) same
-              c.results-found.ensures.count,
-          subst (λ (texts : List LogText). IfOk c.results-found.result (λ found.
-              HoldsBelow gives (length texts) texts found.items)) same c.results-found.ensures.each,
-        ),
-      ),
-    )
+made_of_texts-requires g c κs = (
+  (refl, tt),
+  (
+    c.new-logs.ensures.items,
+    found_of_slice (λ place. ComesOfText c.args.program.now) c.as_slice.result.now
+        c.texts_of-texts.result.texts.items c.results-found.result c.as_slice.ensures.value
+        c.results-found.ensures.count c.results-found.ensures.each,
+  ),
+)

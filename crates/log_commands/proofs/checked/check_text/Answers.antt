@@ -1,6 +1,4 @@
 -- The prover makes no record of what was judged: it is handed to it.
-use Rattle.std.proofs.Common.{◌≡◌, None, refl, subst}
-use Rattle.log_commands.specs.steps.Checked.{IsCheckedLogOf}
 use Rattle.log_commands.proofs.CheckedLogs.{counted_log}
 use Rattle.log_commands.proofs.checked.check_text.Goals as goal
 

@@ -1,6 +1,6 @@
 -- The prover makes no record of what was judged: it is handed to it.
-use Rattle.std.proofs.Common.{◌≡◌, refl, subst, sym, Ok}
-use Rattle.command_inputs.specs.Judged.{events_of, illegal_in, judged_of}
+use Rattle.std.proofs.Common.{refl, subst, sym}
+use Rattle.command_inputs.specs.Judged.{judged_of}
 use Rattle.log_commands.specs.steps.Checked.{SaysOf}
 use Rattle.log_commands.proofs.CheckedLogs.{says_counted}
 use Rattle.log_commands.proofs.checked.check_whole.Goals as goal

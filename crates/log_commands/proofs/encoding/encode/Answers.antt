@@ -1,5 +1,5 @@
 -- The prover tries no chain of steps by itself: what each step found is handed to it, in order.
-use Rattle.std.proofs.Common.{◌≡◌, ◌∙◌, inr, refl, subst, sym, arith, Ok, Err, List, length}
+use Rattle.std.proofs.Common.{◌≡◌, inr, refl, subst, sym, arith, Ok, Err, List, length}
 use Rattle.std.proofs.lemmas.Grind.{common_steps}
 use Rattle.std.specs.Prelude.{⊤, IfSome}
 use Rattle.legalpath.specs.ProgramLog.{ProgramLog}

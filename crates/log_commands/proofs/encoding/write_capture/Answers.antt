@@ -1,5 +1,5 @@
 -- A capture is what stands before the messages and their bytes joined: the lemmas on that are handed to the prover.
-use Rattle.std.proofs.Common.{◌≡◌, length, subst, sym}
+use Rattle.std.proofs.Common.{subst, sym}
 use Rattle.std.proofs.lemmas.Result.{on_ok_weaker}
 use Rattle.std.specs.Io.KnownBytes.{Appends}
 use Rattle.captures.proofs.CaptureStarts.{messages_begun, messages_written, start_begun}

@@ -1,30 +1,21 @@
 -- The prover takes no second step behind the first: the lemmas on both are handed to it.
-use Rattle.std.proofs.Common.{◌≡◌, ◌++◌, ℕ, IfOk, List, Result, inr, Err, Ok, arith, length, refl, subst, sym}
+use Rattle.std.proofs.Common.{◌≡◌, ◌++◌, inr, Err, arith, length, refl, subst, sym}
 use Rattle.std.proofs.lemmas.Grind.{common_steps}
-use Rattle.side_by_side.specs.Places.{HoldsBelow}
 use Rattle.command_inputs.specs.Texts.{ArePlacedFrom}
-use Rattle.command_inputs.specs.declared.fault.Fault.{Fault}
-use Rattle.command_inputs.specs.declared.texts.LogText.{LogText}
-use Rattle.log_commands.specs.declared.made.MadeLog.{MadeLog}
 use Rattle.log_commands.specs.steps.Made.{AddsMade, ComesOfMaking}
+use Rattle.command_inputs.proofs.MadeOfTexts.{found_of_slice}
 use Rattle.log_commands.proofs.MadeLogs.{adds_as_read, adds_stopped}
 use Rattle.log_commands.proofs.made.add_made.Goals as goal
 
 pub made_of_texts-requires : goal.made_of_texts-requires
 made_of_texts-requires g c κs =
-    let making = c.args.making.now in
-    let gives = λ (place : ℕ) (text : LogText) (found : Result MadeLog Fault).
-    ComesOfMaking g.C.Form.text making.period making.mode making.program.now text found in
-    let same = c.as_slice.ensures.value in (
+    let making = c.args.making.now in (
       (refl, tt),
       (
         c.new-more.ensures.items,
-        (
-          subst (λ (texts : List LogText). IfOk c.results-found.result (λ found. length found.items ≡ length texts)) same
-              c.results-found.ensures.count,
-          subst (λ (texts : List LogText). IfOk c.results-found.result (λ found.
-              HoldsBelow gives (length texts) texts found.items)) same c.results-found.ensures.each,
-        ),
+        found_of_slice (λ place. ComesOfMaking g.C.Form.text making.period making.mode making.program.now) c.as_slice.result.now
+            c.texts_of-texts.result.texts.items c.results-found.result c.as_slice.ensures.value
+            c.results-found.ensures.count c.results-found.ensures.each,
       ),
     )
 
