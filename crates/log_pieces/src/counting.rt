@@ -13,7 +13,7 @@ pub fn legal_count(alloc: Global, program: &Program, text: &[u8]) -> Result<usiz
 {
     let mut pieces = LegalPieces::of(alloc, program, text)?;
     let mut count = 0;
-    // Each piece but the last has a byte at least.
+    // Each piece has a byte at least, and one call more finds the end.
     for _ in 0..text.len() + 1 {
         match pieces.next()? {
             Some(events) => count += events.len(),

@@ -3,8 +3,8 @@
 ghost use Rattle.std.specs.Prelude.{IfSome};
 ghost use Rattle.log_pieces.specs.steps.Cut.{IsCut};
 
-/// The most bytes of a piece. The list of its events takes twice the bytes, which the C library's allocator keeps from
-/// piece to piece and does not hand back to the kernel.
+/// The most bytes of a piece. The list of its events takes about twice the bytes, which the C library's allocator keeps
+/// from piece to piece and does not hand back to the kernel.
 pub(crate) const PIECE_BYTES: usize = 32_768;
 
 /// The next piece of a text, and what is left behind it: all of the text if it is short, else whole lines. There is no

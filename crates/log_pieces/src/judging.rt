@@ -28,6 +28,7 @@ pub(crate) fn judge(program: &Program, before: Option<Event>, events: &[Event]) 
     requires { length events.now ≤ most_rows }
     ensures legal { OnSome result (FollowOn (words_of program.now) before events.now) }
     ensures numbers { OnSome result (All Is64Bit events.now) }
+    ensures some { OnSome result (1 ≤ length events.now) }
     ensures last { IfSome result (λ last. last_or before events.now ≡ Some last) }
 {
     let first = events.first()?;

@@ -1,6 +1,6 @@
 //! The pieces of a legal log.
 
-ghost use Rattle.std.specs.Prelude.{◌≡◌, ℕ, List, [], ◌++◌, IfOk, IfSome, None, Ok};
+ghost use Rattle.std.specs.Prelude.{◌≡◌, ◌≤◌, ℕ, List, [], ◌++◌, IfOk, IfSome, None, Ok, length};
 ghost use Rattle.retire.specs.Log.{log_of_records, records_of};
 ghost use Rattle.retire.specs.declared.event.Event.{Event as AnyEvent};
 ghost use Rattle.rvclass.specs.Image.{Image};
@@ -14,8 +14,9 @@ use retire::{Event, MOST_ROWS, plain_is_parted};
 use rvclass::Program;
 use std::alloc::Global;
 
-/// A log that is not read in pieces: it has a quote or a very long line, does not begin with the header as it is
-/// written, has a faulty or an illegal row, or memory was refused. Reading it as a whole says which.
+/// A log that is not read in pieces: it has a quote, a line of more than 32,768 bytes or as many bytes of empty lines,
+/// does not begin with the header as it is written, has a faulty or an illegal row or too many rows, or memory was
+/// refused. Reading it as a whole says which.
 #[derive(Clone, Copy, Debug, PartialEq, Eq)]
 pub struct NotInPieces;
 
@@ -61,15 +62,17 @@ impl<'t, 'p> LegalPieces<'t, 'p> {
         })
     }
 
-    /// The events of the next piece, which follow on those before and are legal behind them; `None` behind the last
-    /// piece.
+    /// The events of the next piece, one at least, which follow on those before and are legal behind them; `None` behind
+    /// the last piece. After an error the pieces say nothing more: the text is to be read as a whole.
     pub fn next(&mut self) -> Result<Option<Vec<Event>>, NotInPieces>
         ensures more { (image : Image) (text : List ℕ) (seen : List AnyEvent) →
             HasPassed image text seen self.old →
             IfOk result (λ next. IfSome next (λ events. HasPassed image text (seen ++ events.items) self.new)) }
+        ensures some { IfOk result (λ next. IfSome next (λ events. 1 ≤ length events.items)) }
         ensures end { (image : Image) (text : List ℕ) (seen : List AnyEvent) →
             HasPassed image text seen self.old →
             result ≡ Ok None → log_of_records (records_of text) ≡ Ok seen }
+        ensures ended { result ≡ Ok None → self.new ≡ self.old }
     {
         // These are called for their contracts: the records of a text with no quote are its lines, and legal pieces
         // join to a legal log.
