@@ -10,5 +10,6 @@ pub mod ProfileLemmas
 pub mod PacketsAtEnd
 pub mod ClosingPacket
 pub mod EventsPassed
+pub mod SeveralEvents
 pub mod PacketsInTurn
 pub mod WorkedLogs

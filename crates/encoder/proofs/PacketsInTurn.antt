@@ -1,10 +1,10 @@
 -- The packets of a legal log, one event more at a time.
-use Rattle.std.proofs.Common.{◌≡◌, ℕ, ◌+◌, ◌-◌, Bool, true, false, List, [], ◌∷◌, ◌++◌, Option, Some, None, length}
+use Rattle.std.proofs.Common.{◌≡◌, ℕ, ◌+◌, ◌-◌, ◌≤◌, Bool, true, false, List, [], ◌∷◌, ◌++◌, Option, Some, None, length}
 use Rattle.std.proofs.Common.{take, drop, refl, sym, subst, ◌∙◌, ap, inl, inr, append_assoc, arith, length-append}
-use Rattle.std.proofs.lemmas.List.{take-append-drop, append-nil, take_all}
+use Rattle.std.proofs.lemmas.List.{take-append-drop, append-nil, length-drop, take_all}
 use Rattle.std.proofs.lemmas.List.Elements.{All-cons, All-head, All-nil}
 use Rattle.std.proofs.lemmas.Option.{slice_get_read}
-use Rattle.std.proofs.Math.Seq.{get_or-append_seam}
+use Rattle.std.proofs.Math.Seq.{get_or-append_seam, take-add}
 use Rattle.std.specs.Prelude.{All}
 use Rattle.std.specs.List.{last_or, slice_get}
 use Rattle.std.specs.Option.{option_to_list}
@@ -27,17 +27,16 @@ use Rattle.encoder.specs.Packets.{reports, closing_packet, packets}
 use Rattle.encoder.specs.PacketsSoFar.{is_known, decided, packets_so_far}
 use Rattle.encoder.specs.Piece.{pieces}
 use Rattle.encoder.specs.SourceAt.{SourceAt}
-use Rattle.encoder.specs.steps.SourceFields.{number_at, stands_at}
+use Rattle.encoder.specs.steps.SourceFields.{number_at, stands_at, AreTakenAtStage, IsSource}
 use Rattle.encoder.specs.Spot.{Spot, first_event, spots, spots_of}
 use Rattle.encoder.specs.EncoderStands.{count_all, reported_after_pieces, since_cut, EncoderStands}
-use Rattle.encoder.specs.steps.Stepping.{given, encoder_after, last_given, ends_by, given_at_end}
+use Rattle.encoder.specs.steps.Stepping.{given, last_given, ends_by, given_at_end}
 use Rattle.encoder.specs.declared.encoder.Encoder.{Encoder}
 use Rattle.encoder.specs.declared.rule.Rule.TheVariants as by
 use Rattle.encoder.specs.declared.source.Stage.{Stage}
 use Rattle.encoder.proofs.SpotLemmas.{before_last, spots-append, pieces-append, reports-append}
 use Rattle.encoder.proofs.PacketsReached.{spot_after, spots-snoc, reaches, reaches_cut}
 use Rattle.encoder.proofs.LogsByLastEvent.{by_last, decided_is, rule_known}
-use Rattle.encoder.proofs.StandsOn.{pushes_any, stands_after}
 use Rattle.encoder.proofs.ProfileLemmas.{IsEven, packets_in_profile, so_far_in_profile, profile_behind}
 use Rattle.encoder.proofs.PacketsAtEnd.{ends_any}
 
@@ -46,53 +45,6 @@ pub legal-take : (words : Words) (count : ℕ) (log : List Event) → Legal word
 legal-take words count log legal =
     (follow_on_split words None (take count log) (drop count log)
     (subst (Legal words) (sym (take-append-drop count log)) legal)).0
-
--- An encoder that stands for the first events stands for one more by a step, which gives the packets that are more.
-pub record Steps (words : Words) (period : ℕ) (mode : Mode) (at : ℕ) (log : List Event) (e : Encoder)
-    (packets : List Packet) : Type 0 where
-  pub stands : EncoderStands words period mode (take (at + 1) log) e
-  pub more : packets_so_far words period mode (take (at + 1) log)
-      ≡ packets_so_far words period mode (take at log) ++ packets
-
-pub steps : (words : Words) (period : ℕ) (mode : Mode) (at : ℕ) (log : List Event) (event : Event) (e e' : Encoder)
-    (packets : List Packet) → take (at + 1) log ≡ take at log ++ event ∷ [] → Legal words log
-    → EncoderStands words period mode (take at log) e → Is64Bit event → e' ≡ encoder_after words e event
-    → packets ≡ given words e event → Steps words period mode at log e' packets
-steps words period mode at log event e e' packets more legal stands fits is gives =
-    let pushed =
-    pushes_any words period mode (take at log) e event stands
-    (subst (Legal words) more (legal-take words (at + 1) log legal)) in
-    let grown = stands_after words period mode (take at log) e event fits stands pushed in
-    record {
-      stands = subst (λ l. EncoderStands words period mode l e') (sym more)
-          (subst (EncoderStands words period mode (take at log ++ event ∷ [])) (sym is) grown);
-      more = ap (packets_so_far words period mode) more ∙ pushed.more
-          ∙ ap (λ p. packets_so_far words period mode (take at log) ++ p) (sym gives);
-    }
-
--- The same behind events that gave nothing.
-pub steps_on : (words : Words) (log : List Event) (between : ℕ) (mode : Mode) (from taken at : ℕ) (event : Event)
-    (e e' e'' : Encoder) (packets : List Packet) → take (at + 1) log ≡ take at log ++ event ∷ [] → Legal words log
-    → e.between ≡ between → e.mode ≡ mode
-    → packets_so_far words (between + 1) mode (take taken log) ≡ packets_so_far words (between + 1) mode (take from log)
-    → EncoderStands words (e.between + 1) e.mode (take at log) e'
-    → packets_so_far words (e.between + 1) e.mode (take at log)
-    ≡ packets_so_far words (e.between + 1) e.mode (take taken log) → Is64Bit event → e'' ≡ encoder_after words e' event
-    → packets ≡ given words e' event → EncoderStands words (between + 1) mode (take (at + 1) log) e''
-    × (packets_so_far words (between + 1) mode (take (at + 1) log)
-    ≡ packets_so_far words (between + 1) mode (take from log) ++ packets)
-steps_on words log between mode from taken at event e e' e'' packets more legal same same_mode before stands none fits
-    is gives =
-    let step =
-    steps words (between + 1) mode at log event e' e'' packets more legal
-    (subst (λ m. EncoderStands words (between + 1) m (take at log) e') same_mode
-    (subst (λ b. EncoderStands words (b + 1) e.mode (take at log) e') same stands)) fits is gives in
-    let passed =
-    subst (λ m. packets_so_far words (between + 1) m (take at log) ≡ packets_so_far words (between + 1) m
-    (take taken log)) same_mode
-    (subst (λ b. packets_so_far words (b + 1) e.mode (take at log) ≡ packets_so_far words (b + 1) e.mode
-    (take taken log)) same none) in
-    (step.stands, step.more ∙ ap (λ p. p ++ packets) (passed ∙ before))
 
 module _ (words : Words) (period : ℕ) (mode : Mode) where
   front_reports : (ss ts : List Spot) → reports mode 0 (pieces words period [] (ss ++ ts))
@@ -191,17 +143,52 @@ behind_seam all front p rest is = ap length is ∙ (let l = length-append front 
 -- The events that were taken, when an encoder was given more of them until one gave a packet.
 pub record Ran (image : Image) (events : List Event) (e : Encoder) (taken : ℕ) (e' : Encoder) (taken' : ℕ)
     (given : Option Packet) : Type 0 where
+  pub within : taken' ≤ length events
   pub stands : EncoderStands (words_of image) (e.between + 1) e.mode (take taken' events) e'
   pub more : packets_so_far (words_of image) (e.between + 1) e.mode (take taken' events)
       ≡ packets_so_far (words_of image) (e.between + 1) e.mode (take taken events) ++ option_to_list given
   pub all : given ≡ None → taken' ≡ length events
 
-pub ran_by : (image program : Image) (events log : List Event) (e : Encoder) (taken : ℕ) (e' : Encoder) (taken' : ℕ)
-    (given : Option Packet) → image ≡ program → events ≡ log → Ran image events e taken e' taken' given
-    → Ran program log e taken e' taken' given
-ran_by image program events log e taken e' taken' given same events_same ran =
-    subst (λ (p : Image). Ran p log e taken e' taken' given) same
-    (subst (λ l. Ran image l e taken e' taken' given) events_same ran)
+-- What a call says of the events behind any log that the encoder stands for.
+abbrev pub SaysOf : Image → List Event → Encoder → ℕ → Encoder → Option Packet → Type 0
+SaysOf image rest e count e' given =
+    (period : ℕ) (mode : Mode) (front : List Event) → EncoderStands (words_of image) period mode front e
+    → Legal (words_of image) (front ++ rest)
+    → EncoderStands (words_of image) period mode (front ++ take count rest) e'
+    × (packets_so_far (words_of image) period mode (front ++ take count rest)
+    ≡ packets_so_far (words_of image) period mode front ++ option_to_list given)
+
+pub ran_by : (image program : Image) (events log rest : List Event) (e : Encoder) (taken count : ℕ) (e' : Encoder)
+    (given : Option Packet) → image ≡ program → events ≡ log → rest ≡ drop taken events → Legal (words_of program) log
+    → EncoderStands (words_of program) (e.between + 1) e.mode (take taken log) e → taken ≤ length log
+    → count ≤ length rest → (given ≡ None → count ≡ length rest) → SaysOf image rest e count e' given
+    → Ran program log e taken e' (taken + count) given
+ran_by image program events log rest e taken count e' given same events_same rest_is legal stands within few all says =
+    let behind : rest ≡ drop taken log = rest_is ∙ ap (drop taken) events_same in
+    let said : SaysOf program (drop taken log) e count e' given =
+    subst (λ l. SaysOf program l e count e' given) behind
+    (subst (λ (p : Image). SaysOf p rest e count e' given) same says) in
+    let left : length rest ≡ length log - taken = ap length behind ∙ length-drop taken log in
+    let now = said (e.between + 1) e.mode (take taken log) stands
+    (subst (Legal (words_of program)) (sym (take-append-drop taken log)) legal) in
+    let joined = sym (take-add taken count log) in record {
+      within = omega (arith, within, few, left);
+      stands = subst (λ l. EncoderStands (words_of program) (e.between + 1) e.mode l e') joined now.0;
+      more = ap (packets_so_far (words_of program) (e.between + 1) e.mode) (take-add taken count log) ∙ now.1;
+      all = λ none. (let is = all none in omega (arith, within, left, is));
+    }
+
+-- The source stands where its encoder does.
+pub source_on : (log : ProgramLog) (e e' : Encoder) (stage : Stage) (taken taken' : ℕ) (given : Option Packet)
+    → Ran log.program log.events e taken e' taken' given → AreTakenAtStage stage taken' (length log.events)
+    → IsSource log e' stage taken'
+source_on log e e' stage taken taken' given ran within =
+    let words = words_of log.program in
+    let front = take taken' log.events in record {
+      within = within;
+      stands = subst (λ period. EncoderStands words period e'.mode front e') (sym ran.stands.between)
+          (subst (λ mode. EncoderStands words (e.between + 1) mode front e') (sym ran.stands.in_mode) ran.stands);
+    }
 
 module _ (image : Image) (log : List Event) (e : Encoder) (taken : ℕ) (e' : Encoder) (taken' : ℕ)
     (legal : Legal (words_of image) log) where
@@ -224,6 +211,10 @@ module _ (image : Image) (log : List Event) (e : Encoder) (taken : ℕ) (e' : En
   even addr word is = (words_stand image addr word is).even
 
   -- A packet of the events before the last.
+  pub counted_running : (p : Packet) → Ran image log e taken e' taken' (Some p)
+      → length before + 1 ≡ length (packets_so_far words period mode (take taken' log))
+  counted_running p ran = sym (ap length ran.more ∙ length-append before (p ∷ []))
+
   pub given_running : (p : Packet) → Ran image log e taken e' taken' (Some p) → Some p ≡ slice_get full (length before)
   given_running p ran =
       let begins = so_far_begins-take words period mode taken' log in

@@ -1,6 +1,6 @@
 //! From events to packets, one event at a time.
 
-ghost use Rattle.std.specs.Prelude.{◌≡◌, ◌+◌, ◌≤◌, ◌<◌, ℕ, All, List, [], ◌∷◌, ◌++◌, length, take};
+ghost use Rattle.std.specs.Prelude.{◌≡◌, ◌-◌, ◌≤◌, ◌<◌, ℕ, All, IfSome, List, [], ◌∷◌, ◌++◌, None, length, take};
 ghost use Rattle.std.specs.Option.{option_to_list};
 ghost use Rattle.retire.specs.declared.event.Event.{Event};
 ghost use Rattle.retire.specs.Is64Bit.{Is64Bit};
@@ -14,6 +14,7 @@ ghost use Rattle.encoder.specs.Packets.{packets, closing};
 ghost use Rattle.encoder.specs.PacketsSoFar.{packets_so_far};
 ghost use Rattle.encoder.specs.EncoderStands.{EncoderStands};
 ghost use Rattle.encoder.specs.StateStands.{StateStands, encoder_of, state_of};
+ghost use Rattle.encoder.specs.steps.Becomes.{Becomes, GivesNothing};
 ghost use Rattle.encoder.specs.steps.Stepping as stepping;
 
 use crate::due::{Due, due_behind};
@@ -99,6 +100,40 @@ impl Encoder {
         burst_of(self.step(program, &event))
     }
 
+    /// Takes the next events, up to the first that makes a packet due, or all of them where none does. Returns how many
+    /// it took, and that packet. A loop over what is left of a log gives the packets that a [`Encoder::push`] of each
+    /// event gives, in less time.
+    pub fn push_until_packet(
+        &mut self,
+        program: &Program,
+        events: &[Event],
+    ) -> (usize, Option<Packet>)
+        ensures within { result.0 ≤ length events.now }
+        ensures stands { (period : ℕ) (mode : Mode) (log : List Event) →
+            EncoderStands (words_of program.now) period mode log self.old →
+            Legal (words_of program.now) (log ++ events.now) →
+            EncoderStands (words_of program.now) period mode (log ++ take result.0 events.now) self.new }
+        ensures packets { (period : ℕ) (mode : Mode) (log : List Event) →
+            EncoderStands (words_of program.now) period mode log self.old →
+            Legal (words_of program.now) (log ++ events.now) →
+            packets_so_far (words_of program.now) period mode (log ++ take result.0 events.now)
+            ≡ packets_so_far (words_of program.now) period mode log ++ option_to_list result.1 }
+        // No event in front of the last one that is taken makes a packet due.
+        ensures first { (period : ℕ) (mode : Mode) (log : List Event) →
+            EncoderStands (words_of program.now) period mode log self.old →
+            Legal (words_of program.now) (log ++ events.now) →
+            IfSome result.1 (λ _. packets_so_far (words_of program.now) period mode
+            (log ++ take (result.0 - 1) events.now) ≡ packets_so_far (words_of program.now) period mode log) }
+        ensures some { IfSome result.1 (λ _. 1 ≤ result.0) }
+        ensures all { result.1 ≡ None → result.0 ≡ length events.now }
+        ensures profile { (period : ℕ) (mode : Mode) (log : List Event) →
+            EncoderStands (words_of program.now) period mode log self.old →
+            Legal (words_of program.now) (log ++ events.now) →
+            IfSome result.1 InProfile }
+    {
+        self.run(program, events)
+    }
+
     /// Takes the end of the log, and returns the packets that are left. The last of them closes the trace.
     pub fn finish(self, program: &Program) -> Burst
         ensures packets { (period : ℕ) (mode : Mode) (log : List Event) →
@@ -153,7 +188,7 @@ impl Encoder {
 
     /// Takes the next event, and returns the packet that this event makes due.
     #[inline]
-    pub(crate) fn step(&mut self, program: &Program, event: &Event) -> Option<Packet>
+    fn step(&mut self, program: &Program, event: &Event) -> Option<Packet>
         ensures after { self.new ≡ stepping.encoder_after (words_of program.now) self.old event.now }
         ensures given { option_to_list result ≡ stepping.given (words_of program.now) self.old event.now }
         ensures numbers { Is64Bit event.now }
@@ -167,39 +202,59 @@ impl Encoder {
         self.report(rule, event, due)
     }
 
-    /// Takes events from `taken` on, as long as they follow a retirement for which nothing is due and give no packet.
-    /// Returns how many events are taken then.
-    pub(crate) fn pass(&mut self, program: &Program, events: &[Event], taken: usize) -> usize
-        requires within { taken ≤ length events.now }
-        requires legal { Legal (words_of program.now) events.now }
-        requires stands { EncoderStands (words_of program.now) (self.old.between + 1) self.old.mode
-            (take taken events.now) self.old }
-        ensures from { taken ≤ result }
-        ensures within { result ≤ length events.now }
-        ensures stands { EncoderStands (words_of program.now) (self.old.between + 1) self.old.mode
-            (take result events.now) self.new }
-        ensures packets { packets_so_far (words_of program.now) (self.old.between + 1) self.old.mode
-            (take result events.now)
-            ≡ packets_so_far (words_of program.now) (self.old.between + 1) self.old.mode (take taken events.now) }
+    /// Takes events, up to the first that makes a packet due, or all of them where none does. Returns how many it took,
+    /// and that packet.
+    fn run(&mut self, program: &Program, events: &[Event]) -> (usize, Option<Packet>)
+        ensures within { result.0 ≤ length events.now }
+        ensures becomes { Becomes (words_of program.now) self.old (take result.0 events.now) self.new
+            (option_to_list result.1) }
+        ensures first { IfSome result.1 (λ _.
+            GivesNothing (words_of program.now) self.old (take (result.0 - 1) events.now)) }
+        ensures some { IfSome result.1 (λ _. 1 ≤ result.0) }
+        ensures all { result.1 ≡ None → result.0 ≡ length events.now }
     {
-        if taken == 0 || !matches!(self.due, Due::Nothing) {
-            return taken;
+        let mut taken = 0;
+        for _ in 0..events.len() {
+            let at = taken + self.pass(program, &events[taken..]);
+            if at == events.len() {
+                return (at, None);
+            }
+            taken = at + 1;
+            if let Some(packet) = self.step(program, &events[at]) {
+                return (taken, Some(packet));
+            }
+        }
+        (taken, None)
+    }
+
+    /// Takes events from the front, as long as each follows a retirement for which nothing is due and gives no packet.
+    /// Returns how many it took.
+    fn pass(&mut self, program: &Program, events: &[Event]) -> usize
+        ensures within { result ≤ length events.now }
+        ensures becomes { Becomes (words_of program.now) self.old (take result events.now) self.new [] }
+    {
+        let Some(mut held) = self.held else {
+            return 0;
+        };
+        if !matches!(self.due, Due::Nothing) {
+            return 0;
         }
         let mut left = self.left;
         let mut pending = self.pending;
-        let mut next = taken;
-        for at in taken..events.len() {
-            if !passes(program, &events[at - 1], left, &pending, events[at]) {
+        let mut taken = 0;
+        for event in events {
+            if !passes(program, &held, left, &pending, *event) {
                 break;
             }
             left -= 1;
-            add_outcome(&mut pending, &events[at]);
-            next = at + 1;
+            add_outcome(&mut pending, event);
+            held = *event;
+            taken += 1;
         }
         self.left = left;
         self.pending = pending;
-        self.held = Some(events[next - 1]);
-        next
+        self.held = Some(held);
+        taken
     }
 
     /// How the trace opens: this announces the mode.
@@ -256,7 +311,7 @@ impl Encoder {
 
     /// Returns the packet that the next event makes due, by the rule of the held event, and holds the next event, for
     /// which `due` is due.
-    #[inline(never)]
+    #[inline(always)]
     fn report(&mut self, rule: Option<Rule>, event: &Event, due: Due) -> Option<Packet>
         ensures after { self.new
             ≡ stepping.hold self.old [] (stepping.reported_for_rule self.old self.old.held rule event.now due) event.now

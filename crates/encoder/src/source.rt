@@ -111,12 +111,9 @@ impl<'l, 'p, A: Allocator> Source<'l, 'p, A> {
             }
             Stage::Running => {
                 let log = self.log;
-                let next = run(
-                    &mut self.encoder,
-                    log.program(),
-                    log.events(),
-                    &mut self.taken,
-                );
+                let rest = &log.events()[self.taken..];
+                let (count, next) = self.encoder.push_until_packet(log.program(), rest);
+                self.taken += count;
                 if let Some(packet) = next {
                     return Some(packet);
                 }
@@ -134,38 +131,4 @@ impl<'l, 'p, A: Allocator> Source<'l, 'p, A> {
             Stage::Ended => None,
         }
     }
-}
-
-/// Gives an encoder the next events of its log, until one of them gives a packet, and returns that packet.
-fn run(
-    encoder: &mut Encoder,
-    program: &Program,
-    events: &[Event],
-    taken: &mut usize,
-) -> Option<Packet>
-    requires within { taken.old ≤ length events.now }
-    requires legal { Legal (words_of program.now) events.now }
-    requires stands { EncoderStands (words_of program.now) (encoder.old.between + 1) encoder.old.mode
-        (take taken.old events.now) encoder.old }
-    ensures within { taken.new ≤ length events.now }
-    ensures stands { EncoderStands (words_of program.now) (encoder.old.between + 1) encoder.old.mode
-        (take taken.new events.now) encoder.new }
-    ensures packets { packets_so_far (words_of program.now) (encoder.old.between + 1) encoder.old.mode
-        (take taken.new events.now)
-        ≡ packets_so_far (words_of program.now) (encoder.old.between + 1) encoder.old.mode (take taken.old events.now)
-        ++ option_to_list result }
-    ensures all { result ≡ None → taken.new ≡ length events.now }
-{
-    for _ in *taken..events.len() {
-        let next = encoder.pass(program, events, *taken);
-        *taken = next;
-        if next == events.len() {
-            return None;
-        }
-        *taken = next + 1;
-        if let Some(packet) = encoder.step(program, &events[next]) {
-            return Some(packet);
-        }
-    }
-    None
 }

@@ -35,7 +35,7 @@ fn line_end(text: &[u8]) -> Option<&[u8]>
 
 /// The row of this number at the front of a text, of any form. There is none where its line is not plain or has a
 /// fault.
-#[inline(always)]
+#[inline(never)]
 fn long_row(row: u32, text: &[u8]) -> Option<PlainRow<'_>>
     ensures row { IfSome result (λ r. HasRow row text.now r.event r.rest.now) }
     ensures reads { (rest : List ℕ) → IsPlainRow row text.now rest → IsSomeAnd result (λ r. r.rest.now ≡ rest) }

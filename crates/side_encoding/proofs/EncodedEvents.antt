@@ -1,10 +1,11 @@
 -- Events of a log that are encoded, one after another and a piece at a time.
-use Rattle.std.proofs.Common.{◌≡◌, ℕ, ◌+◌, ◌<◌, All, List, [], ◌∷◌, ◌++◌, None, length, take, drop, get_or}
+use Rattle.std.proofs.Common.{◌≡◌, ℕ, ◌+◌, ◌≤◌, IfSome, List, [], ◌∷◌, ◌++◌, Option, length, take, drop}
 use Rattle.std.proofs.Common.{sym, ap, ◌∙◌, arith, append_assoc, subst, take-append-drop}
-use Rattle.std.proofs.lemmas.List.{append-nil, length-append, take_more}
+use Rattle.std.proofs.lemmas.List.{append-nil, length-append, take_all}
+use Rattle.std.proofs.Math.Seq.{take-add}
+use Rattle.std.specs.Option.{option_to_list}
 use Rattle.retire.specs.declared.event.Event.{Event}
 use Rattle.rvclass.specs.Words.{Words}
-use Rattle.legalpath.proofs.FollowOnLemmas.{follow_on_split}
 use Rattle.legalpath.specs.Legal.{Legal}
 use Rattle.encoder.specs.EncoderStands.{EncoderStands}
 use Rattle.encoder.specs.PacketsSoFar.{packets_so_far}
@@ -35,57 +36,70 @@ module _ (text : Message → List ℕ) where
       }
 
   module _ (words : Words) where
+    -- The first events of a list, as many as this number, are encoded behind those of any log that all of them follow on.
+    abbrev pub EncodesFront : List Event → ℕ → Encoder → Messages → Encoder → Messages → Type 0
+    EncodesFront events taken encoder messages encoder_after messages_after =
+        (period : ℕ) (mode : Mode) (hart : ℕ) (log : List Event)
+        → EncodedSoFar text words period mode hart log encoder messages → Legal words (log ++ events)
+        → EncodedSoFar text words period mode hart (log ++ take taken events) encoder_after messages_after
+
     -- No event is encoded, and nothing changes.
-    pub encodes_none : (encoder : Encoder) (messages : Messages)
-        → Encodes text words [] encoder messages encoder messages
-    encodes_none encoder messages period mode hart log encoded legal =
+    pub encodes_none : (events : List Event) (encoder : Encoder) (messages : Messages)
+        → EncodesFront events 0 encoder messages encoder messages
+    encodes_none events encoder messages period mode hart log encoded legal =
         subst (λ log. EncodedSoFar text words period mode hart log encoder messages) (sym (append-nil log)) encoded
 
-    -- A front of a legal log is legal.
-    pub legal_front : (front back : List Event) → Legal words (front ++ back) → Legal words front
-    legal_front front back legal = (follow_on_split words None front back legal).0
-
-    module _ (events : List Event) (i : ℕ) (other event : Event) (first e e' : Encoder) (none m m' : Messages)
-        (burst : List Packet) (within : i < length events) (is : event ≡ get_or events i other)
-        (encodes : Encodes text words (take i events) first none e m) where
-      -- The events up to this one, behind a log.
-      behind : (log : List Event) → log ++ take (i + 1) events ≡ (log ++ take i events) ++ event ∷ []
+    module _ (events rest : List Event) (taken count : ℕ) (first e e' : Encoder) (none m : Messages)
+        (packet : Option Packet) (rest_is : rest ≡ drop taken events)
+        (encodes : EncodesFront events taken first none e m) where
+      -- The events up to these, behind a log.
+      behind : (log : List Event)
+          → (log ++ take taken events) ++ take count rest ≡ log ++ take (taken + count) events
       behind log =
-          ap (λ l. log ++ l) (take_more events i other within ∙ ap (λ one. take i events ++ one ∷ []) (sym is))
-          ∙ sym (append_assoc log (take i events) (event ∷ []))
+          append_assoc log (take taken events) (take count rest)
+          ∙ ap (λ l. log ++ (take taken events ++ take count l)) rest_is
+          ∙ ap (λ l. log ++ l) (sym (take-add taken count events))
 
-      -- One event more is encoded, by what a push says and by what is written then.
-      pub encodes_more : ((period : ℕ) (mode : Mode) (log : List Event) → EncoderStands words period mode log e
-          → Legal words (log ++ event ∷ []) → EncoderStands words period mode (log ++ event ∷ []) e')
+      whole : (log : List Event) → log ++ events ≡ (log ++ take taken events) ++ rest
+      whole log =
+          ap (λ l. log ++ l) (sym (take-append-drop taken events))
+          ∙ ap (λ l. log ++ (take taken events ++ l)) (sym rest_is)
+          ∙ sym (append_assoc log (take taken events) rest)
+
+      -- More events are encoded, by what a push of them says and by what is written then.
+      pub encodes_more : (m' : Messages)
           → ((period : ℕ) (mode : Mode) (log : List Event) → EncoderStands words period mode log e
-          → Legal words (log ++ event ∷ []) → packets_so_far words period mode (log ++ event ∷ [])
-          ≡ packets_so_far words period mode log ++ burst)
-          → Adds text burst m m' → Encodes text words (take (i + 1) events) first none e' m'
-      encodes_more stands packets adds period mode hart log encoded legal =
-          let front = log ++ take i events in
-          let legal' : Legal words (front ++ event ∷ []) = subst (Legal words) (behind log) legal in
-          let before = encodes period mode hart log encoded (legal_front front (event ∷ []) legal') in
-          subst (λ log. EncodedSoFar text words period mode hart log e' m') (sym (behind log)) (record {
+          → Legal words (log ++ rest) → EncoderStands words period mode (log ++ take count rest) e')
+          → ((period : ℕ) (mode : Mode) (log : List Event) → EncoderStands words period mode log e
+          → Legal words (log ++ rest) → packets_so_far words period mode (log ++ take count rest)
+          ≡ packets_so_far words period mode log ++ option_to_list packet)
+          → Adds text (option_to_list packet) m m' → EncodesFront events (taken + count) first none e' m'
+      encodes_more m' stands packets adds period mode hart log encoded legal =
+          let front = log ++ take taken events in
+          let legal' : Legal words (front ++ rest) = subst (Legal words) (whole log) legal in
+          let before = encodes period mode hart log encoded legal in
+          subst (λ log. EncodedSoFar text words period mode hart log e' m') (behind log) (record {
             stands = stands period mode front before.stands legal';
             written = subst (λ ps. AreWritten text hart ps m') (sym (packets period mode front before.stands legal'))
-                (written_more hart (packets_so_far words period mode front) burst m m' before.written adds);
+                (written_more hart (packets_so_far words period mode front) (option_to_list packet) m m' before.written
+                adds);
           })
 
-      -- The packets of one event more have payloads.
+      -- Their packet has a payload.
       pub more_in_profile : MayBeEncoded text words events first none
           → ((period : ℕ) (mode : Mode) (log : List Event) → EncoderStands words period mode log e
-          → Legal words (log ++ event ∷ []) → All InProfile burst) → All InProfile burst
+          → Legal words (log ++ rest) → IfSome packet InProfile) → IfSome packet InProfile
       more_in_profile may profile =
-          let front = may.log ++ take i events in
-          let parted : may.log ++ events ≡ (may.log ++ take (i + 1) events) ++ drop (i + 1) events =
-          ap (λ l. may.log ++ l) (sym (take-append-drop (i + 1) events))
-          ∙ sym (append_assoc may.log (take (i + 1) events) (drop (i + 1) events)) in
-          let legal : Legal words (front ++ event ∷ []) =
-          subst (Legal words) (behind may.log) (legal_front (may.log ++ take (i + 1) events) (drop (i + 1) events)
-          (subst (Legal words) parted may.legal)) in
-          let before =
-          encodes may.period may.mode may.hart may.log may.so_far (legal_front front (event ∷ []) legal) in
-          profile may.period may.mode front before.stands legal
+          let before = encodes may.period may.mode may.hart may.log may.so_far may.legal in
+          profile may.period may.mode (may.log ++ take taken events) before.stands
+          (subst (Legal words) (whole may.log) may.legal)
+
+    -- All events are encoded.
+    pub encodes_all : (events : List Event) (taken : ℕ) (first e : Encoder) (none m : Messages)
+        → length events ≤ taken → EncodesFront events taken first none e m → Encodes text words events first none e m
+    encodes_all events taken first e none m whole encodes period mode hart log encoded legal =
+        subst (λ l. EncodedSoFar text words period mode hart (log ++ l) e m) (take_all taken events whole)
+        (encodes period mode hart log encoded legal)
 
     -- The opening packet's message is written, and no event is encoded yet.
     pub encoded_none : (period : ℕ) (mode : Mode) (hart : ℕ) (opening : Packet) (e e' : Encoder) (none new : Messages)

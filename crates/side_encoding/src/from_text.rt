@@ -62,8 +62,15 @@ fn push_all<F: Form>(
     ensures { OnOk result
         (Encodes F.text (words_of program.now) events.now encoder.old messages.old encoder.new messages.new) }
 {
-    for event in events {
-        messages.write_all::<F>(encoder.push(program, *event).as_slice())?;
+    let mut taken = 0;
+    // Each packet takes an event at least, and one call more finds that there is none.
+    for _ in 0..events.len() + 1 {
+        let (count, next) = encoder.push_until_packet(program, &events[taken..]);
+        taken += count;
+        match next {
+            Some(packet) => messages.write::<F>(&packet)?,
+            None => return Ok(()),
+        }
     }
-    Ok(())
+    Err(NotInPieces)
 }

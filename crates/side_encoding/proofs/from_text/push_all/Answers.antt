@@ -1,25 +1,80 @@
 -- The clauses of a push hold of each log that the encoder stands for, which the search does not instantiate.
-use Rattle.std.proofs.Common.{refl, subst, sym, All}
-use Rattle.retire.specs.declared.event.Event.TheVariants.{Retire}
+use Rattle.std.proofs.Common.{ℕ, ◌+◌, ◌≤◌, IfSome, arith, length, ap, subst, sym}
+use Rattle.std.proofs.lemmas.List.{length-drop}
+use Rattle.std.specs.Option.{option_to_list}
 use Rattle.payload.specs.Profile.{InProfile}
 use Rattle.rvclass.specs.Fetch.{words_of}
+use Rattle.encoder.proofs.SeveralEvents.{events_from}
+use Rattle.side_encoding.specs.declared.messages.Messages.{Messages}
 use Rattle.side_encoding.specs.steps.Adds.{Adds}
-use Rattle.side_encoding.proofs.EncodedEvents.{encodes_more, more_in_profile}
+use Rattle.side_encoding.proofs.AddedPackets.{adds_none}
+use Rattle.side_encoding.proofs.EncodedEvents.{EncodesFront, encodes_none, encodes_more, encodes_all, more_in_profile}
+use Rattle.side_encoding.proofs.from_text.push_all.Goals.{After-push_until_packet-count}
 use Rattle.side_encoding.proofs.from_text.push_all.Goals as goal
 
-pub write_all-requires : goal.write_all-requires
-write_all-requires g c =
-    subst (All InProfile) (sym c.as_slice.ensures.value)
-    (more_in_profile g.F.Form.text (words_of c.args.program.now) c.args.events.now c.loop-event.event-index
-    (Retire 0 0 0) _ c.args.encoder.now c.loop-event.encoder c.push.new.self c.args.messages.now c.loop-event.messages
-    c.loop-event.messages c.push.result.items c.loop-event-test.true refl c.loop-event.invariant
-    c.requires c.push.ensures.profile)
+pub loop-init : goal.loop-init
+loop-init g c = (
+  omega arith,
+  encodes_none g.F.Form.text (words_of c.args.program.now) c.args.events.now c.args.encoder.now c.args.messages.now,
+)
 
-pub loop-event-preserved : goal.loop-event-preserved
-loop-event-preserved g c =
-    encodes_more g.F.Form.text (words_of c.args.program.now) c.args.events.now c.loop-event.event-index (Retire 0 0 0)
-    _ c.args.encoder.now c.loop-event.encoder c.push.new.self c.args.messages.now c.loop-event.messages
-    c.write_all.new.self c.push.result.items c.loop-event-test.true refl c.loop-event.invariant
-    c.push.ensures.stands c.push.ensures.packets
-    (subst (λ packets. Adds g.F.Form.text packets c.loop-event.messages c.write_all.new.self)
-    c.as_slice.ensures.value c.in_ok-write_all.ensures)
+module _ (g : _) (c : After-push_until_packet-count g) where
+  abbrev taken : ℕ
+  taken = c.loop.taken + c.push_until_packet-count.result.0
+
+  within : taken ≤ length c.args.events.now
+  within =
+      omega (
+        arith,
+        c.push_until_packet-count.ensures.within,
+        c.loop.invariant.0,
+        length-drop c.loop.taken c.args.events.now,
+        ap length (events_from c.loop.taken c.args.events.now),
+      )
+
+  -- More events are encoded, where their packet is written.
+  encoded : (messages : Messages) → Adds g.F.Form.text (option_to_list c.push_until_packet-count.result.1)
+      c.loop.messages messages
+      → EncodesFront g.F.Form.text (words_of c.args.program.now) c.args.events.now taken c.args.encoder.now
+      c.args.messages.now c.push_until_packet-count.new.self messages
+  encoded messages adds =
+      encodes_more g.F.Form.text (words_of c.args.program.now) c.args.events.now _ c.loop.taken
+      c.push_until_packet-count.result.0 c.args.encoder.now c.loop.encoder c.push_until_packet-count.new.self
+      c.args.messages.now c.loop.messages c.push_until_packet-count.result.1
+      (events_from c.loop.taken c.args.events.now) c.loop.invariant.1 messages
+      c.push_until_packet-count.ensures.stands c.push_until_packet-count.ensures.packets adds
+
+pub write-requires : goal.write-requires
+write-requires g c =
+    subst (λ packet. IfSome packet InProfile) c.in-Some.is
+    (more_in_profile g.F.Form.text (words_of c.args.program.now) c.args.events.now _ c.loop.taken
+    c.push_until_packet-count.result.0 c.args.encoder.now c.loop.encoder c.push_until_packet-count.new.self
+    c.args.messages.now c.loop.messages c.push_until_packet-count.result.1
+    (events_from c.loop.taken c.args.events.now) c.loop.invariant.1 c.requires
+    c.push_until_packet-count.ensures.profile)
+
+pub loop-preserved : goal.loop-preserved
+loop-preserved g c =
+    let before = (goal.at.loop-preserved g c).After-push_until_packet-count in (
+      within g before,
+      encoded g before c.write.new.self
+          (subst (λ packet. Adds g.F.Form.text (option_to_list packet) c.loop.messages c.write.new.self)
+          (sym c.in-Some.is) c.in_ok-write-in-Some.ensures),
+    )
+
+pub returns-in-None : goal.returns-in-None
+returns-in-None g c =
+    let before = (goal.at.returns-in-None g c).After-push_until_packet-count in
+    let all = c.push_until_packet-count.ensures.all c.in-None.is in
+    encodes_all g.F.Form.text (words_of c.args.program.now) c.args.events.now (taken g before) c.args.encoder.now
+    c.push_until_packet-count.new.self c.args.messages.now c.loop.messages
+    (omega (
+      arith,
+      all,
+      c.loop.invariant.0,
+      length-drop c.loop.taken c.args.events.now,
+      ap length (events_from c.loop.taken c.args.events.now),
+    ))
+    (encoded g before c.loop.messages
+    (subst (λ packet. Adds g.F.Form.text (option_to_list packet) c.loop.messages c.loop.messages) (sym c.in-None.is)
+    (adds_none g.F.Form.text c.loop.messages)))

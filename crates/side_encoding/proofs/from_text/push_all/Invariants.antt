@@ -1,10 +1,10 @@
-use Rattle.std.proofs.Common.{take}
+use Rattle.std.proofs.Common.{◌≤◌, length}
 use Rattle.rvclass.specs.Fetch.{words_of}
-use Rattle.side_encoding.specs.steps.Encodes.{Encodes}
+use Rattle.side_encoding.proofs.EncodedEvents.{EncodesFront}
 use Rattle.side_encoding.proofs.from_text.push_all.Given as goal
 
--- The events before this one are encoded.
-abbrev pub invariant-loop-event : goal.invariant-loop-event
-invariant-loop-event g l =
-    Encodes g.F.Form.text (words_of l.program) (take l.event-index l.events) l.fn.encoder l.fn.messages l.encoder
-    l.messages
+-- The events that were taken are encoded.
+abbrev pub invariant-loop : goal.invariant-loop
+invariant-loop g l =
+    (l.taken ≤ length l.events)
+    × EncodesFront g.F.Form.text (words_of l.program) l.events l.taken l.fn.encoder l.fn.messages l.encoder l.messages

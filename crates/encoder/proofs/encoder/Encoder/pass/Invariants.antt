@@ -1,23 +1,16 @@
-use Rattle.std.proofs.Common.{◌≡◌, ◌+◌, take, None}
-use Rattle.std.specs.List.{last_or}
+use Rattle.std.proofs.Common.{◌≡◌, [], Some, take}
 use Rattle.rvclass.specs.Fetch.{words_of}
-use Rattle.encoder.specs.PacketsSoFar.{packets_so_far}
-use Rattle.encoder.specs.EncoderStands.{EncoderStands}
+use Rattle.encoder.specs.steps.Becomes.{Becomes}
 use Rattle.encoder.specs.declared.due.Due.TheVariants as due
 use Rattle.encoder.proofs.encoder.Encoder.pass.Given as goal
 
--- The encoder would stand for the events that were passed over, and these gave nothing.
-abbrev pub invariant-loop-at : goal.invariant-loop-at
-invariant-loop-at l =
-    let words = words_of l.program in
-    let period = l.fn.self.between + 1 in
-    let mode = l.fn.self.mode in
-    (l.next ≡ l.at)
-    × EncoderStands words period mode (take l.at l.events) (record l.self {
+-- By the events before this one the encoder would become what the variables say, and they give nothing.
+abbrev pub invariant-loop-event : goal.invariant-loop-event
+invariant-loop-event l =
+    (l.taken ≡ l.event-index)
+    × Becomes (words_of l.program) l.fn.self (take l.event-index l.events) (record l.self {
       left = l.left;
-      held = last_or None (take l.at l.events);
+      held = Some l.held;
       due = due.Nothing;
       pending = l.pending;
-    })
-    × (packets_so_far words period mode (take l.at l.events)
-    ≡ packets_so_far words period mode (take l.fn.taken l.events))
+    }) []
