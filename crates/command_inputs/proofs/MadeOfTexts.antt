@@ -1,27 +1,19 @@
 -- What is made of texts.
-use Rattle.std.proofs.Common.{◌≡◌, inl, inr, ℕ, ◌+◌, ◌-◌, ◌<◌, List, [], ◌∷◌, ◌++◌, Option, Some}
-use Rattle.std.proofs.Common.{Result, IfOk, IfSome, length, get_or, take, sym, ap, ◌∙◌, subst, arith}
+use Rattle.std.proofs.Common.{◌≡◌, inl, inr, refl, ℕ, ◌+◌, ◌-◌, ◌<◌, ◌≤◌, List, [], ◌∷◌, ◌++◌, Option, None, Some}
+use Rattle.std.proofs.Common.{Result, Err, IfSome, drop, length, get_or, take, sym, ap, ◌∙◌, subst, arith}
 use Rattle.std.proofs.lemmas.List.{append_assoc, get_or_at, length-append, take_at}
 use Rattle.std.proofs.lemmas.Slice.Zip.{AllZip-long}
-use Rattle.std.specs.List.{AllZip}
-use Rattle.std.specs.declared.alloc.AllocError.{AllocError}
-use Rattle.std.specs.declared.alloc.Global.{Global}
-use Rattle.std.specs.declared.vec.Vec.{Vec}
-use Rattle.side_by_side.proofs.Places.{all_zipped_by_place}
-use Rattle.side_by_side.specs.Places.{HoldsBelow}
-use Rattle.command_inputs.specs.Made.{IsMadeOf, IsNotMadeOf}
-use Rattle.command_inputs.specs.Texts.{ArePlacedFrom}
-use Rattle.command_inputs.specs.Turns.{StopsAt}
+use Rattle.side_by_side.specs.declared.coming.Found.{Found}
+use Rattle.command_inputs.specs.Faults.{Path}
+use Rattle.command_inputs.specs.Known.{Content}
+use Rattle.command_inputs.specs.Made.{AreMadeInTurn, IsMadeOf, IsNotMadeOf}
+use Rattle.command_inputs.specs.Texts.{AreTextsInTurn, IsTextAt, IsUnreadAt}
+use Rattle.command_inputs.specs.Turns.{ComeInTurn, StopsAt}
 use Rattle.command_inputs.specs.declared.fault.Fault.{Fault}
+use Rattle.command_inputs.specs.declared.fault.Fault.TheVariants as fault
 use Rattle.command_inputs.specs.declared.texts.LogText.{LogText}
-use Rattle.command_inputs.specs.steps.Found.{ComesOf, IsFound, IsFoundFault}
-
--- The places go on with one text more.
-pub placed_more : (first : ℕ) (texts : List LogText) (text : LogText) → ArePlacedFrom first texts
-    → text.place ≡ first + length texts → ArePlacedFrom first (texts ++ text ∷ [])
-placed_more first [] text placed at = (at ∙ omega arith, tt)
-placed_more first (one ∷ texts) text placed at =
-    (placed.0, placed_more (first + 1) texts text placed.1 (at ∙ omega arith))
+use Rattle.command_inputs.specs.steps.Found.{IsFound, IsFoundFault}
+use Rattle.command_inputs.proofs.Turns.{turns_end, turns_stop}
 
 -- The last member of a list that is cut behind a place is the one there.
 last_there : {A : Type 0} (front : List A) (next : A) (rest kept : List A) (last : Option A) (count : ℕ)
@@ -39,34 +31,16 @@ last_there front next rest kept last count long is found =
     (sym (ap (λ n. n - 1) (length-append front (next ∷ [])) ∙ omega arith)))
 
 module _ {X : Type 0} (Gives : ℕ → LogText → Result X Fault → Type 0) where
-  -- What was found of a slice of the texts was found of the texts.
-  pub found_of_slice : (slice texts : List LogText) (found : Result (Vec (Result X Fault) Global) AllocError)
-      → slice ≡ texts → IfOk found (λ found. length found.items ≡ length slice)
-      → IfOk found (λ found. HoldsBelow Gives (length slice) slice found.items)
-      → IfOk found (λ found. length found.items ≡ length texts)
-      × IfOk found (λ found. HoldsBelow Gives (length texts) texts found.items)
-  found_of_slice slice texts found same count each = (
-    subst (λ (texts : List LogText). IfOk found (λ found. length found.items ≡ length texts)) same count,
-    subst (λ (texts : List LogText). IfOk found (λ found. HoldsBelow Gives (length texts) texts found.items)) same each,
-  )
-
-  -- Results, one for each text by its place, come of the texts.
-  pub all_come : (texts : List LogText) (found : List (Result X Fault)) → length found ≡ length texts
-      → HoldsBelow Gives (length texts) texts found → AllZip (ComesOf Gives) texts found
-  all_come texts found long each =
-      all_zipped_by_place (ComesOf Gives) texts found long
-      (λ place text one within. (place, each place text one within))
-
   -- What was found of a text is made of it.
-  pub found_thing : (text : LogText) (found : Result X Fault) (thing : X) → ComesOf Gives text found
+  pub found_thing : (text : LogText) (found : Result X Fault) (thing : X) → Gives 0 text found
       → IsFound found thing → IsMadeOf Gives text thing
-  found_thing text found thing (place, comes) is = (place, subst (Gives place text) is comes)
+  found_thing text found thing comes is = (0, subst (Gives 0 text) is comes)
 
   -- The fault that was found of a text comes of it.
-  pub found_fault : (text : LogText) (found : Result X Fault) (why : Fault) → ComesOf Gives text found
+  pub found_fault : (text : LogText) (found : Result X Fault) (why : Fault) → Gives 0 text found
       → IsFoundFault found why → IsNotMadeOf Gives text why
   found_fault text found why comes (inl denied) = inl denied
-  found_fault text found why (place, comes) (inr is) = inr (place, subst (Gives place text) is comes)
+  found_fault text found why comes (inr is) = inr (0, subst (Gives 0 text) is comes)
 
   -- The text at which memory was refused stops it with the fault that it has when it is tried again.
   pub stops_again : (texts kept : List LogText) (made : List X) (last : Option LogText) (before why : Fault)
@@ -85,3 +59,69 @@ module _ {X : Type 0} (Gives : ℕ → LogText → Result X Fault → Type 0) wh
         came = stop.came;
         stopped = subst (λ last. IfSome last (λ text. IsNotMadeOf Gives text why)) last_is again;
       }
+
+-- Files are read in turn, and something is made of their texts.
+module _ {X : Type 0} (Gives : ℕ → LogText → Result X Fault → Type 0) (content : Content)
+    (Both : Path → X → Type 0) (Ends : Path → Fault → Type 0)
+    (both : (path : Path) (text : LogText) (made : X) → IsTextAt content path text → IsMadeOf Gives text made
+    → Both path made)
+    (ends : (path : Path) (text : LogText) (why : Fault) → IsTextAt content path text → IsNotMadeOf Gives text why
+    → Ends path why)
+    (stays : (path : Path) (why : Fault) → IsUnreadAt content path why → Ends path why) where
+  made_of_files : (paths : List Path) (first : ℕ) (texts : List LogText) (made : List X)
+      (end result : Result (Unit {0}) Fault) → AreTextsInTurn content first paths texts end
+      → AreMadeInTurn Gives texts end made result → ComeInTurn Both Ends paths made result
+  made_of_files paths first texts made end result come (inl all) =
+      subst (ComeInTurn Both Ends paths made) (sym all.0)
+      (turns_end (IsTextAt content) (IsMadeOf Gives) Both both (IsNotMadeOf Gives) Ends ends (IsUnreadAt content) stays
+      paths texts made end come.read all.1)
+  made_of_files paths first texts made end result come (inr (why, is, stop)) =
+      subst (ComeInTurn Both Ends paths made) (sym is)
+      (turns_stop (IsTextAt content) (IsMadeOf Gives) Both both (IsNotMadeOf Gives) Ends ends (IsUnreadAt content) stays
+      paths texts made end why come.read stop)
+
+  refused_at_first : (paths : List Path) (made : List X) (result : Result (Unit {0}) Fault) → 1 ≤ length paths
+      → result ≡ Err fault.Memory → made ≡ [] → ComeInTurn Both Ends paths made result
+  refused_at_first [] made result some is none = absurd (omega (arith, some))
+  refused_at_first (path ∷ paths) made result some is none =
+      subst (ComeInTurn Both Ends (path ∷ paths) made) (sym is)
+      (subst (λ made. StopsAt Both Ends (path ∷ paths) made fault.Memory) (sym none) (record {
+        front = [];
+        next = path;
+        rest = paths;
+        whole = refl;
+        came = tt;
+        stopped = stays path fault.Memory (inl refl);
+      }))
+
+  -- By what was found of the texts, where there was memory for it.
+  pub made_of_all_files : (paths : List Path) (first : ℕ) (found : Option (Found LogText (Result X Fault)))
+      (made : List X) (end result : Result (Unit {0}) Fault)
+      → IfSome found (λ all. AreTextsInTurn content first paths all.jobs.items end)
+      → (found ≡ None → 1 ≤ length paths)
+      → IfSome found (λ all. AreMadeInTurn Gives all.jobs.items end made result)
+      → (found ≡ None → (result ≡ Err fault.Memory) × (made ≡ []))
+      → ComeInTurn Both Ends paths made result
+  made_of_all_files paths first None made end result come some all none =
+      let refused = none refl in refused_at_first paths made result (some refl) refused.0 refused.1
+  made_of_all_files paths first (Some found) made end result come some all none =
+      made_of_files paths first found.jobs.items made end result come all
+
+-- What the files say of their texts, by what they began with.
+pub texts_of_files : {X : Type 0} (found : Option (Found LogText X)) (content content' : Content) (place place' done : ℕ)
+    (paths paths' : List Path) (end : Result (Unit {0}) Fault) (Kept : Type 0) → content ≡ content' → place ≡ place'
+    → done ≡ 0 → paths ≡ paths'
+    → IfSome found (λ all. AreTextsInTurn content place (drop done paths) all.jobs.items end × Kept)
+    → IfSome found (λ all. AreTextsInTurn content' place' paths' all.jobs.items end)
+texts_of_files None content content' place place' done paths paths' end Kept same here none are come = tt
+texts_of_files (Some found) content content' place place' done paths paths' end Kept same here none are come =
+    subst (λ content. AreTextsInTurn content place' paths' found.jobs.items end) same
+    (subst (λ place. AreTextsInTurn content place paths' found.jobs.items end) here
+    (subst (λ paths. AreTextsInTurn content place paths found.jobs.items end) (ap (λ n. drop n paths) none ∙ are)
+    come.0))
+
+-- What is known of the files stays, whether there was memory for the lists or not.
+pub kept_by_files : {A Kept : Type 0} (P : A → Type 0) (found : Option A) → IfSome found (λ all. P all × Kept)
+    → (found ≡ None → Kept) → Kept
+kept_by_files P None some none = none refl
+kept_by_files P (Some found) some none = some.1

@@ -1,10 +1,11 @@
 -- The texts of logs, and what comes of them.
-use Rattle.std.specs.Prelude.{◌≡◌, ◌⊎◌, ◌+◌, ℕ, List, [], ◌∷◌, Result, Ok, Err}
+use Rattle.std.specs.Prelude.{◌≡◌, ◌⊎◌, ◌+◌, ◌^◌, ◌≤◌, ℕ, List, [], ◌∷◌, Result, Ok, Err, length}
 use Rattle.rvclass.specs.Image.{Image}
 use Rattle.command_inputs.specs.Faults.{Path}
 use Rattle.command_inputs.specs.Found.{IsRead, log_at}
 use Rattle.command_inputs.specs.Judged.{IsVerdictOf, events_of}
 use Rattle.command_inputs.specs.Known.{Content}
+use Rattle.command_inputs.specs.Turns.{ComeInTurn}
 use Rattle.command_inputs.specs.declared.fault.Fault.{Fault}
 use Rattle.command_inputs.specs.declared.fault.Fault.TheVariants as fault
 use Rattle.command_inputs.specs.declared.judging.JudgedLog.{JudgedLog}
@@ -22,6 +23,13 @@ ArePlacedFrom place (text ∷ texts) = (text.place ≡ place) × ArePlacedFrom (
 -- The file at a path is not read.
 abbrev pub IsUnreadAt : Content → Path → Fault → Type 0
 IsUnreadAt content path why = (why ≡ fault.Memory) ⊎ IsRead content path (Err why)
+
+-- The files at these paths are read in turn, up to the first that is not read, and these are their texts, which are
+-- placed from this place on.
+pub record AreTextsInTurn (content : Content) (first : ℕ) (paths : List Path) (texts : List LogText)
+    (end : Result (Unit {0}) Fault) : Type 0 where
+  pub read : ComeInTurn (IsTextAt content) (IsUnreadAt content) paths texts end
+  pub placed : first + length paths ≤ 2 ^ 16 → ArePlacedFrom first texts
 
 -- This is the log of a text, judged by the program.
 pub record IsLogOfText (program : Image) (text : LogText) (log : JudgedLog) : Type 0 where

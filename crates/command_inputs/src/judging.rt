@@ -7,12 +7,12 @@ ghost use Rattle.command_inputs.specs.Texts.{ComesOfText};
 
 use crate::fault::Fault;
 use crate::files::Files;
-use crate::making::made_of_texts;
-use crate::texts::{LogText, LogTexts, texts_of};
+use crate::making::made_of_found;
+use crate::texts::{LogFiles, LogText};
 use legalpath::{LegalLog, PathFault};
 use retire::{Event, read_log_from_slice};
 use rvclass::Program;
-use side_by_side::{Task, results};
+use side_by_side::{Task, found_of};
 use std::alloc::Global;
 use std::thread::Threads;
 
@@ -34,8 +34,8 @@ pub struct JudgedLogs<'a, 'p> {
     pub end: Result<(), Fault<'a>>,
 }
 
-/// The logs at these paths. The files are read in turn. Then their texts are read and judged, each in a thread of its
-/// own, where one can be started. So there are at most as many paths as the machine has processors.
+/// The logs at these paths. The files are read in turn, and as soon as one is read, its text is read and judged in a
+/// thread of its own, where one can be started. So there are at most as many paths as the machine has processors.
 ///
 /// The end is the first fault in the order of the paths. Where memory is refused, the texts are read and judged again,
 /// one after the other. Where it is then refused for one of them, that one is read and judged once more, when all
@@ -51,17 +51,14 @@ pub fn judged_logs_of<'a, 'p, F: Files, R: Threads + Sync>(
         paths.now result.logs.items result.end }
     ensures kept { F.content files.new ≡ F.content files.old }
 {
-    let LogTexts { texts, end } = texts_of(alloc, files, 0, paths);
-    let mut logs = Vec::new(alloc);
     let judging = Judging { alloc, program };
-    let found = results(alloc, rt, &judging, texts.as_slice());
-    match made_of_texts(&judging, texts, found, &mut logs) {
-        Ok(()) => JudgedLogs { logs, end },
-        Err(why) => JudgedLogs {
-            logs,
-            end: Err(why),
-        },
-    }
+    let mut log_files = LogFiles::of(files, 0, paths);
+    let found = found_of(alloc, rt, &judging, &mut log_files);
+    let mut logs = Vec::new(alloc);
+    let LogFiles { files, end, .. } = log_files;
+    let _ = files;
+    let end = made_of_found(&judging, found, end, &mut logs);
+    JudgedLogs { logs, end }
 }
 
 /// How the text of a log is judged by a program.

@@ -15,7 +15,7 @@ use std::alloc::Global;
 use std::thread::Threads;
 
 /// The logs at these paths, in order, where each is legal for the program. As many as the machine has processors are
-/// read in turn, and then judged side by side.
+/// read in turn, and each is judged as soon as it is read, beside the others.
 pub fn legal_logs_of<'a, 'p, F: Files, R: Threads + Sync>(
     alloc: Global,
     rt: &R,

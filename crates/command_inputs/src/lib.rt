@@ -21,6 +21,6 @@ pub use files::{FileFault, Files};
 pub use inputs::{asked_program, base_of, content_of, program_of, symbols_of};
 pub use judging::{JudgedLog, JudgedLogs, judged_logs_of, log_of_text};
 pub use legal_logs::legal_logs_of;
-pub use making::made_of_texts;
+pub use making::made_of_found;
 pub use status::Status;
-pub use texts::{LogText, LogTexts, texts_of};
+pub use texts::{LogFiles, LogText};

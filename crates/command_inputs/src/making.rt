@@ -1,39 +1,58 @@
-//! What is made of the texts of logs, side by side.
+//! What is made of the texts of logs.
 
-ghost use Rattle.std.specs.Prelude.{◌≡◌, IfOk, IfSome, [], length};
-ghost use Rattle.side_by_side.specs.Places.{HoldsBelow};
-ghost use Rattle.command_inputs.specs.Made.{IsMadeOf, IsNotMadeOf};
+ghost use Rattle.std.specs.Prelude.{◌≡◌, Err, IfSome, None, []};
+ghost use Rattle.std.specs.List.{AllZip};
+ghost use Rattle.command_inputs.specs.Made.{AreMadeInTurn, IsMadeOf, IsNotMadeOf};
 ghost use Rattle.command_inputs.specs.Turns.{ComeInTurn};
 ghost use Rattle.command_inputs.specs.steps.Found.{IsFound, IsFoundFault};
 
 use crate::fault::Fault;
 use crate::texts::LogText;
-use side_by_side::Task;
-use std::alloc::AllocError;
+use side_by_side::{Found, Task};
 
-/// Moves what was found of the texts into a list that is empty at first, up to the first text of which a fault comes.
-/// `found` is what [`side_by_side::results`] returned of the texts.
+/// Moves what was found of texts into a list that is empty at first, up to the first text of which a fault comes.
+/// `found` is what [`side_by_side::found_of`] returned of the texts, and `end` why no more of them came, or that all had
+/// come.
 ///
-/// The end is the first fault in the order of the texts. Where memory is refused, all is made again, one after the
-/// other. Where it is then refused for one of them, that one is made once more, when all behind it are gone.
-pub fn made_of_texts<'a, X: Drop, T: Task<LogText<'a>, Result<X, Fault<'a>>>>(
+/// Returns the first fault in the order of the texts, and else `end`. Where memory is refused, all is made again, one
+/// after the other. Where it is then refused for one of the texts, that one is made once more, when all behind it are
+/// gone. Where memory for the lists was refused, that is the fault.
+pub fn made_of_found<'a, X: Drop, T: Task<LogText<'a>, Result<X, Fault<'a>>>>(
     task: &T,
-    texts: Vec<LogText<'a>>,
-    found: Result<Vec<Result<X, Fault<'a>>>, AllocError>,
+    found: Option<Found<LogText<'a>, Result<X, Fault<'a>>>>,
+    end: Result<(), Fault<'a>>,
     made: &mut Vec<X>,
 ) -> Result<(), Fault<'a>>
     requires empty { made.old.items ≡ [] }
-    requires count { IfOk found (λ found. length found.items ≡ length texts.items) }
-    requires each { IfOk found (λ found. HoldsBelow (T.Gives task.now) (length texts.items) texts.items found.items) }
+    requires each { IfSome found (λ all. AllZip (T.Gives task.now 0) all.jobs.items all.found.items) }
+    ensures made { IfSome found.entry (λ all.
+        AreMadeInTurn (T.Gives task.now) all.jobs.items end.entry made.new.items result) }
+    ensures refused { found.entry ≡ None → (result ≡ Err Fault.Memory) × (made.new.items ≡ []) }
+{
+    let Some(Found { jobs, found }) = found else {
+        return Err(Fault::Memory);
+    };
+    match made_of_texts(task, jobs, found, made) {
+        Ok(()) => end,
+        Err(why) => Err(why),
+    }
+}
+
+/// Moves what was found of the texts into a list that is empty at first, up to the first text of which a fault comes.
+fn made_of_texts<'a, X: Drop, T: Task<LogText<'a>, Result<X, Fault<'a>>>>(
+    task: &T,
+    texts: Vec<LogText<'a>>,
+    found: Vec<Result<X, Fault<'a>>>,
+    made: &mut Vec<X>,
+) -> Result<(), Fault<'a>>
+    requires empty { made.old.items ≡ [] }
+    requires each { AllZip (T.Gives task.now 0) texts.items found.items }
     ensures { ComeInTurn (IsMadeOf (T.Gives task.now)) (IsNotMadeOf (T.Gives task.now)) texts.entry.items made.new.items
         result }
 {
-    match found {
-        Ok(found) => match take_made(found, made) {
-            Err(Fault::Memory) => make_in_turn(task, texts, made),
-            end => end,
-        },
-        Err(_) => make_in_turn(task, texts, made),
+    match take_made(found, made) {
+        Err(Fault::Memory) => make_in_turn(task, texts, made),
+        end => end,
     }
 }
 

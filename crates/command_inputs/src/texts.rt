@@ -1,13 +1,12 @@
 //! The texts of logs.
 
-ghost use Rattle.std.specs.Prelude.{◌≡◌, ◌+◌, ◌^◌, ◌≤◌, [], length};
-ghost use Rattle.command_inputs.specs.Turns.{ComeInTurn};
-ghost use Rattle.command_inputs.specs.Texts.{ArePlacedFrom, IsTextAt, IsUnreadAt};
+ghost use Rattle.std.specs.Prelude.{◌≡◌, ◌-◌, drop, length};
+ghost use Rattle.command_inputs.specs.Texts.{AreTextsInTurn};
 
 use crate::fault::Fault;
 use crate::files::Files;
 use crate::inputs::content_of;
-use std::alloc::Global;
+use side_by_side::Jobs;
 
 /// The text of a log, and the path of its file.
 #[derive(Drop)]
@@ -20,51 +19,69 @@ pub struct LogText<'a> {
     pub bytes: Vec<u8>,
 }
 
-/// The texts of logs, up to the first file that is not read.
+/// The files of logs, whose texts are read one after another.
 #[derive(Drop)]
-pub struct LogTexts<'a> {
-    /// The texts, in order.
-    pub texts: Vec<LogText<'a>>,
-    /// Why there is no text of the next file, or that all files are read.
+pub struct LogFiles<'f, 'a, 'p, F> {
+    /// Where the files are read from.
+    pub files: &'f mut F,
+    /// The paths of all logs.
+    pub paths: &'p [&'a str],
+    /// How many of them are read.
+    pub done: usize,
+    /// The place of the next log among all that are read.
+    pub place: usize,
+    /// Why the next file was not read, if it was not.
     pub end: Result<(), Fault<'a>>,
 }
 
-/// The texts of the logs at these paths, the first of which has this place among all logs. The files are read in turn.
-pub fn texts_of<'a, F: Files>(
-    alloc: Global,
-    files: &mut F,
-    first: usize,
-    paths: &[&'a str],
-) -> LogTexts<'a>
-    ensures texts { ComeInTurn (IsTextAt (F.content files.old)) (IsUnreadAt (F.content files.old)) paths.now
-        result.texts.items result.end }
-    ensures placed { first + length paths.now ≤ 2 ^ 16 → ArePlacedFrom first result.texts.items }
-    ensures kept { F.content files.new ≡ F.content files.old }
-{
-    let mut texts = Vec::new(alloc);
-    let end = read_texts(files, first, paths, &mut texts);
-    LogTexts { texts, end }
-}
-
-/// Reads the files at these paths in turn into a list that is empty at first, up to the first that is not read.
-fn read_texts<'a, F: Files>(
-    files: &mut F,
-    first: usize,
-    paths: &[&'a str],
-    texts: &mut Vec<LogText<'a>>,
-) -> Result<(), Fault<'a>>
-    requires { texts.old.items ≡ [] }
-    ensures texts { ComeInTurn (IsTextAt (F.content files.old)) (IsUnreadAt (F.content files.old)) paths.now
-        texts.new.items result }
-    ensures placed { first + length paths.now ≤ 2 ^ 16 → ArePlacedFrom first texts.new.items }
-    ensures kept { F.content files.new ≡ F.content files.old }
-{
-    for (at, path) in paths.iter().enumerate() {
-        let bytes = content_of(files, path)?;
-        let place = first.saturating_add(at);
-        if texts.push(LogText { path, place, bytes }).is_err() {
-            return Err(Fault::Memory);
+impl<'f, 'a, 'p, F: Files> LogFiles<'f, 'a, 'p, F> {
+    /// The files at these paths, of which none is read. The first log has this place among all that are read.
+    pub fn of(files: &'f mut F, place: usize, paths: &'p [&'a str]) -> LogFiles<'f, 'a, 'p, F>
+        ensures files { result.files.now ≡ files.entry.now }
+        ensures same { result.files.ghost_name ≡ files.entry.ghost_name }
+        ensures paths { result.paths.now ≡ paths.now }
+        ensures done { result.done ≡ 0 }
+        ensures place { result.place ≡ place }
+    {
+        LogFiles {
+            files,
+            paths,
+            done: 0,
+            place,
+            end: Ok(()),
         }
     }
-    Ok(())
+}
+
+impl<'a, F: Files> Jobs<LogText<'a>> for LogFiles<'_, 'a, '_, F> {
+    ghost Come = { λ before texts after.
+        AreTextsInTurn (F.content before.files.now) before.place (drop before.done before.paths.now) texts after.end
+        × (F.content after.files.now ≡ F.content before.files.now) };
+
+    ghost left = { λ log_files. length log_files.paths.now - log_files.done };
+
+    ghost name = { λ log_files. log_files.files.ghost_name };
+
+    fn left(&self) -> usize {
+        self.paths.len().saturating_sub(self.done)
+    }
+
+    fn next(&mut self) -> Option<LogText<'a>> {
+        if self.done >= self.paths.len() {
+            self.end = Ok(());
+            return None;
+        }
+        let path = self.paths[self.done];
+        let bytes = match content_of(self.files, path) {
+            Ok(bytes) => bytes,
+            Err(why) => {
+                self.end = Err(why);
+                return None;
+            }
+        };
+        let place = self.place;
+        self.place = place.saturating_add(1);
+        self.done += 1;
+        Some(LogText { path, place, bytes })
+    }
 }

@@ -1,5 +1,6 @@
 -- What is made of logs from their texts, and what is written of it.
-use Rattle.std.proofs.Common.{◌≡◌, ◌⊎◌, inl, inr, refl, ℕ, ◌+◌, ◌<◌, List, [], ◌∷◌, ◌++◌, Result, Ok, Err, length}
+use Rattle.std.proofs.Common.{◌≡◌, ◌⊎◌, inl, inr, refl, ℕ, ◌+◌, ◌^◌, ◌<◌, ◌≤◌, List, [], ◌∷◌, ◌++◌, Option}
+use Rattle.std.proofs.Common.{None, Some, IfSome, Result, Ok, Err, length}
 use Rattle.std.proofs.Common.{zero, suc, zero-add, get_or, sym, ap, ◌∙◌, subst, arith}
 use Rattle.std.proofs.lemmas.Grind.{common_steps}
 use Rattle.std.proofs.lemmas.List.{length-append}
@@ -9,6 +10,7 @@ use Rattle.legalpath.specs.ProgramLog.{ProgramLog}
 use Rattle.message.specs.declared.message.Message.{Message}
 use Rattle.payload.specs.declared.mode.Mode.{Mode}
 use Rattle.rvclass.specs.Image.{Image}
+use Rattle.side_by_side.specs.declared.coming.Found.{Found}
 use Rattle.command_inputs.proofs.FromFiles.{legal_unread}
 use Rattle.command_inputs.proofs.LegalLogs.{group_refused}
 use Rattle.command_inputs.proofs.TextLogs.{unread_at_path}
@@ -16,8 +18,8 @@ use Rattle.command_inputs.proofs.Turns.{turns_end, turns_stop}
 use Rattle.command_inputs.specs.Faults.{Path}
 use Rattle.command_inputs.specs.Found.{IsFirstRefused, IsJudged, IsLegalLogAt, log_at}
 use Rattle.command_inputs.specs.Known.{Content}
-use Rattle.command_inputs.specs.Made.{IsMadeOf, IsNotMadeOf}
-use Rattle.command_inputs.specs.Texts.{ArePlacedFrom, IsTextAt, IsUnreadAt}
+use Rattle.command_inputs.specs.Made.{AreMadeInTurn, IsMadeOf, IsNotMadeOf}
+use Rattle.command_inputs.specs.Texts.{ArePlacedFrom, AreTextsInTurn, IsTextAt, IsUnreadAt}
 use Rattle.command_inputs.specs.Turns.{ComeInTurn, StopsAt}
 use Rattle.command_inputs.specs.declared.fault.Fault.{Fault}
 use Rattle.command_inputs.specs.declared.fault.Fault.TheVariants as fault
@@ -25,6 +27,10 @@ use Rattle.command_inputs.specs.declared.texts.LogText.{LogText}
 use Rattle.command_inputs.specs.steps.Legal.{AddsLegalLogsAt, AreLegalSoFar, IsRefusedAt}
 use Rattle.log_commands.specs.declared.made.MadeLog.{MadeLog}
 use Rattle.log_commands.specs.steps.Made.{AddsMade, AreMadeFrom, ComesOfMaking, HasLegalLog, IsMadeOfLog}
+
+-- How a run over files ends.
+abbrev ended : Result (Unit {0}) Fault → Result (Unit {0}) Fault
+ended result = result
 
 -- A text has no legal log, or memory was refused.
 abbrev HasNone : Image → LogText → Fault → Type 0
@@ -267,12 +273,45 @@ module _ (text_of : Message → List ℕ) (period : ℕ) (mode : Mode) where
                 (subst (λ hart. AreMadeFrom text_of period mode hart ones.logs all) (omega arith) ones.made)),
           )
 
-    -- What was made of all texts is added, as far as the files were read.
-    pub adds_as_read : (content : Content) (paths : List Path) (texts : List LogText) (all old new : List MadeLog)
-        (end : Result (Unit {0}) Fault) → ComeInTurn (IsTextAt content) (IsUnreadAt content) paths texts end
-        → AllZip (IsMadeOf Gives) texts all → ArePlacedFrom (length old) texts → new ≡ old ++ all
-        → AddsMade text_of period mode content program paths old new end
-    adds_as_read content paths texts all old new (Ok end) read made placed is =
-        adds_made content paths texts all (Ok end) read old new made placed is
-    adds_as_read content paths texts all old new (Err why) read made placed is =
-        inr (adds_all content paths texts all (Err why) read made)
+    module _ (content : Content) (paths : List Path) (first : ℕ) (made old : List MadeLog)
+        (end : Result (Unit {0}) Fault) where
+      failed : (texts : List LogText) (why : Fault) → AreTextsInTurn content first paths texts end
+          → AreMadeInTurn Gives texts end made (Err why) → (logs : List ProgramLog)
+          → (more : List ProgramLog) × AddsLegalLogsAt content program paths logs more (Err why)
+      failed texts why are (inl all) =
+          subst (λ end. (logs : List ProgramLog)
+          → (more : List ProgramLog) × AddsLegalLogsAt content program paths logs more end) (sym all.0)
+          (adds_all content paths texts made end are.read all.1)
+      failed texts why are (inr (other, is, stop)) =
+          subst (λ end. (logs : List ProgramLog)
+          → (more : List ProgramLog) × AddsLegalLogsAt content program paths logs more end) (sym is)
+          (adds_stopped content paths texts made end are.read other stop)
+
+      -- Nothing is added where something was not made, by what was found of the texts.
+      pub adds_failed : (found : Option (Found LogText (Result MadeLog Fault))) (why : Fault)
+          → IfSome found (λ all. AreTextsInTurn content first paths all.jobs.items end)
+          → IfSome found (λ all. AreMadeInTurn Gives all.jobs.items end made (Err why))
+          → (found ≡ None → (ended (Err why) ≡ Err fault.Memory) × (made ≡ []))
+          → AddsMade text_of period mode content program paths old old (Err why)
+      adds_failed None why are all none = let ends = (none refl).0 in inl (grind (arith, common_steps))
+      adds_failed (Some found) why are all none = inr (failed found.jobs.items why are all)
+
+      whole : (texts : List LogText) (new : List MadeLog) (e : Unit {0}) → first ≡ length old
+          → first + length paths ≤ 2 ^ 16 → new ≡ old ++ made → AreTextsInTurn content first paths texts end
+          → AreMadeInTurn Gives texts end made (Ok e)
+          → AddsMade text_of period mode content program paths old new (Ok e)
+      whole texts new e here few is are (inl all) =
+          adds_made content paths texts made (Ok e)
+          (subst (ComeInTurn (IsTextAt content) (IsUnreadAt content) paths texts) (sym all.0) are.read) old new all.1
+          (subst (λ n. ArePlacedFrom n texts) here (are.placed few)) is
+      whole texts new e here few is are (inr (why, ends, stop)) = cc
+
+      -- What was made of all texts is added.
+      pub adds_whole : (found : Option (Found LogText (Result MadeLog Fault))) (new : List MadeLog) (e : Unit {0})
+          → first ≡ length old → first + length paths ≤ 2 ^ 16 → new ≡ old ++ made
+          → IfSome found (λ all. AreTextsInTurn content first paths all.jobs.items end)
+          → IfSome found (λ all. AreMadeInTurn Gives all.jobs.items end made (Ok e))
+          → (found ≡ None → (ended (Ok e) ≡ Err fault.Memory) × (made ≡ []))
+          → AddsMade text_of period mode content program paths old new (Ok e)
+      adds_whole None new e here few is are all none = let ends = (none refl).0 in cc
+      adds_whole (Some found) new e here few is are all none = whole found.jobs.items new e here few is are all

@@ -5,12 +5,12 @@ ghost use Rattle.command_inputs.specs.Judged.{IsUnjudgedAt};
 ghost use Rattle.command_inputs.specs.Turns.{ComeInTurn};
 ghost use Rattle.log_commands.specs.steps.Checked.{ComesOfCheck, IsCheckedLogAt, counted};
 
-use command_inputs::{Fault, Files, LogText, LogTexts, log_of_text, made_of_texts, texts_of};
+use command_inputs::{Fault, Files, LogFiles, LogText, log_of_text, made_of_found};
 use legalpath::{LegalLog, PathFault};
 use log_pieces::legal_count;
 use retire::Event;
 use rvclass::Program;
-use side_by_side::{Task, results};
+use side_by_side::{Task, found_of};
 use std::alloc::Global;
 use std::thread::Threads;
 
@@ -32,7 +32,8 @@ pub(crate) struct CheckedLogs<'a> {
     pub(crate) end: Result<(), Fault<'a>>,
 }
 
-/// The logs at these paths. The files are read in turn, and then checked side by side.
+/// The logs at these paths. The files are read in turn, and each log is checked as soon as its file is read, beside the
+/// others.
 pub(crate) fn checked_logs_of<'a, F: Files, R: Threads + Sync>(
     alloc: Global,
     rt: &R,
@@ -44,17 +45,14 @@ pub(crate) fn checked_logs_of<'a, F: Files, R: Threads + Sync>(
         paths.now result.logs.items result.end }
     ensures kept { F.content files.new ≡ F.content files.old }
 {
-    let LogTexts { texts, end } = texts_of(alloc, files, 0, paths);
-    let mut logs = Vec::new(alloc);
     let checking = Checking { alloc, program };
-    let found = results(alloc, rt, &checking, texts.as_slice());
-    match made_of_texts(&checking, texts, found, &mut logs) {
-        Ok(()) => CheckedLogs { logs, end },
-        Err(why) => CheckedLogs {
-            logs,
-            end: Err(why),
-        },
-    }
+    let mut log_files = LogFiles::of(files, 0, paths);
+    let found = found_of(alloc, rt, &checking, &mut log_files);
+    let LogFiles { files, end, .. } = log_files;
+    let _ = files;
+    let mut logs = Vec::new(alloc);
+    let end = made_of_found(&checking, found, end, &mut logs);
+    CheckedLogs { logs, end }
 }
 
 /// How the text of a log is checked by a program.

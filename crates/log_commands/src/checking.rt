@@ -57,7 +57,7 @@ pub fn check<'a, F: Files, O: Write, R: Threads + Sync>(
 }
 
 /// Judges the logs, and writes the lines of each, in order. As many as the machine has processors are read in turn,
-/// then judged side by side, and then written.
+/// judged side by side, each as soon as it is read, and then written.
 fn judge_all<'a, F: Files, O: Write, R: Threads + Sync>(
     alloc: Global,
     rt: &R,

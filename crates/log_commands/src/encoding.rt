@@ -34,8 +34,8 @@ use subcommands::Encode;
 /// Writes the messages of each hart's log, once all logs are found legal: as a capture of the version that is asked
 /// for, or as lines of hexadecimal. The version limits the count of logs in both cases.
 ///
-/// The logs are read in turn, and judged and encoded side by side, as many at once as the machine has processors. Of a
-/// legal log whose text is read in pieces the messages are kept, and not its events.
+/// The logs are read in turn. Each is judged and encoded as soon as it is read, beside the others, as many at once as
+/// the machine has processors. Of a legal log whose text is read in pieces the messages are kept, and not its events.
 pub fn encode<'a, F: Files, O: Write, R: Threads + Sync>(
     alloc: Global,
     rt: &R,

@@ -7,11 +7,11 @@ ghost use Rattle.side_encoding.specs.IsEncodedText.{IsEncodedText};
 ghost use Rattle.log_commands.specs.steps.Made.{AddsMade, AreMadeOfLogs, ComesOfMaking, HasLegalLog};
 
 use captures::Form;
-use command_inputs::{Fault, Files, LogText, LogTexts, log_of_text, made_of_texts, texts_of};
+use command_inputs::{Fault, Files, LogFiles, LogText, log_of_text, made_of_found};
 use legalpath::LegalLog;
 use payload::Mode;
 use rvclass::Program;
-use side_by_side::{Task, processors, results};
+use side_by_side::{Task, found_of, processors};
 use side_encoding::encode_text;
 use std::alloc::Global;
 use std::thread::Threads;
@@ -45,7 +45,7 @@ impl<'a, 'p, C: Form> Task<LogText<'a>, Result<MadeLog<'p>, Fault<'a>>> for Maki
 }
 
 /// What is made of the logs at these paths, in order, where each is legal for the program. As many as the machine has
-/// processors are read in turn, and then made side by side.
+/// processors are read in turn, and each is made as soon as it is read, beside the others.
 pub(crate) fn made_logs_of<'a, 'p, C: Form + Copy + Drop + Sync, F: Files, R: Threads + Sync>(
     rt: &R,
     files: &mut F,
@@ -81,14 +81,16 @@ fn add_made<'a, 'p, C: Form + Copy + Drop + Sync, F: Files, R: Threads + Sync>(
         paths.now made.old.items made.new.items result }
     ensures kept { F.content files.new ≡ F.content files.old }
 {
-    let LogTexts { texts, end } = texts_of(making.alloc, files, made.len(), paths);
-    let found = results(making.alloc, rt, making, texts.as_slice());
+    let mut log_files = LogFiles::of(files, made.len(), paths);
+    let found = found_of(making.alloc, rt, making, &mut log_files);
+    let LogFiles { files, end, .. } = log_files;
+    let _ = files;
     let mut more = Vec::new(making.alloc);
-    made_of_texts(making, texts, found, &mut more)?;
+    made_of_found(making, found, end, &mut more)?;
     if made.append(&mut more).is_err() {
         return Err(Fault::Memory);
     }
-    end
+    Ok(())
 }
 
 /// What is made of the text of a log: its messages where the text is read in pieces, and else the log.

@@ -4,6 +4,8 @@
 //! thread for each job, so it is called with at most as many as [`processors`] returns.
 #![tactic(auto)]
 
+mod coming;
 mod task;
 
+pub use coming::{Found, Jobs, found_of};
 pub use task::{Task, processors, results};

@@ -18,8 +18,8 @@ use std::alloc::Global;
 /// [`captures::encode_hart`] writes of that log. The log is read, judged and encoded a piece at a time, so that no list
 /// holds all of its events.
 ///
-/// The error comes where the log is not legal or is not read in pieces, and where memory is refused. It says nothing
-/// more: reading the text as a whole shows which.
+/// The error comes where the log is not legal or is not read in pieces, where its messages take more than 34 bytes an
+/// event and 65,536, and where memory is refused. It says nothing more: reading the text as a whole shows which.
 pub fn encode_text<F: Form>(
     alloc: Global,
     program: &Program,
@@ -39,9 +39,14 @@ pub fn encode_text<F: Form>(
         bytes: Vec::new(alloc),
     };
     messages.write::<F>(&encoder.open())?;
+    let mut count: usize = 0;
     for _ in 0..text.len() + 1 {
         match pieces.next()? {
-            Some(events) => push_all::<F>(&mut encoder, program, events.as_slice(), &mut messages)?,
+            Some(events) => {
+                push_all::<F>(&mut encoder, program, events.as_slice(), &mut messages)?;
+                count = count.saturating_add(events.len());
+                messages.keep_within(count)?;
+            }
             None => {
                 messages.write_all::<F>(encoder.finish(program).as_slice())?;
                 return Ok(messages.bytes);

@@ -1,6 +1,6 @@
 //! The messages of a hart, which are written into a buffer one after another.
 
-ghost use Rattle.std.specs.Prelude.{◌∷◌, [], All, OnOk};
+ghost use Rattle.std.specs.Prelude.{◌≡◌, ◌∷◌, [], All, OnOk};
 ghost use Rattle.payload.specs.Profile.{InProfile};
 ghost use Rattle.side_encoding.specs.steps.Adds.{Adds};
 
@@ -8,6 +8,20 @@ use captures::Form;
 use log_pieces::NotInPieces;
 use message::Message;
 use payload::{Packet, pack};
+
+/// The most bytes of a written message. A line of hexadecimal has up to 5 digits of the hart, 20 of the number and 36
+/// of the payload, two spaces and a line feed. In a capture a message has 29 bytes at most.
+const LONGEST: usize = 64;
+
+/// How much room is taken at once, beside a quarter of what is written.
+const MORE_ROOM: usize = 4_096;
+
+/// How much room the messages may have for each event. Where they need more, the log is read as a whole, in a list that
+/// takes 24 bytes an event, and its messages are written as they are made.
+const ROOM_PER_EVENT: usize = 34;
+
+/// How much room the messages may have beside that.
+const ROOM_BESIDE: usize = 65_536;
 
 /// The messages of a hart that are written so far.
 #[derive(Drop)]
@@ -47,9 +61,36 @@ impl Messages {
             Some(next) => next,
             None => return Err(NotInPieces),
         };
+        make_room(&mut self.bytes)?;
         match F::write(&mut self.bytes, &message) {
             Ok(()) => Ok(()),
             Err(_) => Err(NotInPieces),
         }
+    }
+
+    /// Gives up where the messages of this many events have more room than they may have.
+    pub(crate) fn keep_within(&self, events: usize) -> Result<(), NotInPieces> {
+        let most = ROOM_PER_EVENT
+            .saturating_mul(events)
+            .saturating_add(ROOM_BESIDE);
+        if self.bytes.capacity() > most {
+            return Err(NotInPieces);
+        }
+        Ok(())
+    }
+}
+
+/// Makes room for a message, where there may be too little. The room grows by a quarter, and so is little more than is
+/// written; a vector that grows by itself doubles it.
+#[inline]
+fn make_room(bytes: &mut Vec<u8>) -> Result<(), NotInPieces>
+    ensures { bytes.new.items ≡ bytes.old.items }
+{
+    if bytes.capacity() - bytes.len() >= LONGEST {
+        return Ok(());
+    }
+    match bytes.reserve_exact(bytes.len() / 4 + MORE_ROOM) {
+        Ok(()) => Ok(()),
+        Err(_) => Err(NotInPieces),
     }
 }

@@ -1,8 +1,7 @@
 -- What is found of things that were made.
-use Rattle.std.specs.Prelude.{◌≡◌, ◌⊎◌, ℕ, Result, Ok, Err}
+use Rattle.std.specs.Prelude.{◌≡◌, ◌⊎◌, Result, Ok, Err}
 use Rattle.command_inputs.specs.declared.fault.Fault.{Fault}
 use Rattle.command_inputs.specs.declared.fault.Fault.TheVariants as fault
-use Rattle.command_inputs.specs.declared.texts.LogText.{LogText}
 
 -- This was found.
 abbrev pub IsFound : {X : Type 0} → Result X Fault → X → Type 0
@@ -11,7 +10,3 @@ IsFound found thing = found ≡ Ok thing
 -- This fault was found, or memory was refused.
 abbrev pub IsFoundFault : {X : Type 0} → Result X Fault → Fault → Type 0
 IsFoundFault found why = (why ≡ fault.Memory) ⊎ (found ≡ Err why)
-
--- This comes of a text at some place among texts.
-abbrev pub ComesOf : {X : Type 0} → (ℕ → LogText → Result X Fault → Type 0) → LogText → Result X Fault → Type 0
-ComesOf Gives text found = (place : ℕ) × Gives place text found

@@ -1,42 +1,38 @@
 -- The prover takes no second step behind the first: the lemmas on both are handed to it.
-use Rattle.std.proofs.Common.{refl}
+use Rattle.std.proofs.Common.{◌∙◌, ap, arith, drop, length}
+use Rattle.std.proofs.lemmas.Grind.{common_steps}
 use Rattle.command_inputs.specs.Judged.{IsUnjudgedAt}
-use Rattle.command_inputs.specs.Made.{IsMadeOf, IsNotMadeOf}
-use Rattle.command_inputs.specs.Texts.{IsTextAt, IsUnreadAt}
+use Rattle.command_inputs.specs.Texts.{AreTextsInTurn}
 use Rattle.command_inputs.proofs.TextLogs.{unread_at_path}
-use Rattle.command_inputs.proofs.MadeOfTexts.{found_of_slice}
-use Rattle.command_inputs.proofs.Turns.{turns_end, turns_stop}
+use Rattle.command_inputs.proofs.MadeOfTexts.{kept_by_files, made_of_all_files, texts_of_files}
 use Rattle.log_commands.specs.steps.Checked.{ComesOfCheck, IsCheckedLogAt}
 use Rattle.log_commands.proofs.CheckedLogs.{checked_at_path, unchecked_at_path}
 use Rattle.log_commands.proofs.checked.checked_logs_of.Goals as goal
 
-pub made_of_texts-requires : goal.made_of_texts-requires
-made_of_texts-requires g c κs = (
-  (refl, tt),
-  (
-    c.new-logs.ensures.items,
-    found_of_slice (λ place. ComesOfCheck c.args.program.now) c.as_slice.result.now
-        c.texts_of-texts.result.texts.items c.results-found.result c.as_slice.ensures.value
-        c.results-found.ensures.count c.results-found.ensures.each,
-  ),
-)
-
-pub returns-in-Ok-clause-logs : goal.returns-in-Ok-clause-logs
-returns-in-Ok-clause-logs g c =
+pub returns-clause-logs : goal.returns-clause-logs
+returns-clause-logs g c =
     let content = g.F.Files.content c.args.files.now in
     let program = c.args.program.now in
-    turns_end (IsTextAt content) (IsMadeOf (λ place. ComesOfCheck program)) (IsCheckedLogAt content program)
-    (checked_at_path content program) (IsNotMadeOf (λ place. ComesOfCheck program)) (IsUnjudgedAt content)
-    (unchecked_at_path content program) (IsUnreadAt content) (unread_at_path content) c.args.paths.now
-    c.texts_of-texts.result.texts.items c.made_of_texts.new.made.items c.texts_of-texts.result.end
-    c.texts_of-texts.ensures.texts c.in-Ok.ensures
+    let paths = c.of-log_files.ensures.paths in
+    let done = c.of-log_files.ensures.done in
+    made_of_all_files (λ place. ComesOfCheck program) content (IsCheckedLogAt content program) (IsUnjudgedAt content)
+    (checked_at_path content program) (unchecked_at_path content program) (unread_at_path content)
+    c.args.paths.now 0 c.found_of-found.result c.made_of_found-end.new.made.items c.found_of-found.new.source.end
+    c.made_of_found-end.result
+    (texts_of_files c.found_of-found.result _ content _ 0 c.of-log_files.result.done c.of-log_files.result.paths.now
+    c.args.paths.now c.found_of-found.new.source.end _ (ap g.F.Files.content c.of-log_files.ensures.files)
+    c.of-log_files.ensures.place done paths c.found_of-found.ensures.come)
+    (λ none. let some = c.found_of-found.ensures.some none in let count = ap length paths in
+    omega (arith, some, done, count))
+    c.made_of_found-end.ensures.made c.made_of_found-end.ensures.refused
 
-pub returns-in-Err-clause-logs : goal.returns-in-Err-clause-logs
-returns-in-Err-clause-logs g c =
-    let content = g.F.Files.content c.args.files.now in
-    let program = c.args.program.now in
-    turns_stop (IsTextAt content) (IsMadeOf (λ place. ComesOfCheck program)) (IsCheckedLogAt content program)
-    (checked_at_path content program) (IsNotMadeOf (λ place. ComesOfCheck program)) (IsUnjudgedAt content)
-    (unchecked_at_path content program) (IsUnreadAt content) (unread_at_path content) c.args.paths.now
-    c.texts_of-texts.result.texts.items c.made_of_texts.new.made.items c.texts_of-texts.result.end c.in-Err.why
-    c.texts_of-texts.ensures.texts c.in-Err.ensures
+pub returns-clause-kept : goal.returns-clause-kept
+returns-clause-kept g c =
+    let named = c.found_of-found.ensures.same ∙ c.of-log_files.ensures.same in
+    let kept = kept_by_files
+    (λ all. AreTextsInTurn (g.F.Files.content c.of-log_files.result.files.now) c.of-log_files.result.place
+    (drop c.of-log_files.result.done c.of-log_files.result.paths.now) all.jobs.items c.found_of-found.new.source.end)
+    c.found_of-found.result c.found_of-found.ensures.come
+    (λ none. ap (λ s. g.F.Files.content s.files.now) (c.found_of-found.ensures.untouched none))
+    ∙ ap g.F.Files.content c.of-log_files.ensures.files in
+    grind (arith, common_steps)

@@ -1,47 +1,58 @@
 -- The prover takes no second step behind the first: the lemmas on both are handed to it.
-use Rattle.std.proofs.Common.{◌≡◌, ◌++◌, inr, Err, arith, length, refl, subst, sym}
+use Rattle.std.proofs.Common.{◌≡◌, ◌∙◌, ◌++◌, IfSome, Err, ap, arith, drop, length, subst, sym}
 use Rattle.std.proofs.lemmas.Grind.{common_steps}
-use Rattle.command_inputs.specs.Texts.{ArePlacedFrom}
-use Rattle.log_commands.specs.steps.Made.{AddsMade, ComesOfMaking}
-use Rattle.command_inputs.proofs.MadeOfTexts.{found_of_slice}
-use Rattle.log_commands.proofs.MadeLogs.{adds_as_read, adds_stopped}
+use Rattle.command_inputs.specs.Texts.{AreTextsInTurn}
+use Rattle.command_inputs.proofs.MadeOfTexts.{kept_by_files, texts_of_files}
+use Rattle.log_commands.specs.steps.Made.{AddsMade}
+use Rattle.log_commands.proofs.MadeLogs.{adds_failed, adds_whole}
 use Rattle.log_commands.proofs.made.add_made.Goals as goal
+use Rattle.log_commands.proofs.made.add_made.Goals.{After-made_of_found}
 
-pub made_of_texts-requires : goal.made_of_texts-requires
-made_of_texts-requires g c κs =
-    let making = c.args.making.now in (
-      (refl, tt),
-      (
-        c.new-more.ensures.items,
-        found_of_slice (λ place. ComesOfMaking g.C.Form.text making.period making.mode making.program.now) c.as_slice.result.now
-            c.texts_of-texts.result.texts.items c.results-found.result c.as_slice.ensures.value
-            c.results-found.ensures.count c.results-found.ensures.each,
-      ),
-    )
+module _ (g : _) (c : After-made_of_found g) where
+  -- The files' texts are read in turn.
+  are : IfSome c.found_of-found.result (λ all.
+      AreTextsInTurn (g.F.Files.content c.args.files.now) c.len.result c.args.paths.now all.jobs.items
+      c.found_of-found.new.source.end)
+  are =
+      texts_of_files c.found_of-found.result _ (g.F.Files.content c.args.files.now) _ c.len.result
+      c.of-log_files.result.done c.of-log_files.result.paths.now c.args.paths.now c.found_of-found.new.source.end _
+      (ap g.F.Files.content c.of-log_files.ensures.files) c.of-log_files.ensures.place c.of-log_files.ensures.done
+      c.of-log_files.ensures.paths c.found_of-found.ensures.come
 
-pub returns-in_err-made_of_texts-clause-logs : goal.returns-in_err-made_of_texts-clause-logs
-returns-in_err-made_of_texts-clause-logs g c =
+  -- The files still have the same content.
+  kept : g.F.Files.content c.found_of-found.new.source.files.now ≡ g.F.Files.content c.args.files.now
+  kept =
+      kept_by_files
+      (λ all. AreTextsInTurn (g.F.Files.content c.of-log_files.result.files.now) c.of-log_files.result.place
+      (drop c.of-log_files.result.done c.of-log_files.result.paths.now) all.jobs.items
+      c.found_of-found.new.source.end)
+      c.found_of-found.result c.found_of-found.ensures.come
+      (λ none. ap (λ s. g.F.Files.content s.files.now) (c.found_of-found.ensures.untouched none))
+      ∙ ap g.F.Files.content c.of-log_files.ensures.files
+
+pub returns-in_err-made_of_found-clause-logs : goal.returns-in_err-made_of_found-clause-logs
+returns-in_err-made_of_found-clause-logs g c =
     let making = c.args.making.now in
-    let program = making.program.now in
     let content = g.F.Files.content c.args.files.now in
-    let why = c.in_err-made_of_texts.field-0.0 in
+    let why = c.in_err-made_of_found.field-0.0 in
     let old = c.args.made.now.items in
+    let before = (goal.at.returns-in_err-made_of_found-clause-logs g c).After-made_of_found in
     let is : c.from_residual.result ≡ Err why = grind (arith, common_steps) in
-    subst (AddsMade g.C.Form.text making.period making.mode content program c.args.paths.now old old) (sym is)
-    (inr (adds_stopped g.C.Form.text making.period making.mode program content c.args.paths.now
-    c.texts_of-texts.result.texts.items c.made_of_texts.new.made.items c.texts_of-texts.result.end
-    c.texts_of-texts.ensures.texts why c.in_err-made_of_texts.ensures))
+    subst (AddsMade g.C.Form.text making.period making.mode content making.program.now c.args.paths.now old old) (sym is)
+    (adds_failed g.C.Form.text making.period making.mode making.program.now content c.args.paths.now c.len.result
+    c.made_of_found.new.made.items old c.found_of-found.new.source.end c.found_of-found.result why (are g before)
+    c.in_err-made_of_found.ensures.made c.in_err-made_of_found.ensures.refused)
 
 pub returns-clause-logs : goal.returns-clause-logs
 returns-clause-logs g c =
     let making = c.args.making.now in
     let content = g.F.Files.content c.args.files.now in
     let old = c.args.made.now.items in
-    let all = c.made_of_texts.new.made.items in
-    let first_is : c.len.result ≡ length old = grind (arith, common_steps) in
-    let more : c.append.new.self.items ≡ old ++ all = grind (arith, common_steps) in
-    let placed = subst (λ first. ArePlacedFrom first c.texts_of-texts.result.texts.items) first_is
-    (c.texts_of-texts.ensures.placed (omega (arith, c.requires, first_is))) in
-    adds_as_read g.C.Form.text making.period making.mode making.program.now content c.args.paths.now
-    c.texts_of-texts.result.texts.items all old c.append.new.self.items c.texts_of-texts.result.end
-    c.texts_of-texts.ensures.texts c.in_ok-made_of_texts.ensures placed more
+    let made = c.made_of_found.new.made.items in
+    let before = (goal.at.returns-clause-logs g c).After-made_of_found in
+    let first : c.len.result ≡ length old = grind (arith, common_steps) in
+    let more : c.append.new.self.items ≡ old ++ made = grind (arith, common_steps) in
+    adds_whole g.C.Form.text making.period making.mode making.program.now content c.args.paths.now c.len.result made old
+    c.found_of-found.new.source.end c.found_of-found.result c.append.new.self.items tt first
+    (omega (arith, c.requires, first)) more (are g before) c.in_ok-made_of_found.ensures.made
+    c.in_ok-made_of_found.ensures.refused
