@@ -1,11 +1,11 @@
--- The packets of a legal log, one event more at a time.
+-- The packets that a source gives stand in the list of its log's packets, one behind another.
 use Rattle.std.proofs.Common.{◌≡◌, ℕ, ◌+◌, ◌-◌, ◌≤◌, Bool, true, false, List, [], ◌∷◌, ◌++◌, Option, Some, None, length}
 use Rattle.std.proofs.Common.{take, drop, refl, sym, subst, ◌∙◌, ap, inl, inr, append_assoc, arith, length-append}
 use Rattle.std.proofs.lemmas.List.{take-append-drop, append-nil, length-drop, take_all}
 use Rattle.std.proofs.lemmas.List.Elements.{All-cons, All-head, All-nil}
 use Rattle.std.proofs.lemmas.Option.{slice_get_read}
 use Rattle.std.proofs.Math.Seq.{get_or-append_seam, take-add}
-use Rattle.std.specs.Prelude.{All}
+use Rattle.std.specs.Prelude.{All, IfSome}
 use Rattle.std.specs.List.{last_or, slice_get}
 use Rattle.std.specs.Option.{option_to_list}
 use Rattle.retire.specs.Is64Bit.{Is64Bit}
@@ -16,7 +16,6 @@ use Rattle.rvclass.specs.Image.{Image}
 use Rattle.rvclass.specs.Words.{Words}
 use Rattle.legalpath.specs.Legal.{Legal}
 use Rattle.legalpath.specs.ProgramLog.{ProgramLog}
-use Rattle.legalpath.proofs.FollowOnLemmas.{follow_on_split}
 use Rattle.payload.specs.Profile.{InProfile}
 use Rattle.payload.specs.declared.mode.Mode.{Mode}
 use Rattle.payload.specs.declared.packet.Packet.{Packet}
@@ -37,14 +36,9 @@ use Rattle.encoder.specs.declared.source.Stage.{Stage}
 use Rattle.encoder.proofs.SpotLemmas.{before_last, spots-append, pieces-append, reports-append}
 use Rattle.encoder.proofs.PacketsReached.{spot_after, spots-snoc, reaches, reaches_cut}
 use Rattle.encoder.proofs.LogsByLastEvent.{by_last, decided_is, rule_known}
-use Rattle.encoder.proofs.ProfileLemmas.{IsEven, packets_in_profile, so_far_in_profile, profile_behind}
+use Rattle.encoder.proofs.ProfileLemmas.{IsEven, packets_in_profile, profile_behind}
 use Rattle.encoder.proofs.PacketsAtEnd.{ends_any}
-
--- The first events of a legal log are one.
-pub legal-take : (words : Words) (count : ℕ) (log : List Event) → Legal words log → Legal words (take count log)
-legal-take words count log legal =
-    (follow_on_split words None (take count log) (drop count log)
-    (subst (Legal words) (sym (take-append-drop count log)) legal)).0
+use Rattle.encoder.proofs.SeveralEvents.{legal_part}
 
 module _ (words : Words) (period : ℕ) (mode : Mode) where
   front_reports : (ss ts : List Spot) → reports mode 0 (pieces words period [] (ss ++ ts))
@@ -113,13 +107,13 @@ module _ (words : Words) (period : ℕ) (mode : Mode) where
             (ap (λ x. reports mode 0 (pieces words period [] x)) (decided_is words period front held false k
             ∙ append-nil ss))
 
-  pub so_far_begins : (front rest : List Event) → Begins front rest
+  so_far_begins : (front rest : List Event) → Begins front rest
   so_far_begins front rest = elim (by_last front) [
     | inl is ↦ subst (λ l. Begins l rest) (sym is) (begins_by [] rest [] (spots_of rest) refl refl)
     | inr r ↦ subst (λ l. Begins l rest) (sym r.2) (begins_behind r.0 r.1 rest)
   ]
 
-  pub so_far_begins-take : (taken : ℕ) (log : List Event)
+  so_far_begins-take : (taken : ℕ) (log : List Event)
       → (more : List Packet)
       × (packets words period mode log ≡ packets_so_far words period mode (take taken log) ++ more)
   so_far_begins-take taken log =
@@ -128,7 +122,7 @@ module _ (words : Words) (period : ℕ) (mode : Mode) where
       (take-append-drop taken log) (so_far_begins (take taken log) (drop taken log))
 
 -- A packet stands behind the packets before it.
-pub seam : (all front : List Packet) (p : Packet) (rest : List Packet) (number : ℕ) → all ≡ front ++ p ∷ rest
+seam : (all front : List Packet) (p : Packet) (rest : List Packet) (number : ℕ) → all ≡ front ++ p ∷ rest
     → number ≡ length front → Some p ≡ slice_get all number
 seam all front p rest number is n =
     let found : slice_get (front ++ p ∷ rest) (length front) ≡ Some p =
@@ -136,11 +130,12 @@ seam all front p rest number is n =
     (sym (get_or-append_seam front p rest p)) in
     sym found ∙ ap (λ l. slice_get l (length front)) (sym is) ∙ ap (slice_get all) (sym n)
 
-pub behind_seam : (all front : List Packet) (p : Packet) (rest : List Packet) → all ≡ front ++ p ∷ rest
+behind_seam : (all front : List Packet) (p : Packet) (rest : List Packet) → all ≡ front ++ p ∷ rest
     → length all ≡ length front + 1 + length rest
 behind_seam all front p rest is = ap length is ∙ (let l = length-append front (p ∷ rest) in omega (arith, l))
 
--- The events that were taken, when an encoder was given more of them until one gave a packet.
+-- An encoder that took the first events of a log takes more of them. It gives this packet, which is of the profile, or
+-- it gives none and takes all.
 pub record Ran (image : Image) (events : List Event) (e : Encoder) (taken : ℕ) (e' : Encoder) (taken' : ℕ)
     (given : Option Packet) : Type 0 where
   pub within : taken' ≤ length events
@@ -148,16 +143,19 @@ pub record Ran (image : Image) (events : List Event) (e : Encoder) (taken : ℕ)
   pub more : packets_so_far (words_of image) (e.between + 1) e.mode (take taken' events)
       ≡ packets_so_far (words_of image) (e.between + 1) e.mode (take taken events) ++ option_to_list given
   pub all : given ≡ None → taken' ≡ length events
+  pub profile : IfSome given InProfile
 
--- What a call says of the events behind any log that the encoder stands for.
+-- A call says this of the events that it takes behind any log that the encoder stands for.
 abbrev pub SaysOf : Image → List Event → Encoder → ℕ → Encoder → Option Packet → Type 0
 SaysOf image rest e count e' given =
     (period : ℕ) (mode : Mode) (front : List Event) → EncoderStands (words_of image) period mode front e
-    → Legal (words_of image) (front ++ rest)
+    → Legal (words_of image) (front ++ take count rest)
     → EncoderStands (words_of image) period mode (front ++ take count rest) e'
     × (packets_so_far (words_of image) period mode (front ++ take count rest)
     ≡ packets_so_far (words_of image) period mode front ++ option_to_list given)
+    × IfSome given InProfile
 
+-- `Ran` follows from what a call says of the events that are left.
 pub ran_by : (image program : Image) (events log rest : List Event) (e : Encoder) (taken count : ℕ) (e' : Encoder)
     (given : Option Packet) → image ≡ program → events ≡ log → rest ≡ drop taken events → Legal (words_of program) log
     → EncoderStands (words_of program) (e.between + 1) e.mode (take taken log) e → taken ≤ length log
@@ -169,13 +167,14 @@ ran_by image program events log rest e taken count e' given same events_same res
     subst (λ l. SaysOf program l e count e' given) behind
     (subst (λ (p : Image). SaysOf p rest e count e' given) same says) in
     let left : length rest ≡ length log - taken = ap length behind ∙ length-drop taken log in
+    let joined = take-add taken count log in
     let now = said (e.between + 1) e.mode (take taken log) stands
-    (subst (Legal (words_of program)) (sym (take-append-drop taken log)) legal) in
-    let joined = sym (take-add taken count log) in record {
+    (subst (Legal (words_of program)) joined (legal_part (words_of program) [] log (taken + count) legal)) in record {
       within = omega (arith, within, few, left);
-      stands = subst (λ l. EncoderStands (words_of program) (e.between + 1) e.mode l e') joined now.0;
-      more = ap (packets_so_far (words_of program) (e.between + 1) e.mode) (take-add taken count log) ∙ now.1;
+      stands = subst (λ l. EncoderStands (words_of program) (e.between + 1) e.mode l e') (sym joined) now.0;
+      more = ap (packets_so_far (words_of program) (e.between + 1) e.mode) joined ∙ now.1;
       all = λ none. (let is = all none in omega (arith, within, left, is));
+      profile = now.2;
     }
 
 -- The source stands where its encoder does.
@@ -210,7 +209,7 @@ module _ (image : Image) (log : List Event) (e : Encoder) (taken : ℕ) (e' : En
   even : IsEven words
   even addr word is = (words_stand image addr word is).even
 
-  -- A packet of the events before the last.
+  -- The packet that was given is one more than those before it.
   pub counted_running : (p : Packet) → Ran image log e taken e' taken' (Some p)
       → length before + 1 ≡ length (packets_so_far words period mode (take taken' log))
   counted_running p ran = sym (ap length ran.more ∙ length-append before (p ∷ []))
@@ -221,21 +220,15 @@ module _ (image : Image) (log : List Event) (e : Encoder) (taken : ℕ) (e' : En
       seam full before p begins.0 (length before) (begins.1 ∙ ap (λ l. l ++ begins.0) ran.more
       ∙ append_assoc before (p ∷ []) begins.0) refl
 
-  pub profile_running : (p : Packet) → Ran image log e taken e' taken' (Some p) → All InProfile (p ∷ [])
-  profile_running p ran =
-      profile_behind before (p ∷ []) (packets_so_far words period mode (take taken' log)) ran.more
-      (so_far_in_profile words even period mode (take taken' log) ran.stands.numbers
-      (legal-take words taken' log legal))
-
-  -- What is left when all events were taken.
-  pub at_end : Ran image log e taken e' taken' None → full ≡ before ++ given_at_end e' e'.held
+  -- Where all events were taken, the packets that are left complete the log's packets.
+  at_end : Ran image log e taken e' taken' None → full ≡ before ++ given_at_end e' e'.held
   at_end ran =
       let whole : take taken' log ≡ log = take_all taken' log (omega (arith, ran.all refl)) in
       ends_any words period mode log e' (subst (λ l. EncoderStands words period mode l e') whole ran.stands)
       ∙ ap (λ l. packets_so_far words period mode l ++ given_at_end e' e'.held) (sym whole)
       ∙ ap (λ l. l ++ given_at_end e' e'.held) (ran.more ∙ append-nil before)
 
-  pub profile_at_end : Ran image log e taken e' taken' None → All InProfile (given_at_end e' e'.held)
+  profile_at_end : Ran image log e taken e' taken' None → All InProfile (given_at_end e' e'.held)
   profile_at_end ran =
       let whole : take taken' log ≡ log = take_all taken' log (omega (arith, ran.all refl)) in
       profile_behind before (given_at_end e' e'.held) full (at_end ran)

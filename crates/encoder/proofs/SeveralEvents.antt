@@ -1,9 +1,10 @@
 -- What an encoder becomes by several events, and what it stands for then.
-use Rattle.std.proofs.Common.{◌≡◌, ℕ, ◌+◌, ◌-◌, ◌<◌, List, [], ◌∷◌, ◌++◌, Option, None, Some, length, take, drop, get_or, refl}
-use Rattle.std.proofs.Common.{sym, ap, subst, ◌∙◌, append_assoc, arith}
-use Rattle.std.proofs.lemmas.List.{append-nil, length-drop, take-append-drop, take_all, take_more}
+use Rattle.std.proofs.Common.{◌≡◌, ℕ, ◌+◌, ◌-◌, ◌<◌, ◌≤◌, List, [], ◌∷◌, ◌++◌, Option, None, Some, length, take, drop}
+use Rattle.std.proofs.Common.{get_or, refl, sym, ap, subst, ◌∙◌, append_assoc, arith}
+use Rattle.std.proofs.lemmas.List.{append-nil, length-append, length-drop, nil_from_length, take-append-drop, take-take}
+use Rattle.std.proofs.lemmas.List.{take_all, take_more}
 use Rattle.std.proofs.Math.Seq.{take-add}
-use Rattle.std.proofs.lemmas.List.Elements.{All-append, All-cons, All-head, All-nil, All-tail}
+use Rattle.std.proofs.lemmas.List.Elements.{All-append, All-cons, All-head, All-nil, All-tail, All-take}
 use Rattle.std.specs.Prelude.{All, IfSome}
 use Rattle.std.specs.Option.{option_to_list}
 use Rattle.retire.specs.Is64Bit.{Is64Bit}
@@ -23,9 +24,10 @@ use Rattle.encoder.specs.declared.encoder.Encoder.{Encoder}
 use Rattle.encoder.proofs.ProfileLemmas.{IsEven, so_far_in_profile, profile_behind}
 use Rattle.encoder.proofs.StandsOn.{pushes_any, stands_after}
 
--- The events from a place on.
-pub events_from : (at : ℕ) (events : List Event) → take (length events - at) (drop at events) ≡ drop at events
-events_from at events = let rest = length-drop at events in take_all (length events - at) (drop at events) (omega (arith, rest))
+-- The events from a place on, as many as there are, are all of them.
+pub rest_from : (at : ℕ) (events : List Event) → take (length events - at) (drop at events) ≡ drop at events
+rest_from at events =
+    let rest = length-drop at events in take_all (length events - at) (drop at events) (omega (arith, rest))
 
 module _ (words : Words) where
   after-append : (e : Encoder) (xs ys : List Event)
@@ -38,15 +40,12 @@ module _ (words : Words) where
   given-append e [] ys = refl
   given-append e (x ∷ xs) ys =
       let e' = encoder_after words e x in
+      let behind = given_all words (encoder_after_all words e' xs) ys in
       ap (λ l. given words e x ++ l) (given-append e' xs ys)
-      ∙ sym (append_assoc (given words e x) (given_all words e' xs) (given_all words (encoder_after_all words e' xs) ys))
+      ∙ sym (append_assoc (given words e x) (given_all words e' xs) behind)
 
-  -- No event changes nothing.
-  pub becomes_none : (e : Encoder) → Becomes words e [] e []
-  becomes_none e = record { numbers = All-nil Is64Bit; after = refl; given = refl }
-
-  -- One event.
-  pub becomes_one : (e e' : Encoder) (event : Event) (packets : List Packet) → Is64Bit event
+  -- One event is taken by one step.
+  becomes_one : (e e' : Encoder) (event : Event) (packets : List Packet) → Is64Bit event
       → e' ≡ encoder_after words e event → packets ≡ given words e event → Becomes words e (event ∷ []) e' packets
   becomes_one e e' event packets fits is gives = record {
     numbers = All-cons Is64Bit event [] fits (All-nil Is64Bit);
@@ -54,8 +53,8 @@ module _ (words : Words) where
     given = gives ∙ sym (append-nil (given words e event));
   }
 
-  -- Events behind others.
-  pub becomes_both : (e e' e'' : Encoder) (xs ys : List Event) (ps qs : List Packet) → Becomes words e xs e' ps
+  -- Events are taken behind others, and their packets come behind those of the others.
+  becomes_both : (e e' e'' : Encoder) (xs ys : List Event) (ps qs : List Packet) → Becomes words e xs e' ps
       → Becomes words e' ys e'' qs → Becomes words e (xs ++ ys) e'' (ps ++ qs)
   becomes_both e e' e'' xs ys ps qs first then = record {
     numbers = All-append Is64Bit xs ys first.numbers then.numbers;
@@ -65,7 +64,7 @@ module _ (words : Words) where
         ∙ sym (given-append e xs ys);
   }
 
-  -- Events behind those that were taken, which gave nothing.
+  -- Events are taken behind those that were taken, which gave nothing.
   pub becomes_on : (e mid e' : Encoder) (events : List Event) (taken count : ℕ) (packets : List Packet)
       → Becomes words e (take taken events) mid [] → Becomes words mid (take count (drop taken events)) e' packets
       → Becomes words e (take (taken + count) events) e' packets
@@ -73,7 +72,7 @@ module _ (words : Words) where
       subst (λ l. Becomes words e l e' packets) (sym (take-add taken count events))
       (becomes_both e mid e' (take taken events) (take count (drop taken events)) [] packets first then)
 
-  -- One event behind those that were taken, which gave nothing.
+  -- One event is taken behind those that were taken, which gave nothing.
   pub becomes_more : (e mid e' : Encoder) (events : List Event) (at : ℕ) (packets : List Packet)
       → at < length events → Becomes words e (take at events) mid [] → Is64Bit (get_or events at (Retire 0 0 0))
       → e' ≡ encoder_after words mid (get_or events at (Retire 0 0 0))
@@ -84,9 +83,34 @@ module _ (words : Words) where
       (becomes_both e mid e' (take at events) (event ∷ []) [] packets first
       (becomes_one mid e' event packets fits is gives))
 
-  -- Events that give nothing.
-  pub gives_nothing : (e e' : Encoder) (events : List Event) → Becomes words e events e' [] → GivesNothing words e events
-  gives_nothing e e' events becomes = record { numbers = becomes.numbers; after = refl; given = becomes.given }
+  front_nothing : {X : Type 0} (xs ys : List X) → [] ≡ xs ++ ys → [] ≡ xs
+  front_nothing xs ys none =
+      let counted = ap length none in
+      let joined = length-append xs ys in sym (nil_from_length xs (omega (arith, counted, joined)))
+
+  -- Of events that give nothing, the first give nothing either.
+  pub front_gives_nothing : (e e' : Encoder) (events : List Event) (count all : ℕ) → count ≤ all
+      → Becomes words e (take all events) e' [] → GivesNothing words e (take count events)
+  front_gives_nothing e e' events count all few becomes =
+      let front = take count (take all events) in
+      let back = drop count (take all events) in
+      subst (GivesNothing words e) (take-take count all events few) (record {
+        numbers = All-take Is64Bit count (take all events) becomes.numbers;
+        after = refl;
+        given = front_nothing (given_all words e front) (given_all words (encoder_after_all words e front) back)
+            (becomes.given ∙ ap (given_all words e) (sym (take-append-drop count (take all events)))
+            ∙ given-append e front back);
+      })
+
+  -- A log is legal with the first of these events where it is with all of them.
+  pub legal_part : (log events : List Event) (count : ℕ) → Legal words (log ++ events)
+      → Legal words (log ++ take count events)
+  legal_part log events count legal =
+      let front = take count events in
+      let back = drop count events in
+      let parted : (log ++ front) ++ back ≡ log ++ events =
+      append_assoc log front back ∙ ap (λ l. log ++ l) (take-append-drop count events) in
+      (follow_on_split words None (log ++ front) back (subst (Legal words) (sym parted) legal)).0
 
 module _ (words : Words) (period : ℕ) (mode : Mode) where
   -- An encoder stands for these events behind a log, and these packets are what they give.
@@ -94,10 +118,6 @@ module _ (words : Words) (period : ℕ) (mode : Mode) where
     pub stands : EncoderStands words period mode (log ++ events) e
     pub more : packets_so_far words period mode (log ++ events) ≡ packets_so_far words period mode log ++ packets
     pub legal : Legal words (log ++ events)
-
-  -- A front of a legal log is legal.
-  legal_front : (front back : List Event) → Legal words (front ++ back) → Legal words front
-  legal_front front back legal = (follow_on_split words None front back legal).0
 
   stands_all : (log events : List Event) (e : Encoder) → EncoderStands words period mode log e
       → Legal words (log ++ events) → All Is64Bit events
@@ -112,7 +132,7 @@ module _ (words : Words) (period : ℕ) (mode : Mode) where
       let first = log ++ event ∷ [] in
       let joined : first ++ events ≡ log ++ event ∷ events = append_assoc log (event ∷ []) events in
       let legal' : Legal words (first ++ events) = subst (Legal words) (sym joined) legal in
-      let pushed = pushes_any words period mode log e event stands (legal_front first events legal') in
+      let pushed = pushes_any words period mode log e event stands (legal_part words log (event ∷ events) 1 legal) in
       let e' = encoder_after words e event in
       let grown : EncoderStands words period mode first e' =
       stands_after words period mode log e event (All-head Is64Bit event events numbers) stands pushed in
@@ -124,23 +144,18 @@ module _ (words : Words) (period : ℕ) (mode : Mode) where
         legal = legal;
       }
 
-  -- An encoder that stands for a log goes on to stand for it with the events that it takes of those behind.
-  pub stands_by : (log events : List Event) (count : ℕ) (e e' : Encoder) (packets : List Packet)
-      → EncoderStands words period mode log e → Legal words (log ++ events)
-      → Becomes words e (take count events) e' packets → Stands log (take count events) e' packets
-  stands_by log events count e e' packets stands legal becomes =
-      let front = take count events in
-      let parted : (log ++ front) ++ drop count events ≡ log ++ events =
-      append_assoc log front (drop count events) ∙ ap (λ l. log ++ l) (take-append-drop count events) in
-      let legal' : Legal words (log ++ front) =
-      legal_front (log ++ front) (drop count events) (subst (Legal words) (sym parted) legal) in
-      let all = stands_all log front e stands legal' becomes.numbers in record {
+  -- An encoder that stands for a log goes on to stand for it with the events that it takes.
+  pub stands_by : (log front : List Event) (e e' : Encoder) (packets : List Packet)
+      → EncoderStands words period mode log e → Legal words (log ++ front)
+      → Becomes words e front e' packets → Stands log front e' packets
+  stands_by log front e e' packets stands legal becomes =
+      let all = stands_all log front e stands legal becomes.numbers in record {
         stands = subst (EncoderStands words period mode (log ++ front)) (sym becomes.after) all.stands;
         more = all.more ∙ ap (λ l. packets_so_far words period mode log ++ l) (sym becomes.given);
-        legal = legal';
+        legal = legal;
       }
 
-  -- Its packet has a payload.
+  -- The packet that the encoder gives is of the profile.
   pub profile_by : (log events : List Event) (e : Encoder) (packet : Option Packet) → IsEven words
       → Stands log events e (option_to_list packet) → IfSome packet InProfile
   profile_by log events e packet even stands =
@@ -151,13 +166,3 @@ module _ (words : Words) (period : ℕ) (mode : Mode) where
       of_list : (packet : Option Packet) → All InProfile (option_to_list packet) → IfSome packet InProfile
       of_list None all = tt
       of_list (Some packet) all = All-head InProfile packet [] all
-
--- What holds whatever the packet is, holds where there is one.
-pub where_some : {P : Type 0} → (packet : Option Packet) → P → IfSome packet (λ _. P)
-where_some None p = tt
-where_some (Some packet) p = p
-
-pub where_some-then : {P Q : Type 0} → (packet : Option Packet) → (P → Q) → IfSome packet (λ _. P)
-    → IfSome packet (λ _. Q)
-where_some-then None then p = tt
-where_some-then (Some packet) then p = then p

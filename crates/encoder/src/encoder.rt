@@ -1,6 +1,6 @@
 //! From events to packets, one event at a time.
 
-ghost use Rattle.std.specs.Prelude.{◌≡◌, ◌-◌, ◌≤◌, ◌<◌, ℕ, All, IfSome, List, [], ◌∷◌, ◌++◌, None, length, take};
+ghost use Rattle.std.specs.Prelude.{◌≡◌, ◌≤◌, ◌<◌, ℕ, All, IfSome, List, [], ◌∷◌, ◌++◌, None, length, take};
 ghost use Rattle.std.specs.Option.{option_to_list};
 ghost use Rattle.retire.specs.declared.event.Event.{Event};
 ghost use Rattle.retire.specs.Is64Bit.{Is64Bit};
@@ -100,9 +100,10 @@ impl Encoder {
         burst_of(self.step(program, &event))
     }
 
-    /// Takes the next events, up to the first that makes a packet due, or all of them where none does. Returns how many
-    /// it took, and that packet. A loop over what is left of a log gives the packets that a [`Encoder::push`] of each
-    /// event gives, in less time.
+    /// Takes the next events, up to and with the first that makes a packet due, or all of them where none does. Returns
+    /// how many it took, and that packet, if there is one. Over the rest of a log, calls until `None` give the packets
+    /// that a [`Encoder::push`] of each event gives, in less time; [`Encoder::finish`] gives those that are left. A
+    /// call that returns a packet takes one event at least.
     pub fn push_until_packet(
         &mut self,
         program: &Program,
@@ -111,24 +112,25 @@ impl Encoder {
         ensures within { result.0 ≤ length events.now }
         ensures stands { (period : ℕ) (mode : Mode) (log : List Event) →
             EncoderStands (words_of program.now) period mode log self.old →
-            Legal (words_of program.now) (log ++ events.now) →
+            Legal (words_of program.now) (log ++ take result.0 events.now) →
             EncoderStands (words_of program.now) period mode (log ++ take result.0 events.now) self.new }
         ensures packets { (period : ℕ) (mode : Mode) (log : List Event) →
             EncoderStands (words_of program.now) period mode log self.old →
-            Legal (words_of program.now) (log ++ events.now) →
+            Legal (words_of program.now) (log ++ take result.0 events.now) →
             packets_so_far (words_of program.now) period mode (log ++ take result.0 events.now)
             ≡ packets_so_far (words_of program.now) period mode log ++ option_to_list result.1 }
         // No event in front of the last one that is taken makes a packet due.
-        ensures first { (period : ℕ) (mode : Mode) (log : List Event) →
+        ensures first { (period count : ℕ) (mode : Mode) (log : List Event) →
             EncoderStands (words_of program.now) period mode log self.old →
-            Legal (words_of program.now) (log ++ events.now) →
-            IfSome result.1 (λ _. packets_so_far (words_of program.now) period mode
-            (log ++ take (result.0 - 1) events.now) ≡ packets_so_far (words_of program.now) period mode log) }
+            Legal (words_of program.now) (log ++ take count events.now) →
+            count < result.0 →
+            packets_so_far (words_of program.now) period mode (log ++ take count events.now)
+            ≡ packets_so_far (words_of program.now) period mode log }
         ensures some { IfSome result.1 (λ _. 1 ≤ result.0) }
         ensures all { result.1 ≡ None → result.0 ≡ length events.now }
         ensures profile { (period : ℕ) (mode : Mode) (log : List Event) →
             EncoderStands (words_of program.now) period mode log self.old →
-            Legal (words_of program.now) (log ++ events.now) →
+            Legal (words_of program.now) (log ++ take result.0 events.now) →
             IfSome result.1 InProfile }
     {
         self.run(program, events)
@@ -202,14 +204,14 @@ impl Encoder {
         self.report(rule, event, due)
     }
 
-    /// Takes events, up to the first that makes a packet due, or all of them where none does. Returns how many it took,
-    /// and that packet.
+    /// Takes events, up to and with the first that makes a packet due, or all of them where none does. Returns how many
+    /// it took, and that packet, if there is one.
     fn run(&mut self, program: &Program, events: &[Event]) -> (usize, Option<Packet>)
         ensures within { result.0 ≤ length events.now }
         ensures becomes { Becomes (words_of program.now) self.old (take result.0 events.now) self.new
             (option_to_list result.1) }
-        ensures first { IfSome result.1 (λ _.
-            GivesNothing (words_of program.now) self.old (take (result.0 - 1) events.now)) }
+        ensures first { (count : ℕ) → count < result.0 →
+            GivesNothing (words_of program.now) self.old (take count events.now) }
         ensures some { IfSome result.1 (λ _. 1 ≤ result.0) }
         ensures all { result.1 ≡ None → result.0 ≡ length events.now }
     {

@@ -1,24 +1,19 @@
 //! The payloads of a log, one at a time.
 
-ghost use Rattle.std.specs.Prelude.{◌≡◌, ◌+◌, ◌≤◌, ℕ, All, IfSome, ◌++◌, length, take, slice_get};
+ghost use Rattle.std.specs.Prelude.{◌≡◌, ◌≤◌, ℕ, All, IfSome, slice_get};
 ghost use Rattle.std.specs.Option.{option_to_list};
 ghost use Rattle.rvclass.specs.Fetch.{words_of};
-ghost use Rattle.legalpath.specs.Legal.{Legal};
 ghost use Rattle.legalpath.specs.ProgramLog.{ProgramLog};
 ghost use Rattle.payload.specs.Profile.{InProfile};
 ghost use Rattle.payload.specs.declared.mode.Mode.{Mode};
 ghost use Rattle.encoder.specs.Packets.{packets};
-ghost use Rattle.encoder.specs.PacketsSoFar.{packets_so_far};
 ghost use Rattle.encoder.specs.Payloads.{payloads};
 ghost use Rattle.encoder.specs.SourceAt.{SourceAt, IsAt, number_behind};
 ghost use Rattle.encoder.specs.steps.SourceFields.{packets_of_log, stands_at, IsSource};
-ghost use Rattle.encoder.specs.EncoderStands.{EncoderStands};
 
 use crate::encoder::Encoder;
 use legalpath::LegalLog;
 use payload::{Mode, Packet, Payload, pack};
-use retire::Event;
-use rvclass::Program;
 use std::alloc::{Allocator, Global};
 use std::marker::Model;
 

@@ -1,6 +1,6 @@
--- Events of a log that are encoded, one after another and a piece at a time.
+-- Events of a log are encoded by calls of `push_until_packet`, a piece of the log at a time.
 use Rattle.std.proofs.Common.{◌≡◌, ℕ, ◌+◌, ◌≤◌, IfSome, List, [], ◌∷◌, ◌++◌, Option, length, take, drop}
-use Rattle.std.proofs.Common.{sym, ap, ◌∙◌, arith, append_assoc, subst, take-append-drop}
+use Rattle.std.proofs.Common.{sym, ap, ◌∙◌, arith, append_assoc, subst}
 use Rattle.std.proofs.lemmas.List.{append-nil, length-append, take_all}
 use Rattle.std.proofs.Math.Seq.{take-add}
 use Rattle.std.specs.Option.{option_to_list}
@@ -10,6 +10,7 @@ use Rattle.legalpath.specs.Legal.{Legal}
 use Rattle.encoder.specs.EncoderStands.{EncoderStands}
 use Rattle.encoder.specs.PacketsSoFar.{packets_so_far}
 use Rattle.encoder.specs.declared.encoder.Encoder.{Encoder}
+use Rattle.encoder.proofs.SeveralEvents.{legal_part}
 use Rattle.message.specs.declared.message.Message.{Message}
 use Rattle.payload.specs.Profile.{InProfile}
 use Rattle.payload.specs.declared.mode.Mode.{Mode}
@@ -20,7 +21,7 @@ use Rattle.side_encoding.specs.steps.Encodes.{AreWritten, EncodedSoFar, Encodes,
 use Rattle.side_encoding.proofs.AddedPackets.{packets_text-append}
 
 module _ (text : Message → List ℕ) where
-  -- The messages of packets more are written.
+  -- The messages of more packets are written.
   pub written_more : (hart : ℕ) (before packets : List Packet) (old new : Messages) → AreWritten text hart before old
       → Adds text packets old new → AreWritten text hart (before ++ packets) new
   written_more hart before packets old new written adds =
@@ -36,7 +37,7 @@ module _ (text : Message → List ℕ) where
       }
 
   module _ (words : Words) where
-    -- The first events of a list, as many as this number, are encoded behind those of any log that all of them follow on.
+    -- The first events of a list, as many as this number, are encoded behind any log that the whole list follows on.
     abbrev pub EncodesFront : List Event → ℕ → Encoder → Messages → Encoder → Messages → Type 0
     EncodesFront events taken encoder messages encoder_after messages_after =
         (period : ℕ) (mode : Mode) (hart : ℕ) (log : List Event)
@@ -52,7 +53,7 @@ module _ (text : Message → List ℕ) where
     module _ (events rest : List Event) (taken count : ℕ) (first e e' : Encoder) (none m : Messages)
         (packet : Option Packet) (rest_is : rest ≡ drop taken events)
         (encodes : EncodesFront events taken first none e m) where
-      -- The events up to these, behind a log.
+      -- Behind a log, the events that were taken and then the next ones are the first of all.
       behind : (log : List Event)
           → (log ++ take taken events) ++ take count rest ≡ log ++ take (taken + count) events
       behind log =
@@ -60,23 +61,23 @@ module _ (text : Message → List ℕ) where
           ∙ ap (λ l. log ++ (take taken events ++ take count l)) rest_is
           ∙ ap (λ l. log ++ l) (sym (take-add taken count events))
 
-      whole : (log : List Event) → log ++ events ≡ (log ++ take taken events) ++ rest
-      whole log =
-          ap (λ l. log ++ l) (sym (take-append-drop taken events))
-          ∙ ap (λ l. log ++ (take taken events ++ l)) (sym rest_is)
-          ∙ sym (append_assoc log (take taken events) rest)
+      -- The next ones are legal behind a log and those that were taken, where all are legal behind it.
+      next_legal : (log : List Event) → Legal words (log ++ events)
+          → Legal words ((log ++ take taken events) ++ take count rest)
+      next_legal log legal =
+          subst (Legal words) (sym (behind log)) (legal_part words log events (taken + count) legal)
 
-      -- More events are encoded, by what a push of them says and by what is written then.
+      -- More events are encoded, by what `push_until_packet` says of them and by what is written then.
       pub encodes_more : (m' : Messages)
           → ((period : ℕ) (mode : Mode) (log : List Event) → EncoderStands words period mode log e
-          → Legal words (log ++ rest) → EncoderStands words period mode (log ++ take count rest) e')
+          → Legal words (log ++ take count rest) → EncoderStands words period mode (log ++ take count rest) e')
           → ((period : ℕ) (mode : Mode) (log : List Event) → EncoderStands words period mode log e
-          → Legal words (log ++ rest) → packets_so_far words period mode (log ++ take count rest)
+          → Legal words (log ++ take count rest) → packets_so_far words period mode (log ++ take count rest)
           ≡ packets_so_far words period mode log ++ option_to_list packet)
           → Adds text (option_to_list packet) m m' → EncodesFront events (taken + count) first none e' m'
       encodes_more m' stands packets adds period mode hart log encoded legal =
           let front = log ++ take taken events in
-          let legal' : Legal words (front ++ rest) = subst (Legal words) (whole log) legal in
+          let legal' = next_legal log legal in
           let before = encodes period mode hart log encoded legal in
           subst (λ log. EncodedSoFar text words period mode hart log e' m') (behind log) (record {
             stands = stands period mode front before.stands legal';
@@ -85,14 +86,14 @@ module _ (text : Message → List ℕ) where
                 adds);
           })
 
-      -- Their packet has a payload.
+      -- The packet that `push_until_packet` gives is of the profile.
       pub more_in_profile : MayBeEncoded text words events first none
           → ((period : ℕ) (mode : Mode) (log : List Event) → EncoderStands words period mode log e
-          → Legal words (log ++ rest) → IfSome packet InProfile) → IfSome packet InProfile
+          → Legal words (log ++ take count rest) → IfSome packet InProfile) → IfSome packet InProfile
       more_in_profile may profile =
           let before = encodes may.period may.mode may.hart may.log may.so_far may.legal in
           profile may.period may.mode (may.log ++ take taken events) before.stands
-          (subst (Legal words) (whole may.log) may.legal)
+          (next_legal may.log may.legal)
 
     -- All events are encoded.
     pub encodes_all : (events : List Event) (taken : ℕ) (first e : Encoder) (none m : Messages)

@@ -17,13 +17,13 @@ abbrev pub given_all : Words → Encoder → List Event → List Packet
 given_all words e [] = []
 given_all words e (event ∷ events) = given words e event ++ given_all words (encoder_after words e event) events
 
--- An encoder that takes these events becomes this other one, and gives these packets.
+-- An encoder that takes these events, whose numbers are of 64 bits, becomes this other one, and gives these packets.
 pub record Becomes (words : Words) (e : Encoder) (events : List Event) (e' : Encoder) (packets : List Packet)
     : Type 0 where
   pub numbers : All Is64Bit events
   pub after : e' ≡ encoder_after_all words e events
   pub given : packets ≡ given_all words e events
 
--- An encoder that takes these events gives no packet.
+-- These events give no packet.
 abbrev pub GivesNothing : Words → Encoder → List Event → Type 0
 GivesNothing words e events = Becomes words e events (encoder_after_all words e events) []

@@ -1,10 +1,10 @@
--- The clauses of a push hold of each log that the encoder stands for, which the search does not instantiate.
+-- The search does not apply the clauses of `push_until_packet` to the log that the encoder stands for.
 use Rattle.std.proofs.Common.{ℕ, ◌+◌, ◌≤◌, IfSome, arith, length, ap, subst, sym}
 use Rattle.std.proofs.lemmas.List.{length-drop}
 use Rattle.std.specs.Option.{option_to_list}
 use Rattle.payload.specs.Profile.{InProfile}
 use Rattle.rvclass.specs.Fetch.{words_of}
-use Rattle.encoder.proofs.SeveralEvents.{events_from}
+use Rattle.encoder.proofs.SeveralEvents.{rest_from}
 use Rattle.side_encoding.specs.declared.messages.Messages.{Messages}
 use Rattle.side_encoding.specs.steps.Adds.{Adds}
 use Rattle.side_encoding.proofs.AddedPackets.{adds_none}
@@ -29,7 +29,7 @@ module _ (g : _) (c : After-push_until_packet-count g) where
         c.push_until_packet-count.ensures.within,
         c.loop.invariant.0,
         length-drop c.loop.taken c.args.events.now,
-        ap length (events_from c.loop.taken c.args.events.now),
+        ap length (rest_from c.loop.taken c.args.events.now),
       )
 
   -- More events are encoded, where their packet is written.
@@ -41,7 +41,7 @@ module _ (g : _) (c : After-push_until_packet-count g) where
       encodes_more g.F.Form.text (words_of c.args.program.now) c.args.events.now _ c.loop.taken
       c.push_until_packet-count.result.0 c.args.encoder.now c.loop.encoder c.push_until_packet-count.new.self
       c.args.messages.now c.loop.messages c.push_until_packet-count.result.1
-      (events_from c.loop.taken c.args.events.now) c.loop.invariant.1 messages
+      (rest_from c.loop.taken c.args.events.now) c.loop.invariant.1 messages
       c.push_until_packet-count.ensures.stands c.push_until_packet-count.ensures.packets adds
 
 pub write-requires : goal.write-requires
@@ -50,7 +50,7 @@ write-requires g c =
     (more_in_profile g.F.Form.text (words_of c.args.program.now) c.args.events.now _ c.loop.taken
     c.push_until_packet-count.result.0 c.args.encoder.now c.loop.encoder c.push_until_packet-count.new.self
     c.args.messages.now c.loop.messages c.push_until_packet-count.result.1
-    (events_from c.loop.taken c.args.events.now) c.loop.invariant.1 c.requires
+    (rest_from c.loop.taken c.args.events.now) c.loop.invariant.1 c.requires
     c.push_until_packet-count.ensures.profile)
 
 pub loop-preserved : goal.loop-preserved
@@ -73,7 +73,7 @@ returns-in-None g c =
       all,
       c.loop.invariant.0,
       length-drop c.loop.taken c.args.events.now,
-      ap length (events_from c.loop.taken c.args.events.now),
+      ap length (rest_from c.loop.taken c.args.events.now),
     ))
     (encoded g before c.loop.messages
     (subst (λ packet. Adds g.F.Form.text (option_to_list packet) c.loop.messages c.loop.messages) (sym c.in-None.is)

@@ -1,17 +1,18 @@
 -- The search does not find the place of a packet among the packets of the whole log.
-use Rattle.std.proofs.Common.{◌≡◌, ℕ, ◌+◌, length, Option, Some, None, refl, sym, ap, subst, ◌∙◌, arith}
+use Rattle.std.proofs.Common.{◌≡◌, ℕ, ◌+◌, [], length, Option, Some, None, refl, sym, ap, subst, ◌∙◌, arith}
+use Rattle.std.proofs.lemmas.List.Elements.{All-cons, All-nil}
 use Rattle.std.proofs.lemmas.Option.{slice_get_past}
 use Rattle.std.specs.List.{slice_get}
 use Rattle.std.specs.Option.{option_to_list}
+use Rattle.payload.specs.Profile.{InProfile}
 use Rattle.payload.specs.declared.packet.Packet.{Packet}
 use Rattle.payload.specs.declared.packet.Packet.TheVariants as packet
 use Rattle.encoder.specs.SourceAt.{SourceAt}
 use Rattle.encoder.specs.steps.SourceFields.{packets_of_log, stands_at, AreTakenAtStage}
 use Rattle.encoder.specs.declared.source.Stage.TheVariants as stage
-use Rattle.encoder.proofs.PacketsInTurn.{Ran, ran_by, source_on, given_running, counted_running, profile_running}
-use Rattle.encoder.proofs.PacketsInTurn.{end_some, end_none, given_closing}
-use Rattle.encoder.proofs.PacketsInTurn.{further}
-use Rattle.encoder.proofs.SeveralEvents.{events_from}
+use Rattle.encoder.proofs.PacketsInTurn.{Ran, ran_by, source_on, given_running, counted_running, end_some, end_none}
+use Rattle.encoder.proofs.PacketsInTurn.{given_closing, further}
+use Rattle.encoder.proofs.SeveralEvents.{rest_from}
 use Rattle.encoder.proofs.source.Source.packet.Goals.{After-push_until_packet-count}
 use Rattle.encoder.proofs.source.Source.packet.Goals as goal
 
@@ -25,15 +26,16 @@ module _ (g : _) (c : After-push_until_packet-count g) where
       ran_by c.program.result.now _ c.events.result.now _ _ c.self.inside.encoder c.self.inside.taken
       c.push_until_packet-count.result.0 c.push_until_packet-count.new.self c.push_until_packet-count.result.1
       c.program.ensures.program c.events.ensures.events
-      (events_from c.self.inside.taken c.events.result.now) c.events.ensures.legal c.self.invariant.stands
+      (rest_from c.self.inside.taken c.events.result.now) c.events.ensures.legal c.self.invariant.stands
       (subst (λ stage. AreTakenAtStage stage c.self.inside.taken (length c.self.inside.log.now.events)) c.in-Running.is
       c.self.invariant.within) c.push_until_packet-count.ensures.within c.push_until_packet-count.ensures.all
       (λ period mode front stands legal. (
         c.push_until_packet-count.ensures.stands period mode front stands legal,
         c.push_until_packet-count.ensures.packets period mode front stands legal,
+        c.push_until_packet-count.ensures.profile period mode front stands legal,
       ))
 
-  -- The packet that comes next, or none.
+  -- This is `ran` with what a branch of the code knows of the packet: it is this one, or there is none.
   ran_with : (given : Option Packet) → c.push_until_packet-count.result.1 ≡ given
       → Ran c.self.inside.log.now.program c.self.inside.log.now.events c.self.inside.encoder c.self.inside.taken
       c.push_until_packet-count.new.self taken' given
@@ -73,7 +75,7 @@ returns-in-Some-clause-goes_on g c =
 pub returns-in-Some-clause-profile : goal.returns-in-Some-clause-profile
 returns-in-Some-clause-profile g c =
     let before = (goal.at.returns-in-Some-clause-profile g c).After-push_until_packet-count in
-    profile_running _ _ _ _ _ _ c.events.ensures.legal c.in-Some.packet (ran_with g before _ c.in-Some.is)
+    All-cons InProfile c.in-Some.packet [] (ran_with g before _ c.in-Some.is).profile (All-nil InProfile)
 
 pub invariant_of-self-in-Some-last : goal.invariant_of-self-in-Some-last
 invariant_of-self-in-Some-last g c =
@@ -96,8 +98,8 @@ returns-in-Some-last-clause-goes_on g c =
     let before = (goal.at.returns-in-Some-last-clause-goes_on g c).After-push_until_packet-count in
     let ended = ran_with g before _ c.in_default.is in
     let is = here g before in
-    further c.self.inside.log.now c.self.inside.encoder c.push_until_packet-count.new.self stage.Closing (taken' g before) _
-    c.args.self.now ended.stands.between ended.stands.in_mode
+    further c.self.inside.log.now c.self.inside.encoder c.push_until_packet-count.new.self stage.Closing
+    (taken' g before) _ c.args.self.now ended.stands.between ended.stands.in_mode
     (end_some _ _ _ _ _ _ c.events.ensures.legal c.in-Some-last.packet ended
     (sym (ap option_to_list c.in-Some-last.is) ∙ c.last.ensures)).1 is
 
@@ -130,8 +132,8 @@ returns-in_default-last-clause-goes_on g c =
     let before = (goal.at.returns-in_default-last-clause-goes_on g c).After-push_until_packet-count in
     let ended = ran_with g before _ c.in_default.is in
     let is = here g before in
-    further c.self.inside.log.now c.self.inside.encoder c.push_until_packet-count.new.self stage.Ended (taken' g before) _
-    c.args.self.now ended.stands.between ended.stands.in_mode
+    further c.self.inside.log.now c.self.inside.encoder c.push_until_packet-count.new.self stage.Ended
+    (taken' g before) _ c.args.self.now ended.stands.between ended.stands.in_mode
     (end_none _ _ _ _ _ _ c.events.ensures.legal c.closing.result ended
     (sym (ap option_to_list c.in_default-last.is) ∙ c.last.ensures) c.closing.ensures).1 is
 
