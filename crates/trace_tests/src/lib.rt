@@ -1,5 +1,5 @@
-//! Tests of logs, of their packets, of their captures and of what is decoded of them, also after losses; and of long
-//! texts.
+//! Tests of logs, of logs read in pieces, of their packets, of their captures and of what is decoded of them, also after
+//! losses; and of long texts.
 //!
 //! They stand in a crate of their own: the gate proves a crate that has tests once more with them.
 #![tactic(auto)]
@@ -10,6 +10,8 @@ mod audits;
 mod decoding;
 #[cfg(test)]
 mod fixtures;
+#[cfg(test)]
+mod in_pieces;
 #[cfg(test)]
 mod logs;
 #[cfg(test)]

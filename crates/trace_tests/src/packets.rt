@@ -6,6 +6,7 @@ mod outcomes;
 mod payloads;
 mod refusals;
 mod rows;
+mod until_packet;
 mod vectors;
 
 pub(crate) use self::faults_by_bits::fault_of;

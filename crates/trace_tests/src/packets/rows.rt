@@ -29,7 +29,7 @@ fn are_payloads<R: Abort>(rt: &R, place: (usize, &str), payloads: &[Payload], wa
 }
 
 /// The words of a program, a period, a mode, a log and its payloads.
-type Row = (
+pub(super) type Row = (
     &'static [u32],
     u16,
     Mode,
@@ -37,7 +37,7 @@ type Row = (
     &'static [&'static [u8]],
 );
 
-const ROWS: [Row; 20] = [
+pub(super) const ROWS: [Row; 20] = [
     (&[], 1024, Mode::Differential, &[], &[OPEN, ENDED_NTR]),
     (
         &[NOP],
