@@ -108,8 +108,8 @@ module _ {X : Type 0} (Gives : ℕ → LogText → Result X Fault → Type 0) (c
       made_of_files paths first found.jobs.items made end result come all
 
 -- What the files say of their texts, by what they began with.
-pub texts_of_files : {X : Type 0} (found : Option (Found LogText X)) (content content' : Content) (place place' done : ℕ)
-    (paths paths' : List Path) (end : Result (Unit {0}) Fault) (Kept : Type 0) → content ≡ content' → place ≡ place'
+pub texts_of_files : {X : Type 0} (found : Option (Found LogText X)) (content content' : Content)
+    (place place' done : ℕ) (paths paths' : List Path) (end : Result (Unit {0}) Fault) (Kept : Type 0) → content ≡ content' → place ≡ place'
     → done ≡ 0 → paths ≡ paths'
     → IfSome found (λ all. AreTextsInTurn content place (drop done paths) all.jobs.items end × Kept)
     → IfSome found (λ all. AreTextsInTurn content' place' paths' all.jobs.items end)

@@ -11,8 +11,8 @@ use crate::texts::LogText;
 use side_by_side::{Found, Task};
 
 /// Moves what was found of texts into a list that is empty at first, up to the first text of which a fault comes.
-/// `found` is what [`side_by_side::found_of`] returned of the texts, and `end` why no more of them came, or that all had
-/// come.
+/// `found` is what [`side_by_side::found_of`] returned of the texts, and `end` why no more of them came, or that all
+/// had come.
 ///
 /// Returns the first fault in the order of the texts, and else `end`. Where memory is refused, all is made again, one
 /// after the other. Where it is then refused for one of the texts, that one is made once more, when all behind it are

@@ -42,8 +42,8 @@ pub struct Found<J, X> {
 /// The last one, and those whose thread is refused, are done in the caller's thread. All threads have ended when this
 /// returns.
 ///
-/// Since it is not known how many jobs come, the task is told of each that it stands at 0. There is nothing where memory
-/// for the lists is refused; then no job was taken.
+/// Since it is not known how many jobs come, the task is told of each that it stands at 0. There is nothing where
+/// memory for the lists is refused; then no job was taken.
 pub fn found_of<
     R: Threads + Sync,
     J: Sync + Drop,

@@ -38,7 +38,8 @@ returns-in_err-made_of_found-clause-logs g c =
     let old = c.args.made.now.items in
     let before = (goal.at.returns-in_err-made_of_found-clause-logs g c).After-made_of_found in
     let is : c.from_residual.result ≡ Err why = grind (arith, common_steps) in
-    subst (AddsMade g.C.Form.text making.period making.mode content making.program.now c.args.paths.now old old) (sym is)
+    subst (AddsMade g.C.Form.text making.period making.mode content making.program.now c.args.paths.now old old)
+    (sym is)
     (adds_failed g.C.Form.text making.period making.mode making.program.now content c.args.paths.now c.len.result
     c.made_of_found.new.made.items old c.found_of-found.new.source.end c.found_of-found.result why (are g before)
     c.in_err-made_of_found.ensures.made c.in_err-made_of_found.ensures.refused)
