@@ -3,7 +3,7 @@ pub mod FirstSteps
 pub mod FromFiles
 pub mod LegalLogs
 pub mod MadeOfTexts
-pub mod TextsInTurn
 pub mod Runs
 pub mod TextLogs
+pub mod TextsInTurn
 pub mod Turns

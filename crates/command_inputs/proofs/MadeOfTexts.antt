@@ -109,19 +109,19 @@ module _ {X : Type 0} (Gives : ℕ → LogText → Result X Fault → Type 0) (c
 
 -- What the files say of their texts, by what they began with.
 pub texts_of_files : {X : Type 0} (found : Option (Found LogText X)) (content content' : Content)
-    (place place' done : ℕ) (paths paths' : List Path) (end : Result (Unit {0}) Fault) (Kept : Type 0) → content ≡ content' → place ≡ place'
-    → done ≡ 0 → paths ≡ paths'
-    → IfSome found (λ all. AreTextsInTurn content place (drop done paths) all.jobs.items end × Kept)
+    (place place' done : ℕ) (paths paths' : List Path) (end : Result (Unit {0}) Fault)
+    (Rest : Found LogText X → Type 0) → content ≡ content' → place ≡ place' → done ≡ 0 → paths ≡ paths'
+    → IfSome found (λ all. AreTextsInTurn content place (drop done paths) all.jobs.items end × Rest all)
     → IfSome found (λ all. AreTextsInTurn content' place' paths' all.jobs.items end)
-texts_of_files None content content' place place' done paths paths' end Kept same here none are come = tt
-texts_of_files (Some found) content content' place place' done paths paths' end Kept same here none are come =
+texts_of_files None content content' place place' done paths paths' end Rest same here none are come = tt
+texts_of_files (Some found) content content' place place' done paths paths' end Rest same here none are come =
     subst (λ content. AreTextsInTurn content place' paths' found.jobs.items end) same
     (subst (λ place. AreTextsInTurn content place paths' found.jobs.items end) here
     (subst (λ paths. AreTextsInTurn content place paths found.jobs.items end) (ap (λ n. drop n paths) none ∙ are)
     come.0))
 
--- What is known of the files stays, whether there was memory for the lists or not.
-pub kept_by_files : {A Kept : Type 0} (P : A → Type 0) (found : Option A) → IfSome found (λ all. P all × Kept)
-    → (found ≡ None → Kept) → Kept
-kept_by_files P None some none = none refl
-kept_by_files P (Some found) some none = some.1
+-- What stays where there was memory for the lists, and stays where there was none, stays.
+pub kept_either_way : {A Kept : Type 0} (P Rest : A → Type 0) (keeps : (all : A) → Rest all → Kept) (found : Option A)
+    → IfSome found (λ all. P all × Rest all) → (found ≡ None → Kept) → Kept
+kept_either_way P Rest keeps None some none = none refl
+kept_either_way P Rest keeps (Some found) some none = keeps found some.1

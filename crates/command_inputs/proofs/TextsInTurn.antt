@@ -1,6 +1,6 @@
 -- The texts of files that are read in turn, one file more in front.
-use Rattle.std.proofs.Common.{◌≡◌, ℕ, ◌+◌, ◌^◌, ◌<◌, ◌≤◌, List, [], ◌∷◌, Result, Ok, Err}
-use Rattle.std.proofs.Common.{drop, get_or, length, refl, sym, ap, subst, arith}
+use Rattle.std.proofs.Common.{◌≡◌, ℕ, ◌+◌, ◌^◌, ◌<◌, ◌≤◌, List, ◌∷◌, Result, Ok, Err}
+use Rattle.std.proofs.Common.{drop, get_or, length, sym, ap, subst, arith}
 use Rattle.std.proofs.lemmas.List.{drop_more}
 use Rattle.command_inputs.specs.Faults.{Path}
 use Rattle.command_inputs.specs.Known.{Content}
@@ -10,18 +10,6 @@ use Rattle.command_inputs.specs.declared.fault.Fault.{Fault}
 use Rattle.command_inputs.specs.declared.texts.LogText.{LogText}
 
 module _ (content : Content) where
-  -- There is no path.
-  pub texts_none : (first : ℕ) → AreTextsInTurn content first [] [] (Ok tt)
-  texts_none first = record { read = tt; placed = λ few. tt }
-
-  -- The first file is not read.
-  pub texts_unread : (first : ℕ) (path : Path) (paths : List Path) (why : Fault) → IsUnreadAt content path why
-      → AreTextsInTurn content first (path ∷ paths) [] (Err why)
-  texts_unread first path paths why unread = record {
-    read = record { front = []; next = path; rest = paths; whole = refl; came = tt; stopped = unread };
-    placed = λ few. tt;
-  }
-
   come_in_front : (path : Path) (paths : List Path) (text : LogText) (texts : List LogText)
       (end : Result (Unit {0}) Fault) → IsTextAt content path text
       → ComeInTurn (IsTextAt content) (IsUnreadAt content) paths texts end

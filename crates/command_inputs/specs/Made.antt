@@ -15,8 +15,8 @@ module _ {X : Type 0} (Gives : ℕ → LogText → Result X Fault → Type 0) wh
   abbrev pub IsNotMadeOf : LogText → Fault → Type 0
   IsNotMadeOf text why = (why ≡ fault.Memory) ⊎ ((place : ℕ) × Gives place text (Err why))
 
-  -- Of these texts this is made, in turn. The result is the fault of the first text of which one comes, or this end
-  -- where none does.
+  -- Of these texts this is made, in turn. The result is the fault of the first text of which one comes, or Memory, or
+  -- this end where none does.
   abbrev pub AreMadeInTurn : List LogText → Result (Unit {0}) Fault → List X → Result (Unit {0}) Fault → Type 0
   AreMadeInTurn texts end made result =
       ((result ≡ end) × AllZip IsMadeOf texts made)

@@ -25,7 +25,7 @@ abbrev pub IsUnreadAt : Content → Path → Fault → Type 0
 IsUnreadAt content path why = (why ≡ fault.Memory) ⊎ IsRead content path (Err why)
 
 -- The files at these paths are read in turn, up to the first that is not read, and these are their texts, which are
--- placed from this place on.
+-- placed from this place on, where these are no more than 2^16.
 pub record AreTextsInTurn (content : Content) (first : ℕ) (paths : List Path) (texts : List LogText)
     (end : Result (Unit {0}) Fault) : Type 0 where
   pub read : ComeInTurn (IsTextAt content) (IsUnreadAt content) paths texts end

@@ -35,11 +35,12 @@ pub struct JudgedLogs<'a, 'p> {
 }
 
 /// The logs at these paths. The files are read in turn, and as soon as one is read, its text is read and judged in a
-/// thread of its own, where one can be started. So there are at most as many paths as the machine has processors.
+/// thread of its own, where one can be started. So it is called with at most as many paths as
+/// [`side_by_side::processors`] returns.
 ///
 /// The end is the first fault in the order of the paths. Where memory is refused, the texts are read and judged again,
-/// one after the other. Where it is then refused for one of them, that one is read and judged once more, when all
-/// behind it are gone.
+/// one after the other. Where it is then refused for one of them, that one is read and judged once more, when all other
+/// texts are gone.
 pub fn judged_logs_of<'a, 'p, F: Files, R: Threads + Sync>(
     alloc: Global,
     rt: &R,

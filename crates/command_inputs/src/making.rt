@@ -15,8 +15,8 @@ use side_by_side::{Found, Task};
 /// had come.
 ///
 /// Returns the first fault in the order of the texts, and else `end`. Where memory is refused, all is made again, one
-/// after the other. Where it is then refused for one of the texts, that one is made once more, when all behind it are
-/// gone. Where memory for the lists was refused, that is the fault.
+/// after the other. Where it is then refused for one of the texts, that one is made once more, when all other texts
+/// are gone. Where memory for the lists was refused, that is the fault.
 pub fn made_of_found<'a, X: Drop, T: Task<LogText<'a>, Result<X, Fault<'a>>>>(
     task: &T,
     found: Option<Found<LogText<'a>, Result<X, Fault<'a>>>>,

@@ -1,6 +1,6 @@
 //! The texts of logs.
 
-ghost use Rattle.std.specs.Prelude.{◌≡◌, ◌-◌, drop, length};
+ghost use Rattle.std.specs.Prelude.{◌≡◌, ◌+◌, ◌-◌, Ok, drop, length};
 ghost use Rattle.command_inputs.specs.Texts.{AreTextsInTurn};
 
 use crate::fault::Fault;
@@ -13,7 +13,7 @@ use side_by_side::Jobs;
 pub struct LogText<'a> {
     /// The path.
     pub path: &'a str,
-    /// The place of the log among all that are read, from 0 on.
+    /// The place of the log among all that are read, from 0 on, where there are no more than 65,536.
     pub place: usize,
     /// The whole file.
     pub bytes: Vec<u8>,
@@ -42,6 +42,7 @@ impl<'f, 'a, 'p, F: Files> LogFiles<'f, 'a, 'p, F> {
         ensures paths { result.paths.now ≡ paths.now }
         ensures done { result.done ≡ 0 }
         ensures place { result.place ≡ place }
+        ensures end { result.end ≡ Ok tt }
     {
         LogFiles {
             files,
@@ -56,7 +57,8 @@ impl<'f, 'a, 'p, F: Files> LogFiles<'f, 'a, 'p, F> {
 impl<'a, F: Files> Jobs<LogText<'a>> for LogFiles<'_, 'a, '_, F> {
     ghost Come = { λ before texts after.
         AreTextsInTurn (F.content before.files.now) before.place (drop before.done before.paths.now) texts after.end
-        × (F.content after.files.now ≡ F.content before.files.now) };
+        × ((F.content after.files.now ≡ F.content before.files.now)
+        × (after.paths ≡ before.paths) × (after.done ≡ before.done + length texts)) };
 
     ghost left = { λ log_files. length log_files.paths.now - log_files.done };
 

@@ -28,7 +28,7 @@ use Rattle.command_inputs.specs.steps.Legal.{AddsLegalLogsAt, AreLegalSoFar, IsR
 use Rattle.log_commands.specs.declared.made.MadeLog.{MadeLog}
 use Rattle.log_commands.specs.steps.Made.{AddsMade, AreMadeFrom, ComesOfMaking, HasLegalLog, IsMadeOfLog}
 
--- How a run over files ends.
+-- A result, with its type said.
 abbrev ended : Result (Unit {0}) Fault → Result (Unit {0}) Fault
 ended result = result
 

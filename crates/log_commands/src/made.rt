@@ -67,8 +67,8 @@ pub(crate) fn made_logs_of<'a, 'p, C: Form + Copy + Drop + Sync, F: Files, R: Th
     Ok(made)
 }
 
-/// Adds what is made of the logs at these paths to a list, up to the first that is not legal. Their numbers of harts
-/// follow on those of the list.
+/// Adds what is made of the logs at these paths to a list, where each is legal. Their numbers of harts follow on those
+/// of the list.
 fn add_made<'a, 'p, C: Form + Copy + Drop + Sync, F: Files, R: Threads + Sync>(
     rt: &R,
     files: &mut F,

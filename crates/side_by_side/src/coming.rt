@@ -1,6 +1,6 @@
 //! Jobs that are done side by side as they come.
 
-ghost use Rattle.std.specs.Prelude.{◌≡◌, ◌+◌, ◌<◌, ◌≤◌, ℕ, [], ◌∷◌, IfSome, List, None, length, vec_capacity, vec_len};
+ghost use Rattle.std.specs.Prelude.{◌≡◌, ◌+◌, ◌<◌, ◌≤◌, ℕ, [], ◌∷◌, IfSome, List, None, vec_capacity, vec_len};
 ghost use Rattle.std.specs.List.{AllZip};
 
 use crate::task::Task;
@@ -9,14 +9,14 @@ use std::thread::{Threads, join};
 
 /// Where jobs come from, one after another.
 pub trait Jobs<J> {
-    /// Between the first of these states and the second these jobs come, and no other is left.
+    /// Between the first of these states and the second these jobs came, and then none came.
     ghost Come: { Self → List J → Self → Type 0 };
-    /// At most as many jobs are left.
+    /// At most so many jobs are left.
     ghost left: { Self → ℕ };
-    /// The ghost name of the reference that the jobs are read by.
+    /// The ghost name of the reference that the jobs are read by, or any number where there is none.
     ghost name: { Self → ℕ };
 
-    /// At most how many jobs are left.
+    /// How many jobs are left at most.
     fn left(&self) -> usize
         ensures { result ≡ left self.now };
 
@@ -39,11 +39,14 @@ pub struct Found<J, X> {
 }
 
 /// Takes all jobs as they come, and does each as soon as it has come, in a thread of its own where one can be started.
-/// The last one, and those whose thread is refused, are done in the caller's thread. All threads have ended when this
-/// returns.
+/// One behind which none can be left is done in the caller's thread, and one whose thread is refused too, after those
+/// behind it. All threads have ended when this returns.
 ///
-/// Since it is not known how many jobs come, the task is told of each that it stands at 0. There is nothing where
-/// memory for the lists is refused; then no job was taken.
+/// Each job may have a thread at the same time, and each lies one call deeper in the caller's stack. So a source has at
+/// most as many jobs left as [`processors`](crate::processors) returns. All jobs are held until this returns. The task
+/// is told 0 as the place of each: a job whose place matters holds it, as it comes.
+///
+/// Returns `None` where memory for the lists is refused. No job was taken then.
 pub fn found_of<
     R: Threads + Sync,
     J: Sync + Drop,

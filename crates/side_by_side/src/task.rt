@@ -12,7 +12,8 @@ pub trait Task<J, X> {
     /// This may come of the job at this place.
     ghost Gives: { Self → ℕ → J → X → Type 0 };
 
-    /// Does the job, which stands at this place among the jobs. The first stands at 0.
+    /// Does the job, which stands at this place among the jobs; the first stands at 0. [`found_of`](crate::found_of)
+    /// says 0 of each job.
     fn call(&self, place: usize, job: &J) -> X
         ensures { Gives self.now place job.now result };
 }

@@ -18,8 +18,9 @@ use std::alloc::Global;
 /// [`captures::encode_hart`] writes of that log. The log is read, judged and encoded a piece at a time, so that no list
 /// holds all of its events.
 ///
-/// The error comes where the log is not legal or is not read in pieces, where its messages take more than 34 bytes an
-/// event and 65,536, and where memory is refused. It says nothing more: reading the text as a whole shows which.
+/// The error comes where the log is not legal or is not read in pieces, where the room for its messages, which is taken
+/// a quarter ahead, is more than 34 bytes an event and 65,536 behind a piece, and where memory is refused. It says
+/// nothing more: reading the text as a whole shows which.
 pub fn encode_text<F: Form>(
     alloc: Global,
     program: &Program,

@@ -16,5 +16,5 @@ returns-clause-more g c = λ jobs last come.
           (λ few. omega (arith, few, next))
           (subst (λ content. AreTextsInTurn content c.saturating_add-self.result
           (drop (c.args.self.now.done + 1) c.args.self.now.paths.now) jobs last.end) same come.0),
-      come.1 ∙ same,
+      (come.1.0 ∙ same, come.1.1, (let done = come.1.2 in omega (arith, done))),
     )
