@@ -7,10 +7,11 @@ use Rattle.side_by_side.specs.declared.coming.Found.{Found}
 use Rattle.command_inputs.specs.Faults.{Path}
 use Rattle.command_inputs.specs.Known.{Content}
 use Rattle.command_inputs.specs.Made.{AreMadeInTurn, IsMadeOf, IsNotMadeOf}
-use Rattle.command_inputs.specs.Texts.{AreTextsInTurn, IsTextAt, IsUnreadAt}
+use Rattle.command_inputs.specs.Texts.{AreTextsInTurn, HaveRead, IsTextAt, IsUnreadAt}
 use Rattle.command_inputs.specs.Turns.{ComeInTurn, StopsAt}
 use Rattle.command_inputs.specs.declared.fault.Fault.{Fault}
 use Rattle.command_inputs.specs.declared.fault.Fault.TheVariants as fault
+use Rattle.command_inputs.specs.declared.texts.LogFiles.{LogFiles}
 use Rattle.command_inputs.specs.declared.texts.LogText.{LogText}
 use Rattle.command_inputs.specs.steps.Found.{IsFound, IsFoundFault}
 use Rattle.command_inputs.proofs.Turns.{turns_end, turns_stop}
@@ -60,6 +61,32 @@ module _ {X : Type 0} (Gives : ℕ → LogText → Result X Fault → Type 0) wh
         stopped = subst (λ last. IfSome last (λ text. IsNotMadeOf Gives text why)) last_is again;
       }
 
+-- None of the files of these logs is read.
+pub record AreBegun {F : Type 0} (content_of : F → Content) (content : Content) (first : ℕ) (paths : List Path)
+    (begun : LogFiles F) : Type 0 where
+  pub files_are : content_of begun.files.now ≡ content
+  pub place_is : begun.place ≡ first
+  pub none_done : begun.done ≡ 0
+  pub paths_are : begun.paths.now ≡ paths
+
+-- All texts that are read of them are those at the paths.
+texts_of : {F : Type 0} (content_of : F → Content) (content : Content) (first : ℕ) (paths : List Path)
+    (begun read : LogFiles F) (texts : List LogText) → AreBegun content_of content first paths begun
+    → HaveRead content_of begun texts read → AreTextsInTurn content first paths texts read.end
+texts_of content_of content first paths begun read texts begins come =
+    subst (λ content. AreTextsInTurn content first paths texts read.end) begins.files_are
+    (subst (λ first. AreTextsInTurn (content_of begun.files.now) first paths texts read.end) begins.place_is
+    (subst (λ paths. AreTextsInTurn (content_of begun.files.now) begun.place paths texts read.end)
+    (ap (λ n. drop n begun.paths.now) begins.none_done ∙ begins.paths_are) come.texts_are))
+
+pub texts_of_files : {F X : Type 0} (content_of : F → Content) (content : Content) (first : ℕ) (paths : List Path)
+    (begun read : LogFiles F) (found : Option (Found LogText X)) → AreBegun content_of content first paths begun
+    → IfSome found (λ all. HaveRead content_of begun all.jobs.items read)
+    → IfSome found (λ all. AreTextsInTurn content first paths all.jobs.items read.end)
+texts_of_files content_of content first paths begun read None begins come = tt
+texts_of_files content_of content first paths begun read (Some found) begins come =
+    texts_of content_of content first paths begun read found.jobs.items begins come
+
 -- Files are read in turn, and something is made of their texts.
 module _ {X : Type 0} (Gives : ℕ → LogText → Result X Fault → Type 0) (content : Content)
     (Both : Path → X → Type 0) (Ends : Path → Fault → Type 0)
@@ -95,33 +122,17 @@ module _ {X : Type 0} (Gives : ℕ → LogText → Result X Fault → Type 0) (c
       }))
 
   -- By what was found of the texts, where there was memory for it.
-  pub made_of_all_files : (paths : List Path) (first : ℕ) (found : Option (Found LogText (Result X Fault)))
-      (made : List X) (end result : Result (Unit {0}) Fault)
-      → IfSome found (λ all. AreTextsInTurn content first paths all.jobs.items end)
-      → (found ≡ None → 1 ≤ length paths)
-      → IfSome found (λ all. AreMadeInTurn Gives all.jobs.items end made result)
+  pub made_of_all_files : {F : Type 0} (content_of : F → Content) (paths : List Path) (first : ℕ)
+      (begun read : LogFiles F) (found : Option (Found LogText (Result X Fault))) (made : List X)
+      (result : Result (Unit {0}) Fault) → AreBegun content_of content first paths begun
+      → IfSome found (λ all. HaveRead content_of begun all.jobs.items read)
+      → (found ≡ None → 1 ≤ length begun.paths.now - begun.done)
+      → IfSome found (λ all. AreMadeInTurn Gives all.jobs.items read.end made result)
       → (found ≡ None → (result ≡ Err fault.Memory) × (made ≡ []))
       → ComeInTurn Both Ends paths made result
-  made_of_all_files paths first None made end result come some all none =
-      let refused = none refl in refused_at_first paths made result (some refl) refused.0 refused.1
-  made_of_all_files paths first (Some found) made end result come some all none =
-      made_of_files paths first found.jobs.items made end result come all
-
--- What the files say of their texts, by what they began with.
-pub texts_of_files : {X : Type 0} (found : Option (Found LogText X)) (content content' : Content)
-    (place place' done : ℕ) (paths paths' : List Path) (end : Result (Unit {0}) Fault)
-    (Rest : Found LogText X → Type 0) → content ≡ content' → place ≡ place' → done ≡ 0 → paths ≡ paths'
-    → IfSome found (λ all. AreTextsInTurn content place (drop done paths) all.jobs.items end × Rest all)
-    → IfSome found (λ all. AreTextsInTurn content' place' paths' all.jobs.items end)
-texts_of_files None content content' place place' done paths paths' end Rest same here none are come = tt
-texts_of_files (Some found) content content' place place' done paths paths' end Rest same here none are come =
-    subst (λ content. AreTextsInTurn content place' paths' found.jobs.items end) same
-    (subst (λ place. AreTextsInTurn content place paths' found.jobs.items end) here
-    (subst (λ paths. AreTextsInTurn content place paths found.jobs.items end) (ap (λ n. drop n paths) none ∙ are)
-    come.0))
-
--- What stays where there was memory for the lists, and stays where there was none, stays.
-pub kept_either_way : {A Kept : Type 0} (P Rest : A → Type 0) (keeps : (all : A) → Rest all → Kept) (found : Option A)
-    → IfSome found (λ all. P all × Rest all) → (found ≡ None → Kept) → Kept
-kept_either_way P Rest keeps None some none = none refl
-kept_either_way P Rest keeps (Some found) some none = keeps found some.1
+  made_of_all_files content_of paths first begun read None made result begins come some all none =
+      let refused = none refl in let left = some refl in let count = ap length begins.paths_are in
+      refused_at_first paths made result (omega (arith, left, begins.none_done, count)) refused.0 refused.1
+  made_of_all_files content_of paths first begun read (Some found) made result begins come some all none =
+      made_of_files paths first found.jobs.items made read.end result
+      (texts_of content_of content first paths begun read found.jobs.items begins come) all

@@ -1,5 +1,5 @@
 -- The texts of logs, and what comes of them.
-use Rattle.std.specs.Prelude.{◌≡◌, ◌⊎◌, ◌+◌, ◌^◌, ◌≤◌, ℕ, List, [], ◌∷◌, Result, Ok, Err, length}
+use Rattle.std.specs.Prelude.{◌≡◌, ◌⊎◌, ◌+◌, ◌^◌, ◌≤◌, ℕ, List, [], ◌∷◌, Result, Ok, Err, drop, length}
 use Rattle.rvclass.specs.Image.{Image}
 use Rattle.command_inputs.specs.Faults.{Path}
 use Rattle.command_inputs.specs.Found.{IsRead, log_at}
@@ -9,6 +9,7 @@ use Rattle.command_inputs.specs.Turns.{ComeInTurn}
 use Rattle.command_inputs.specs.declared.fault.Fault.{Fault}
 use Rattle.command_inputs.specs.declared.fault.Fault.TheVariants as fault
 use Rattle.command_inputs.specs.declared.judging.JudgedLog.{JudgedLog}
+use Rattle.command_inputs.specs.declared.texts.LogFiles.{LogFiles}
 use Rattle.command_inputs.specs.declared.texts.LogText.{LogText}
 
 -- This is the text of the log at a path.
@@ -30,6 +31,15 @@ pub record AreTextsInTurn (content : Content) (first : ℕ) (paths : List Path) 
     (end : Result (Unit {0}) Fault) : Type 0 where
   pub read : ComeInTurn (IsTextAt content) (IsUnreadAt content) paths texts end
   pub placed : first + length paths ≤ 2 ^ 16 → ArePlacedFrom first texts
+
+-- Between these two states of the files of logs, these texts were read.
+pub record HaveRead {F : Type 0} (content_of : F → Content) (before : LogFiles F) (texts : List LogText)
+    (after : LogFiles F) : Type 0 where
+  pub texts_are : AreTextsInTurn (content_of before.files.now) before.place (drop before.done before.paths.now) texts
+      after.end
+  pub kept : content_of after.files.now ≡ content_of before.files.now
+  pub paths_stay : after.paths ≡ before.paths
+  pub count : after.done ≡ before.done + length texts
 
 -- This is the log of a text, judged by the program.
 pub record IsLogOfText (program : Image) (text : LogText) (log : JudgedLog) : Type 0 where

@@ -1,7 +1,7 @@
 //! The texts of logs.
 
-ghost use Rattle.std.specs.Prelude.{◌≡◌, ◌+◌, ◌-◌, Ok, drop, length};
-ghost use Rattle.command_inputs.specs.Texts.{AreTextsInTurn};
+ghost use Rattle.std.specs.Prelude.{◌≡◌, ◌-◌, Ok, length};
+ghost use Rattle.command_inputs.specs.Texts.{HaveRead};
 
 use crate::fault::Fault;
 use crate::files::Files;
@@ -55,10 +55,7 @@ impl<'f, 'a, 'p, F: Files> LogFiles<'f, 'a, 'p, F> {
 }
 
 impl<'a, F: Files> Jobs<LogText<'a>> for LogFiles<'_, 'a, '_, F> {
-    ghost Come = { λ before texts after.
-        AreTextsInTurn (F.content before.files.now) before.place (drop before.done before.paths.now) texts after.end
-        × ((F.content after.files.now ≡ F.content before.files.now)
-        × (after.paths ≡ before.paths) × (after.done ≡ before.done + length texts)) };
+    ghost Come = { λ before texts after. HaveRead F.content before texts after };
 
     ghost left = { λ log_files. length log_files.paths.now - log_files.done };
 

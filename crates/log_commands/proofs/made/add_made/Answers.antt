@@ -1,8 +1,8 @@
 -- The prover takes no second step behind the first: the lemmas on both are handed to it.
-use Rattle.std.proofs.Common.{◌≡◌, ◌+◌, ◌∙◌, ◌++◌, IfSome, Err, ap, arith, drop, length, subst, sym}
+use Rattle.std.proofs.Common.{◌≡◌, ◌++◌, IfSome, Err, ap, arith, length, subst, sym}
 use Rattle.std.proofs.lemmas.Grind.{common_steps}
 use Rattle.command_inputs.specs.Texts.{AreTextsInTurn}
-use Rattle.command_inputs.proofs.MadeOfTexts.{kept_either_way, texts_of_files}
+use Rattle.command_inputs.proofs.MadeOfTexts.{texts_of_files}
 use Rattle.log_commands.specs.steps.Made.{AddsMade}
 use Rattle.log_commands.proofs.MadeLogs.{adds_failed, adds_whole}
 use Rattle.log_commands.proofs.made.add_made.Goals as goal
@@ -14,30 +14,14 @@ module _ (g : _) (c : After-made_of_found g) where
       AreTextsInTurn (g.F.Files.content c.args.files.now) c.len.result c.args.paths.now all.jobs.items
       c.found_of-found.new.source.end)
   are =
-      texts_of_files c.found_of-found.result _ (g.F.Files.content c.args.files.now) _ c.len.result
-      c.of-log_files.result.done c.of-log_files.result.paths.now c.args.paths.now c.found_of-found.new.source.end
-      (λ all. (g.F.Files.content c.found_of-found.new.source.files.now
-      ≡ g.F.Files.content c.of-log_files.result.files.now)
-      × (c.found_of-found.new.source.paths ≡ c.of-log_files.result.paths)
-      × (c.found_of-found.new.source.done ≡ c.of-log_files.result.done + length all.jobs.items))
-      (ap g.F.Files.content c.of-log_files.ensures.files) c.of-log_files.ensures.place c.of-log_files.ensures.done
-      c.of-log_files.ensures.paths c.found_of-found.ensures.come
-
-  -- The files still have the same content.
-  kept : g.F.Files.content c.found_of-found.new.source.files.now ≡ g.F.Files.content c.args.files.now
-  kept =
-      kept_either_way
-      (λ all. AreTextsInTurn (g.F.Files.content c.of-log_files.result.files.now) c.of-log_files.result.place
-      (drop c.of-log_files.result.done c.of-log_files.result.paths.now) all.jobs.items
-      c.found_of-found.new.source.end)
-      (λ all. (g.F.Files.content c.found_of-found.new.source.files.now
-      ≡ g.F.Files.content c.of-log_files.result.files.now)
-      × (c.found_of-found.new.source.paths ≡ c.of-log_files.result.paths)
-      × (c.found_of-found.new.source.done ≡ c.of-log_files.result.done + length all.jobs.items))
-      (λ all rest. rest.0)
-      c.found_of-found.result c.found_of-found.ensures.come
-      (λ none. ap (λ s. g.F.Files.content s.files.now) (c.found_of-found.ensures.untouched none))
-      ∙ ap g.F.Files.content c.of-log_files.ensures.files
+      let begun = c.of-log_files.ensures in
+      texts_of_files g.F.Files.content (g.F.Files.content c.args.files.now) c.len.result c.args.paths.now
+      c.of-log_files.result c.found_of-found.new.source c.found_of-found.result (record {
+        files_are = ap g.F.Files.content begun.files;
+        place_is = begun.place;
+        none_done = begun.done;
+        paths_are = begun.paths;
+      }) c.found_of-found.ensures.come
 
 pub returns-in_err-made_of_found-clause-logs : goal.returns-in_err-made_of_found-clause-logs
 returns-in_err-made_of_found-clause-logs g c =
