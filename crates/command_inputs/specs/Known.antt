@@ -1,5 +1,5 @@
 -- What is known of files.
-use Rattle.std.specs.Prelude.{◌≡◌, ℕ, ⊤, List, [], ◌∷◌, if◌then◌else◌, nat_eq}
+use Rattle.std.specs.Prelude.{◌≡◌, ℕ, ⊤, List, [], ◌∷◌, if◌then◌else◌, length, nat_eq}
 use Rattle.std.specs.Cmp.Lexicographic.{pointwise}
 
 -- What is known of the file at a path: nothing, that there is none, or its bytes.
@@ -17,6 +17,12 @@ abbrev pub MayHold : Known → List ℕ → Type 0
 MayHold Unknown bytes = ⊤
 MayHold Absent bytes = ⊥
 MayHold (Present text) bytes = bytes ≡ text
+
+-- The file may have this many bytes.
+abbrev pub MayHaveSize : Known → ℕ → Type 0
+MayHaveSize Unknown size = ⊤
+MayHaveSize Absent size = ⊥
+MayHaveSize (Present text) size = size ≡ length text
 
 -- There may be no such file.
 abbrev pub MayLack : Known → Type 0

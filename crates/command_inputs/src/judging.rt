@@ -53,12 +53,18 @@ pub fn judged_logs_of<'a, 'p, F: Files, R: Threads + Sync>(
     ensures kept { F.content files.new ≡ F.content files.old }
 {
     let judging = Judging { alloc, program };
-    let mut log_files = LogFiles::of(files, 0, paths);
+    let mut log_files = LogFiles::of(alloc, files, 0, paths);
     let found = found_of(alloc, rt, &judging, &mut log_files);
     let mut logs = Vec::new(alloc);
-    let LogFiles { files, end, .. } = log_files;
+    let LogFiles {
+        files,
+        end,
+        rooms,
+        ..
+    } = log_files;
     let _ = files;
-    let end = made_of_found(&judging, found, end, &mut logs);
+    drop(rooms);
+    let end = made_of_found(rt, &judging, found, end, &mut logs);
     JudgedLogs { logs, end }
 }
 

@@ -12,6 +12,7 @@ mod inputs;
 mod judging;
 mod legal_logs;
 mod making;
+mod rooms;
 mod status;
 mod texts;
 

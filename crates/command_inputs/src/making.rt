@@ -7,8 +7,10 @@ ghost use Rattle.command_inputs.specs.Turns.{ComeInTurn};
 ghost use Rattle.command_inputs.specs.steps.Found.{IsFound, IsFoundFault};
 
 use crate::fault::Fault;
+use crate::rooms::drop_texts;
 use crate::texts::LogText;
 use side_by_side::{Found, Task};
+use std::thread::Threads;
 
 /// Moves what was found of texts into a list that is empty at first, up to the first text of which a fault comes.
 /// `found` is what [`side_by_side::found_of`] returned of the texts, and `end` why no more of them came, or that all
@@ -17,7 +19,8 @@ use side_by_side::{Found, Task};
 /// Returns the first fault in the order of the texts, and else `end`. Where memory is refused, all is made again, one
 /// after the other. Where it is then refused for one of the texts, that one is made once more, when all other texts
 /// are gone. Where memory for the lists was refused, that is the fault.
-pub fn made_of_found<'a, X: Drop, T: Task<LogText<'a>, Result<X, Fault<'a>>>>(
+pub fn made_of_found<'a, R: Threads, X: Drop, T: Task<LogText<'a>, Result<X, Fault<'a>>>>(
+    rt: &R,
     task: &T,
     found: Option<Found<LogText<'a>, Result<X, Fault<'a>>>>,
     end: Result<(), Fault<'a>>,
@@ -32,14 +35,15 @@ pub fn made_of_found<'a, X: Drop, T: Task<LogText<'a>, Result<X, Fault<'a>>>>(
     let Some(Found { jobs, found }) = found else {
         return Err(Fault::Memory);
     };
-    match made_of_texts(task, jobs, found, made) {
+    match made_of_texts(rt, task, jobs, found, made) {
         Ok(()) => end,
         Err(why) => Err(why),
     }
 }
 
 /// Moves what was found of the texts into a list that is empty at first, up to the first text of which a fault comes.
-fn made_of_texts<'a, X: Drop, T: Task<LogText<'a>, Result<X, Fault<'a>>>>(
+fn made_of_texts<'a, R: Threads, X: Drop, T: Task<LogText<'a>, Result<X, Fault<'a>>>>(
+    rt: &R,
     task: &T,
     texts: Vec<LogText<'a>>,
     found: Vec<Result<X, Fault<'a>>>,
@@ -50,10 +54,12 @@ fn made_of_texts<'a, X: Drop, T: Task<LogText<'a>, Result<X, Fault<'a>>>>(
     ensures { ComeInTurn (IsMadeOf (T.Gives task.now)) (IsNotMadeOf (T.Gives task.now)) texts.entry.items made.new.items
         result }
 {
-    match take_made(found, made) {
-        Err(Fault::Memory) => make_in_turn(task, texts, made),
-        end => end,
+    let end = take_made(found, made);
+    if let Err(Fault::Memory) = end {
+        return make_in_turn(task, texts, made);
     }
+    drop_texts(rt, texts);
+    end
 }
 
 /// Moves what was made into a list that is empty at first, up to the first fault.

@@ -5,8 +5,10 @@ ghost use Rattle.command_inputs.specs.Texts.{HaveRead};
 
 use crate::fault::Fault;
 use crate::files::Files;
-use crate::inputs::content_of;
+use crate::rooms::content_in_room;
 use side_by_side::Jobs;
+use std::alloc::Global;
+use std::thread::Threads;
 
 /// The text of a log, and the path of its file.
 #[derive(Drop)]
@@ -32,11 +34,19 @@ pub struct LogFiles<'f, 'a, 'p, F> {
     pub place: usize,
     /// Why the next file was not read, if it was not.
     pub end: Result<(), Fault<'a>>,
+    /// Memory for the files that are not read yet, that for the next one last.
+    pub rooms: Vec<Vec<u8>>,
+    alloc: Global,
 }
 
 impl<'f, 'a, 'p, F: Files> LogFiles<'f, 'a, 'p, F> {
     /// The files at these paths, of which none is read. The first log has this place among all that are read.
-    pub fn of(files: &'f mut F, place: usize, paths: &'p [&'a str]) -> LogFiles<'f, 'a, 'p, F>
+    pub fn of(
+        alloc: Global,
+        files: &'f mut F,
+        place: usize,
+        paths: &'p [&'a str],
+    ) -> LogFiles<'f, 'a, 'p, F>
         ensures files { result.files.now ≡ files.entry.now }
         ensures same { result.files.ghost_name ≡ files.entry.ghost_name }
         ensures paths { result.paths.now ≡ paths.now }
@@ -50,6 +60,8 @@ impl<'f, 'a, 'p, F: Files> LogFiles<'f, 'a, 'p, F> {
             done: 0,
             place,
             end: Ok(()),
+            rooms: Vec::new(alloc),
+            alloc,
         }
     }
 }
@@ -65,15 +77,20 @@ impl<'a, F: Files> Jobs<LogText<'a>> for LogFiles<'_, 'a, '_, F> {
         self.paths.len().saturating_sub(self.done)
     }
 
-    fn next(&mut self) -> Option<LogText<'a>> {
+    fn next<R: Threads>(&mut self, rt: &R) -> Option<LogText<'a>> {
         if self.done >= self.paths.len() {
             self.end = Ok(());
             return None;
         }
         let path = self.paths[self.done];
-        let bytes = match content_of(self.files, path) {
+        // Rooms are taken once, beside the first file.
+        let from = if self.done == 0 { 1 } else { self.paths.len() };
+        let behind = &self.paths[from..];
+        let read = content_in_room(self.alloc, rt, self.files, path, behind, &mut self.rooms);
+        let bytes = match read {
             Ok(bytes) => bytes,
             Err(why) => {
+                self.rooms.clear();
                 self.end = Err(why);
                 return None;
             }

@@ -46,12 +46,18 @@ pub(crate) fn checked_logs_of<'a, F: Files, R: Threads + Sync>(
     ensures kept { F.content files.new ≡ F.content files.old }
 {
     let checking = Checking { alloc, program };
-    let mut log_files = LogFiles::of(files, 0, paths);
+    let mut log_files = LogFiles::of(alloc, files, 0, paths);
     let found = found_of(alloc, rt, &checking, &mut log_files);
-    let LogFiles { files, end, .. } = log_files;
+    let LogFiles {
+        files,
+        end,
+        rooms,
+        ..
+    } = log_files;
     let _ = files;
+    drop(rooms);
     let mut logs = Vec::new(alloc);
-    let end = made_of_found(&checking, found, end, &mut logs);
+    let end = made_of_found(rt, &checking, found, end, &mut logs);
     CheckedLogs { logs, end }
 }
 

@@ -81,12 +81,18 @@ fn add_made<'a, 'p, C: Form + Copy + Drop + Sync, F: Files, R: Threads + Sync>(
         paths.now made.old.items made.new.items result }
     ensures kept { F.content files.new ≡ F.content files.old }
 {
-    let mut log_files = LogFiles::of(files, made.len(), paths);
+    let mut log_files = LogFiles::of(making.alloc, files, made.len(), paths);
     let found = found_of(making.alloc, rt, making, &mut log_files);
-    let LogFiles { files, end, .. } = log_files;
+    let LogFiles {
+        files,
+        end,
+        rooms,
+        ..
+    } = log_files;
     let _ = files;
+    drop(rooms);
     let mut more = Vec::new(making.alloc);
-    made_of_found(making, found, end, &mut more)?;
+    made_of_found(rt, making, found, end, &mut more)?;
     if made.append(&mut more).is_err() {
         return Err(Fault::Memory);
     }

@@ -20,8 +20,8 @@ pub trait Jobs<J> {
     fn left(&self) -> usize
         ensures { result ≡ left self.now };
 
-    /// The next job, if there is one more.
-    fn next(&mut self) -> Option<J>
+    /// The next job, if there is one more. All threads that are started for it have ended when this returns.
+    fn next<R: Threads>(&mut self, rt: &R) -> Option<J>
         ensures end { result ≡ None → Come self.old [] self.new }
         ensures more { IfSome result (λ job. (jobs : List J) (last : Self) → Come self.new jobs last
             → Come self.old (job ∷ jobs) last) }
@@ -91,7 +91,7 @@ fn found_behind<
     ensures room_jobs { vec_capacity none.jobs ≤ vec_capacity result.jobs }
     ensures room_found { vec_capacity none.found ≤ vec_capacity result.found }
 {
-    let Some(job) = source.next() else {
+    let Some(job) = source.next(rt) else {
         return none;
     };
     if source.left() == 0 {
