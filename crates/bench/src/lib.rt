@@ -32,7 +32,7 @@ pub use gate::{Gate, Open};
 pub use laws::turns_let_beginnings_through;
 pub use outcome::{HartOutcome, Outcome};
 pub use replaying::replay;
-pub use reporting::{is_whole, report};
+pub use reporting::{is_whole, report, write_report};
 pub use running::{run, run_on};
 pub use setup::Setup;
 pub use stop::Stop;

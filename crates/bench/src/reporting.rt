@@ -35,9 +35,30 @@ pub fn report<W: Write, A: Allocator, B: Allocator>(
         (W.contents sink.old) (W.contents sink.new) }
     ensures fault { IfErr result (λ fault. fault ≡ WriteFault.Write) }
 {
-    let whole = write_harts(outcome.harts.as_slice(), logs, sink)?;
+    write_report(outcome, logs, sink)?;
+    Ok(())
+}
+
+/// Writes what [`report`] writes, and returns whether every log came back whole, and there is no stop.
+pub fn write_report<W: Write, A: Allocator, B: Allocator>(
+    outcome: &Outcome<A>,
+    logs: &[LegalLog<'_, B>],
+    sink: &mut W,
+) -> Result<bool, WriteFault>
+    requires { length logs.now ≡ length outcome.now.harts.items }
+    ensures whole { IfOk result (λ whole.
+        whole ≡ is_whole outcome.now.stop (map got_of outcome.now.harts.items) logs.now) }
+    ensures text { OnOk result (Appends (W.contents sink.old) (W.contents sink.new)
+        (report_text outcome.now.stop (map got_of outcome.now.harts.items) logs.now)) }
+    ensures begun { AppendsBeginning (report_text outcome.now.stop (map got_of outcome.now.harts.items) logs.now)
+        (W.contents sink.old) (W.contents sink.new) }
+    ensures fault { IfErr result (λ fault. fault ≡ WriteFault.Write) }
+{
+    let all_whole = write_harts(outcome.harts.as_slice(), logs, sink)?;
     write_stop(outcome.stop, sink)?;
-    write_result(outcome.stop.is_none() & whole, sink)
+    let whole = outcome.stop.is_none() & all_whole;
+    write_result(whole, sink)?;
+    Ok(whole)
 }
 
 /// Whether every log came back whole, and there is no stop. The logs are those of the outcome's harts, in order.

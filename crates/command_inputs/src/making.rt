@@ -6,8 +6,8 @@ ghost use Rattle.command_inputs.specs.Made.{AreMadeInTurn, IsMadeOf, IsNotMadeOf
 ghost use Rattle.command_inputs.specs.Turns.{ComeInTurn};
 ghost use Rattle.command_inputs.specs.steps.Found.{IsFound, IsFoundFault};
 
+use crate::dropping::drop_side_by_side;
 use crate::fault::Fault;
-use crate::rooms::drop_texts;
 use crate::texts::LogText;
 use side_by_side::{Found, Task};
 use std::thread::Threads;
@@ -19,7 +19,7 @@ use std::thread::Threads;
 /// Returns the first fault in the order of the texts, and else `end`. Where memory is refused, all is made again, one
 /// after the other. Where it is then refused for one of the texts, that one is made once more, when all other texts
 /// are gone. Where memory for the lists was refused, that is the fault.
-pub fn made_of_found<'a, R: Threads, X: Drop, T: Task<LogText<'a>, Result<X, Fault<'a>>>>(
+pub fn made_of_found<'a, R: Threads + Sync, X: Drop, T: Task<LogText<'a>, Result<X, Fault<'a>>>>(
     rt: &R,
     task: &T,
     found: Option<Found<LogText<'a>, Result<X, Fault<'a>>>>,
@@ -42,7 +42,7 @@ pub fn made_of_found<'a, R: Threads, X: Drop, T: Task<LogText<'a>, Result<X, Fau
 }
 
 /// Moves what was found of the texts into a list that is empty at first, up to the first text of which a fault comes.
-fn made_of_texts<'a, R: Threads, X: Drop, T: Task<LogText<'a>, Result<X, Fault<'a>>>>(
+fn made_of_texts<'a, R: Threads + Sync, X: Drop, T: Task<LogText<'a>, Result<X, Fault<'a>>>>(
     rt: &R,
     task: &T,
     texts: Vec<LogText<'a>>,
@@ -58,8 +58,18 @@ fn made_of_texts<'a, R: Threads, X: Drop, T: Task<LogText<'a>, Result<X, Fault<'
     if let Err(Fault::Memory) = end {
         return make_in_turn(task, texts, made);
     }
-    drop_texts(rt, texts);
+    let bytes = bytes_of(texts.as_slice());
+    drop_side_by_side(rt, texts, bytes);
     end
+}
+
+/// How many bytes texts have together.
+fn bytes_of(texts: &[LogText<'_>]) -> usize {
+    let mut bytes = 0usize;
+    for text in texts {
+        bytes = bytes.saturating_add(text.bytes.len());
+    }
+    bytes
 }
 
 /// Moves what was made into a list that is empty at first, up to the first fault.

@@ -8,16 +8,13 @@ ghost use Rattle.std.specs.Prelude.{◌≡◌, ◌⊎◌, Err, IfErr, IfOk, Ok};
 ghost use Rattle.command_inputs.specs.Faults.{status_of};
 ghost use Rattle.command_inputs.specs.Found.{IsRead};
 
+use crate::dropping::LARGE;
 use crate::fault::Fault;
 use crate::files::{FileFault, Files};
 use crate::inputs::content_of;
 use crate::status::Status;
-use crate::texts::LogText;
 use std::alloc::Global;
 use std::thread::{Threads, join};
-
-/// For fewer bytes than this, threads take as long as they save.
-const LEAST: usize = 1 << 20;
 
 /// The bytes of a room behind those of its file.
 const SPARE: usize = 4096;
@@ -78,7 +75,7 @@ fn sizes_of<F: Files>(alloc: Global, files: &F, path: &str, behind: &[&str]) -> 
         total = total.saturating_add(size);
         sizes.push(size).ok()?;
     }
-    if total < LEAST {
+    if total < LARGE {
         return None;
     }
     Some(sizes)
@@ -143,16 +140,4 @@ fn written(room: Option<Vec<u8>>, size: usize) -> Option<Vec<u8>> {
     let mut room = room?;
     room.resize(size, b'\n').ok()?;
     Some(room)
-}
-
-/// Drops texts, those that are large side by side: to take their pages back takes the machine long too.
-pub(crate) fn drop_texts<R: Threads>(rt: &R, mut texts: Vec<LogText<'_>>) {
-    let Some(text) = texts.pop() else {
-        return;
-    };
-    if texts.is_empty() || text.bytes.len() < LEAST {
-        return;
-    }
-    let bytes = text.bytes;
-    join(rt, move || drop(bytes), move || drop_texts(rt, texts));
 }

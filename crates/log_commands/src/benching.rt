@@ -13,10 +13,10 @@ ghost use Rattle.command_inputs.specs.Printed.{PrintsUnlessDenied};
 ghost use Rattle.log_commands.specs.Benching.{Benches, BenchesLogs, CanBench, CanBenchLogs};
 ghost use Rattle.log_commands.specs.Sending.{IsSetting, config_at};
 
-use crate::legal_logs::{AskedLogs, OnLogs, over_legal_logs};
+use crate::legal_logs::{AskedLogs, OnLogs, bytes_of, over_legal_logs};
 use crate::reporting::end_with_report;
 use bench::{Config, Open, Outcome, run};
-use command_inputs::{Fault, Files, Status};
+use command_inputs::{Fault, Files, Status, drop_side_by_side};
 use funnel::MOST_PORTS;
 use legalpath::LegalLog;
 use std::alloc::Global;
@@ -93,7 +93,10 @@ fn bench_logs<'a, O: Write, R: Threads + Wait + Sync>(
     ensures cut { IsCutOf (BenchesLogs asked.now logs.now) (O.contents out.old) (O.contents out.new) }
 {
     let outcome = outcome_of(alloc, rt, logs, asked)?;
-    end_with_report(&outcome, logs, out)
+    let ended = end_with_report(&outcome, logs, out);
+    let bytes = bytes_of(logs);
+    drop_side_by_side(rt, outcome.harts, bytes);
+    ended
 }
 
 /// What comes of the logs. No packets are kept.

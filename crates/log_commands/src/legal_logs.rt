@@ -11,8 +11,9 @@ ghost use Rattle.command_inputs.specs.Known.{Content};
 ghost use Rattle.command_inputs.specs.Order.{logs_fault};
 ghost use Rattle.command_inputs.specs.Printed.{First, Printed, PrintsUnlessDenied};
 
-use command_inputs::{Fault, Files, Status, asked_program, legal_logs_of};
+use command_inputs::{Fault, Files, Status, asked_program, drop_side_by_side, legal_logs_of};
 use legalpath::LegalLog;
+use retire::Event;
 use std::alloc::Global;
 use std::io::Write;
 use std::thread::Threads;
@@ -85,5 +86,17 @@ pub(crate) fn over_legal_logs<'a, F: Files, O: Write, T: OnLogs<'a>, R: Threads 
     let paths = asked.paths.as_slice();
     let program = asked_program(files, asked.most, asked.base, asked.image, paths)?;
     let logs = legal_logs_of(alloc, rt, files, &program, paths)?;
-    task.go_on(alloc, files, logs.as_slice(), out)
+    let ended = task.go_on(alloc, files, logs.as_slice(), out);
+    let bytes = bytes_of(logs.as_slice());
+    drop_side_by_side(rt, logs, bytes);
+    ended
+}
+
+/// About how many bytes logs take, or what is decoded of them again.
+pub(crate) fn bytes_of(logs: &[LegalLog<'_>]) -> usize {
+    let mut events = 0usize;
+    for log in logs {
+        events = events.saturating_add(log.events().len());
+    }
+    events.saturating_mul(size_of::<Event>())
 }

@@ -7,7 +7,7 @@ ghost use Rattle.bench.specs.Got.{got_of};
 ghost use Rattle.bench.specs.Report.{is_whole, report_text};
 ghost use Rattle.log_commands.specs.Sending.{end_of_report};
 
-use bench::{Outcome, is_whole, report};
+use bench::{Outcome, Stop, write_report};
 use command_inputs::{Fault, Status};
 use legalpath::LegalLog;
 use std::io::Write;
@@ -27,20 +27,18 @@ pub(crate) fn end_with_report<'a, O: Write>(
     ensures begun { AppendsBeginning (report_text outcome.now.stop (map got_of outcome.now.harts.items) logs.now)
         (O.contents out.old) (O.contents out.new) }
 {
-    report(outcome, logs, out)?;
+    let whole = write_report(outcome, logs, out)?;
     out.flush()?;
-    Ok(status_of(outcome, logs))
+    Ok(status_of(outcome.stop, whole))
 }
 
-/// How a run ends that has this outcome.
-fn status_of(outcome: &Outcome, logs: &[LegalLog<'_>]) -> Status
-    requires { length logs.now ≡ length outcome.now.harts.items }
-    ensures { result ≡ end_of_report outcome.now.stop
-        (is_whole outcome.now.stop (map got_of outcome.now.harts.items) logs.now) }
+/// How a run ends by its stop, if there is one, and by whether every log came back whole.
+fn status_of(stop: Option<Stop>, whole: bool) -> Status
+    ensures { result ≡ end_of_report stop whole }
 {
-    if outcome.stop.is_some() {
+    if stop.is_some() {
         Status::Machine
-    } else if is_whole(outcome, logs) {
+    } else if whole {
         Status::Whole
     } else {
         Status::NotWhole

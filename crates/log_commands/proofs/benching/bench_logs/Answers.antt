@@ -9,7 +9,7 @@ use Rattle.command_inputs.proofs.Runs.{ends_silently, written}
 use Rattle.log_commands.specs.Benching.{BenchesLogs, CanBenchLogs}
 use Rattle.log_commands.specs.Sending.{IsSetting, config_at, end_of_report}
 use Rattle.log_commands.proofs.Reports.{reported}
-use Rattle.log_commands.proofs.benching.bench_logs.Goals.{After-end_with_report}
+use Rattle.log_commands.proofs.benching.bench_logs.Goals.{After-end_with_report-ended}
 use Rattle.log_commands.proofs.benching.bench_logs.Goals as goal
 
 pub returns-in_err-outcome-clause-printed : goal.returns-in_err-outcome-clause-printed
@@ -25,7 +25,7 @@ returns-in_err-outcome-clause-printed g c =
     ends_silently run can (IsSetting most_ports (length logs) config (Err why)) why c.from_residual.result out is
     c.in_err-outcome.ensures.fault (λ none. (Err why, none, refl))
 
-module _ (g : _) (c : After-end_with_report g) where
+module _ (g : _) (c : After-end_with_report-ended g) where
   -- The report of what came of the logs may be printed.
   prints : BenchesLogs c.args.asked.now c.args.logs.now
       (reported c.in_ok-outcome.outcome.stop (map got_of c.in_ok-outcome.outcome.harts.items) c.args.logs.now)
@@ -48,19 +48,19 @@ returns-clause-printed g c =
     let logs = c.args.logs.now in
     let outcome = c.in_ok-outcome.outcome in
     let gots = map got_of outcome.harts.items in
-    let after = (goal.at.returns-clause-printed g c).After-end_with_report in
+    let after = (goal.at.returns-clause-printed g c).After-end_with_report-ended in
     written (BenchesLogs asked logs) (CanBenchLogs asked logs) (report_text outcome.stop gots logs)
-    (end_of_report outcome.stop (is_whole outcome.stop gots logs)) c.end_with_report.result
-    (g.O.Write.contents c.args.out.now) (g.O.Write.contents c.end_with_report.new.out) (prints g after)
-    c.in_ok-outcome.ensures.setting c.end_with_report.ensures.fault c.end_with_report.ensures.ended
-    c.end_with_report.ensures.text
+    (end_of_report outcome.stop (is_whole outcome.stop gots logs)) c.end_with_report-ended.result
+    (g.O.Write.contents c.args.out.now) (g.O.Write.contents c.end_with_report-ended.new.out) (prints g after)
+    c.in_ok-outcome.ensures.setting c.end_with_report-ended.ensures.fault c.end_with_report-ended.ensures.ended
+    c.end_with_report-ended.ensures.text
 
 pub returns-clause-cut : goal.returns-clause-cut
 returns-clause-cut g c =
     let logs = c.args.logs.now in
     let outcome = c.in_ok-outcome.outcome in
     let gots = map got_of outcome.harts.items in
-    let after = (goal.at.returns-clause-cut g c).After-end_with_report in
+    let after = (goal.at.returns-clause-cut g c).After-end_with_report-ended in
     inr (printed_begun (BenchesLogs c.args.asked.now logs) (report_text outcome.stop gots logs)
     (Ok (end_of_report outcome.stop (is_whole outcome.stop gots logs))) (g.O.Write.contents c.args.out.now)
-    (g.O.Write.contents c.end_with_report.new.out) (prints g after) c.end_with_report.ensures.begun)
+    (g.O.Write.contents c.end_with_report-ended.new.out) (prints g after) c.end_with_report-ended.ensures.begun)

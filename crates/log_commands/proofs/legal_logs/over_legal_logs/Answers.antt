@@ -8,7 +8,7 @@ use Rattle.command_inputs.specs.Printed.{First, PrintsUnlessDenied}
 use Rattle.command_inputs.proofs.Beginnings.{cut_leads}
 use Rattle.command_inputs.proofs.FirstSteps.{early_ends, logs_end, logs_there, no_logs, passes}
 use Rattle.command_inputs.proofs.Runs.{leads_on}
-use Rattle.log_commands.proofs.legal_logs.over_legal_logs.Goals.{After-go_on}
+use Rattle.log_commands.proofs.legal_logs.over_legal_logs.Goals.{After-go_on-ended}
 use Rattle.log_commands.proofs.legal_logs.over_legal_logs.Goals as goal
 
 pub returns-in_err-program-clause-early : goal.returns-in_err-program-clause-early
@@ -58,10 +58,10 @@ pub returns-clause-early : goal.returns-clause-early
 returns-clause-early g c =
     let asked = c.args.asked.now in
     passes asked.most asked.base.now asked.paths.now.items c.as_slice-paths.result.now c.asked_program.result
-    c.in_ok-program.program c.go_on.result c.as_slice-paths.ensures.value c.in_ok-program.was
+    c.in_ok-program.program c.go_on-ended.result c.as_slice-paths.ensures.value c.in_ok-program.was
     c.asked_program.ensures.early
 
-module _ (g : _) (c : After-go_on g) where
+module _ (g : _) (c : After-go_on-ended g) where
   -- The logs that were found.
   there : AreAskedLogs (g.F.Files.content c.args.files.now) c.args.asked.now.most c.args.asked.now.base.now
       c.args.asked.now.image c.args.asked.now.paths.now.items (Ok c.in_ok-logs.logs.items)
@@ -81,15 +81,15 @@ returns-clause-printed g c =
     let finds = AreAskedLogs content asked.most asked.base.now asked.image asked.paths.now.items in
     let logs = c.in_ok-logs.logs.items in
     let slice = c.as_slice.result.now in
-    let ended = c.go_on.result in
+    let ended = c.go_on-ended.result in
     let old = g.O.Write.contents c.args.out.now in
-    let new = g.O.Write.contents c.go_on.new.out in
-    let there = there g (goal.at.returns-clause-printed g c).After-go_on in
+    let new = g.O.Write.contents c.go_on-ended.new.out in
+    let there = there g (goal.at.returns-clause-printed g c).After-go_on-ended in
     leads_on (prints content logs) (First finds (prints content)) (can content logs) (Once finds (can content)) ended
     old new (λ printed is. (Ok logs, there, is)) (λ is. (logs, there, is))
     (subst (λ logs. PrintsUnlessDenied (prints content logs) (can content logs) ended old new) c.as_slice.ensures.value
     (subst (λ known. PrintsUnlessDenied (prints known slice) (can known slice) ended old new)
-    (c.in_ok-logs.ensures.kept ∙ c.in_ok-program.ensures.kept) c.go_on.ensures.printed))
+    (c.in_ok-logs.ensures.kept ∙ c.in_ok-program.ensures.kept) c.go_on-ended.ensures.printed))
 
 pub returns-clause-cut : goal.returns-clause-cut
 returns-clause-cut g c =
@@ -100,9 +100,9 @@ returns-clause-cut g c =
     let logs = c.in_ok-logs.logs.items in
     let slice = c.as_slice.result.now in
     let old = g.O.Write.contents c.args.out.now in
-    let new = g.O.Write.contents c.go_on.new.out in
-    let there = there g (goal.at.returns-clause-cut g c).After-go_on in
+    let new = g.O.Write.contents c.go_on-ended.new.out in
+    let there = there g (goal.at.returns-clause-cut g c).After-go_on-ended in
     cut_leads (prints content logs) (First finds (prints content)) old new (λ printed is. (Ok logs, there, is))
     (subst (λ logs. IsCutOf (prints content logs) old new) c.as_slice.ensures.value
     (subst (λ known. IsCutOf (prints known slice) old new) (c.in_ok-logs.ensures.kept ∙ c.in_ok-program.ensures.kept)
-    c.go_on.ensures.cut))
+    c.go_on-ended.ensures.cut))

@@ -16,7 +16,7 @@ flushed g c =
     let contents = g.O.Write.contents in
     let outcome = c.args.outcome.now in
     begun_kept (report_text outcome.stop (map got_of outcome.harts.items) c.args.logs.now) (contents c.args.out.now)
-    (contents c.report.new.sink) (contents c.flush.new.self) c.report.ensures.begun c.flush.ensures.bytes
+    (contents c.write_report.new.sink) (contents c.flush.new.self) c.write_report.ensures.begun c.flush.ensures.bytes
 
 pub returns-in_err-flush-clause-begun : goal.returns-in_err-flush-clause-begun
 returns-in_err-flush-clause-begun g c = flushed g (goal.at.returns-in_err-flush-clause-begun g c).After-flush
@@ -28,6 +28,6 @@ pub returns-clause-text : goal.returns-clause-text
 returns-clause-text g c =
     let contents = g.O.Write.contents in
     let outcome = c.args.outcome.now in
-    appends-keeps (contents c.args.out.now) (contents c.report.new.sink) (contents c.flush.new.self)
-    (report_text outcome.stop (map got_of outcome.harts.items) c.args.logs.now) c.in_ok-report.ensures.text
+    appends-keeps (contents c.args.out.now) (contents c.write_report.new.sink) (contents c.flush.new.self)
+    (report_text outcome.stop (map got_of outcome.harts.items) c.args.logs.now) c.in_ok-whole.ensures.text
     c.flush.ensures.bytes
