@@ -18,6 +18,20 @@ use retire::Event;
 use rvclass::Program;
 use std::process::Abort;
 
+/// An encoder, and the packet that opens its trace.
+fn opened<R: Abort + AllocGlobal>(rt: &R, period: u16, mode: Mode) -> (Encoder, Vec<Packet>) {
+    assert!(rt; period != 0, "a period is 0");
+    let mut encoder = Encoder::new(period, mode);
+    let mut packets = Vec::new(rt.alloc());
+    packets.push(encoder.open()).expect(rt, "memory");
+    (encoder, packets)
+}
+
+/// Adds packets to a list.
+fn add_packets(rt: &impl Abort, packets: &mut Vec<Packet>, more: &[Packet]) {
+    packets.extend_from_slice(more).expect(rt, "memory");
+}
+
 /// The packets of a log.
 pub(crate) fn packets_of<R: Abort + AllocGlobal>(
     rt: &R,
@@ -26,20 +40,13 @@ pub(crate) fn packets_of<R: Abort + AllocGlobal>(
     mode: Mode,
     log: &[Event],
 ) -> Vec<Packet> {
-    assert!(rt; period != 0, "a period is 0");
-    let mut encoder = Encoder::new(period, mode);
-    let mut packets = Vec::new(rt.alloc());
-    packets.push(encoder.open()).expect(rt, "memory");
+    let (mut encoder, mut packets) = opened(rt, period, mode);
     for event in log {
         let pushed = encoder.push(program, *event);
-        packets
-            .extend_from_slice(pushed.as_slice())
-            .expect(rt, "memory");
+        add_packets(rt, &mut packets, pushed.as_slice());
     }
     let last = encoder.finish(program);
-    packets
-        .extend_from_slice(last.as_slice())
-        .expect(rt, "memory");
+    add_packets(rt, &mut packets, last.as_slice());
     packets
 }
 

@@ -1,7 +1,7 @@
 //! Events that an encoder takes up to the first that makes a packet due.
 
 use super::rows::ROWS;
-use super::{legal_log, packets_of};
+use super::{add_packets, legal_log, opened, packets_of};
 use crate::fixtures::{BASE, BEQ, log_of, program_of, retired, short_log, short_words, trap};
 use crate::same::same_at;
 use encoder::Encoder;
@@ -45,17 +45,12 @@ fn packets_until<R: Abort + AllocGlobal>(
     mode: Mode,
     log: &[Event],
 ) -> Vec<Packet> {
-    assert!(rt; period != 0, "a period is 0");
-    let mut encoder = Encoder::new(period, mode);
-    let mut packets = Vec::new(rt.alloc());
-    packets.push(encoder.open()).expect(rt, "memory");
+    let (mut encoder, mut packets) = opened(rt, period, mode);
     takes_nothing(rt, &mut encoder, program);
     add_until(rt, &mut encoder, program, log, &mut packets);
     takes_nothing(rt, &mut encoder, program);
     let last = encoder.finish(program);
-    packets
-        .extend_from_slice(last.as_slice())
-        .expect(rt, "memory");
+    add_packets(rt, &mut packets, last.as_slice());
     packets
 }
 
