@@ -100,6 +100,24 @@ impl<'l, 'p, A: Allocator + Copy, B: Allocator> Collector<'l, 'p, A, B> {
         })
     }
 
+    /// The same, with rooms for the events that come of harts: of hart 0 the first, and so on, where there are so many.
+    pub(crate) fn in_rooms(
+        alloc: A,
+        logs: &'l [LegalLog<'p, B>],
+        keep: bool,
+        rooms: Vec<Vec<Event, A>, A>,
+    ) -> Result<Collector<'l, 'p, A, B>, AllocError>
+        requires few { length logs.now ≤ 65_535 }
+        ensures made { IfOk result (λ collector. (collector.logs ≡ logs.now) × (collector.keep ≡ keep)) }
+        ensures begun { (period : ℕ) (mode : Mode) (hart : ℕ) (log : ProgramLog) → slice_get logs.now hart ≡ Some log
+            → IfOk result (λ collector. HasCollected period mode log 0 hart collector) }
+        ensures legal { IfOk result (λ collector. All IsLegalLog logs.now) }
+    {
+        let mut collector = Collector::new(alloc, logs, keep)?;
+        give_rooms(&mut collector.receiver, logs.len() as u16, rooms);
+        Ok(collector)
+    }
+
     /// Takes the next message of a hart in: demultiplexes it and decodes its packet.
     ///
     /// A fault leaves what came of all harts as it was. After [`CollectFault::Memory`] the collector notes that memory
@@ -199,6 +217,22 @@ impl<'l, 'p, A: Allocator + Copy, B: Allocator> Collector<'l, 'p, A, B> {
         let (lists, closed) = self.receiver.into_parts();
         fill(&mut harts, lists, &closed);
         Outcome { harts, stop: None }
+    }
+}
+
+/// Gives each hart below `harts` its room, as far as there are so many.
+fn give_rooms<A: Allocator + Copy>(
+    receiver: &mut Receiver<A>,
+    harts: u16,
+    rooms: Vec<Vec<Event, A>, A>,
+)
+    requires { harts ≤ length receiver.old.lists }
+    ensures { receiver.new ≡ receiver.old }
+{
+    let mut rooms = rooms;
+    rooms.truncate(usize::from(harts));
+    while let Some(room) = rooms.pop() {
+        receiver.take_room(rooms.len() as u16, room);
     }
 }
 

@@ -33,7 +33,7 @@ pub use laws::turns_let_beginnings_through;
 pub use outcome::{HartOutcome, Outcome};
 pub use replaying::replay;
 pub use reporting::{is_whole, report, write_report};
-pub use running::{run, run_on};
+pub use running::{run, run_in_rooms, run_on};
 pub use setup::Setup;
 pub use stop::Stop;
 pub use verdict::{Verdict, compare};

@@ -21,6 +21,7 @@ use crate::starting::start_all;
 use crate::stopping::stop_of;
 use funnel::{MOST_PORTS, Outlet, Port, open};
 use legalpath::LegalLog;
+use retire::Event;
 use std::alloc::{AllocError, Allocator, Global};
 use std::sync::Wait;
 use std::thread;
@@ -55,6 +56,31 @@ pub fn run<A: Allocator + Copy, G: Gate, R: Threads + Wait + Sync>(
     ensures memory { setup_fault most_ports (length logs.now) config ≡ None
         → IfErr result (λ fault. fault ≡ Setup.Memory) }
 {
+    run_in_rooms(alloc, global, logs, config, gate, rt, Vec::new(alloc))
+}
+
+/// The same, with rooms for the events that come of harts: of hart 0 the first, and so on, where there are so many. A
+/// room is a list whose memory is used, and what it holds is dropped. Memory that it lacks is taken as in [`run`].
+///
+/// A machine may hand out memory when it is first written, one page after another. Where rooms were written before, by
+/// several threads, the run waits for no page.
+pub fn run_in_rooms<A: Allocator + Copy, G: Gate, R: Threads + Wait + Sync>(
+    alloc: A,
+    global: Global,
+    logs: &[LegalLog<'_>],
+    config: Config,
+    gate: &G,
+    rt: &R,
+    rooms: Vec<Vec<Event, A>, A>,
+) -> Result<Outcome<A>, Setup>
+    ensures beginnings { IfOk result (λ outcome. AreBeginnings config logs.now outcome.harts.items) }
+    ensures stop { IfOk result (λ outcome. NamesOpen outcome.stop outcome.harts.items) }
+    ensures refused_harts { IfOk result (λ outcome. NoRefusedIsClosed outcome.harts.items) }
+    ensures refused { (fault : AnySetup) → setup_fault most_ports (length logs.now) config ≡ Some fault
+        → result ≡ Err fault }
+    ensures memory { setup_fault most_ports (length logs.now) config ≡ None
+        → IfErr result (λ fault. fault ≡ Setup.Memory) }
+{
     if let Some(fault) = fault_of(MOST_PORTS, logs.len(), config) {
         return Err(fault);
     }
@@ -63,7 +89,13 @@ pub fn run<A: Allocator + Copy, G: Gate, R: Threads + Wait + Sync>(
         Err(_) => return Err(Setup::Memory),
     };
     let mut outlet = outlet;
-    match run_on(alloc, logs, config, gate, ports, &mut outlet, rt) {
+    let plan = Plan {
+        logs,
+        config,
+        gate,
+        rt,
+    };
+    match run_plan(alloc, plan, ports, &mut outlet, rooms) {
         Ok(outcome) => Ok(outcome),
         Err(_) => Err(Setup::Memory),
     }
@@ -102,6 +134,35 @@ pub fn run_on<A: Allocator + Copy, G: Gate, R: Threads + Wait + Sync>(
     ensures untouched { OnErr result (outlet.new ≡ outlet.old) }
     ensures funnel { outlet.new ≡ record outlet.old { taken = outlet.new.taken } }
 {
+    let plan = Plan {
+        logs,
+        config,
+        gate,
+        rt,
+    };
+    run_plan(alloc, plan, ports, outlet, Vec::new(alloc))
+}
+
+/// Runs what is planned over the ends of a funnel, with rooms for the events that come of harts.
+fn run_plan<A: Allocator + Copy, G: Gate, R: Threads + Wait + Sync>(
+    alloc: A,
+    plan: Plan<'_, '_, G, R>,
+    ports: Vec<Port>,
+    outlet: &mut Outlet,
+    rooms: Vec<Vec<Event, A>, A>,
+) -> Result<Outcome<A>, AllocError>
+    requires period { 1 ≤ plan.config.period }
+    requires ports { AreNewPorts outlet.old.funnel (length plan.logs.now) ports.items }
+    requires outlet { (outlet.old.taken ≡ []) × (outlet.old.made ≡ length plan.logs.now) }
+    requires count { length plan.logs.now ≤ most_ports }
+    ensures { IsRun plan.entry.config plan.entry.logs.now outlet.old outlet.new result }
+{
+    let Plan {
+        logs,
+        config,
+        gate,
+        rt,
+    } = plan;
     let (outcome, back) = thread::scope(
         thread::scope_env(),
         rt,
@@ -117,7 +178,7 @@ pub fn run_on<A: Allocator + Copy, G: Gate, R: Threads + Wait + Sync>(
                 gate,
                 rt,
             };
-            let outcome = conduct(scope, &plan, alloc, ports, outlet);
+            let outcome = conduct(scope, &plan, alloc, ports, outlet, rooms);
             (outcome, outlet)
         },
     );
@@ -132,6 +193,7 @@ fn conduct<'s, 'p, E, A: Allocator + Copy, G: Gate, R: Threads + Wait + Sync>(
     alloc: A,
     ports: Vec<Port>,
     outlet: &mut Outlet,
+    rooms: Vec<Vec<Event, A>, A>,
 ) -> Result<Outcome<A>, AllocError>
     requires period { 1 ≤ plan.now.config.period }
     requires ports { AreNewPorts outlet.old.funnel (length plan.now.logs.now) ports.items }
@@ -139,7 +201,7 @@ fn conduct<'s, 'p, E, A: Allocator + Copy, G: Gate, R: Threads + Wait + Sync>(
     requires count { length plan.now.logs.now ≤ most_ports }
     ensures { IsRun plan.now.config plan.now.logs.now outlet.old outlet.new result }
 {
-    let mut collector = Collector::new(alloc, plan.logs, plan.config.keep)?;
+    let mut collector = Collector::in_rooms(alloc, plan.logs, plan.config.keep, rooms)?;
     let mut handed_back = Vec::from_elem(alloc, false, plan.logs.len())?;
     let workers = Vec::with_capacity(alloc, plan.logs.len())?;
     let workers = start_all(scope, plan, ports, workers, &mut collector, outlet);

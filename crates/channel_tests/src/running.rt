@@ -10,4 +10,5 @@ mod no_memory;
 mod refused;
 mod replays;
 mod report;
+mod rooms;
 mod runs;

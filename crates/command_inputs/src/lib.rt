@@ -5,7 +5,6 @@
 //! prints, and what it may have written where it is cut short, is said here for any subcommand.
 #![tactic(auto)]
 
-mod dropping;
 mod error_reporting;
 mod fault;
 mod files;
@@ -17,7 +16,6 @@ mod rooms;
 mod status;
 mod texts;
 
-pub use dropping::drop_side_by_side;
 pub use error_reporting::report_error;
 pub use fault::Fault;
 pub use files::{FileFault, Files};

@@ -6,10 +6,9 @@ ghost use Rattle.command_inputs.specs.Made.{AreMadeInTurn, IsMadeOf, IsNotMadeOf
 ghost use Rattle.command_inputs.specs.Turns.{ComeInTurn};
 ghost use Rattle.command_inputs.specs.steps.Found.{IsFound, IsFoundFault};
 
-use crate::dropping::drop_side_by_side;
 use crate::fault::Fault;
 use crate::texts::LogText;
-use side_by_side::{Found, Task};
+use side_by_side::{Found, Task, drop_side_by_side};
 use std::thread::Threads;
 
 /// Moves what was found of texts into a list that is empty at first, up to the first text of which a fault comes.

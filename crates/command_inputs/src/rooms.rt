@@ -8,11 +8,11 @@ ghost use Rattle.std.specs.Prelude.{◌≡◌, ◌⊎◌, Err, IfErr, IfOk, Ok};
 ghost use Rattle.command_inputs.specs.Faults.{status_of};
 ghost use Rattle.command_inputs.specs.Found.{IsRead};
 
-use crate::dropping::LARGE;
 use crate::fault::Fault;
 use crate::files::{FileFault, Files};
 use crate::inputs::content_of;
 use crate::status::Status;
+use side_by_side::LARGE;
 use std::alloc::Global;
 use std::thread::{Threads, join};
 

@@ -2,7 +2,7 @@
 
 pub use bench::{
     CollectFault, Collector, Config, Gate, HartOutcome, Open, Outcome, Setup, Stop, Verdict,
-    compare, is_whole, replay, report, run, run_on, write_report,
+    compare, is_whole, replay, report, run, run_in_rooms, run_on, write_report,
 };
 pub use funnel::{
     Core, Ended, MOST_PORTS, OpenFault, Outlet, Port, Receipt, SendFault, Settled, Turn, open,

@@ -1,13 +1,14 @@
 //! How ports wait for room in a full funnel, and when they are woken.
 //!
 //! The channel by itself wakes a port for each message that is taken, at the cost of a call of the kernel in the
-//! outlet's thread. Here a port that found no room sleeps until the outlet drained the funnel to its low-water mark,
-//! half of what it holds, and then sends many messages before it sleeps again.
+//! outlet's thread. Here a port that found no room waits until the outlet drained the funnel to its low-water mark,
+//! half of what it holds, and then sends many messages before it waits again. One of the waiting ports stays awake for
+//! a while and looks for the outlet's call, which then costs the outlet no call of the kernel. The others sleep.
 //!
 //! No contract speaks of this. A test in `channel_tests` shows that ports are woken, and that one is called at the
 //! mark. No test shows the rest: that no port is called before the mark; that all are called where no message waits,
-//! unless one was called since the last message; that a dropped outlet calls all. The rest changes when a port goes on,
-//! and not what is sent: it is a matter of speed.
+//! unless one was called since the last message; that a dropped outlet calls all; which port stays awake, and when. The
+//! rest changes when a port goes on, and not what is sent: it is a matter of speed.
 
 use std::alloc::Allocator;
 use std::hint;
@@ -15,13 +16,23 @@ use std::sync::atomic::{AtomicU64, AtomicUsize, Ordering};
 use std::sync::{Arc, Wait};
 use std::time::Duration;
 
-/// How many milliseconds a port sleeps at most. Mostly it is called before: one port at each mark, and all of them
+/// How many milliseconds a port sleeps at most. Before that one is called at a mark where none is awake, and all of them
 /// where no message waits. `funnels/waking.rt` of `channel_tests` counts on at least this many.
 const LONGEST: u64 = 10;
 
 /// How often a port looks for room before it waits, in a funnel so small that each message that is taken reaches the
 /// mark. It rests longer after each look. Room comes sooner there than a thread is woken.
 const MANY_LOOKS: u32 = 7;
+
+/// How often the port that stays awake looks for a call before it sleeps. That takes about as long as a thread is
+/// woken.
+const AWAKE_LOOKS: u32 = 128;
+
+/// Where looks were in vain so many times in a row, as on a single processor or in a large funnel, ports sleep at once.
+const FEW: usize = 4;
+
+/// Of so many ports that would sleep at once, one looks again.
+const SELDOM: usize = 64;
 
 /// Rests between two looks, longer each time.
 pub(crate) fn rest(look: u32) {
@@ -39,6 +50,10 @@ pub(crate) struct LowWater {
     calls: AtomicU64,
     /// How many ports wait for room.
     waiting: AtomicUsize,
+    /// How many of them are awake and look for a call.
+    awake: AtomicUsize,
+    /// How many times in a row looks for a call were in vain, or left out.
+    vain: AtomicUsize,
 }
 
 impl LowWater {
@@ -48,6 +63,8 @@ impl LowWater {
             looks: if capacity < 4 { MANY_LOOKS } else { 1 },
             calls: AtomicU64::new(0),
             waiting: AtomicUsize::new(0),
+            awake: AtomicUsize::new(0),
+            vain: AtomicUsize::new(0),
         }
     }
 
@@ -55,6 +72,11 @@ impl LowWater {
     /// look for room once more before it sleeps, so that it misses no call.
     pub(crate) fn enter(&self) -> u32 {
         self.waiting.fetch_add(1, Ordering::SeqCst);
+        self.made()
+    }
+
+    /// The lowest 32 bits of how many calls there were.
+    fn made(&self) -> u32 {
         (self.calls.load(Ordering::SeqCst) & 0xffff_ffff) as u32
     }
 
@@ -63,19 +85,50 @@ impl LowWater {
         self.waiting.fetch_sub(1, Ordering::SeqCst);
     }
 
-    /// Sleeps until there is a call that the port did not hear yet, or for the longest time. Then counts one waiting
+    /// Waits until there is a call that the port did not hear yet, or for the longest time. Then counts one waiting
     /// port less.
-    pub(crate) fn sleep<R: Wait>(&self, rt: &R, heard: u32) {
-        self.calls
-            .park_timeout(rt, heard, Duration::from_millis(LONGEST));
+    pub(crate) fn wait<R: Wait>(&self, rt: &R, heard: u32) {
+        if !self.hears(heard) {
+            self.calls
+                .park_timeout(rt, heard, Duration::from_millis(LONGEST));
+        }
         self.leave();
     }
 
-    /// Calls one port, where one waits.
+    /// Looks for a call that the port did not hear yet, and returns whether one came. Only one port looks at a time, and
+    /// none where looks were in vain.
+    fn hears(&self, heard: u32) -> bool {
+        let vain = self.vain.load(Ordering::SeqCst);
+        if vain >= FEW && vain % SELDOM != 0 {
+            self.vain.store(vain.wrapping_add(1), Ordering::SeqCst);
+            return false;
+        }
+        let called = self.awake.fetch_add(1, Ordering::SeqCst) == 0 && self.finds_call(heard, vain);
+        self.awake.fetch_sub(1, Ordering::SeqCst);
+        called
+    }
+
+    /// Looks for a call that the port did not hear yet, and returns whether one came. Before that, looks were in vain
+    /// this many times in a row.
+    fn finds_call(&self, heard: u32, vain: usize) -> bool {
+        for look in 0..AWAKE_LOOKS {
+            if self.made() != heard {
+                self.vain.store(0, Ordering::SeqCst);
+                return true;
+            }
+            rest(look.min(4));
+        }
+        self.vain.store(vain.wrapping_add(1), Ordering::SeqCst);
+        false
+    }
+
+    /// Calls one port, where one waits: the one that is awake, or else one that sleeps.
     fn call_one(&self) {
         if self.waiting.load(Ordering::SeqCst) != 0 {
             self.calls.fetch_add(1, Ordering::SeqCst);
-            self.calls.wake_one();
+            if self.awake.load(Ordering::SeqCst) == 0 {
+                self.calls.wake_one();
+            }
         }
     }
 

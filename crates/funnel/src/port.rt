@@ -132,7 +132,7 @@ fn pass_on<A: Allocator, R: Wait>(
     wait_and_pass_on(rt, sender, low, pass, message, closing)
 }
 
-/// The same, after the channel was full. It sleeps between looks.
+/// The same, after the channel was full. It waits between looks.
 fn wait_and_pass_on<A: Allocator, R: Wait>(
     rt: &R,
     sender: &Sender<A>,
@@ -155,7 +155,7 @@ fn wait_and_pass_on<A: Allocator, R: Wait>(
                 return Ok(());
             }
             Err(TrySendError::Full(back)) => {
-                low.sleep(rt, heard);
+                low.wait(rt, heard);
                 message = back;
             }
             Err(e) => {

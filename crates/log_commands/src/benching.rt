@@ -15,10 +15,12 @@ ghost use Rattle.log_commands.specs.Sending.{IsSetting, config_at};
 
 use crate::legal_logs::{AskedLogs, OnLogs, bytes_of, over_legal_logs};
 use crate::reporting::end_with_report;
-use bench::{Config, Open, Outcome, run};
-use command_inputs::{Fault, Files, Status, drop_side_by_side};
+use crate::rooms::rooms_of;
+use bench::{Config, Open, Outcome, run_in_rooms};
+use command_inputs::{Fault, Files, Status};
 use funnel::MOST_PORTS;
 use legalpath::LegalLog;
+use side_by_side::drop_side_by_side;
 use std::alloc::Global;
 use std::io::Write;
 use std::sync::Wait;
@@ -122,7 +124,8 @@ fn outcome_of<'a, R: Threads + Wait + Sync>(
         capacity: asked.capacity,
         keep: false,
     };
-    match run(alloc, alloc, logs, config, &Open, rt) {
+    let rooms = rooms_of(alloc, rt, logs);
+    match run_in_rooms(alloc, alloc, logs, config, &Open, rt, rooms) {
         Ok(outcome) => Ok(outcome),
         Err(why) => Err(Fault::of_setup(why)),
     }

@@ -11,9 +11,10 @@ ghost use Rattle.command_inputs.specs.Known.{Content};
 ghost use Rattle.command_inputs.specs.Order.{logs_fault};
 ghost use Rattle.command_inputs.specs.Printed.{First, Printed, PrintsUnlessDenied};
 
-use command_inputs::{Fault, Files, Status, asked_program, drop_side_by_side, legal_logs_of};
+use command_inputs::{Fault, Files, Status, asked_program, legal_logs_of};
 use legalpath::LegalLog;
 use retire::Event;
+use side_by_side::drop_side_by_side;
 use std::alloc::Global;
 use std::io::Write;
 use std::thread::Threads;

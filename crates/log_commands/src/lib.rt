@@ -13,6 +13,7 @@ mod made;
 mod measures;
 mod replaying;
 mod reporting;
+mod rooms;
 
 pub use benching::bench;
 pub use checking::check;

@@ -141,6 +141,21 @@ impl<A: Allocator + Copy> Receiver<A> {
         list.reserve(total.saturating_sub(list.len()))
     }
 
+    /// Gives the hart the memory of this list for its events, where the hart holds none yet. What the list holds is
+    /// dropped.
+    pub fn take_room(&mut self, hart: u16, room: Vec<Event, A>)
+        requires known { hart < length self.old.lists }
+        ensures { self.new ≡ self.old }
+    {
+        let list = &mut self.lists[usize::from(hart)];
+        if !list.is_empty() {
+            return;
+        }
+        let mut room = room;
+        room.clear();
+        *list = room;
+    }
+
     /// Accepts the message and decodes its packet. The program is that of the message's hart. Where a mode was
     /// announced before, by the header of a capture, a packet that opens a trace in another mode is a fault. A fault
     /// leaves the lists and the flags as they were. Where the message was accepted and the fault came after that, the

@@ -3,11 +3,13 @@
 //! [`results`] returns what comes of each job, in order, as one thread would that does them in turn. It may start a
 //! thread for each job, so it is called with at most as many as [`processors`] returns. [`found_of`] takes
 //! [`Jobs`] that come one after another, begins with each as soon as it has come, and returns the jobs too. It is called
-//! with as few.
+//! with as few. [`drop_side_by_side`] drops several things that take much memory.
 #![tactic(auto)]
 
 mod coming;
+mod dropping;
 mod task;
 
 pub use coming::{Found, Jobs, found_of};
+pub use dropping::{LARGE, drop_side_by_side};
 pub use task::{Task, processors, results};

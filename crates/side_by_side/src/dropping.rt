@@ -1,11 +1,11 @@
 //! Dropping what takes much memory.
 
-use side_by_side::processors;
+use crate::task::processors;
 use std::thread;
 use std::thread::Threads;
 
-/// With fewer bytes than this, threads take as long as they save.
-pub(crate) const LARGE: usize = 1 << 20;
+/// With fewer bytes than this, threads that write or drop them take as long as they save.
+pub const LARGE: usize = 1 << 20;
 
 /// Drops things that take this many bytes together: large ones side by side, as many at once as the machine has
 /// processors. To take a page back takes the machine about as long as to hand it out.
