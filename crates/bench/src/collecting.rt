@@ -100,22 +100,12 @@ impl<'l, 'p, A: Allocator + Copy, B: Allocator> Collector<'l, 'p, A, B> {
         })
     }
 
-    /// The same, with rooms for the events that come of harts: of hart 0 the first, and so on, where there are so many.
-    pub(crate) fn in_rooms(
-        alloc: A,
-        logs: &'l [LegalLog<'p, B>],
-        keep: bool,
-        rooms: Vec<Vec<Event, A>, A>,
-    ) -> Result<Collector<'l, 'p, A, B>, AllocError>
-        requires few { length logs.now ≤ 65_535 }
-        ensures made { IfOk result (λ collector. (collector.logs ≡ logs.now) × (collector.keep ≡ keep)) }
-        ensures begun { (period : ℕ) (mode : Mode) (hart : ℕ) (log : ProgramLog) → slice_get logs.now hart ≡ Some log
-            → IfOk result (λ collector. HasCollected period mode log 0 hart collector) }
-        ensures legal { IfOk result (λ collector. All IsLegalLog logs.now) }
+    /// Takes rooms for the events that come of harts: of hart 0 the first, and so on, where there are so many.
+    pub(crate) fn take_rooms(&mut self, rooms: Vec<Vec<Event, A>, A>)
+        requires few { length self.old.logs ≤ 65_535 }
+        ensures { self.new ≡ self.old }
     {
-        let mut collector = Collector::new(alloc, logs, keep)?;
-        give_rooms(&mut collector.receiver, logs.len() as u16, rooms);
-        Ok(collector)
+        give_rooms(&mut self.receiver, self.logs.len() as u16, rooms);
     }
 
     /// Takes the next message of a hart in: demultiplexes it and decodes its packet.

@@ -201,7 +201,8 @@ fn conduct<'s, 'p, E, A: Allocator + Copy, G: Gate, R: Threads + Wait + Sync>(
     requires count { length plan.now.logs.now ≤ most_ports }
     ensures { IsRun plan.now.config plan.now.logs.now outlet.old outlet.new result }
 {
-    let mut collector = Collector::in_rooms(alloc, plan.logs, plan.config.keep, rooms)?;
+    let mut collector = Collector::new(alloc, plan.logs, plan.config.keep)?;
+    collector.take_rooms(rooms);
     let mut handed_back = Vec::from_elem(alloc, false, plan.logs.len())?;
     let workers = Vec::with_capacity(alloc, plan.logs.len())?;
     let workers = start_all(scope, plan, ports, workers, &mut collector, outlet);

@@ -3,6 +3,7 @@ use Rattle.std.proofs.Common.{◌≡◌, ◌≤◌, ◌∙◌, ℕ, List, Some, 
 use Rattle.std.proofs.lemmas.Grind.{common_steps}
 use Rattle.funnel.specs.Ends.{OutletView}
 use Rattle.bench.specs.Beginnings.{AreCarried, AreThoseTaken, LackSomeTaken}
+use Rattle.bench.specs.Collected.{Collected, HasCollected}
 use Rattle.bench.specs.Stopping.{LacksPayloads, NamesOpen}
 use Rattle.bench.specs.steps.Gathering.{AreGathered, harts_of}
 use Rattle.bench.specs.steps.Taking.{CameUnlessRefused}
@@ -13,7 +14,9 @@ use Rattle.bench.proofs.running.conduct.Goals as goal
 
 pub start_all-workers-requires-clause-begun : goal.start_all-workers-requires-clause-begun
 start_all-workers-requires-clause-begun g c κs within = λ hart log at.
-    c.in_ok-collector.ensures.begun c.args.plan.now.config.period c.args.plan.now.config.mode hart log at
+    let config = c.args.plan.now.config in
+    subst (HasCollected config.period config.mode log 0 hart) (sym c.take_rooms.ensures)
+    (c.in_ok-collector.ensures.begun config.period config.mode hart log at)
 
 pub settle_all-requires-clause-workers : goal.settle_all-requires-clause-workers
 settle_all-requires-clause-workers g c κs within = λ k d low.
@@ -46,7 +49,9 @@ module _ (g : _) (c : After-settle_all g) where
       c.collect.new.collector gathered c.settle_all.ensures.carried
 
   keep : c.collect.new.collector.keep ≡ c.args.plan.now.config.keep
-  keep = c.collect.ensures.keep ∙ c.start_all-workers.ensures.keep ∙ c.in_ok-collector.ensures.made.1
+  keep =
+      c.collect.ensures.keep ∙ c.start_all-workers.ensures.keep
+      ∙ ap (λ (collected : Collected). collected.keep) c.take_rooms.ensures ∙ c.in_ok-collector.ensures.made.1
 
 pub stop_of-outcome-requires : goal.stop_of-outcome-requires
 stop_of-outcome-requires g c =
