@@ -46,7 +46,7 @@ abbrev pub explain_rule : Rule
 explain_rule =
     record (new_rule (codes "explain")) { long = Some (codes "explain"); action = Some SetTrue }
 
--- IMAGE, a word of its own that has to be there.
+-- IMAGE, an argument with no name that has to be there.
 abbrev pub image_rule : Rule
 image_rule = record (new_rule (codes "IMAGE")) { action = Some Set; required = true }
 
@@ -78,7 +78,7 @@ capacity_rule = record (new_rule (codes "capacity")) {
   parser = Some capacity_parser;
 }
 
--- SCHEDULE, a word of its own that has to be there.
+-- SCHEDULE, an argument with no name that has to be there.
 abbrev pub schedule_rule : Rule
 schedule_rule = record (new_rule (codes "SCHEDULE")) { action = Some Set; required = true }
 
@@ -86,7 +86,7 @@ schedule_rule = record (new_rule (codes "SCHEDULE")) { action = Some Set; requir
 abbrev pub one_or_more : ValueRange
 one_or_more = record { start_inclusive = 1; end_inclusive = usize_max }
 
--- LOG..., words of their own. At least one has to be there.
+-- LOG..., arguments with no name. At least one has to be there.
 abbrev pub logs_rule : Rule
 logs_rule = record (new_rule (codes "LOG")) {
   action = Some Append;
@@ -108,15 +108,15 @@ harts_rule = record (new_rule (codes "harts")) {
   parser = Some harts_parser;
 }
 
--- CAPTURE, a word of its own that has to be there.
+-- CAPTURE, an argument with no name that has to be there.
 abbrev pub capture_rule : Rule
 capture_rule = record (new_rule (codes "CAPTURE")) { action = Some Set; required = true }
 
--- SENT, a word of its own that has to be there.
+-- SENT, an argument with no name that has to be there.
 abbrev pub sent_rule : Rule
 sent_rule = record (new_rule (codes "SENT")) { action = Some Set; required = true }
 
--- RECEIVED, a word of its own that has to be there.
+-- RECEIVED, an argument with no name that has to be there.
 abbrev pub received_rule : Rule
 received_rule = record (new_rule (codes "RECEIVED")) { action = Some Set; required = true }
 

@@ -21,7 +21,7 @@ fn flag<'a>(alloc: Global, name: &'a str, help: &'a str) -> Arg<'a>
         .help(help)
 }
 
-/// A file's path, a word of its own that has to be given.
+/// A file's path, an argument with no name that has to be given.
 fn file<'a>(alloc: Global, name: &'a str, help: &'a str) -> Arg<'a>
     ensures { IsReadBy (file_rule name.entry.now) result }
 {
@@ -82,7 +82,7 @@ pub fn explain<'a>(alloc: Global) -> Arg<'a>
     flag(
         alloc,
         "explain",
-        "Print below an illegal row what stands there and what may follow",
+        "Print below an illegal row what is there and what may follow",
     )
 }
 
@@ -90,7 +90,11 @@ pub fn explain<'a>(alloc: Global) -> Arg<'a>
 pub fn full<'a>(alloc: Global) -> Arg<'a>
     ensures { IsReadBy full_rule result }
 {
-    flag(alloc, "full", "Name addresses in full, not by differences")
+    flag(
+        alloc,
+        "full",
+        "Report addresses in full, not as differences",
+    )
 }
 
 /// `--harts N`, how many harts a capture of version 1 may have, 1 to 1024, and 1 where it is not given.

@@ -1,4 +1,4 @@
--- What words ask for, by what clap finds in them.
+-- What arguments ask for, by what clap finds in them.
 use Rattle.std.specs.Prelude.{◌≡◌, ◌≢◌, ◌≤◌, ℕ, codes, Bool, true, false, List, [], Option, map}
 use Rattle.std.specs.Str.Parse.{IsNumeral, digits_value, without_leading_plus}
 use Rattle.std.specs.Prelude.{Some, None, option_map, unwrap_or}
@@ -20,7 +20,7 @@ use Rattle.subcommands.specs.declared.words.Asked.TheVariants.{Measure, Replay, 
 abbrev pub text_of : Text → List Row → Text
 text_of id rows = unwrap_or (first_of id rows) []
 
--- The values of an argument, in the order of the words, or none where it has none.
+-- The values of an argument, in the order in which they are given, or none where it has none.
 abbrev pub texts_of : Text → List Row → List Text
 texts_of id rows = unwrap_or (all_of id rows) []
 
@@ -29,12 +29,12 @@ abbrev pub IsFlag : Option Text → Bool → Type 0
 IsFlag value is_set = (value ≡ Some (codes "true") → is_set ≡ true)
     × (value ≡ Some (codes "false") → is_set ≡ false) × (value ≡ None → is_set ≡ false)
 
--- Whether a mode is the one that names addresses in full.
+-- Whether a mode is the one with full addresses.
 abbrev pub is_full : Mode → Bool
 is_full Differential = false
 is_full Full = true
 
--- The mode is the full one exactly where the flag is set.
+-- The mode is the full one exactly when the flag is set.
 abbrev pub IsMode : Option Text → Mode → Type 0
 IsMode value mode = IsFlag value (is_full mode)
 
@@ -43,7 +43,7 @@ abbrev pub is_one : Version → Bool
 is_one One = true
 is_one Two = false
 
--- The version is the first exactly where the flag is set.
+-- The version is the first exactly when the flag is set.
 abbrev pub IsVersion : Option Text → Version → Type 0
 IsVersion value version = IsFlag value (is_one version)
 
@@ -119,14 +119,14 @@ abbrev pub AsksFound : Option (Text × List Row) → Asked → Type 0
 AsksFound None asked = ⊥
 AsksFound (Some found) asked = Asks found.0 found.1 asked
 
--- The words ask for this.
+-- The arguments ask for this.
 abbrev pub WordsAsk : List Text → Asked → Type 0
 WordsAsk words = AsksFound (subcommand_of program_app words)
 
--- The words ask for no run of `check`.
+-- The arguments ask for no run of `check`.
 abbrev pub AskNoCheck : List Text → Type 0
 AskNoCheck words = (asked : Asked) → WordsAsk words asked → ¬ IsCheck asked
 
--- `clap` finds a fault in the words; a call for help or for the version is one.
+-- `clap` finds a fault in the arguments; a call for help or for the version is one.
 abbrev pub AreRefused : List Text → Type 0
 AreRefused words = fault_of program_app words ≢ []

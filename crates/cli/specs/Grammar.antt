@@ -1,4 +1,4 @@
--- The words that the program takes, in clap's own terms.
+-- The arguments that the program takes, in clap's own terms.
 use Rattle.std.specs.Prelude.{◌≡◌, ◌⊎◌, codes, true, false, List, [], ◌∷◌, map}
 use Rattle.std.specs.List.{fold}
 use Rattle.clap.specs.Words.{App, Rule, Text, app_of, new_app}

@@ -1,4 +1,4 @@
-//! What the words of a command line ask for.
+//! What the arguments of a command line ask for.
 
 ghost use Rattle.std.specs.Prelude.{◌≡◌, ◌⊎◌, IfErr, IfOk, [], codes, map, string_bytes, unwrap_or};
 ghost use Rattle.clap.specs.Words.{FailsBy, fault_of, first_value, found_of, kind_of, one_of, rows_of};
@@ -18,13 +18,13 @@ use subcommands::{
     SMALLEST_CAPACITY, Salvage,
 };
 
-/// The period where the words give none.
+/// The period where the arguments give none.
 const DEFAULT_PERIOD: u16 = 1024;
 
-/// The capacity where the words give none.
+/// The capacity where the arguments give none.
 const DEFAULT_CAPACITY: u32 = 16;
 
-/// The count of harts where the words give none.
+/// The count of harts where the arguments give none.
 const DEFAULT_HARTS: u16 = 1;
 
 /// The value of an argument. A parse that succeeds has one where the argument is required.
@@ -81,7 +81,7 @@ fn check_asked<'a>(alloc: Global, given: &ArgMatches<'a>) -> Result<Asked<'a>, A
     }))
 }
 
-/// The mode, which is differential where the words do not ask for full addresses.
+/// The mode, which is differential where the arguments do not ask for full addresses.
 fn mode<'a>(given: &ArgMatches<'a>) -> Mode
     ensures { IsMode (one_of (codes "full") (rows_of (found_of given.now))) result }
 {
@@ -92,7 +92,7 @@ fn mode<'a>(given: &ArgMatches<'a>) -> Mode
     }
 }
 
-/// The version, which is the second where the words do not ask for the first.
+/// The version, which is the second where the arguments do not ask for the first.
 fn version<'a>(given: &ArgMatches<'a>) -> Version
     ensures { IsVersion (one_of (codes "v1") (rows_of (found_of given.now))) result }
 {
@@ -257,15 +257,15 @@ fn asked_of<'a>(alloc: Global, name: &str, given: &ArgMatches<'a>) -> Result<Ask
     }
 }
 
-/// What the words ask for. The program's name is the first word.
+/// Reads the arguments of a command line, the program's name first, and returns what they ask for.
 ///
-/// `Ok` comes where `clap` finds no fault in the words by the program's grammar. It holds the texts of the subcommand's
-/// arguments as the words give them: a base is not yet a number, and no file was looked at. A period is a number from 1
-/// to 65535, a count of harts one from 1 to 1024, and a capacity one from 1 to 65536. Where the words give no such
-/// number, it is 1024, 1 or 16. A capture is of version 1 with `--v1`, and else of version 2.
+/// `Ok` comes where `clap` finds no fault in them by the program's grammar. It holds the texts of the subcommand's
+/// arguments as they are given: a base is not yet a number, and no file was looked at. A period is a number from 1 to
+/// 65535, a count of harts one from 1 to 1024, and a capacity one from 1 to 65536. Where no such number is given, it is
+/// 1024, 1 or 16. A capture is of version 1 with `--v1`, and else of version 2.
 ///
 /// An error is `clap`'s own. A call for help or for the version is one. Its `Display` is the text for the user, and its
-/// kind is `ErrorKind::OutOfMemory` where memory was refused.
+/// kind is `ErrorKind::OutOfMemory` where an allocation failed.
 pub fn asked<'a>(alloc: Global, words: &'a [String]) -> Result<Asked<'a>, Error>
     ensures found { IfOk result (WordsAsk (map string_bytes words.now)) }
     ensures limits { IfOk result IsWithinLimits }

@@ -36,7 +36,7 @@ fn subcommand<'a>(
         .args(args)
 }
 
-/// The words that `check` takes.
+/// The arguments that `check` takes.
 fn check<'a>(alloc: Global) -> Result<Command<'a>, AllocError>
     ensures { IfOk result (HasGrammar check_app) }
 {
@@ -50,7 +50,7 @@ fn check<'a>(alloc: Global) -> Result<Command<'a>, AllocError>
     )
 }
 
-/// The words that `encode` takes.
+/// The arguments that `encode` takes.
 fn encode<'a>(alloc: Global) -> Result<Command<'a>, AllocError>
     ensures { IfOk result (HasGrammar encode_app) }
 {
@@ -72,7 +72,7 @@ fn encode<'a>(alloc: Global) -> Result<Command<'a>, AllocError>
     )
 }
 
-/// The words that `dump` takes.
+/// The arguments that `dump` takes.
 fn dump<'a>(alloc: Global) -> Result<Command<'a>, AllocError>
     ensures { IfOk result (HasGrammar dump_app) }
 {
@@ -86,7 +86,7 @@ fn dump<'a>(alloc: Global) -> Result<Command<'a>, AllocError>
     )
 }
 
-/// The words that `decode` takes.
+/// The arguments that `decode` takes.
 fn decode<'a>(alloc: Global) -> Result<Command<'a>, AllocError>
     ensures { IfOk result (HasGrammar decode_app) }
 {
@@ -106,7 +106,7 @@ fn decode<'a>(alloc: Global) -> Result<Command<'a>, AllocError>
     )
 }
 
-/// The words that `replay` takes.
+/// The arguments that `replay` takes.
 fn replay<'a>(alloc: Global) -> Result<Command<'a>, AllocError>
     ensures { IfOk result (HasGrammar replay_app) }
 {
@@ -122,13 +122,13 @@ fn replay<'a>(alloc: Global) -> Result<Command<'a>, AllocError>
     subcommand(
         alloc,
         "replay",
-        "Send logs through the funnel as a schedule says, and report what comes of them",
+        "Send logs through the funnel as a schedule says, and report what is decoded",
         REPLAY_EXAMPLE,
         args,
     )
 }
 
-/// The words that `bench` takes.
+/// The arguments that `bench` takes.
 fn bench<'a>(alloc: Global) -> Result<Command<'a>, AllocError>
     ensures { IfOk result (HasGrammar bench_app) }
 {
@@ -143,13 +143,13 @@ fn bench<'a>(alloc: Global) -> Result<Command<'a>, AllocError>
     subcommand(
         alloc,
         "bench",
-        "Send logs through the funnel, each from a thread of its own, and report what comes of them",
+        "Send logs through the funnel, each from a thread of its own, and report what is decoded",
         BENCH_EXAMPLE,
         args,
     )
 }
 
-/// The words that `audit` takes.
+/// The arguments that `audit` takes.
 fn audit<'a>(alloc: Global) -> Result<Command<'a>, AllocError>
     ensures { IfOk result (HasGrammar audit_app) }
 {
@@ -163,7 +163,7 @@ fn audit<'a>(alloc: Global) -> Result<Command<'a>, AllocError>
     )
 }
 
-/// The words that `measure` takes.
+/// The arguments that `measure` takes.
 fn measure<'a>(alloc: Global) -> Result<Command<'a>, AllocError>
     ensures { IfOk result (HasGrammar measure_app) }
 {
@@ -183,7 +183,7 @@ fn measure<'a>(alloc: Global) -> Result<Command<'a>, AllocError>
     )
 }
 
-/// The words that `list` takes.
+/// The arguments that `list` takes.
 fn list<'a>(alloc: Global) -> Result<Command<'a>, AllocError>
     ensures { IfOk result (HasGrammar list_app) }
 {
@@ -203,7 +203,7 @@ fn list<'a>(alloc: Global) -> Result<Command<'a>, AllocError>
     )
 }
 
-/// The words that `salvage` takes.
+/// The arguments that `salvage` takes.
 fn salvage<'a>(alloc: Global) -> Result<Command<'a>, AllocError>
     ensures { IfOk result (HasGrammar salvage_app) }
 {

@@ -1,4 +1,5 @@
-//! What help ends with, and what `--version` prints. The files of the examples are those of the repository.
+//! What help ends with, and what `--version` prints. The statuses are those of docs/FORMATS.md, and the files of the
+//! examples those of the repository.
 
 /// The program's version, and the toolchain that it is proved with, as `rt version` prints that.
 pub(crate) const VERSION: &str = "1.0.0\nrattle-kit-13f logic dac8208d650f15bf";
@@ -9,9 +10,10 @@ The help of a subcommand ends with an example, over files in the repository's fo
 
 Exit statuses:
   0  All is written, and all is good
-  1  A capture is not good, or a log or an audited capture did not come back whole
-  2  The words, the image, a log, the schedule or SENT is refused, or a log is illegal
-  3  A file is not read, the output is not written, memory is refused, or a run stops early";
+  1  A capture is not good, or a log or a path is not complete
+  2  The arguments or an input are refused, or a log is illegal
+  3  A file, the output or memory failed, or a run stopped early
+An input is the image, the symbols, a log, the schedule or SENT.";
 
 /// What the help of `check` ends with.
 pub(crate) const CHECK_EXAMPLE: &str = "\

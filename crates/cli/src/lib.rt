@@ -1,5 +1,4 @@
-//! What a command line of `tracebench` asks for. `clap` reads the words here, by the arguments of the crate
-//! `arguments`. No other crate uses `clap`, so its part of a check is paid in these two crates alone.
+//! What a command line of `tracebench` asks for. `clap` reads it here, by the rules of the crate `arguments`. No other crate uses `clap`, so its part of a check is paid in these two crates alone.
 #![tactic(auto)]
 
 mod asking;
