@@ -13,8 +13,8 @@ $ tracebench --help
 !   encode   Write the trace messages of logs
 !   dump     Write the messages of a capture as text
 !   decode   Write the logs that the messages of a capture describe
-!   replay   Send logs through the funnel as a schedule says, and report what comes of them
-!   bench    Send logs through the funnel, each from a thread of its own, and report what comes of them
+!   replay   Send logs through the funnel as a schedule says, and report what is decoded
+!   bench    Send logs through the funnel, each from a thread of its own, and report what is decoded
 !   audit    Compare a capture that came with the one that was sent, message by message
 !   measure  Count the packets and bytes that logs take, as CSV
 !   list     List what each message of a capture says and settles
@@ -29,9 +29,10 @@ $ tracebench --help
 !
 ! Exit statuses:
 !   0  All is written, and all is good
-!   1  A capture is not good, or a log or an audited capture did not come back whole
-!   2  The words, the image, a log, the schedule or SENT is refused, or a log is illegal
-!   3  A file is not read, the output is not written, memory is refused, or a run stops early
+!   1  A capture is not good, or a log or a path is not complete
+!   2  The arguments or an input are refused, or a log is illegal
+!   3  A file, the output or memory failed, or a run stopped early
+! An input is the image, the symbols, a log, the schedule or SENT.
 ? 2
 
 # The version has the toolchain's line. A subcommand has none.
@@ -65,7 +66,7 @@ $ tracebench check --help
 !
 ! Options:
 !       --base <B>  Address of the image's first byte, in hexadecimal
-!       --explain   Print below an illegal row what stands there and what may follow
+!       --explain   Print below an illegal row what is there and what may follow
 !   -h, --help      Print help
 !
 ! Example:
@@ -83,7 +84,7 @@ $ tracebench encode --help
 ! Options:
 !       --base <B>    Address of the image's first byte, in hexadecimal
 !       --period <N>  Retirements from one periodic synchronisation to the next, 1 to 65535 [default: 1024]
-!       --full        Name addresses in full, not by differences
+!       --full        Report addresses in full, not as differences
 !       --v1          Write a capture of version 1, which has no header, of at most 64 logs
 !       --hex         Write a line of hexadecimal for each message
 !   -h, --help        Print help
@@ -124,7 +125,7 @@ $ tracebench decode -h
 !   tracebench decode --base 80000000 examples/loop/image.bin examples/loop/log.capture
 ? 2
 $ tracebench replay --help
-! Send logs through the funnel as a schedule says, and report what comes of them
+! Send logs through the funnel as a schedule says, and report what is decoded
 !
 ! Usage: tracebench replay [OPTIONS] --base <B> <IMAGE> <SCHEDULE> <LOG>...
 !
@@ -136,7 +137,7 @@ $ tracebench replay --help
 ! Options:
 !       --base <B>      Address of the image's first byte, in hexadecimal
 !       --period <N>    Retirements from one periodic synchronisation to the next, 1 to 65535 [default: 1024]
-!       --full          Name addresses in full, not by differences
+!       --full          Report addresses in full, not as differences
 !       --capacity <N>  How many messages the funnel holds, 1 to 65536 [default: 16]
 !   -h, --help          Print help
 !
@@ -145,7 +146,7 @@ $ tracebench replay --help
 !     examples/two_harts/hart00.csv examples/two_harts/hart01.csv
 ? 2
 $ tracebench bench --help
-! Send logs through the funnel, each from a thread of its own, and report what comes of them
+! Send logs through the funnel, each from a thread of its own, and report what is decoded
 !
 ! Usage: tracebench bench [OPTIONS] --base <B> <IMAGE> <LOG>...
 !
@@ -156,7 +157,7 @@ $ tracebench bench --help
 ! Options:
 !       --base <B>      Address of the image's first byte, in hexadecimal
 !       --period <N>    Retirements from one periodic synchronisation to the next, 1 to 65535 [default: 1024]
-!       --full          Name addresses in full, not by differences
+!       --full          Report addresses in full, not as differences
 !       --capacity <N>  How many messages the funnel holds, 1 to 65536 [default: 16]
 !   -h, --help          Print help
 !
@@ -191,7 +192,7 @@ $ tracebench measure --help
 ! Options:
 !       --base <B>    Address of the image's first byte, in hexadecimal
 !       --period <N>  Retirements from one periodic synchronisation to the next, 1 to 65535 [default: 1024]
-!       --full        Name addresses in full, not by differences
+!       --full        Report addresses in full, not as differences
 !   -h, --help        Print help
 !
 ! Example:
