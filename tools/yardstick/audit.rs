@@ -1,8 +1,8 @@
 //! The audit of a path in plain Rust: a yardstick for the phase `audit` of the crate `timing`.
 //!
-//! `rustc --edition 2021 -O tools/yardstick/audit.rs -o /tmp/audit && /tmp/audit SENT RECEIVED` audits two captures nine times, prints the
-//! text of the last audit to standard output, and to standard error the least time, nanoseconds a message of RECEIVED.
-//! SENT is taken to be whole: it is indexed, and not judged beyond that.
+//! `rustc --edition 2021 -O tools/yardstick/audit.rs -o /tmp/audit && /tmp/audit SENT RECEIVED` audits two captures
+//! nine times, prints the text of the last audit to standard output, and to standard error the least time, nanoseconds
+//! a message of RECEIVED. SENT is taken to be whole: it is indexed, and not checked beyond that.
 
 use std::fmt::Write as _;
 use std::io::Write as _;
@@ -154,7 +154,12 @@ fn audit(sent: &[u8], received: &[u8], text: &mut String) -> u64 {
         writeln!(
             text,
             "hart {hart}: {sent} sent, {} came, {} lost, {} repeated, {} late, {} changed, {}",
-            it.came, lost[hart], it.repeated, it.late, it.changed, if same { "whole" } else { "not whole" }
+            it.came,
+            lost[hart],
+            it.repeated,
+            it.late,
+            it.changed,
+            if same { "whole" } else { "not whole" }
         )
         .unwrap();
     }
