@@ -9,6 +9,7 @@ from support import TOOLS
 NEED_WORDS = ["examples", "fuzz/fuzz", "fuzz-c/fuzz-c", "record", "side-by-side", "verdict"]
 SCRIPTS = NEED_WORDS + [
     "at-scale",
+    "check-docs",
     "error-lines",
     "long-edits/check-functions",
     "long-edits/long-edits",
