@@ -14,3 +14,4 @@ pub mod Starting
 pub mod AllWhole
 pub mod OneFault
 pub mod DecodedAgain
+pub mod AloneLemmas

@@ -3,12 +3,17 @@
 ghost use Rattle.std.specs.Prelude.{ℕ, ◌≡◌, ◌↔◌, Bool, true, None, List, [], Option};
 ghost use Rattle.retire.specs.declared.event.Event.{Event};
 ghost use Rattle.rvclass.specs.Words.{Words, IsProgram};
+ghost use Rattle.payload.specs.declared.mode.Mode.{Mode};
 ghost use Rattle.captures.specs.Decoded.{IsDecoded};
 ghost use Rattle.captures.specs.Whole.{IsWhole};
 ghost use Rattle.captures.specs.declared.outcome.CaptureFault.{CaptureFault};
-ghost use Rattle.message.specs.OfHart.{of_hart};
+ghost use Rattle.message.specs.Accepted.{expected_after, newcomers};
+ghost use Rattle.message.specs.Accepting.{accepting};
+ghost use Rattle.message.specs.OfHart.{of_hart, packets_of};
 ghost use Rattle.message.specs.declared.header.Header.{Header};
 ghost use Rattle.message.specs.declared.message.Message.{Message};
+ghost use Rattle.receiver.specs.NotReceived.{IsNotReceived};
+ghost use Rattle.receiver.specs.declared.fault.ReceiveFault.{ReceiveFault};
 ghost use Rattle.auditing.specs.DecodedAgain.{AreAllWhole, AreDecodedAgain};
 ghost use Rattle.auditing.specs.Sent.{AreInTurn, IsSent};
 ghost use Rattle.auditing.specs.Tallies.{is_whole};
@@ -34,4 +39,17 @@ pub fn whole_decodes_again()
         → IsSent sent header messages → IsWhole received header others → AreAllWhole header messages others
         → IsDecoded words harts sent lists closed None → IsDecoded words harts received again flags stop
         → AreDecodedAgain lists closed again flags stop }
+{}
+
+/// What a demultiplexer answers to a message depends on the earlier messages of its own hart alone. So does why the
+/// message is not received, and so do the packets that a hart's log is decoded from.
+pub fn harts_are_received_alone()
+    ensures answered { (harts : ℕ) (messages : List Message) (message : Message)
+        → accepting (expected_after (newcomers harts) messages) message
+        ≡ accepting (expected_after (newcomers harts) (of_hart message.hart messages)) message }
+    ensures refused { (words : Words) (harts : ℕ) (announced : Option Mode) (messages : List Message)
+        (message : Message) (why : ReceiveFault) → IsNotReceived words harts announced messages message why
+        ↔ IsNotReceived words harts announced (of_hart message.hart messages) message why }
+    ensures packets { (hart : ℕ) (messages : List Message)
+        → packets_of hart (of_hart hart messages) ≡ packets_of hart messages }
 {}

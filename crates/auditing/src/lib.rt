@@ -21,6 +21,6 @@ mod tally;
 pub use audit::Audit;
 pub use fate::Fate;
 pub use fault::SentFault;
-pub use laws::{whole_decodes_again, whole_is_untouched};
+pub use laws::{harts_are_received_alone, whole_decodes_again, whole_is_untouched};
 pub use lost::{Lost, LostRuns};
 pub use tally::Tally;

@@ -1,2 +1,3 @@
 pub mod DigitsLemmas
 mod WorkedLines
+pub mod ListedLemmas

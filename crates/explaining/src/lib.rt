@@ -4,10 +4,12 @@
 
 mod code;
 mod following;
+mod laws;
 mod line;
 mod retirement;
 mod standing;
 mod trap;
 mod writing;
 
+pub use laws::texts_list_what_is_legal;
 pub use writing::explain;
