@@ -1,7 +1,7 @@
 //! The laws: functions with empty bodies, whose contracts are theorems about the definitions that the other contracts
 //! cite.
 
-pub use auditing::{whole_decodes_again, whole_is_untouched};
+pub use auditing::{harts_are_received_alone, whole_decodes_again, whole_is_untouched};
 pub use bench::turns_let_beginnings_through;
 pub use decoder::{
     closed_where_last_closes, first_packets_describe_a_beginning,
@@ -9,6 +9,7 @@ pub use decoder::{
     walks_are_short,
 };
 pub use encoder::{logs_have_few_packets, packets_are_in_profile};
+pub use explaining::texts_list_what_is_legal;
 pub use funnel::{every_state_is_lawful, live_channel_is_the_machine};
 pub use legalpath::{
     logs_split_and_join, reasons_name_illegal_rows, retirements_lead_to_one_place,
