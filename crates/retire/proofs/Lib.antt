@@ -12,6 +12,12 @@ pub mod RoundTrip
 pub mod RangeLemmas
 pub mod OutcomesLemmas
 pub mod PlainLemmas
+pub mod BoundaryLemmas
+pub mod PlaceLemmas
+pub mod ReadsLemmas
+pub mod StandsLemmas
+pub mod ReaderLemmas
+pub mod KnownLemmas
 pub mod FieldLemmas
 pub mod PlainRowLemmas
 pub mod ShortRowLemmas

@@ -12,7 +12,7 @@ use Rattle.retire.specs.steps.RowsLeft.{MayStartRecord, records_left}
 use Rattle.retire.proofs.RecordsLemmas.{records_left-none, records_left-some}
 
 -- The records from the middle of one: its fields so far, and the bytes of the field at hand.
-abbrev records_within : State → List (List ℕ) → List ℕ → List ℕ → List (List (List ℕ))
+abbrev pub records_within : State → List (List ℕ) → List ℕ → List ℕ → List (List (List ℕ))
 records_within s fields field text = records_next records_left (next_record default_config s fields field text)
 
 within-none : (s : State) (text : List ℕ) (o : Option Read) → MayStartRecord s
@@ -158,7 +158,7 @@ left-end c text s start y = elim (cases_Bool (c == 13)) [
   | inr r ↦ let f : (c == 10) ≡ true = rw r at y in elim start [ inl e ↦ rw (e, r, f) refl | inr e ↦ rw (e, f) refl ]
 ]
 
-left-byte : (c : ℕ) (text : List ℕ) (s : State) → MayStartRecord s → is_line_end c ≡ false
+pub left-byte : (c : ℕ) (text : List ℕ) (s : State) → MayStartRecord s → is_line_end c ≡ false
     → records_within s [] [] (c ∷ text) ≡ records_within st.StartField [] [] (c ∷ text)
 unfolding next_record
 left-byte c text s (inl e) n = rw (e, no_return c n, no_feed c n) refl

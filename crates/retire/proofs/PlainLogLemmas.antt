@@ -1,24 +1,26 @@
 -- The rows of a plain log, one at a time, and that a log is written plain.
 use Rattle.std.proofs.Common.{◌≡◌, ◌≤◌, ◌<◌, ◌||◌, ◌==◌, ◌++◌, ◌∙◌, ◌+◌, Bool, ℕ, List, [], ◌∷◌, Option, Some}
-use Rattle.std.proofs.Common.{None, Result, Ok, Err, map, nat_eq, nat_lt, IfOk, take, drop, length, true, false, arith}
-use Rattle.std.proofs.Common.{refl, subst, sym, ap, inl, inr, rules, append_assoc}
+use Rattle.std.proofs.Common.{None, Ok, map, nat_eq, nat_lt, Bor, IfSome, take, drop, length, true, false, arith}
+use Rattle.std.proofs.Common.{refl, sym, ap, inl, inr, rules, append_assoc}
 use Rattle.std.specs.Cmp.Lexicographic.{pointwise}
 use Rattle.std.specs.List.{flat_map, join_with_byte, list_all, list_any}
-use Rattle.std.proofs.lemmas.Bool.{cases_Bool, and_parts, or_parts}
+use Rattle.std.proofs.lemmas.Bool.{cases_Bool, and_parts, eqb-true, or_parts}
 use Rattle.csv.specs.Quoting.{needs_byte}
 use Rattle.csv.specs.Writing.{default_writer}
-use Rattle.retire.specs.Log.{events_from, header, most_rows}
+use Rattle.retire.specs.Log.{events_up_to, header, log_of_records, most_rows, records_of}
+use Rattle.retire.specs.steps.ReadsRows.{ReadsRows}
+use Rattle.retire.specs.steps.RowsLeft.{records_left, with_events}
+use Rattle.csv.specs.declared.parser.State.TheVariants.{StartRecord}
 use Rattle.retire.specs.LogText.{event_fields, event_line}
 use Rattle.retire.specs.Number.{is_hex_digit, is_numeral, is_prefix, number_of, without_prefix}
-use Rattle.retire.specs.PlainLog.{ArePlainRows, AreLines, EndsLine, IsLine, IsPlainLog, WrittenIsPlain}
+use Rattle.retire.specs.PlainLog.{ArePlainRows, AreLines, EndsLine, IsLine, WrittenIsPlain}
 use Rattle.retire.specs.Row.{is_garbled, known_event, row_event}
 use Rattle.retire.specs.declared.event.Event.{Event}
-use Rattle.retire.specs.declared.fault.LogFault.{LogFault}
 use Rattle.retire.specs.steps.PlainRow.{IsPlainRow, Spells}
 use Rattle.retire.proofs.HexLemmas.{all-AllDigits, list_any-AllDigits}
-use Rattle.retire.proofs.PlainRowLemmas.{needs_prefix, no_garbled}
-use Rattle.retire.proofs.RangeLemmas.{with_event-ok}
-use Rattle.retire.proofs.RoundTrip.{events_from-fields}
+use Rattle.retire.proofs.PlainRowLemmas.{header-is, header-log, needs_prefix, no_garbled, records_left-empty}
+use Rattle.retire.proofs.EventsLemmas.{with_event-ok, with_events-end}
+use Rattle.retire.proofs.RoundTrip.{events-fields}
 
 numeral-plain : (text : List ℕ) → is_numeral text ≡ true → list_any (needs_byte default_writer) text ≡ false
 numeral-plain text e = list_any-AllDigits text (all-AllDigits text (and_parts _ (list_all is_hex_digit text) e).1)
@@ -124,15 +126,16 @@ plain-row row (a ∷ b ∷ c ∷ d ∷ []) text rest event line known = cc known
 plain-row row (a ∷ b ∷ c ∷ d ∷ f ∷ g ∷ more) text rest event line known = cc known
 
 -- Where a text of plain rows goes on, a plain row stands in front, of a number within the limit, and plain rows follow.
-pub plain-next : (row : ℕ) (text : List ℕ) → ArePlainRows row text → 0 < length text
-    → (row ≤ most_rows) × ((rest : List ℕ) × IsPlainRow row text rest × ArePlainRows (row + 1) rest)
-unfolding events_from AreLines
-plain-next row text ([], events, empty, all) some = let none = ap length empty in absurd (omega (arith, none, some))
-plain-next row text (fields ∷ rows, events, (rest, line, lines), all) some = elim (cases_Bool (nat_lt most_rows row)) [
+pub plain-next : (most row : ℕ) (text : List ℕ) → ArePlainRows most row text → 0 < length text
+    → (row ≤ most) × ((rest : List ℕ) × IsPlainRow row text rest × ArePlainRows most (row + 1) rest)
+unfolding events_up_to AreLines
+plain-next most row text ([], events, empty, all) some =
+    let none = ap length empty in absurd (omega (arith, none, some))
+plain-next most row text (fields ∷ rows, events, (rest, line, lines), all) some = elim (cases_Bool (nat_lt most row)) [
   | inl long ↦ cc (rw long at all)
   | inr short ↦
       let (event, more, first, others, whole) =
-      with_event-ok (row_event row fields) (events_from (row + 1) rows) events (rw short at all) in
+      with_event-ok (row_event row fields) (events_up_to most (row + 1) rows) events (rw short at all) in
       (search (rules, arith), (rest, plain-row row fields text rest event line first, (rows, more, lines, others)))
 ]
 
@@ -151,34 +154,34 @@ written_is_plain events ranged few =
     let rest = flat_map event_line events in (
       rest,
       (10 ∷ rest, refl, inl refl),
-      (map event_fields events, events, lines-written events, events_from-fields 1 events ranged (omega arith)),
+      (map event_fields events, events, lines-written events, events-fields most_rows 1 events ranged (omega arith)),
     )
-
--- A plain log begins with the header's fields, and its lines go on behind them.
-pub header-front : (text line : List ℕ) → line ≡ join_with_byte 44 header → IsPlainLog text
-    → pointwise nat_eq (take (length line) text) line ≡ true
-header-front text line l (rest, (end, whole, ends), rows) = rw (l, whole) refl
-
-pub header-ends : (text line : List ℕ) → line ≡ join_with_byte 44 header → IsPlainLog text
-    → (rest : List ℕ) × EndsLine (drop (length line) text) rest × ArePlainRows 1 rest
-header-ends text line l (rest, (end, whole, ends), rows) =
-    let behind : drop (length line) text ≡ end = rw (l, whole) refl in
-    (rest, subst (λ t. EndsLine t rest) (sym behind) ends, rows)
 
 -- A list that is not empty, by its test.
 pub not_empty : (text : List ℕ) (empty : Bool) → empty ≡ (length text == 0) → empty ≡ false → 0 < length text
 not_empty text empty e none = search (rules, arith)
 
--- Behind the last row of the greatest log nothing is left of plain rows.
-pub plain-all : (row : ℕ) (text : List ℕ) (empty : Bool) → most_rows < row → empty ≡ (length text == 0)
-    → ArePlainRows row text → empty ≡ true
-plain-all row [] empty past e plain = e
-plain-all row (c ∷ text) empty past e plain =
-    let next = plain-next row (c ∷ text) plain (omega arith) in
+-- Behind the last row that a log may have nothing is left of plain rows.
+pub plain-all : (most row : ℕ) (text : List ℕ) → most < row → ArePlainRows most row text → text ≡ []
+plain-all most row [] past plain = refl
+plain-all most row (c ∷ text) past plain =
+    let next = plain-next most row (c ∷ text) plain (omega arith) in
     absurd (let within = next.0 in omega (arith, within, past))
 
--- What is read of rows is read of their log.
-pub reads-log : (answer : Result Bool LogFault) (P Q : Type 0) → (Q → P) → IfOk answer (λ all. P → all ≡ true)
-    → IfOk answer (λ all. Q → all ≡ true)
-reads-log (Ok all) P Q f h = λ q. h (f q)
-reads-log (Err why) P Q f h = tt
+pub header-ended : (found : Option (Bor (List ℕ))) (text line end : List ℕ)
+    → pointwise nat_eq (take (length line) text) line ≡ true → end ≡ drop (length line) text
+    → line ≡ join_with_byte 44 header → IfSome found (λ r. EndsLine end r.now)
+    → IfSome found (λ r. IsLine header text r.now)
+header-ended None text line end e r l ends = tt
+header-ended (Some rest) text line end e r l ends = header-is text line end rest.now e r l ends
+
+-- A plain log is the header's line and its rows.
+pub log-plain : (text rows rest : List ℕ) (before after : List Event) (count : ℕ) (empty : Bool)
+    → IsLine header text rows
+    → ReadsRows most_rows 0 (records_left StartRecord rows) before after count (records_left StartRecord rest)
+    → before ≡ [] → empty ≡ (length rest == 0) → empty ≡ true → log_of_records (records_of text) ≡ Ok after
+log-plain text rows rest before after count empty line r none e all =
+    let ended : length rest ≡ 0 = eqb-true (length rest) 0 (sym e ∙ all) in
+    header-log most_rows text rows line ∙ r.read
+    ∙ ap (λ t. with_events r.piece (events_up_to most_rows (count + 1) t)) (records_left-empty rest ended)
+    ∙ with_events-end r.piece most_rows (count + 1) ∙ ap Ok (sym (r.appended ∙ ap (λ t. t ++ r.piece) none))

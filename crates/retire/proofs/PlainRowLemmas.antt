@@ -1,6 +1,6 @@
 -- A row at the front of a text.
-use Rattle.std.proofs.Common.{◌≡◌, ◌≤◌, ◌<◌, ◌==◌, ◌||◌, ◌++◌, ◌∙◌, ◌+◌, ◌-◌, get_or, ℕ, List, [], ◌∷◌}
-use Rattle.std.proofs.Common.{Option, Some, None, Result, Ok, Err, nat_eq, take, drop, length, true, false, codes}
+use Rattle.std.proofs.Common.{◌≡◌, ◌≤◌, ◌<◌, ◌==◌, ◌||◌, ◌++◌, ◌∙◌, ◌-◌, get_or, ℕ, List, [], ◌∷◌}
+use Rattle.std.proofs.Common.{Option, Some, None, Ok, Err, nat_eq, take, drop, length, true, false, codes}
 use Rattle.std.proofs.Common.{arith, refl, subst, sym, ap, inl, inr, rules}
 use Rattle.std.specs.List.{join_with_byte, list_any}
 use Rattle.std.specs.Str.Parse.{digits_value}
@@ -13,15 +13,14 @@ use Rattle.csv.specs.Writing.{default_writer}
 use Rattle.csv.specs.declared.parser.State.TheVariants as st
 use Rattle.csv.proofs.RoundTrip.{plain-run, record-same, start-same}
 use Rattle.retire.specs.Number.{hex_value, is_prefix, number_of, digits_number}
-use Rattle.retire.specs.PlainLog.{EndsLine}
+use Rattle.retire.specs.PlainLog.{EndsLine, IsLine}
 use Rattle.retire.specs.steps.PlainRow.{EndsField, HasCell, HasDigits, HasField, HasRow, Spells}
 use Rattle.retire.specs.Row.{is_garbled, numbers_event, row_event}
-use Rattle.retire.specs.Log.{events_from, header, log_of_records, most_rows, records_of}
-use Rattle.retire.specs.steps.RowsLeft.{with_events, records_left}
+use Rattle.retire.specs.Log.{events_up_to, header, log_up_to, records_of}
+use Rattle.retire.specs.steps.RowsLeft.{records_left}
 use Rattle.retire.specs.declared.event.Event.{Event}
 use Rattle.retire.specs.declared.fault.LogFault.{LogFault}
 use Rattle.std.specs.Cmp.Lexicographic.{pointwise, same_text}
-use Rattle.retire.proofs.EventsLemmas.{with_events-with_events, with_events-end, events_from-event}
 use Rattle.retire.proofs.PlainLemmas.{left-end, left-within}
 use Rattle.retire.proofs.HexLemmas.{all-AllDigits, digits_number-numeral, list_any-AllDigits}
 use Rattle.retire.proofs.HexLemmas.{without_prefix-AllDigits}
@@ -197,44 +196,40 @@ row-fields row a b c text t1 t2 t3 t4 t5 rest n1 n2 n3 n4 n5 event (f1, e1, s1) 
       rw (e1, e2, e3, e4, e5) (line-record f1 f2 f3 f4 f5 t5 rest s1.2 s2.2 s3.2 s4.2 s5.2 end),
     )
 
-records_left-empty : (rest : List ℕ) → length rest ≡ 0 → records_left st.StartRecord rest ≡ []
+pub records_left-empty : (rest : List ℕ) → length rest ≡ 0 → records_left st.StartRecord rest ≡ []
 unfolding next_record
 records_left-empty [] e = records_left-none st.StartRecord [] refl
 records_left-empty (c ∷ rest) e = absurd (omega (arith, e))
 
--- At the end of the text the events are all of them.
-pub plain-end : (log : Result (List Event) LogFault) (row : ℕ) (events : List Event) (rest : List ℕ)
-    → log ≡ with_events events (events_from row (records_left st.StartRecord rest)) → length rest ≡ 0
-    → log ≡ Ok events
-plain-end log row events rest e empty = e ∙ rw (records_left-empty rest empty) (with_events-end events row)
+-- A text that begins with the header's line has the header's record, and then those of what follows.
+pub header-records : (text rest : List ℕ) → IsLine header text rest
+    → records_left st.StartRecord text ≡ header ∷ records_left st.StartRecord rest
+header-records text rest (end, whole, ends) =
+    ap (records_left st.StartRecord) whole
+    ∙ line-record (codes "addr") (codes "itype") (codes "priv") (codes "cause") (codes "tval") end rest refl refl refl
+    refl refl ends
 
--- One row more.
-pub plain-more : (log : Result (List Event) LogFault) (row : ℕ) (events : List Event) (event : Event)
-    (rest more : List ℕ) → log ≡ with_events events (events_from row (records_left st.StartRecord rest))
-    → row ≤ most_rows → HasRow row rest event more
-    → log ≡ with_events (events ++ event ∷ []) (events_from (row + 1) (records_left st.StartRecord more))
-plain-more log row events event rest more e few (fields, known, left) =
-    e ∙ rw (left, events_from-event row fields (records_left st.StartRecord more) event few known)
-    (with_events-with_events events (event ∷ []) _)
-
--- A text that begins with the header's line holds the events of what follows it.
-header-line : (end rest : List ℕ) → EndsLine end rest
-    → log_of_records (records_of (join_with_byte 44 header ++ end)) ≡ events_from 1 (records_left st.StartRecord rest)
+header-strip : (end : List ℕ) → strip_bom (join_with_byte 44 header ++ end) ≡ join_with_byte 44 header ++ end
 unfolding strip_bom
-header-line end rest ends =
-    rw
-    (line-record (codes "addr") (codes "itype") (codes "priv") (codes "cause") (codes "tval") end rest refl refl
-    refl refl refl ends) refl
+header-strip end = refl
 
-pub plain-header : (text line end rest : List ℕ) → pointwise nat_eq (take (length line) text) line ≡ true
-    → end ≡ drop (length line) text → line ≡ join_with_byte 44 header
-    → EndsLine end rest → log_of_records (records_of text) ≡ events_from 1 (records_left st.StartRecord rest)
-plain-header text line end rest e r l ends =
+pub header-log : (most : ℕ) (text rest : List ℕ) → IsLine header text rest
+    → log_up_to most (records_of text) ≡ events_up_to most 1 (records_left st.StartRecord rest)
+header-log most text rest (end, whole, ends) =
+    ap (λ t. log_up_to most (records_of t)) whole
+    ∙ ap (λ t. log_up_to most (records_left st.StartRecord t)) (header-strip end)
+    ∙ ap (log_up_to most) (header-records (join_with_byte 44 header ++ end) rest (end, refl, ends))
+
+pub header-is : (text line end rest : List ℕ) → pointwise nat_eq (take (length line) text) line ≡ true
+    → end ≡ drop (length line) text → line ≡ join_with_byte 44 header → EndsLine end rest → IsLine header text rest
+header-is text line end rest e r l ends =
     let front : take (length line) text ≡ join_with_byte 44 header = same_text (take (length line) text) line (sym e)
-    ∙ l in
-    let whole : text ≡ join_with_byte 44 header ++ end = sym (take-append-drop (length line) text)
-    ∙ ap (λ t. t ++ drop (length line) text) front ∙ ap (λ t. join_with_byte 44 header ++ t) (sym r) in
-    ap (λ t. log_of_records (records_of t)) whole ∙ header-line end rest ends
+    ∙ l in (
+      end,
+      sym (take-append-drop (length line) text) ∙ ap (λ t. t ++ drop (length line) text) front
+          ∙ ap (λ t. join_with_byte 44 header ++ t) (sym r),
+      ends,
+    )
 
 -- One digit is a field.
 pub field-digit : (text : List ℕ) (value digit : ℕ) → 0 < length text → value ≡ digit

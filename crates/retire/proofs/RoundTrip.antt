@@ -14,8 +14,8 @@ use Rattle.csv.specs.Quoting.{needs_byte}
 use Rattle.csv.specs.Reading.{strip_bom}
 use Rattle.csv.specs.Writing.{default_writer, fields_text, is_blank, row_body, row_text}
 use Rattle.csv.specs.declared.parser.State.TheVariants.{StartRecord}
-use Rattle.retire.specs.Log.{events_from, most_rows}
-use Rattle.retire.specs.LogText.{event_fields, event_line, hex, line_of_fields}
+use Rattle.retire.specs.Log.{events_up_to, log_up_to, most_rows, records_of}
+use Rattle.retire.specs.LogText.{event_fields, event_line, hex, line_of_fields, log_text}
 use Rattle.retire.specs.Number.{number_of}
 use Rattle.retire.specs.InRange.{IsInRange, IsRetirementType}
 use Rattle.retire.specs.ReadBack.{ReadsBack}
@@ -24,7 +24,7 @@ use Rattle.retire.specs.steps.RowsLeft.{records_left}
 use Rattle.retire.specs.declared.event.Event.{Event}
 use Rattle.retire.specs.declared.event.Event.TheVariants.{Retire, Trap}
 use Rattle.retire.proofs.HexLemmas.{list_any-hex, number_of-hex}
-use Rattle.retire.proofs.EventsLemmas.{events_from-event}
+use Rattle.retire.proofs.EventsLemmas.{events-event}
 use Rattle.retire.proofs.RecordsLemmas.{records_left-none, records_left-some}
 
 -- No byte of these fields calls for quotes.
@@ -152,23 +152,27 @@ row_event-fields row (Trap priv false cause epc tval) (address, privilege, below
       is_low_cause cause below,
     ) refl
 
-pub events_from-fields : (row : ℕ) (events : List Event) → All IsInRange events → row + length events ≤ most_rows + 1
-    → events_from row (map event_fields events) ≡ Ok events
-unfolding events_from
-events_from-fields row [] h n = refl
-events_from-fields row (event ∷ rest) h n =
+pub events-fields : (most row : ℕ) (events : List Event) → All IsInRange events → row + length events ≤ most + 1
+    → events_up_to most row (map event_fields events) ≡ Ok events
+unfolding events_up_to
+events-fields most row [] h n = refl
+events-fields most row (event ∷ rest) h n =
     let one =
-    events_from-event row (event_fields event) (map event_fields rest) event (omega arith)
+    events-event most row (event_fields event) (map event_fields rest) event (omega arith)
     (row_event-fields row event (All-head IsInRange event rest h)) in
-    let more = events_from-fields (row + 1) rest (All-tail IsInRange event rest h) (omega arith) in
+    let more = events-fields most (row + 1) rest (All-tail IsInRange event rest h) (omega arith) in
     one ∙ rw more refl
 
-pub reads_back : ReadsBack
+pub reads_back_up_to : (most : ℕ) (events : List Event) → All IsInRange events → length events ≤ most
+    → log_up_to most (records_of (log_text events)) ≡ Ok events
 unfolding strip_bom
-reads_back events h n =
+reads_back_up_to most events h n =
     let first =
     records_left-line (codes "addr") (codes "itype") (codes "priv" ∷ codes "cause" ∷ codes "tval" ∷ [])
     (flat_map event_line events)
     (plain-cons _ _ refl
     (plain-cons _ _ refl (plain-cons _ _ refl (plain-cons _ _ refl (plain-cons _ _ refl plain-nil))))) in
-    rw (first, records_left-events events h) (events_from-fields 1 events h (omega arith))
+    rw (first, records_left-events events h) (events-fields most 1 events h (omega arith))
+
+pub reads_back : ReadsBack
+reads_back = reads_back_up_to most_rows

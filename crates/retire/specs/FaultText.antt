@@ -22,6 +22,7 @@ log_fault_text (fault.Cause row) = row_fault_text row (codes "cause above 3f")
 log_fault_text (fault.TrapFields row) = row_fault_text row (codes "cause or value missing or not wanted")
 log_fault_text (fault.InterruptValue row) = row_fault_text row (codes "an interrupt has a value")
 log_fault_text fault.TooLong = codes "more than 16777216 rows"
+log_fault_text (fault.LongerThan most) = codes "more than " ++ (decimal most ++ codes " rows")
 log_fault_text fault.Read = codes "cannot be read"
 log_fault_text fault.Memory = codes "out of memory"
 

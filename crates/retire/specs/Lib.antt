@@ -10,4 +10,7 @@ pub mod InRange
 pub mod ReadBack
 pub mod PlainText
 pub mod PlainLog
+pub mod Source
+pub mod ReaderSource
+pub mod HasRead
 pub mod steps

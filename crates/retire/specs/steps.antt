@@ -1,3 +1,6 @@
 pub mod Excess
 pub mod RowsLeft
 pub mod PlainRow
+pub mod Place
+pub mod ReadsRows
+pub mod Stands

@@ -11,13 +11,12 @@ use crate::read::read_from;
 use std::alloc::{Allocator, Global};
 
 /// The events of a log that is not plain, pushed to a list that is empty.
-fn read_by_csv<A: Allocator>(
+fn read_in_pieces<A: Allocator>(
     events: Vec<Event, A>,
     global: Global,
     text: &[u8],
 ) -> Result<Vec<Event, A>, LogFault>
     requires empty { events.items ≡ [] }
-    requires none { vec_len events ≡ 0 }
     requires not_plain { IsPlainLog text.now → ⊥ }
     ensures events { IfOk result (λ events. log_of_records (records_of text.now) ≡ Ok events.items) }
     ensures faults { IfErr result
@@ -33,10 +32,10 @@ fn read_by_csv<A: Allocator>(
 
 /// Reads the events of a log that lies in memory, as [`read_log`](crate::read_log) does of any reader.
 ///
-/// The rows of a plain log are read straight from their bytes. In a plain log no line has a quote or is empty, each
-/// ends at a line feed, with a carriage return before it or none, and no row has a fault.
-/// [`write_log`](crate::write_log) writes such logs. `csv` reads any other text from its beginning, and names the
-/// fault. No reader fails, so there is no [`LogFault::Read`].
+/// The rows of a plain log are read straight from its bytes, with no copy. In a plain log no line has a quote or is
+/// empty, each ends at a line feed, with a carriage return before it or none, and no row has a fault.
+/// [`write_log`](crate::write_log) writes such logs. Any other text is read from its beginning, a piece at a time. No
+/// reader fails, so there is no [`LogFault::Read`].
 pub fn read_log_from_slice<A: Allocator>(
     alloc: A,
     global: Global,
@@ -52,5 +51,5 @@ pub fn read_log_from_slice<A: Allocator>(
         return Ok(events);
     }
     events.clear();
-    read_by_csv(events, global, text)
+    read_in_pieces(events, global, text)
 }

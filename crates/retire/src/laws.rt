@@ -1,7 +1,7 @@
 //! Facts that follow from the definitions of logs.
 
-ghost use Rattle.retire.specs.InRange.{ReadsInRange};
-ghost use Rattle.retire.specs.ReadBack.{ReadsBack};
+ghost use Rattle.retire.specs.InRange.{ReadsInRange, ReadsUpToInRange};
+ghost use Rattle.retire.specs.ReadBack.{ReadsBack, ReadsBackUpTo};
 ghost use Rattle.retire.specs.PlainText.{PlainIsParted};
 ghost use Rattle.retire.specs.PlainLog.{WrittenIsPlain};
 
@@ -15,6 +15,17 @@ pub fn read_is_in_range()
 /// events.
 pub fn written_is_read_back()
     ensures { ReadsBack }
+{}
+
+/// What is read of a log that may have any number of rows is in range: its events are at most so many, each as
+/// [`read_is_in_range`] says.
+pub fn long_read_is_in_range()
+    ensures { ReadsUpToInRange }
+{}
+
+/// A log that may have any number of rows is read back where it is written.
+pub fn long_written_is_read_back()
+    ensures { ReadsBackUpTo }
 {}
 
 /// The records of a text with no quote are its lines that are not empty, each parted at its commas.

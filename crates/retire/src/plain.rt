@@ -1,17 +1,18 @@
 //! The rows of a log with no quotes, straight from their bytes.
 
-ghost use Rattle.std.specs.Prelude.{◌≡◌, ◌≤◌, ℕ, List, true, [], IfSome, IfOk, IfErr, Ok, vec_len};
+ghost use Rattle.std.specs.Prelude.{◌≡◌, ◌≤◌, ◌+◌, ℕ, List, true, [], IfSome, IfOk, IfErr, Ok, vec_len};
 ghost use Rattle.std.specs.Option.{IsSomeAnd};
 ghost use Rattle.csv.specs.declared.parser.State.TheVariants.{StartRecord};
-ghost use Rattle.retire.specs.Log.{events_from, log_of_records, most_rows, records_of};
-ghost use Rattle.retire.specs.PlainLog.{ArePlainRows, EndsLine, IsPlainLog};
+ghost use Rattle.retire.specs.Log.{header, log_of_records, most_rows, records_of};
+ghost use Rattle.retire.specs.PlainLog.{ArePlainRows, EndsLine, IsLine, IsPlainLog};
 ghost use Rattle.retire.specs.steps.PlainRow.{HasRow, IsPlainRow};
+ghost use Rattle.retire.specs.steps.ReadsRows.{ReadsRows};
 ghost use Rattle.retire.specs.steps.RowsLeft.{records_left};
 
 use crate::event::Event;
 use crate::fault::LogFault;
 use crate::field::{cell, field_before};
-use crate::read::MOST_ROWS;
+use crate::limit::MOST_ROWS;
 use crate::row::event_of_numbers;
 use crate::short_row::{PlainRow, short_row};
 use std::alloc::Allocator;
@@ -67,50 +68,71 @@ fn row_before(row: u32, text: &[u8]) -> Option<PlainRow<'_>>
     }
 }
 
-/// Reads the rows of a text into a list that is empty, and returns whether it read all of the text. Memory may be
+/// How many rows a log has so far, and what is left of a text.
+#[derive(Clone, Copy)]
+pub(crate) struct RowsRead<'t> {
+    pub(crate) rows: u32,
+    pub(crate) rest: &'t [u8],
+}
+
+/// Reads the rows of a text that follow on so many, up to the first one that is not plain or has a fault. Memory may be
 /// refused.
-fn plain_rows<A: Allocator>(events: &mut Vec<Event, A>, text: &[u8]) -> Result<bool, LogFault>
-    requires empty { events.old.items ≡ [] }
-    requires none { vec_len events.old ≡ 0 }
-    ensures holds { IfOk result (λ all. all ≡ true
-        → events_from 1 (records_left StartRecord text.now) ≡ Ok events.new.items) }
-    ensures reads { IfOk result (λ all. ArePlainRows 1 text.now → all ≡ true) }
-    ensures short { vec_len events.new ≤ most_rows }
+pub(crate) fn plain_rows<'t, A: Allocator>(
+    events: &mut Vec<Event, A>,
+    most: u32,
+    rows: u32,
+    text: &'t [u8],
+) -> Result<RowsRead<'t>, LogFault>
+    requires few { rows ≤ most }
+    ensures reads { IfOk result
+        (λ read. ReadsRows most rows (records_left StartRecord text.now) events.old.items events.new.items read.rows
+        (records_left StartRecord read.rest.now)) }
+    ensures plain { IfOk result (λ read. ArePlainRows most (rows + 1) text.now → read.rest.now ≡ []) }
+    ensures short { IfOk result (λ read. read.rows ≤ most) }
     ensures denied { IfErr result (λ fault. fault ≡ LogFault.Memory) }
 {
     let mut rest = text;
-    for row in 1..MOST_ROWS + 1 {
+    for before in rows..most {
         if rest.is_empty() {
-            return Ok(true);
+            return Ok(RowsRead { rows: before, rest });
         }
-        let Some(plain) = row_before(row, rest) else {
-            return Ok(false);
+        let Some(plain) = row_before(before + 1, rest) else {
+            return Ok(RowsRead { rows: before, rest });
         };
         if events.push(plain.event).is_err() {
             return Err(LogFault::Memory);
         }
         rest = plain.rest;
     }
-    Ok(rest.is_empty())
+    Ok(RowsRead { rows: most, rest })
+}
+
+/// What follows the header's line, as it is written.
+pub(crate) fn after_header(text: &[u8]) -> Option<&[u8]>
+    ensures header { IfSome result (λ r. IsLine header text.now r.now) }
+    ensures reads { (rest : List ℕ) → IsLine header text.now rest → IsSomeAnd result (λ r. r.now ≡ rest) }
+{
+    let end = text.strip_prefix(b"addr,itype,priv,cause,tval".as_slice())?;
+    line_end(end)
 }
 
 /// Reads the events of a text into a list that is empty. `true` means that the text is a log with no fault, and that
 /// the list holds its events. `false` means that the text is no plain log; the list may hold anything then.
-pub fn plain_log<A: Allocator>(events: &mut Vec<Event, A>, text: &[u8]) -> Result<bool, LogFault>
+pub(crate) fn plain_log<A: Allocator>(
+    events: &mut Vec<Event, A>,
+    text: &[u8],
+) -> Result<bool, LogFault>
     requires empty { events.old.items ≡ [] }
-    requires none { vec_len events.old ≡ 0 }
     ensures holds { IfOk result (λ all. all ≡ true → log_of_records (records_of text.now) ≡ Ok events.new.items) }
     ensures reads { IfOk result (λ all. IsPlainLog text.now → all ≡ true) }
-    ensures short { vec_len events.new ≤ most_rows }
+    ensures short { IfOk result (λ all. all ≡ true → vec_len events.new ≤ most_rows) }
     ensures denied { IfErr result (λ fault. fault ≡ LogFault.Memory) }
 {
-    let Some(end) = text.strip_prefix(b"addr,itype,priv,cause,tval".as_slice()) else {
-        return Ok(false);
-    };
-    let Some(rows) = line_end(end) else {
+    let Some(rows) = after_header(text) else {
         return Ok(false);
     };
     // Where this room is refused or is too little, pushing the rows asks again.
     let _ = events.reserve((rows.len() / ROW_BYTES).min(MOST_ROWS as usize));
-    plain_rows(events, rows)
+    let read = plain_rows(events, MOST_ROWS, 0, rows)?;
+    Ok(read.rest.is_empty())
 }

@@ -1,34 +1,12 @@
--- The header's line is named by hand.
-use Rattle.std.proofs.Common.{◌≡◌, ◌∙◌, Ok, IfOk, subst, sym, true}
-use Rattle.retire.specs.PlainLog.{ArePlainRows, EndsLine, IsPlainLog}
-use Rattle.retire.proofs.PlainLogLemmas.{header-ends, header-front, reads-log}
-use Rattle.retire.proofs.PlainRowLemmas.{plain-header}
+-- The records of the header's line and of the rows are named by hand.
+use Rattle.std.proofs.Common.{◌∙◌}
+use Rattle.retire.proofs.PlainLogLemmas.{log-plain}
 use Rattle.retire.proofs.plain.plain_log.Goals as goal
+
+pub returns-in_default-clause-reads : goal.returns-in_default-clause-reads
+returns-in_default-clause-reads g c = λ (rest, line, rows). absurd (c.in_default.ensures.reads rest line)
 
 pub returns-clause-holds : goal.returns-clause-holds
 returns-clause-holds g c =
-    let found = c.in-Some.ensures.cases in
-    let log =
-    plain-header c.args.text.now c.as_slice.result.now c.in-Some.end.now c.in-Some-line_end.rows.now found.0 found.1
-    c.as_slice.ensures c.in-Some-line_end.ensures.ends in
-    subst (λ t. IfOk c.plain_rows.result (λ all. all ≡ true → t ≡ Ok c.plain_rows.new.events.items)) (sym log)
-    c.plain_rows.ensures.holds
-
-pub returns-in_default-clause-reads : goal.returns-in_default-clause-reads
-returns-in_default-clause-reads g c =
-    λ plain. sym c.in_default.ensures.cases
-    ∙ header-front c.args.text.now c.as_slice.result.now c.as_slice.ensures plain
-
-pub returns-in_default-line_end-clause-reads : goal.returns-in_default-line_end-clause-reads
-returns-in_default-line_end-clause-reads g c = λ plain.
-    let (rest, ends, rows) = header-ends c.args.text.now c.as_slice.result.now c.as_slice.ensures plain in
-    absurd
-    (c.in_default-line_end.ensures.reads rest (subst (λ t. EndsLine t rest) (sym c.in-Some.ensures.cases.1) ends))
-
-pub returns-clause-reads : goal.returns-clause-reads
-returns-clause-reads g c =
-    reads-log c.plain_rows.result (ArePlainRows 1 c.in-Some-line_end.rows.now) (IsPlainLog c.args.text.now) (λ plain.
-    let (rest, ends, rows) = header-ends c.args.text.now c.as_slice.result.now c.as_slice.ensures plain in
-    let same =
-    c.in-Some-line_end.ensures.reads rest (subst (λ t. EndsLine t rest) (sym c.in-Some.ensures.cases.1) ends) in
-    subst (λ t. ArePlainRows 1 t) (sym same) rows) c.plain_rows.ensures.reads
+    log-plain c.args.text.now c.in-Some.rows.now c.in_ok-read.read.rest.now _ _ _ c.is_empty.result
+    c.in-Some.ensures.header c.in_ok-read.ensures.reads (c.reserve.ensures.items ∙ c.requires.empty) c.is_empty.ensures
