@@ -13,7 +13,7 @@ use Rattle.rvclass.specs.declared.class.Return.TheVariants.{Mret, Sret}
 use Rattle.legalpath.proofs.DecidingTests.{Decides, decides_true, decides_false, decides_eq, decides_le, decides_lt}
 use Rattle.legalpath.proofs.DecidingTests.{decides-same, decides-and, decides-or}
 use Rattle.legalpath.specs.Allowed.{may_retire_at, may_stand_at}
-use Rattle.legalpath.specs.steps.Judging.{is_type_of, was_left, left_at_start, left_by_retirement}
+use Rattle.legalpath.specs.steps.Judging.{is_type_of, was_left, left_after, left_at_start, left_by_retirement, left_on}
 use Rattle.legalpath.specs.steps.Judging.{left_by_trap, is_never, judge_retirement, judge_trap, judge}
 use Rattle.legalpath.specs.Reason.{IsNotRetirable, AppliesToRetirement, AppliesToTrap, IsReason, earlier}
 use Rattle.legalpath.specs.Right.{IsTypeOf, MayRetireAt, RetiresOn, Right}
@@ -25,17 +25,6 @@ use Rattle.legalpath.specs.declared.judging.Left.{Left}
 use Rattle.legalpath.specs.declared.next.Next.{Next}
 use Rattle.legalpath.specs.declared.next.Next.TheVariants.{One, Any, NoneInside}
 use Rattle.std.specs.List.{AllByRecursion}
-
--- What a retirement on this word leaves; nothing where there is none.
-abbrev pub left_on : ℕ → ℕ → ℕ → Option Word → Left
-left_on addr itype priv None = record { next = NoneInside; least = priv; greatest = priv }
-left_on addr itype priv (Some word) = left_by_retirement addr itype priv word
-
--- What an event leaves, or what is left to the first.
-abbrev pub left_after : Words → Option Event → Left
-left_after words None = left_at_start
-left_after words (Some (Retire addr itype priv)) = left_on addr itype priv (words addr)
-left_after words (Some (Trap priv interrupt cause epc tval)) = left_by_trap priv
 
 -- The tests of judging decide the facts of the definitions.
 pub privilege_decides : (priv : ℕ) → Decides (is_privilege priv) (IsPrivilege priv)

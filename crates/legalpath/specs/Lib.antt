@@ -5,6 +5,7 @@ pub mod Step
 pub mod Legal
 pub mod Reason
 pub mod FirstFault
+pub mod Passed
 pub mod FaultText
 pub mod Discontinuity
 pub mod Backward

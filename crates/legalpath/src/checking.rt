@@ -1,6 +1,6 @@
 //! Which log is legal, and the first illegal row of one that is not.
 
-ghost use Rattle.std.specs.Prelude.{◌≡◌, ◌↔◌, ◌≤◌, All, length, IsOk, IfErr, OnOk};
+ghost use Rattle.std.specs.Prelude.{◌≡◌, ◌↔◌, ◌+◌, ◌-◌, ◌≤◌, ◌^◌, All, length, IfOk, IsOk, IfErr, OnOk};
 ghost use Rattle.retire.specs.Is64Bit.{Is64Bit};
 ghost use Rattle.retire.specs.Log.{most_rows};
 ghost use Rattle.rvclass.specs.Fetch.{words_of};
@@ -9,7 +9,7 @@ ghost use Rattle.legalpath.specs.steps.Judging as judging;
 ghost use Rattle.legalpath.specs.Legal.{Legal};
 
 use crate::fault::PathFault;
-use crate::judging::{judge, left_at_start};
+use crate::judging::{Left, judge, left_at_start};
 use retire::Event;
 use rvclass::Program;
 
@@ -24,27 +24,38 @@ pub fn check(program: &Program, log: &[Event]) -> Result<(), PathFault>
     ensures first { IfErr result (λ fault. IsFirstFault (words_of program.now) log.now fault) }
     ensures numbers { OnOk result (All Is64Bit log.now) }
 {
-    judge_all(program, log)
+    match judge_all(program, left_at_start(), 0, log) {
+        Ok(_) => Ok(()),
+        Err(fault) => Err(fault),
+    }
 }
 
-/// Judges the events in turn, up to the first fault.
+/// Judges events in turn, by what the event before left to the first of them, up to the first fault. So many rows stand
+/// before theirs. Returns what the last event leaves.
 #[inline(never)]
-fn judge_all(program: &Program, log: &[Event]) -> Result<(), PathFault>
-    requires { length log.now ≤ most_rows }
-    ensures value { result ≡ judging.judge_all (words_of program.now) judging.left_at_start 1 log.now }
+pub(crate) fn judge_all(
+    program: &Program,
+    left: Left,
+    rows: u32,
+    log: &[Event],
+) -> Result<Left, PathFault>
+    requires few { rows + length log.now ≤ 2 ^ 32 - 1 }
+    requires below { left.greatest ≤ 3 }
+    ensures value { result ≡ judging.judge_all (words_of program.now) left (rows + 1) log.now }
+    ensures below { IfOk result (λ next. next.greatest ≤ 3) }
     ensures numbers { OnOk result (All Is64Bit log.now) }
 {
-    let mut left = left_at_start();
+    let mut now = left;
     for (i, event) in log.iter().enumerate() {
-        match judge(program, left, event) {
-            Ok(next) => left = next,
+        match judge(program, now, event) {
+            Ok(next) => now = next,
             Err(why) => {
                 return Err(PathFault {
-                    row: i as u32 + 1,
+                    row: rows + i as u32 + 1,
                     why,
                 });
             }
         }
     }
-    Ok(())
+    Ok(now)
 }

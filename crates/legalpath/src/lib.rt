@@ -9,6 +9,7 @@ mod judging;
 mod laws;
 mod legal_log;
 mod next;
+mod path_check;
 
 pub use checking::check;
 pub use fault::{PathFault, Why};
@@ -16,3 +17,4 @@ pub use judging::{greatest_after, may_retire_at, may_stand_at};
 pub use laws::{logs_split_and_join, reasons_name_illegal_rows, retirements_lead_to_one_place};
 pub use legal_log::LegalLog;
 pub use next::{Next, leads, successor};
+pub use path_check::PathCheck;

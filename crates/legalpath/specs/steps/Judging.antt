@@ -17,7 +17,7 @@ use Rattle.legalpath.specs.declared.fault.Why.{Why}
 use Rattle.legalpath.specs.declared.fault.Why.TheVariants.{OffProgram, NotRetirable, WrongType, WrongNext}
 use Rattle.legalpath.specs.declared.fault.Why.TheVariants.{WrongPrivilege, WrongEpc}
 use Rattle.legalpath.specs.declared.judging.Left.{Left}
-use Rattle.legalpath.specs.declared.next.Next.TheVariants.{Any}
+use Rattle.legalpath.specs.declared.next.Next.TheVariants.{Any, NoneInside}
 
 -- A retirement of this class has this type.
 abbrev pub is_type_of : Class → ℕ → Bool
@@ -83,9 +83,20 @@ judge words left (Retire addr itype priv) = judge_retirement left addr itype pri
 judge words left (Trap priv interrupt cause epc tval) =
     judge_trap left epc priv interrupt cause tval
 
--- The result for a log: nothing, or its first fault.
+-- What a retirement on this word leaves; nothing where there is none.
+abbrev pub left_on : ℕ → ℕ → ℕ → Option Word → Left
+left_on addr itype priv None = record { next = NoneInside; least = priv; greatest = priv }
+left_on addr itype priv (Some word) = left_by_retirement addr itype priv word
+
+-- What an event leaves, or what is left to the first.
+abbrev pub left_after : Words → Option Event → Left
+left_after words None = left_at_start
+left_after words (Some (Retire addr itype priv)) = left_on addr itype priv (words addr)
+left_after words (Some (Trap priv interrupt cause epc tval)) = left_by_trap priv
+
+-- The result for events: what the last of them leaves, or their first fault.
 abbrev pub Answer : Type 0
-Answer = Result (Unit {0}) PathFault
+Answer = Result Left PathFault
 
 -- The result for events whose first, at this row, was judged so; `follows` is the result for the others.
 abbrev pub answer_after : ℕ → Result Left Why → (Left → Answer) → Answer
@@ -94,6 +105,6 @@ answer_after row (Ok left) follows = follows left
 
 -- The result for events, the first of them at this row. The event before left `left` to it.
 abbrev pub judge_all : Words → Left → ℕ → List Event → Answer
-judge_all words left row [] = Ok tt
+judge_all words left row [] = Ok left
 judge_all words left row (event ∷ events) =
     answer_after row (judge words left event) (λ next. judge_all words next (row + 1) events)
