@@ -28,7 +28,7 @@ use std::thread;
 use std::thread::{Scope, Threads};
 
 /// Sends the payloads of logs through a funnel, each log's in a thread of its own, and decodes what is taken of it in
-/// the caller's thread.
+/// the caller's thread. It opens the funnel, and then does as [`run_on`].
 ///
 /// Each send waits for the gate, and for room in the funnel. The caller's thread takes messages until the closing
 /// message came of every hart whose thread was started, or the channel ended. Where memory or its thread is refused for
@@ -56,7 +56,15 @@ pub fn run<A: Allocator + Copy, G: Gate, R: Threads + Wait + Sync>(
     ensures memory { setup_fault most_ports (length logs.now) config ≡ None
         → IfErr result (λ fault. fault ≡ Setup.Memory) }
 {
-    run_in_rooms(alloc, global, logs, config, gate, rt, Vec::new(alloc))
+    let (ports, outlet) = match ends_of(global, logs.len(), config) {
+        Ok(ends) => ends,
+        Err(fault) => return Err(fault),
+    };
+    let mut outlet = outlet;
+    match run_on(alloc, logs, config, gate, ports, &mut outlet, rt) {
+        Ok(outcome) => Ok(outcome),
+        Err(_) => Err(Setup::Memory),
+    }
 }
 
 /// The same, with rooms for the events that come of harts: of hart 0 the first, and so on, where there are so many. A
@@ -81,12 +89,9 @@ pub fn run_in_rooms<A: Allocator + Copy, G: Gate, R: Threads + Wait + Sync>(
     ensures memory { setup_fault most_ports (length logs.now) config ≡ None
         → IfErr result (λ fault. fault ≡ Setup.Memory) }
 {
-    if let Some(fault) = fault_of(MOST_PORTS, logs.len(), config) {
-        return Err(fault);
-    }
-    let (ports, outlet) = match open(global, logs.len() as u16, config.capacity) {
+    let (ports, outlet) = match ends_of(global, logs.len(), config) {
         Ok(ends) => ends,
-        Err(_) => return Err(Setup::Memory),
+        Err(fault) => return Err(fault),
     };
     let mut outlet = outlet;
     let plan = Plan {
@@ -141,6 +146,23 @@ pub fn run_on<A: Allocator + Copy, G: Gate, R: Threads + Wait + Sync>(
         rt,
     };
     run_plan(alloc, plan, ports, outlet, Vec::new(alloc))
+}
+
+/// The ends of a new funnel for this many harts, or why nothing is sent at all.
+fn ends_of(global: Global, harts: usize, config: Config) -> Result<(Vec<Port>, Outlet), Setup>
+    ensures ports { IfOk result (λ ends. AreNewPorts ends.1.funnel harts ends.0.items) }
+    ensures outlet { IfOk result (λ ends. (ends.1.taken ≡ []) × (ends.1.made ≡ harts)) }
+    ensures limits { IfOk result (λ ends. (1 ≤ config.period) × (harts ≤ most_ports)) }
+    ensures refused { (fault : AnySetup) → setup_fault most_ports harts config ≡ Some fault → result ≡ Err fault }
+    ensures memory { setup_fault most_ports harts config ≡ None → IfErr result (λ fault. fault ≡ Setup.Memory) }
+{
+    if let Some(fault) = fault_of(MOST_PORTS, harts, config) {
+        return Err(fault);
+    }
+    match open(global, harts as u16, config.capacity) {
+        Ok(ends) => Ok(ends),
+        Err(_) => Err(Setup::Memory),
+    }
 }
 
 /// Runs what is planned over the ends of a funnel, with rooms for the events that come of harts.
