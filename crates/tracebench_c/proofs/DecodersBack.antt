@@ -24,14 +24,14 @@ use Rattle.tracebench_c.specs.steps.Reading.{mode_in}
 use Rattle.tracebench_c.specs.steps.ReadingDecoders.{phase_in, state_in}
 
 -- A phase comes back.
-phase_back : (p : Phase) → phase_in (number_of_phase p) ≡ p
+pub phase_back : (p : Phase) → phase_in (number_of_phase p) ≡ p
 phase_back Unopened = refl
 phase_back Running = refl
 phase_back PassingOver = refl
 phase_back Closed = refl
 
 -- So does the mode that was announced, if one was.
-announced_back : (m : Option Mode)
+pub announced_back : (m : Option Mode)
     → (if flag (is_some m) == 0 then None else Some (mode_in (number_of_announced m))) ≡ m
 announced_back None = refl
 announced_back (Some mode) = ap Some (mode_back mode)

@@ -5,6 +5,7 @@ mod HeaderMade
 mod Hearing
 mod MapSteps
 mod PacketsBack
+mod PassingBack
 mod StatesBack
 mod StepsTaken
 mod TextsRead

@@ -73,3 +73,22 @@ pub record NumbersStand (words : Words) (packets : List Packet) (log : List Even
     pub state : DecoderState
     pub is : IsOfState numbers state
     pub stands : StateStands words packets log state
+
+-- The numbers say that the packet which opens the trace announced this mode, or, where this is `None`, that it did not
+-- come.
+pub record HaveMode (announced : Option Mode) (numbers : DecoderNumbers) : Type 0 where
+  pub came : numbers.is_announced ≡ flag (is_some announced)
+  pub names : numbers.announced ≡ number_of_announced announced
+
+-- The numbers are those of a decoder that passes over packets until a synchronisation comes, and reads from there on in
+-- this mode. No packet waits, there is no event before, and the last reported address is 0.
+pub record PassOver (mode : Mode) (numbers : DecoderNumbers) : Type 0 where
+  pub phase : numbers.phase ≡ PASSING_OVER
+  pub waits : numbers.waits ≡ 0
+  pub has_last : numbers.has_last ≡ 0
+  pub reads : numbers.mode ≡ number_of_mode mode
+  pub reported : numbers.reported ≡ 0
+
+-- The numbers say that the packet which closes the trace came.
+abbrev pub AreClosed : DecoderNumbers → Type 0
+AreClosed numbers = numbers.phase ≡ CLOSED

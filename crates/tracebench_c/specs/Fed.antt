@@ -1,11 +1,15 @@
 -- What a call reports of a payload that a decoder is fed.
-use Rattle.std.specs.Prelude.{ℕ, ◌≡◌, ◌≢◌, ◌↔◌, ◌⊎◌, ◌++◌, true, List, [], ◌∷◌, Result, Ok, Err, map}
+use Rattle.std.specs.Prelude.{ℕ, ◌≡◌, ◌≢◌, ◌↔◌, ◌⊎◌, ◌+◌, ◌*◌, ◌/◌, ◌≤◌, ◌++◌, true, false, List, [], ◌∷◌, length}
+use Rattle.std.specs.Prelude.{Option, Some, Result, Ok, Err, map}
 use Rattle.decoder.specs.Describes.{Describes}
-use Rattle.decoder.specs.Order.{IsOpen}
+use Rattle.decoder.specs.Order.{IsOpen, open_packet}
+use Rattle.decoder.specs.Resuming.{IsSync}
 use Rattle.decoder.specs.declared.fault.DecodeFault.{DecodeFault}
 use Rattle.decoder.specs.declared.fault.DecodeFault.TheVariants as decode
 use Rattle.payload.specs.ClosedTrace.{last_is_closing}
+use Rattle.payload.specs.Closing.{is_closing_packet}
 use Rattle.payload.specs.Reading.{reading}
+use Rattle.payload.specs.declared.mode.Mode.{Mode}
 use Rattle.payload.specs.declared.packet.Packet.{Packet}
 use Rattle.retire.specs.declared.event.Event.{Event}
 use Rattle.rvclass.specs.Fetch.{words_of}
@@ -13,7 +17,7 @@ use Rattle.rvclass.specs.Image.{Image}
 use Rattle.rvclass.specs.Program.{program_of}
 use Rattle.rvclass.specs.Words.{Words}
 use Rattle.tracebench_c.specs.Checked.{IsNoProgram}
-use Rattle.tracebench_c.specs.DecoderKept.{AreOfDecoder, NumbersStand}
+use Rattle.tracebench_c.specs.DecoderKept.{AreClosed, AreOfDecoder, HaveMode, NumbersStand, PassOver}
 use Rattle.tracebench_c.specs.Events.{numbers_of_event}
 use Rattle.tracebench_c.specs.Handed.{IsHandedOut}
 use Rattle.tracebench_c.specs.Statuses.{decode_status, fault_status, pack_status}
@@ -31,8 +35,29 @@ GoesOn words packet before after events =
     (packets : List Packet) (log : List Event) → NumbersStand words packets log before
     → NumbersStand words (packets ++ packet ∷ []) (log ++ events) after
 
+-- The numbers before say that the trace was not closed, and those after are a decoder's again. The mode that was
+-- announced stays, unless this packet opens the trace: then it is the one that this packet announces.
+pub record KeepsMode (words : Words) (packet : Packet) (before after : DecoderNumbers) : Type 0 where
+  pub not_closed : ¬ AreClosed before
+  pub again : AreOfDecoder after
+  pub announced : (mode : Mode) → packet ≡ open_packet mode → NumbersStand words [] [] before
+      → HaveMode (Some mode) after
+  pub mode_kept : (announced : Option Mode) → HaveMode announced before → ¬ IsOpen packet → HaveMode announced after
+
+-- Where the numbers before are those of a decoder that passes over packets, a packet that is no synchronisation adds
+-- nothing. It changes nothing, or closes the trace. A synchronisation begins a stretch, as if it came right after the
+-- packet that opens a trace.
+pub record PassesOn (words : Words) (packet : Packet) (before after : DecoderNumbers) (events : List Event) : Type 0
+  where
+    pub passed_over : (mode : Mode) → PassOver mode before → ¬ IsSync packet → is_closing_packet packet ≡ false
+        → (after ≡ before) × (events ≡ [])
+    pub closes : (mode : Mode) → PassOver mode before → is_closing_packet packet ≡ true
+        → AreClosed after × (events ≡ [])
+    pub begins : (mode : Mode) → PassOver mode before → IsSync packet
+        → NumbersStand words (open_packet mode ∷ packet ∷ []) events after
+
 -- The payload is that of a packet, which the decoder with these numbers took: behind it it has those numbers, and these
--- events were added.
+-- events were added, of which there are no more than so many.
 pub record TakesPayload (base : ℕ) (image payload : List ℕ) (before after : DecoderNumbers) (events : List Event)
     : Type 0 where
   pub program : Image
@@ -41,6 +66,9 @@ pub record TakesPayload (base : ℕ) (image payload : List ℕ) (before after : 
   pub read : reading payload ≡ Ok packet
   pub are : AreOfDecoder before
   pub goes_on : GoesOn (words_of program) packet before after events
+  pub keeps : KeepsMode (words_of program) packet before after
+  pub passes : PassesOn (words_of program) packet before after events
+  pub short : length events ≤ 64 * (length image / 2) + 2
 
 -- Where the numbers stand for packets, those and this packet describe no log, unless memory was refused. The fault is
 -- AfterClose exactly where the last of the packets closed the trace. It is NotOpened exactly where there are no packets
@@ -53,6 +81,18 @@ pub record Refuses (words : Words) (packet : Packet) (numbers : DecoderNumbers) 
   pub not_opened : (packets : List Packet) (log : List Event) → NumbersStand words packets log numbers
       → (why ≡ decode.NotOpened) ↔ ((packets ≡ []) × ¬ IsOpen packet)
 
+-- The fault is AfterClose exactly where the numbers say that the trace was closed. A decoder that passes over packets
+-- refuses only a synchronisation. The packet that opens a trace and this one describe no log then, unless memory was
+-- refused, and where it was they describe one. The fault is not NotOpened.
+pub record RefusesByPhase (words : Words) (packet : Packet) (numbers : DecoderNumbers) (why : DecodeFault) : Type 0 where
+  pub after_close : (why ≡ decode.AfterClose) ↔ AreClosed numbers
+  pub passed_over : (mode : Mode) → PassOver mode numbers → IsSync packet
+  pub begins_none : (mode : Mode) → PassOver mode numbers → (why ≡ decode.Memory)
+      ⊎ ((other : List Event) → ¬ Describes words (open_packet mode ∷ packet ∷ []) other)
+  pub begins_memory : (mode : Mode) → PassOver mode numbers → why ≡ decode.Memory
+      → (other : List Event) × Describes words (open_packet mode ∷ packet ∷ []) other
+  pub never_unopened : (mode : Mode) → PassOver mode numbers → why ≢ decode.NotOpened
+
 -- The payload is that of a packet, which the decoder with these numbers refused.
 pub record RefusesPayload (base : ℕ) (image payload : List ℕ) (numbers : DecoderNumbers) (why : DecodeFault) : Type 0
   where
@@ -62,6 +102,7 @@ pub record RefusesPayload (base : ℕ) (image payload : List ℕ) (numbers : Dec
     pub read : reading payload ≡ Ok packet
     pub are : AreOfDecoder numbers
     pub refuses : Refuses (words_of program) packet numbers why
+    pub by_phase : RefusesByPhase (words_of program) packet numbers why
 
 -- What comes of a payload that a decoder with these numbers is fed: it took it; or no decoder has these numbers, the
 -- payload stands for no packet, the image makes no program or memory was refused, or the decoder refused the packet.

@@ -1,5 +1,6 @@
 -- What a call reports of a step of an encoder.
-use Rattle.std.specs.Prelude.{ℕ, ◌≡◌, ◌⊎◌, ◌==◌, ◌||◌, ◌++◌, [], ◌∷◌, All, is_none, if◌then◌else◌, List, map, Ok}
+use Rattle.std.specs.Prelude.{ℕ, ◌≡◌, ◌<◌, ◌≤◌, ◌⊎◌, ◌==◌, ◌||◌, ◌++◌, [], ◌∷◌, All, is_none, if◌then◌else◌, List}
+use Rattle.std.specs.Prelude.{Ok, drop, length, map}
 use Rattle.legalpath.specs.Legal.{Legal}
 use Rattle.payload.specs.Profile.{InProfile}
 use Rattle.payload.specs.declared.mode.Mode.{Mode}
@@ -67,3 +68,11 @@ pub record AreMore (earlier later : List Packet) (status count : ℕ) (old new :
   pub grown : later ≡ earlier ++ more
   pub profile : All InProfile more
   pub handed : IsHandedOut (map numbers_of more) status count old new
+
+-- Whatever was pushed, the packets that are wanted are two at most. Where all is done they are no more than the buffer
+-- has room for, and where it is too small they are more. What is behind them in the buffer stays.
+pub record AreFew (status count : ℕ) (old new : List PacketNumbers) : Type 0 where
+  pub two : count ≤ 2
+  pub fit : status ≡ DONE → count ≤ length old
+  pub small : status ≡ TOO_SMALL → length old < count
+  pub behind : drop count new ≡ drop count old

@@ -1,6 +1,7 @@
 //! Programs and logs from bytes, and which logs are legal.
 
 ghost use Rattle.std.specs.Prelude.{◌≡◌, IfErr, IfOk, Ok};
+ghost use Rattle.rvclass.specs.Image.{image_at};
 ghost use Rattle.rvclass.specs.Program.{program_of};
 ghost use Rattle.tracebench_c.specs.Checked.{ReportsCheck, IsChecked, IsNoProgram};
 
@@ -51,6 +52,7 @@ fn check_log(alloc: Global, base: u64, image: &[u8], log: &[u8]) -> Result<u64, 
 /// The program of an image.
 pub(crate) fn program_of(alloc: Global, base: u64, image: &[u8]) -> Result<Program, Fault>
     ensures program { IfOk result (λ program. program_of base image.now ≡ Ok program) }
+    ensures image { IfOk result (λ program. program ≡ image_at base image.now) }
     ensures fault { IfErr result (IsNoProgram base image.now) }
 {
     let mut bytes = Vec::with_capacity(alloc, image.len())?;

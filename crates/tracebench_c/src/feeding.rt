@@ -1,8 +1,8 @@
 //! Decoding step by step: one payload in, its events out.
 
-ghost use Rattle.std.specs.Prelude.{◌≡◌, []};
+ghost use Rattle.std.specs.Prelude.{◌≡◌, [], None};
 ghost use Rattle.rvclass.specs.Words.{Words};
-ghost use Rattle.tracebench_c.specs.DecoderKept.{NumbersStand};
+ghost use Rattle.tracebench_c.specs.DecoderKept.{HaveMode, NumbersStand};
 ghost use Rattle.tracebench_c.specs.Fed.{GoesOnIfDone, IsFed, ReportsFeed, feed_status};
 
 use crate::checking::program_of;
@@ -43,7 +43,8 @@ pub enum FeedFault {
 /// Writes the numbers of a decoder before the first packet. No memory is taken.
 #[unsafe(no_mangle)]
 pub extern "C" fn tracebench_decoder(state: &mut DecoderNumbers)
-    ensures { (words : Words) → NumbersStand words [] [] state.new }
+    ensures stands { (words : Words) → NumbersStand words [] [] state.new }
+    ensures unannounced { HaveMode None state.new }
 {
     *state = numbers_of_state(&Decoder::new().state());
 }

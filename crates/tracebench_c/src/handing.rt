@@ -1,9 +1,10 @@
 //! Bytes, and the numbers of packets and events, that go into a caller's buffer.
 
-ghost use Rattle.std.specs.Prelude.{◌≡◌, ◌⊎◌, ◌<◌, length, map};
+ghost use Rattle.std.specs.Prelude.{◌≡◌, ◌⊎◌, ◌<◌, ◌≤◌, length, map};
 ghost use Rattle.tracebench_c.specs.Events.{numbers_of_event};
 ghost use Rattle.tracebench_c.specs.Handed.{IsHandedOut};
 ghost use Rattle.tracebench_c.specs.Numbers.{numbers_of};
+ghost use Rattle.tracebench_c.specs.Pushed.{AreFew};
 ghost use Rattle.tracebench_c.specs.declared.status.TheConstants.{DONE, TOO_SMALL};
 
 use crate::events::{EventNumbers, numbers_of_event};
@@ -35,6 +36,7 @@ pub(crate) fn hand_out_packets(
     ensures handed { IsHandedOut (map numbers_of given.now) result count.new packets.old packets.new }
     ensures small { result ≡ TOO_SMALL → length packets.old < length given.now }
     ensures status { (result ≡ DONE) ⊎ (result ≡ TOO_SMALL) }
+    ensures few { length given.now ≤ 2 → AreFew result count.new packets.old packets.new }
 {
     *count = given.len() as u64;
     if packets.len() < given.len() {

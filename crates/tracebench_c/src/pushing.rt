@@ -1,6 +1,6 @@
 //! The packets of a log, step by step: one event in, its packets out.
 
-ghost use Rattle.std.specs.Prelude.{◌≡◌, ◌≢◌, ◌<◌, ◌++◌, ◌∷◌, [], ℕ, List, Some, length, map};
+ghost use Rattle.std.specs.Prelude.{◌≡◌, ◌≢◌, ◌<◌, ◌⊎◌, ◌++◌, ◌∷◌, [], ℕ, List, Some, length, map};
 ghost use Rattle.encoder.specs.Packets.{packets as packets_of};
 ghost use Rattle.encoder.specs.PacketsSoFar.{packets_so_far};
 ghost use Rattle.payload.specs.declared.mode.Mode.{Mode};
@@ -9,9 +9,9 @@ ghost use Rattle.rvclass.specs.Fetch.{words_of};
 ghost use Rattle.rvclass.specs.Image.{Image};
 ghost use Rattle.rvclass.specs.Words.{Words};
 ghost use Rattle.tracebench_c.specs.Encoded.{mode_of};
-ghost use Rattle.tracebench_c.specs.EncoderKept.{NumbersStand};
+ghost use Rattle.tracebench_c.specs.EncoderKept.{AreOfEncoder, NumbersStand};
 ghost use Rattle.tracebench_c.specs.Numbers.{numbers_of};
-ghost use Rattle.tracebench_c.specs.Pushed.{AreMore, EndsFinish, EndsPush, IsNext, IsOn, new_status};
+ghost use Rattle.tracebench_c.specs.Pushed.{AreFew, AreMore, EndsFinish, EndsPush, IsNext, IsOn, new_status};
 ghost use Rattle.tracebench_c.specs.declared.status.TheConstants.{DONE, MEMORY, TOO_SMALL};
 
 use crate::checking::program_of;
@@ -85,6 +85,8 @@ pub extern "C" fn tracebench_push(
     ensures refused { result ≢ DONE → (state.new ≡ state.old) × (packets.new ≡ packets.old) }
     ensures counted { result ≢ DONE → result ≢ TOO_SMALL → count.new ≡ count.old }
     ensures two { result ≡ TOO_SMALL → length packets.old < 2 }
+    ensures few { (result ≡ DONE) ⊎ (result ≡ TOO_SMALL) → AreFew result count.new packets.old packets.new }
+    ensures again { result ≡ DONE → AreOfEncoder state.new }
 {
     let Some(before) = state_of(state) else {
         return BAD_STATE;
@@ -128,6 +130,7 @@ pub extern "C" fn tracebench_finish(
     ensures refused { result ≢ DONE → packets.new ≡ packets.old }
     ensures counted { result ≢ DONE → result ≢ TOO_SMALL → count.new ≡ count.old }
     ensures two { result ≡ TOO_SMALL → length packets.old < 2 }
+    ensures few { (result ≡ DONE) ⊎ (result ≡ TOO_SMALL) → AreFew result count.new packets.old packets.new }
 {
     let Some(kept) = state_of(state) else {
         return BAD_STATE;

@@ -152,3 +152,57 @@ pub const BAD_STATE: u32 = 128;
 
 /// No event has these numbers.
 pub const NO_EVENT: u32 = 129;
+
+// Each status is above the one before it, so no two of them are the same.
+const _: () = prove!(
+    DONE < TOO_SMALL
+        && TOO_SMALL < MEMORY
+        && MEMORY < NO_HART
+        && NO_HART < OUT_OF_RANGE
+        && OUT_OF_RANGE < BAD_ENDS
+        && BAD_ENDS < SHORT
+        && SHORT < BAD_LENGTH
+        && BAD_LENGTH < UNREAD
+        && UNREAD < UNWRITTEN
+        && UNWRITTEN < BAD_HEADER
+        && BAD_HEADER < EMPTY
+        && EMPTY < TOO_LONG
+        && TOO_LONG < BAD_PAD
+        && BAD_PAD < UNSUPPORTED
+        && UNSUPPORTED < BAD_PRIVILEGE
+        && BAD_PRIVILEGE < BAD_REPORT
+        && BAD_REPORT < NO_PACKET
+        && NO_PACKET < ODD_BASE
+        && ODD_BASE < TOO_LARGE
+        && TOO_LARGE < PAST_END
+        && PAST_END < WRONG_HEADER
+        && WRONG_HEADER < WRONG_FIELDS
+        && WRONG_FIELDS < NO_NUMBER
+        && NO_NUMBER < ODD_ADDRESS
+        && ODD_ADDRESS < WRONG_ROW_TYPE
+        && WRONG_ROW_TYPE < WRONG_ROW_PRIVILEGE
+        && WRONG_ROW_PRIVILEGE < LARGE_CAUSE
+        && LARGE_CAUSE < WRONG_TRAP_FIELDS
+        && WRONG_TRAP_FIELDS < VALUED_INTERRUPT
+        && VALUED_INTERRUPT < TOO_MANY_ROWS
+        && TOO_MANY_ROWS < OFF_PROGRAM
+        && OFF_PROGRAM < NOT_RETIRABLE
+        && NOT_RETIRABLE < WRONG_TYPE
+        && WRONG_TYPE < WRONG_NEXT
+        && WRONG_NEXT < WRONG_PRIVILEGE
+        && WRONG_PRIVILEGE < WRONG_EPC
+        && WRONG_EPC < STRANGER
+        && STRANGER < REPEAT
+        && REPEAT < GAP
+        && GAP < AFTER_CLOSE
+        && AFTER_CLOSE < OTHER_MODE
+        && OTHER_MODE < NOT_OPENED
+        && NOT_OPENED < WALKS_OFF_PROGRAM
+        && WALKS_OFF_PROGRAM < MISSED_NOTIFY
+        && MISSED_NOTIFY < WRONG_BRANCHES
+        && WRONG_BRANCHES < WRONG_PLACE
+        && WRONG_PLACE < WALKS_AT_WRONG_PRIVILEGE
+        && WALKS_AT_WRONG_PRIVILEGE < AFTER_CLOSING_PACKET
+        && AFTER_CLOSING_PACKET < BAD_STATE
+        && BAD_STATE < NO_EVENT
+);
