@@ -332,12 +332,15 @@ uint32_t tracebench_finish(uint64_t base, const uint8_t *image, size_t image_len
 /* How far a trace has come. */
 #define TRACEBENCH_UNOPENED 0u     /* no packet came */
 #define TRACEBENCH_RUNNING 1u      /* it was opened */
-#define TRACEBENCH_PASSING_OVER 2u /* packets were lost; no call of this library gives it */
+#define TRACEBENCH_PASSING_OVER 2u /* packets were lost, those that come are passed over until a sync; see below */
 #define TRACEBENCH_CLOSED 3u       /* it was closed */
 
 /*
  * What a decoder keeps from one payload to the next. It may be copied, and goes on from each copy. A flag is 0 or 1.
  * What a flag says is not there is 0.
+ *
+ * No call begins to pass over packets. A caller whose packets were lost may write such a state: the phase, the mode in
+ * which addresses are read from the next sync on, and whether a mode was announced and which. All else is 0.
  */
 struct tracebench_decoder_state {
     uint32_t phase;               /* TRACEBENCH_UNOPENED to TRACEBENCH_CLOSED */
