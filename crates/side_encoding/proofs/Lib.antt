@@ -1,3 +1,2 @@
-mod HartTexts
 mod AddedPackets
 mod EncodedEvents

@@ -1,4 +1,3 @@
-pub mod Harts
 pub mod Adds
 pub mod Encodes
 pub mod TextSoFar
