@@ -3,5 +3,6 @@
 mod demultiplexing;
 mod devices;
 mod headers;
+mod lengths;
 mod memory;
 mod worked_captures;
