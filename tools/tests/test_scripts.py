@@ -16,6 +16,7 @@ SCRIPTS = NEED_WORDS + [
     "long-tests/long-tests",
     "random-runs/random-runs",
     "refused-memory",
+    "stack",
     "worst-captures",
 ]
 IMPORT = """
@@ -54,5 +55,5 @@ class Scripts(unittest.TestCase):
             self.has_usage(name, "--none")
 
     def test_a_program_that_is_not_there(self):
-        for name in ("at-scale", "error-lines", "refused-memory", "worst-captures"):
+        for name in ("at-scale", "error-lines", "refused-memory", "stack", "worst-captures"):
             self.has_usage(name, "/nowhere/tracebench")
