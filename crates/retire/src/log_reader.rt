@@ -127,6 +127,7 @@ impl<S: Source> LogReader<S> {
         ensures source { self.new.source ≡ self.old.source }
     {
         if self.held.len() < 3 && !self.is_ended {
+            self.size = self.size.max(3);
             return Ok(());
         }
         let mark = mark_length(&self.held);
