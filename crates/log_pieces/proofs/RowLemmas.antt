@@ -4,8 +4,8 @@ use Rattle.std.proofs.Common.{Option, Some, None, length, nat_lt, refl, ap, inl,
 use Rattle.std.specs.Option.{is_some, unwrap_or}
 use Rattle.std.proofs.lemmas.Bool.{cases_Bool}
 use Rattle.isa.specs.Privilege.{is_privilege}
-use Rattle.retire.proofs.RangeLemmas.{with_event-ok}
-use Rattle.retire.specs.Log.{events_from, most_rows}
+use Rattle.retire.proofs.EventsLemmas.{with_event-ok}
+use Rattle.retire.specs.Log.{events_from, events_up_to, most_rows}
 use Rattle.retire.specs.Number.{number_of}
 use Rattle.retire.specs.Row.{exception_of, interrupt_of, is_garbled, known_event, numbers_event}
 use Rattle.retire.specs.Row.{retirement_of, row_event}
@@ -90,7 +90,7 @@ row_event-any row other (a ∷ b ∷ c ∷ d ∷ f ∷ g ∷ rest) event e = cc 
 
 -- No rows have no events.
 pub events-none : (row : ℕ) → events_from row [] ≡ Ok []
-unfolding events_from
+unfolding events_up_to
 events-none row = refl
 
 length-more : (event : Event) (more events : List Event) → event ∷ more ≡ events → length events ≡ length more + 1
@@ -100,14 +100,14 @@ length-more event more events whole = rw (← whole) (omega arith)
 events-cons : (row : ℕ) (fields : List (List ℕ)) (rows : List (List (List ℕ))) (event : Event) (more : List Event)
     → row ≤ most_rows → row_event row fields ≡ Ok event → events_from (row + 1) rows ≡ Ok more
     → events_from row (fields ∷ rows) ≡ Ok (event ∷ more)
-unfolding events_from
+unfolding events_up_to
 events-cons row fields rows event more low first others =
     let within : nat_lt most_rows row ≡ false = search (rules, arith) in rw (within, first, others) refl
 
 -- The events of rows are those of the same rows under other numbers, where these are numbers of rows.
 events-any : (row other : ℕ) (rows : List (List (List ℕ))) (events : List Event) → events_from row rows ≡ Ok events
     → other + length events ≤ most_rows + 1 → events_from other rows ≡ Ok events
-unfolding events_from
+unfolding events_up_to
 events-any row other [] events e low = e
 events-any row other (fields ∷ rows) events e low = elim (cases_Bool (nat_lt most_rows row)) [
   | inl long ↦ cc (rw long at e)
@@ -125,7 +125,7 @@ pub events-join : (row : ℕ) (front back : List (List (List ℕ))) (before afte
     → events_from row front ≡ Ok before → events_from 1 back ≡ Ok after
     → row + (length before + length after) ≤ most_rows + 1
     → events_from row (front ++ back) ≡ Ok (before ++ after)
-unfolding events_from
+unfolding events_up_to
 events-join row [] back before after f b low =
     let none : [] ≡ before = cc f in
     rw (← none) (events-any 1 row back after b (omega arith))
