@@ -24,6 +24,8 @@ mod packing;
 mod path_audit;
 mod pushing;
 pub mod status;
+#[cfg(test)]
+mod tests;
 
 pub use checking::tracebench_check;
 pub use decoder_state::{CLOSED, DecoderNumbers, PASSING_OVER, RUNNING, UNOPENED};
