@@ -24,10 +24,16 @@ class Refused(Exception):
         self.status, self.log, self.row = status, log, row
 
 
+def text_of(struct):
+    """A struct as text: its name, and each of its fields with what it holds."""
+    fields = ", ".join(f"{field}: {getattr(struct, field)}" for field, _ in struct._fields_)
+    return f"{type(struct).__name__} {{ {fields} }}"
+
+
 def struct(name, *runs):
     """A struct of C, by its fields: a type and the names of those that are of it, and so on."""
     fields = [(field, kind) for kind, names in runs for field in names.split()]
-    return type(name, (ctypes.Structure,), {"_fields_": fields})
+    return type(name, (ctypes.Structure,), {"_fields_": fields, "__str__": text_of, "__repr__": text_of})
 
 
 FLAGS = "kind taken privilege cause interrupt handler mode report outcomes map"
