@@ -134,7 +134,6 @@ static void decoder(void) {
     tracebench_decoder(&state);
     state.phase = TRACEBENCH_PASSING_OVER;
     state.mode = TRACEBENCH_FULL;
-    state.is_announced = 1;
     feed(&state, "\x0a", 1);
 }
 

@@ -64,7 +64,7 @@ def show_decoder(library):
     show(state)
     for payload in ("1f", "6300000020", "0d01"):
         show(*library.feed(BASE, IMAGE, state, bytes.fromhex(payload)), state)
-    state = DecoderState(phase=2, mode=tracebench.FULL, is_announced=1)
+    state = DecoderState(phase=2, mode=tracebench.FULL)
     show(*library.feed(BASE, IMAGE, state, bytes.fromhex("0a")), state)
 
 

@@ -90,7 +90,6 @@ fn decoder() -> Result<(), Box<dyn Error>> {
     let mut state = DecoderState {
         phase: 2,
         mode: 1,
-        is_announced: 1,
         ..tracebench::decoder()
     };
     feed(&mut state, b"\x0a")
