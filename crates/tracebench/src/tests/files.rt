@@ -19,6 +19,8 @@ struct File {
 pub(crate) struct Shelf {
     alloc: Global,
     files: Vec<File>,
+    /// The paths that were read, in order, those of no file too.
+    pub(crate) read: Vec<String>,
 }
 
 impl Shelf {
@@ -29,6 +31,7 @@ impl Shelf {
         Shelf {
             alloc,
             files: Vec::new(alloc),
+            read: Vec::new(alloc),
         }
     }
 
@@ -87,7 +90,8 @@ impl Files for Shelf {
 
     /// Memory is refused for the file `full`.
     fn read(&mut self, path: &str) -> Result<Vec<u8>, FileFault> {
-        if path == "full" {
+        let noted = String::from_str(self.alloc, path).map_err(|_| FileFault::Memory)?;
+        if path == "full" || self.read.push(noted).is_err() {
             return Err(FileFault::Memory);
         }
         match self.content(path) {

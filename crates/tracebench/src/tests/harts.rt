@@ -27,6 +27,15 @@ $ tracebench decode --base 80000000 image.bin log.capture
 >*1024 hart @\naddr,itype,priv,cause,tval\n80000000,0,3,,\n80000004,0,3,,
 $ tracebench decode --base 80000000 --harts 1024 image.bin messages.capture
 >*1024 hart @\naddr,itype,priv,cause,tval\n80000000,0,3,,\n80000004,0,3,,
+$ tracebench list --base 80000000 image.bin log.capture
+> capture 2 mode=diff period=1024 harts=1024
+>*1024 @{00000010+34} @ 0 open => nothing\n@{0000001c+34} @ 1 sync addr=80000000 priv=3 branch=1 => 1 event, 80000000\n@{0000002c+34} @ 2 address diff=4 map=- plain => nothing, waits\n@{00000038+34} @ 3 close ended_rep => 1 event, 80000004, closed
+$ tracebench list --base 80000000 --harts 1024 image.bin messages.capture
+>*1024 @{00000000+34} @ 0 open => nothing\n@{0000000c+34} @ 1 sync addr=80000000 priv=3 branch=1 => 1 event, 80000000\n@{0000001c+34} @ 2 address diff=4 map=- plain => nothing, waits\n@{00000028+34} @ 3 close ended_rep => 1 event, 80000004, closed
+$ tracebench salvage --base 80000000 image.bin log.capture
+>*1024 hart @\nstretch: 2 events, numbers 0 to 3\naddr,itype,priv,cause,tval\n80000000,0,3,,\n80000004,0,3,,
+$ tracebench salvage --base 80000000 --harts 1024 image.bin messages.capture
+>*1024 hart @\nstretch: 2 events, numbers 0 to 3\naddr,itype,priv,cause,tval\n80000000,0,3,,\n80000004,0,3,,
 
 # The same with full addresses.
 file full.capture
@@ -34,8 +43,19 @@ file full.capture
 |*1024~ @ 0 1f01\n@ 1 7300000020\n@ 2 0a00000001\n@ 3 4f
 $ tracebench encode --base 80000000 --full image.bin 1024*log.csv
 >< full.capture
+$ tracebench encode --base 80000000 --full --hex image.bin 1024*log.csv
+>*1024 @ 0 1f01\n@ 1 7300000020\n@ 2 0a00000001\n@ 3 4f
 $ tracebench decode --base 80000000 image.bin full.capture
 >*1024 hart @\naddr,itype,priv,cause,tval\n80000000,0,3,,\n80000004,0,3,,
+$ tracebench list --base 80000000 image.bin full.capture
+> capture 2 mode=full period=1024 harts=1024
+>*1024 @{00000010+39} @ 0 open full => nothing\n@{0000001d+39} @ 1 sync addr=80000000 priv=3 branch=1 => 1 event, 80000000\n@{0000002d+39} @ 2 address addr=80000004 map=- plain => nothing, waits\n@{0000003d+39} @ 3 close ended_rep => 1 event, 80000004, closed
+$ tracebench salvage --base 80000000 image.bin full.capture
+>*1024 hart @\nstretch: 2 events, numbers 0 to 3\naddr,itype,priv,cause,tval\n80000000,0,3,,\n80000004,0,3,,
+$ tracebench measure --base 80000000 --full image.bin 1024*log.csv
+> hart,events,retirements,traps,branches,packets,support,sync,trap,address,map,notify,updiscon,payload_bytes,longest,bits_per_retirement
+>*1024 @,2,2,0,0,4,2,1,0,1,0,0,0,13,5,52.000
+> all,2048,2048,0,0,4096,2048,1024,0,1024,0,0,0,13312,5,52.000
 
 # No message of the capture is lost; then the third of each hart is, and then the first and the third. The messages of
 # the harts come in turns.
@@ -51,6 +71,9 @@ file log.capture
 $ tracebench decode --base 80000000 --lossy image.bin log.capture
 >*1024 hart @\nstretch: 1 events\naddr,itype,priv,cause,tval\n80000000,0,3,,\ngap: 1 messages
 ? 1
+$ tracebench salvage --base 80000000 image.bin log.capture
+>*1024 hart @\nstretch: 1 events, numbers 0 to 1\naddr,itype,priv,cause,tval\n80000000,0,3,,\ngap: 1 messages
+? 1
 file log.capture
 |= ffff727674726163653200 00 0004 0004
 |*1024~ @ 1 7300000020
@@ -58,6 +81,17 @@ file log.capture
 $ tracebench decode --base 80000000 --lossy image.bin log.capture
 >*1024 hart @\ngap: 1 messages\nstretch: 1 events\naddr,itype,priv,cause,tval\n80000000,0,3,,\ngap: 1 messages
 ? 1
+$ tracebench salvage --base 80000000 image.bin log.capture
+>*1024 hart @\ngap: 1 messages\nstretch: 1 events, numbers 1 to 1\naddr,itype,priv,cause,tval\n80000000,0,3,,\ngap: 1 messages
+? 1
+
+# All messages come the other way around, and the first of each hart once more.
+file log.capture
+|= ffff727674726163653200 00 0004 0004
+|*1024~ @ 3 4f\n@ 2 0a\n@ 1 7300000020\n@ 0 1f
+|*1024~ @ 0 1f
+$ tracebench salvage --base 80000000 image.bin log.capture
+>*1024 hart @\nstretch: 2 events, numbers 0 to 3\naddr,itype,priv,cause,tval\n80000000,0,3,,\n80000004,0,3,,\ncopies: 1 messages\nlate: 3 messages
 
 # The closing packet of the last hart is lost.
 file log.capture
@@ -81,9 +115,15 @@ file turns.txt
 $ tracebench replay --base 80000000 --capacity 4096 image.bin turns.txt 1024*log.csv
 >*1024 hart @: 2 events, 4 packets, 8 payload bytes, decoded 2, whole
 > result: whole
+$ tracebench replay --base 80000000 --full --capacity 4096 image.bin turns.txt 1024*log.csv
+>*1024 hart @: 2 events, 4 packets, 13 payload bytes, decoded 2, whole
+> result: whole
 
 # 64 harts send theirs over threads.
 $ tracebench bench --base 80000000 image.bin 64*log.csv
 >*64 hart @: 2 events, 4 packets, 8 payload bytes, decoded 2, whole
+> result: whole
+$ tracebench bench --base 80000000 --full image.bin 64*log.csv
+>*64 hart @: 2 events, 4 packets, 13 payload bytes, decoded 2, whole
 > result: whole
 ";

@@ -47,6 +47,53 @@ $ tracebench encode --base 80000000 --period 65535 --hex image.bin log.csv
 > 0 3 f3ff7f0020
 > 0 4 c245
 > 0 5 4f
+
+# At a period of 60,000 the 60,001st row gives the second synchronisation.
+$ tracebench measure --base 80000000 --period 60000 image.bin log.csv
+> hart,events,retirements,traps,branches,packets,support,sync,trap,address,map,notify,updiscon,payload_bytes,longest,bits_per_retirement
+> 0,70000,70000,0,0,6,2,2,0,2,0,0,0,18,5,0.002
+$ tracebench measure --base 80000000 --full --period 60000 image.bin log.csv log.csv
+> hart,events,retirements,traps,branches,packets,support,sync,trap,address,map,notify,updiscon,payload_bytes,longest,bits_per_retirement
+> 0,70000,70000,0,0,6,2,2,0,2,0,0,0,23,5,0.002
+> 1,70000,70000,0,0,6,2,2,0,2,0,0,0,23,5,0.002
+> all,140000,140000,0,0,12,4,4,0,4,0,0,0,46,5,0.002
+
+# Each reason that a row behind them is illegal for is explained.
+file tail.bin
+|*70001= 0100
+|= 0290
+file type.csv
+|< log.csv
+| 800222e0,4,3,,
+file next.csv
+|< log.csv
+| 80000000,0,3,,
+file privilege.csv
+|< log.csv
+| 800222e0,0,1,,
+file epc.csv
+|< log.csv
+| 80000000,2,3,7,
+file retired.csv
+|< log.csv
+| 800222e0,0,3,,
+| 800222e2,0,3,,
+$ tracebench check --base 80000000 --explain image.bin off.csv
+> off.csv: row 70001: OffProgram
+>   800222e0: no whole word: the image is 80000000 to 800222df
+? 2
+$ tracebench check --base 80000000 --explain tail.bin type.csv next.csv privilege.csv epc.csv retired.csv
+> type.csv: row 70001: WrongType
+>   800222e0: 0001 is a plain word: its type is 0
+> next.csv: row 70001: WrongNext
+>   800222de: 0001 is a plain word: 800222e0 follows
+> privilege.csv: row 70001: WrongPrivilege
+>   800222de: 0001 is a plain word: privilege 3 follows
+> epc.csv: row 70001: WrongEpc
+>   800222de: 0001 is a plain word: 800222e0 follows
+> retired.csv: row 70002: NotRetirable
+>   800222e2: 9002 does not retire
+? 2
 "#;
 
 /// Captures of more than 65,536 messages, and of fewer messages that stand for more than 65,536 events.
@@ -66,6 +113,9 @@ $ tracebench check --base 80000000 branch.bin log.csv
 > log.csv: legal, 70000 events
 $ tracebench encode --base 80000000 --period 1 branch.bin log.csv
 >< log.capture
+$ tracebench measure --base 80000000 --period 60000 branch.bin log.csv
+> hart,events,retirements,traps,branches,packets,support,sync,trap,address,map,notify,updiscon,payload_bytes,longest,bits_per_retirement
+> 0,70000,70000,0,70000,2263,2,2,0,2,2257,0,0,2271,5,0.259
 $ tracebench encode --base 80000000 --period 1 --hex branch.bin log.csv
 > 0 0 1f
 >*{1..70000} 0 @ 6300000020
@@ -147,6 +197,72 @@ $ tracebench decode --base 80000000 --lossy nops.bin log.capture
 > stretch: 70000 events
 > addr,itype,priv,cause,tval
 >*70000 @{80000000+2},0,3,,
+";
+
+/// A capture of more than 65,536 messages that is listed, with a symbol for each place.
+pub(crate) const LISTS: &str = r"
+# 70,000 returns of two bytes, each to the next. Each address packet waits for the next message, which settles it.
+file image.bin
+|*70000= 8280
+file log.capture
+|~ 0 0 1f
+|~ 0 1 7300000020
+|*{2..70000}~ 0 @ 06
+|~ 0 70001 cf00
+$ tracebench list --base 80000000 image.bin log.capture
+> 00000000 0 0 open => nothing
+> 0000000c 0 1 sync addr=80000000 priv=3 branch=1 => 1 event, 80000000
+> 0000001c 0 2 address diff=2 map=- plain => nothing, waits
+>*{3..70000} @{00000004+c} 0 @ address diff=2 map=- plain => 1 event, @{7ffffffc+2}, waits
+> 000cd150 0 70001 close ended_ntr => 1 event, 800222de, closed
+
+# Two symbols at each place, the second half of the places in front of the first.
+file nm.txt
+|*{2..70001} @{7ffffffc+2} T other@
+|*{35001..70001} @{7ffffffc+2} t s@
+|*{2..35000} @{7ffffffc+2} t s@
+$ tracebench list --base 80000000 --symbols nm.txt image.bin log.capture
+> 00000000 0 0 open => nothing
+> 0000000c 0 1 sync addr=80000000 priv=3 branch=1 => 1 event, 80000000 <s2+0>
+> 0000001c 0 2 address diff=2 map=- plain => nothing, waits
+>*{3..70000} @{00000004+c} 0 @ address diff=2 map=- plain => 1 event, @{7ffffffc+2} <s@+0>, waits
+> 000cd150 0 70001 close ended_ntr => 1 event, 800222de <s70001+0>, closed
+";
+
+/// Captures of more than 65,536 messages that are audited.
+pub(crate) const AUDITS: &str = r"
+# A message for each of 70,000 retirements, and the two that open and close.
+file sent.capture
+|~ 0 0 1f
+|*{1..70000}~ 0 @ 6300000020
+|~ 0 70001 cf00
+$ tracebench audit sent.capture sent.capture
+> hart 0: 70002 sent, 70002 came, 0 lost, 0 repeated, 0 late, 0 changed, whole
+> result: whole
+
+# One is lost and the last comes twice; then all but the first and the last are changed.
+file received.capture
+|~ 0 0 1f
+|*{1..34999}~ 0 @ 6300000020
+|*{35001..70000}~ 0 @ 6300000020
+|~ 0 70001 cf00
+|~ 0 70001 cf00
+$ tracebench audit sent.capture received.capture
+> message 70001: hart 0 number 70001: repeat
+> hart 0: number 35000 lost
+> hart 0: 70002 sent, 70002 came, 1 lost, 1 repeated, 0 late, 0 changed, not whole
+> result: not whole
+? 1
+file received.capture
+|~ 0 0 1f
+|*{1..70000}~ 0 @ 7300000020
+|~ 0 70001 cf00
+$ tracebench audit sent.capture received.capture
+>*{1..70000} message @: hart 0 number @: changed
+> hart 0: numbers 1 to 70000 lost
+> hart 0: 70002 sent, 70002 came, 70000 lost, 0 repeated, 0 late, 70000 changed, not whole
+> result: not whole
+? 1
 ";
 
 /// Captures of more than 65,536 messages in another order, with a copy.

@@ -54,7 +54,7 @@ fn add_form(rt: &impl Abort, shelf: &Shelf, content: &mut Vec<u8>, form: char, t
 }
 
 /// The text with a number for each `@`; `@{A+S}` stands for the hexadecimal number A, and S more for each number from 0
-/// on.
+/// on, with eight digits at least.
 fn numbered<R: Abort + AllocGlobal>(rt: &R, text: &str, number: u64) -> String {
     let mut whole = String::new(rt.alloc());
     for (i, part) in text.split('@').enumerate() {
@@ -75,7 +75,7 @@ fn push_numbered(rt: &impl Abort, whole: &mut String, part: &str, number: u64) {
             let (step, rest) = rest.split_once('}').expect(rt, "an end of a step");
             let added = hexadecimal(rt, step).wrapping_mul(number);
             let sum = hexadecimal(rt, first).wrapping_add(added);
-            write!(whole, "{sum:x}{rest}").expect(rt, "memory");
+            write!(whole, "{sum:08x}{rest}").expect(rt, "memory");
         }
         None => write!(whole, "{number}{part}").expect(rt, "memory"),
     }

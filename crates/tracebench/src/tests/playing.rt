@@ -192,6 +192,49 @@ fn is_asked<R: Abort + AllocGlobal>(rt: &R, words: &[String], run: &Run) {
     ends(rt, (run.line, 0), found, wanted);
 }
 
+/// How often a path is among these.
+fn times(path: &str, paths: &[String]) -> usize {
+    let mut times = 0usize;
+    for each in paths {
+        if each.as_str() == path {
+            times = times.saturating_add(1);
+        }
+    }
+    times
+}
+
+/// No path was read more often than the words name it.
+fn none_is_read_again(rt: &impl Abort, shelf: &Shelf, words: &[String], line: &str) {
+    let read = shelf.read.as_slice();
+    let mut last = "";
+    for path in read {
+        let path = path.as_str();
+        if path != last {
+            assert!(rt;
+                times(path, read) <= times(path, words),
+                "{line}: {path} is read again"
+            );
+        }
+        last = path;
+    }
+}
+
+/// Each file was read as often as the words name it.
+fn all_are_read(rt: &impl Abort, shelf: &Shelf, words: &[String], line: &str) {
+    let read = shelf.read.as_slice();
+    let mut last = "";
+    for word in words {
+        let path = word.as_str();
+        if path != last && shelf.content(path).is_some() {
+            assert!(rt;
+                times(path, read) == times(path, words),
+                "{line}: {path} is not read"
+            );
+        }
+        last = path;
+    }
+}
+
 /// The run comes to what has to come of it, and to the same where what it reports is not taken.
 fn is_run<R: Abort + AllocGlobal + Threads + Wait + Sync>(
     rt: &R,
@@ -201,10 +244,15 @@ fn is_run<R: Abort + AllocGlobal + Threads + Wait + Sync>(
 ) {
     let mut out = Vec::new(rt.alloc());
     let mut err = Vec::new(rt.alloc());
+    shelf.read.clear();
     let status = command(rt.alloc(), rt, shelf, words, &mut out, &mut err);
     let found = (status, out.as_slice(), err.as_slice());
     let wanted = (run.status, run.written.as_slice(), run.reported.as_slice());
     ends(rt, (run.line, 0), found, wanted);
+    none_is_read_again(rt, shelf, words, run.line);
+    if status < 2 {
+        all_are_read(rt, shelf, words, run.line);
+    }
     line_fails_at(rt, shelf, words, run, (ErrorKind::TimedOut, 1), &[]);
 }
 

@@ -11,12 +11,12 @@
 //! number and its payload; or `<` and a file's name, for what that file holds; or `+` and a text without an end of
 //! line. `*` and a count before these repeat them that often, in lines that `\n` parts; each `@` then stands for the
 //! number of the repetition, from 0 on. `*{A..B}` numbers them from A to B instead. `@{A+S}` stands for the hexadecimal
-//! number A at number 0, and for S more at each further number.
+//! number A at number 0, and for S more at each further number, with eight digits at least.
 //!
 //! Among the words of a run, `COUNT*WORD` repeats a word, `{A..B}` stands for a run with each number from A to B,
 //! `NAME:COUNT` names a file's first bytes, and `full` names a file that memory is refused for. A file takes the place
-//! of one that had its name before. Each run is played once more with a standard error that fails. A request has no
-//! status.
+//! of one that had its name before. Each run is played once more with a standard error that fails. No run reads a file
+//! more often than its words name it, and one of status 0 or 1 reads each as often. A request has no status.
 
 use super::files::Shelf;
 use super::parts::{add_line, number_of};

@@ -102,14 +102,18 @@ fn are_read<R: Abort + AllocGlobal + Threads + Wait + Sync>(
     assert!(rt; files.read == wanted, "{line}: read {:?}", files.read);
 }
 
+/// How many processors the machine has.
+pub(super) fn processors<R: Threads>(rt: &R) -> usize {
+    match thread::available_parallelism(rt) {
+        Ok(count) => count.get(),
+        Err(_) => 1,
+    }
+}
+
 /// Rooms are taken for the logs behind the first of those that are judged together, but where memory is refused for one
 /// that is read into its room, or where a size is not known.
 pub(super) fn are_taken<R: Abort + AllocGlobal + Threads + Wait + Sync>(rt: &R) {
-    let many = match thread::available_parallelism(rt) {
-        Ok(count) => count.get(),
-        Err(_) => 1,
-    };
-    let taken = match many {
+    let taken = match processors(rt) {
         1 => (3, 0),
         2 => (2, 1),
         _ => (1, 2),

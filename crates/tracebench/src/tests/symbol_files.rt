@@ -132,6 +132,36 @@ $ tracebench list --base 80000000 --symbols nm.txt kinds.bin kinds.capture
 > 00000071 0 7 trap exception cause=2 tval=0 epc=80000004 priv=0 branch=1 => 1 event, 80000004 <main+4>
 > 00000082 0 8 close ended_ntr => nothing, closed
 
+# Places and distances of more than 32 bits.
+file far.capture
+|~ 0 0 1f
+|~ 0 1 7300000040
+|~ 0 2 0a
+|~ 0 3 4f
+file nm.txt
+| 100000002 T here
+| 100000000 T _start
+$ tracebench list --base 100000000 --symbols nm.txt image.bin far.capture
+> 00000000 0 0 open => nothing
+> 0000000c 0 1 sync addr=100000000 priv=3 branch=1 => 1 event, 100000000 <_start+0>
+> 0000001c 0 2 address diff=4 map=- plain => nothing, waits
+> 00000028 0 3 close ended_rep => 1 event, 100000004 <here+2>, closed
+file far.capture
+|= ffff727674726163653200 01 0004 0100
+|~ 0 0 1f01
+|~ 0 1 73000000e0
+|~ 0 2 0a000000ff
+|~ 0 3 4f
+file nm.txt
+| ffffffff T below
+| ffffffff80000002 T here
+$ tracebench list --base ffffffff80000000 --symbols nm.txt image.bin far.capture
+> capture 2 mode=full period=1024 harts=1
+> 00000010 0 0 open full => nothing
+> 0000001d 0 1 sync addr=ffffffff80000000 priv=3 branch=1 => 1 event, ffffffff80000000 <below+fffffffe80000001>
+> 0000002d 0 2 address addr=ffffffff80000004 map=- plain => nothing, waits
+> 0000003d 0 3 close ended_rep => 1 event, ffffffff80000004 <here+2>, closed
+
 # Files of symbols that are not there, too large, or just not too large; faults in order.
 file large.txt
 |*262144+ ................................................................
