@@ -1,0 +1,93 @@
+"""Wrong bodies of the program's crates, for tools/planted-bodies. The transcripts of `tracebench` fail with each.
+
+Each has a name, a crate, a file, and pairs of a text that stands once in the file and the text in its place.
+"""
+
+
+def memory_first(line, condition):
+    """A line, and the same behind a refusal of memory where this holds."""
+    return line, f"    if {condition} {{\n        return Err(Fault::Memory);\n    }}\n{line}"
+
+
+def read_twice(line, path):
+    """A line that reads a file, and the same behind one that reads it too."""
+    return line, f"    drop(content_of(files, {path})?);\n{line}"
+
+
+def all_at_once(list_of):
+    """The line that parts logs into groups of as many as there are processors, and one that makes larger groups."""
+    line = f"    for group in {list_of}.chunks(processors(rt)) {{\n"
+    return line, line.replace("processors(rt)", "processors(rt).max(1024)")
+
+
+FULL = "matches!(asked.mode, payload::Mode::Full)"
+MADE = "    let made = made_in_form(alloc, rt, files, &program, asked, paths)?;\n"
+CONFIG = "    let config = Config {\n"
+CAPTURE = "    let bytes = content_of(files, asked.capture)?;\n"
+IMAGE = "    let bytes = content_of(files, image)?;\n"
+SENT = "    let sent = content_of(files, asked.sent)?;\n"
+
+BODIES = [
+    # Several logs in full mode, at another period, and large inputs, for which memory is refused at will.
+    ("encode --hex --full of five logs always Memory", "log_commands", "encoding.rt",
+        *memory_first(MADE, f"asked.hex && {FULL} && paths.len() > 4")),
+    ("encode --full of five logs always Memory", "log_commands", "encoding.rt",
+        *memory_first(MADE, f"!asked.hex && {FULL} && paths.len() > 4")),
+    ("measure --full of two logs always Output", "log_commands", "measures.rt",
+        "    write_table(asked, logs, out)?;\n",
+        f"    if {FULL} && logs.len() > 1 {{\n        return Err(Fault::Output);\n    }}\n"
+        "    write_table(asked, logs, out)?;\n"),
+    ("measure at period 60,000 always Output", "log_commands", "measures.rt",
+        "    write_table(asked, logs, out)?;\n",
+        "    if asked.period == 60_000 {\n        return Err(Fault::Output);\n    }\n"
+        "    write_table(asked, logs, out)?;\n"),
+    ("replay --full of three logs always Memory", "log_commands", "replaying.rt",
+        *memory_first(CONFIG, f"{FULL} && logs.len() > 2")),
+    ("bench --full of three logs always Memory", "log_commands", "benching.rt",
+        *memory_first(CONFIG, f"{FULL} && logs.len() > 2")),
+    ("bench of three logs at a period of its own always Memory", "log_commands", "benching.rt",
+        *memory_first(CONFIG, "asked.period != 1024 && logs.len() > 2")),
+    ("check --explain Output past row 3", "log_commands", "checking.rt",
+        "    match explaining::explain(program, log, illegal, out) {\n",
+        "    if illegal.row > 3 {\n        return Err(Fault::Output);\n    }\n"
+        "    match explaining::explain(program, log, illegal, out) {\n"),
+    ("list Memory past 4,096 bytes", "capture_commands", "message_listing.rt",
+        *memory_first("    write_listing(\n", "bytes.len() > 4096")),
+    ("salvage Memory past 3 harts", "capture_commands", "salvaging_capture.rt",
+        "    let salvaged = salvaging::salvage(\n",
+        "    if harts_counted(harts, front.header) > 3 {\n        return Err(AllocError);\n    }\n"
+        "    let salvaged = salvaging::salvage(\n"),
+    ("audit Memory past 1 MiB", "path_commands", "comparing.rt",
+        "    let mut path = match Audit::new(alloc, sent.as_slice()) {\n",
+        "    if sent.len() > 1 << 20 {\n        return Err(Fault::Memory);\n    }\n"
+        "    let mut path = match Audit::new(alloc, sent.as_slice()) {\n"),
+    ("symbols_of Memory past 4,096 bytes", "command_inputs", "inputs.rt",
+        *memory_first("    match Symbols::new(alloc, bytes) {\n", "bytes.len() > 4096")),
+    ("carry_out Memory for 1,024 logs of measure", "commands", "dispatch.rt",
+        "        Asked::Measure(asked) => measure(", "        Asked::Measure(asked) if asked.logs.len() > 1023 => "
+        "Err(Fault::Memory),\n        Asked::Measure(asked) => measure("),
+    ("asked Memory past 1,000 words", "cli", "asking.rt",
+        "    let matches = program(alloc)?",
+        "    if words.len() > 1000 {\n        let refused: Result<(), AllocError> = Err(AllocError);\n"
+        "        refused?;\n    }\n    let matches = program(alloc)?"),
+    ("command Memory past 1,000 words", "tracebench", "command.rt",
+        "    let status = match asked(alloc, words) {\n",
+        "    if words.len() > 1000 {\n        return report_error(err, &Fault::Memory).code();\n    }\n"
+        "    let status = match asked(alloc, words) {\n"),
+    # Files that are read again, of which `/dev/stdin` has nothing the second time.
+    ("the image is read twice", "command_inputs", "inputs.rt", *read_twice(IMAGE, "image")),
+    ("a log is read twice", "command_inputs", "rooms.rt",
+        "    let Some(sizes) = sizes_of(", read_twice("    let Some(sizes) = sizes_of(", "path")[1]),
+    ("dump reads its capture twice", "capture_commands", "dumping.rt", *read_twice(CAPTURE, "asked.capture")),
+    ("decode reads its capture twice", "capture_commands", "decoding.rt", *read_twice(CAPTURE, "asked.capture")),
+    ("list reads its capture twice", "capture_commands", "message_listing.rt", *read_twice(CAPTURE, "asked.capture")),
+    ("salvage reads its capture twice", "capture_commands", "salvaging_capture.rt",
+        *read_twice(CAPTURE, "asked.capture")),
+    ("audit reads SENT twice", "path_commands", "comparing.rt", *read_twice(SENT, "asked.sent")),
+    ("replay reads its schedule twice", "log_commands", "replaying.rt",
+        *read_twice("    let bytes = content_of(files, path)?;\n", "path")),
+    # More logs at once than there are processors.
+    ("check of 1,024 logs at once", "log_commands", "checking.rt", *all_at_once("logs")),
+    ("encode of 1,024 logs at once", "log_commands", "made.rt", *all_at_once("paths")),
+    ("measure, replay and bench of 1,024 logs at once", "command_inputs", "legal_logs.rt", *all_at_once("paths")),
+]
