@@ -1,23 +1,40 @@
-//! The bench as one library, under one roof: programs and logs, packets, captures, the funnel, and what losses and
-//! damages leave.
+//! The bench as one library: programs and logs, packets, captures, the funnel, and what losses and damages leave.
 //!
-//! From a log to a capture and back, where `alloc` is the allocator, `image` the program's bytes and `text` the log's:
+//! From a log to a capture and back; the program `first_use` is made of this file and runs it over files:
 //!
 //! ```rust
-//! use etrace::capture::{Version, decode_capture, encode_capture};
-//! use etrace::logs::{LegalLog, Program, read_log_from_slice};
-//! use etrace::packets::Mode;
+//! ghost use Rattle.std.specs.Prelude.{◌≡◌, IfOk, Ok, [], ◌∷◌, map};
+//! ghost use Rattle.etrace.specs.capture.Received.{events_in};
+//! ghost use Rattle.etrace.specs.logs.Log.{log_of_records, records_of};
 //!
-//! let program = Program::new(0x8000_0000, image)?;
-//! let events = read_log_from_slice(alloc, alloc, text)?;
-//! let logs = [LegalLog::new(&program, events).map_err(|(fault, _)| fault)?];
-//! let mut capture = Vec::new(alloc);
-//! encode_capture(&logs, 1024, Mode::Differential, Version::Two, &mut capture)?;
-//! let decoded = decode_capture(alloc, &program, 1, capture.as_slice())?;
+//! use anyhow::Result;
+//! use etrace::capture::{Version, decode_capture, encode_capture};
+//! use etrace::logs::{Event, LegalLog, Program, read_log_from_slice};
+//! use etrace::packets::Mode;
+//! use std::alloc::Global;
+//!
+//! /// Encodes the log of one hart as a capture, and decodes the capture. The one list that comes back is the log.
+//! pub(crate) fn there_and_back(alloc: Global, image: Vec<u8>, text: &[u8]) -> Result<Vec<Vec<Event>>>
+//!     ensures { IfOk result (λ lists. map Ok (events_in lists.items) ≡ log_of_records (records_of text.now) ∷ []) }
+//! {
+//!     let program = Program::new(0x8000_0000, image)?;
+//!     let events = read_log_from_slice(alloc, alloc, text)?;
+//!     let logs = [LegalLog::new(&program, events).map_err(|(fault, _)| fault)?];
+//!     let mut capture = Vec::new(alloc);
+//!     encode_capture(&logs, 1024, Mode::Differential, Version::Two, &mut capture)?;
+//!     let decoded = decode_capture(alloc, &program, 1, capture.as_slice())?;
+//!
+//!     // This is called for its contract: the log is legal.
+//!     let _ = logs[0].events();
+//!     match decoded.fault {
+//!         Some((_, fault)) => Err(fault.into()),
+//!         None => Ok(decoded.harts),
+//!     }
+//! }
 //! ```
 //!
-//! `decoded.harts` are then the events of the logs, unless `decoded.fault` says that memory was refused: so says the
-//! contract of [`decode_capture`](capture::decode_capture). The program `two_harts` does this over files.
+//! The clause is proved: where a list comes back, it is the log of the text, by the contract of
+//! [`decode_capture`](capture::decode_capture). The program `two_harts` goes on to a replay of two logs.
 //!
 //! Each module re-exports what a caller wants together: [`logs`], [`packets`], [`capture`], [`runs`], [`lossy`] and
 //! [`salvaged`]; [`laws`] has the theorems that no call carries. The crate has no code of its own. The definitions that
