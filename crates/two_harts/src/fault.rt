@@ -9,9 +9,9 @@ use std::{fmt, io};
 /// Why the run ends early.
 #[derive(Debug, Drop)]
 pub(crate) enum Fault {
-    /// The words are not an image, two logs and a schedule.
+    /// The arguments are not an image, two logs and a schedule.
     Words,
-    /// The words or a file are not read, or the output is not written.
+    /// The arguments or a file are not read, or the output is not written.
     Device(io::Error),
     /// The image makes no program.
     Image(ProgramFault),
@@ -27,7 +27,7 @@ pub(crate) enum Fault {
     Setup(Setup),
     /// A log or the report is not written.
     Output(WriteFault),
-    /// Memory was refused.
+    /// An allocation failed.
     Memory,
 }
 
