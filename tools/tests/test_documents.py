@@ -3,6 +3,7 @@ import os
 import subprocess
 import sys
 import unittest
+from unittest import mock
 
 from support import TOOLS
 
@@ -69,6 +70,15 @@ impl Gate for Port<'_> {
     fn before(&self) {}
 }
 '''
+# A text of docs/FORMATS.md or of the help, what stands in its place, and the line that is said then.
+CHANGES = [
+    ("open of another mode`", "open of a mode`", "docs/FORMATS.md: no error line has `open of another mode`"),
+    ("`out of memory` | 3", "`no memory` | 3", "docs/FORMATS.md: no definition has `no memory`"),
+    ("at most 31 |", "at most 32 |", "docs/FORMATS.md: the outcomes of a packet: at most 32, and "),
+    ("default 16", "default 17", "crates/arguments/src/rules.rt: the help of --capacity does not say"),
+    ("  2  The arguments", "  2  The words", "crates/cli/src/help.rt: status 2 is not `The arguments"),
+    ("| data trace |", "| data traces |", "README.md: no word of what is left out: data traces"),
+]
 NOTIONS = """-- What was sent.
 use Rattle.std.specs.Prelude.{ℕ}
 
@@ -168,6 +178,13 @@ class Facts(unittest.TestCase):
         counts = {"Exit statuses": 4, "Limits": 14, "What of E-Trace is left out": 12}
         self.assertEqual({title: len(facts.rows(title)) for title in counts}, counts)
         self.assertEqual(facts.rows("Exit statuses")[0], ["0", "All is written, and all is good"])
+
+    def test_a_text_that_disagrees(self):
+        content = facts.content
+        for old, new, wanted in CHANGES:
+            changed = mock.patch.object(facts, "content", lambda path: content(path).replace(old, new))
+            with self.subTest(old), changed:
+                self.assertEqual(len([line for line in facts.check() if line.startswith(wanted)]), 1)
 
     def test_a_constant(self):
         self.assertEqual((facts.value("payload", "MOST_BYTES"), facts.value("payload", "MOST_NONE")), (18, None))
