@@ -7,7 +7,8 @@ HEADER = b"addr,itype,priv,cause,tval\n"
 
 
 class Files:
-    """The rows of one hart: `hart00.csv` and, in pieces, `hart00.1.csv` and so on, with at most `ROW_LIMIT` rows in each."""
+    """The rows of one hart, at most `ROW_LIMIT` in a file: `hart00.csv`, or in pieces `hart00_0001.csv`, `hart00_0002.csv` and so
+    on."""
 
     def __init__(self, folder, hart, has_pieces):
         self.folder, self.hart, self.has_pieces = folder, hart, has_pieces
@@ -19,7 +20,8 @@ class Files:
         self.begin_piece()
 
     def path(self, piece):
-        return os.path.join(self.folder, f"hart{self.hart:02}.csv" if piece == 0 else f"hart{self.hart:02}.{piece}.csv")
+        number = f"_{piece + 1:04}" if self.has_pieces else ""
+        return os.path.join(self.folder, f"hart{self.hart:02}{number}.csv")
 
     def begin_piece(self):
         self.close()

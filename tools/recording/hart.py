@@ -1,113 +1,81 @@
 """One hart: rows out of the instructions that a recording announces of it and the traps that it takes."""
 from collections import deque
-from itertools import chain
 
-from recording.image import ADDRESS, HIGHEST, IS_RETURN, LEVEL, ROW, TAKEN, TARGET
 from recording.levels import LEVEL_OF_ECALL, MACHINE, SUPERVISOR, USER, Before, Trap
 from recording.open_traps import Open, OpenTraps
 
-OUTSIDE = Before(USER, MACHINE)
+UNKNOWN = Before(USER, MACHINE)
+NO_ROW = b""  # of an instruction outside the image
 AT_OR_BEHIND = (0, 2, 4)  # where the handler of a trap returns to, less the trap's place
-CHANGING = -1  # no level: what stands here may change it
-KEPT_ENTRIES = 1 << 17  # of `known`, so that an image of any length takes no more memory
 KEPT_TRAPS = 1000  # that are not returned from, of a hart
 
 
 class Hart:
-    """The rows of one hart. `form` is the module that reads the lines, `known` the entries by what a line says, `files` where
-    rows go, and `warn` is called with a text that the user should see."""
+    """The rows of one hart. `form` is the module that reads the lines, `has_inside` says whether what stands outside the image is
+    left out, `files` is where rows go, and `noticed` is told what the user should see."""
 
-    def __init__(self, number, image, form, known, files, warn):
-        self.number, self.image, self.form, self.known, self.files, self.warn = number, image, form, known, files, warn
-        self.prefix = form.prefix(number)
+    def __init__(self, number, image, form, has_inside, files, noticed):
+        self.number, self.image, self.form, self.has_inside = number, image, form, has_inside
+        self.files, self.noticed = files, noticed
         self.rows = []  # not yet given to `files`
-        self.held = None  # the entry of the last instruction, which has no row before the next event is known
+        self.held = None  # the last instruction, which has no row before the next event is known
+        self.line = None  # the line that announced it
         self.trapped = None  # a trap that has no row yet
         self.level = None  # of the last event
-        self.before = OUTSIDE  # where the next event may be at another level; else None
+        self.before = UNKNOWN  # where the next event may be at another level; else None
         self.depth = 0  # how many traps are not returned from
         self.taken = deque(maxlen=KEPT_TRAPS)  # places and levels of the last of these
         self.opened = OpenTraps()
         self.traps = 0
-        self.has_begun = self.has_warned = False
+        self.last = None  # the last event that is inside, an instruction or a trap
+        self.is_outside = True  # something outside came after it
+        self.way_out = None  # where the hart goes on outside
+        self.times_left = self.outside = 0
+        self.has_begun = False
         self.why_ended = None
 
-    def follow(self, line, lines):
-        """Takes a line and then those of `lines`, as long as they announce instructions of this hart; returns the first that
-        does not, None at the end."""
-        if self.why_ended:
-            return next((line for line in lines if not line.startswith(self.prefix)), None)
-        prefix, mark, shift, width = self.prefix, self.form.MARK, self.form.SHIFT, self.form.WIDTH
-        get, append, held, level = self.known.get, self.rows.append, self.held, self.steady_level()
-        for line in chain((line,), lines):
-            if not line.startswith(prefix):
-                break
-            at = line.find(mark) + shift
-            entry = get(line[at : at + width]) or self.new_entry(line[at : at + width])
-            if entry is None or entry[LEVEL] != level:
-                self.held = held
-                if not self.announce_line(line, entry):
-                    break
-                held, level = self.held, self.steady_level()
-                continue
-            append(held[TAKEN] if entry[ADDRESS] == held[TARGET] else held[ROW])
-            held = entry
-        else:
-            line = None
-        self.held = held
-        return line
+    def place(self):
+        """The address of the held instruction."""
+        return self.held.address if self.held.is_inside else self.form.instruction(self.line)[1]
 
-    def steady_level(self):
-        """The level of the held instruction, where the next event has it too."""
-        return CHANGING if self.held is None or self.held[LEVEL] & IS_RETURN else self.level
+    def hold(self, instruction, line):
+        """The instruction of a line is the last, and those before it have their rows."""
+        self.held, self.line, self.level, self.before = instruction, line, instruction.level, None
 
-    def new_entry(self, key):
-        """The entry of an instruction that no line named before, by the part of a line that says which and at what level; None
-        where that says no instruction of the image."""
-        address, shown = self.form.address_and_level(key)
-        if address not in self.image:
-            return None
-        if len(self.known) >= KEPT_ENTRIES:
-            self.known.clear()
-        entry = self.known[key] = self.image.entry(address, shown)
-        return entry
-
-    def announce_line(self, line, entry):
-        """Takes a line, with the entry of its instruction if that is in the image; returns whether it announces one."""
-        if entry is not None:
-            self.announce(entry[ADDRESS], entry[LEVEL] & ~IS_RETURN, entry)
-            return True
-        found = self.form.INSTRUCTION.match(line)
-        if found:
-            self.announce(*self.form.instruction(found), None)
-        return bool(found)
-
-    def announce(self, address, shown, entry):
-        """Takes an instruction that is about to retire, at the level that its line shows, and its entry where that is known."""
-        if self.why_ended:
-            return
-        level = self.agreed_level(address, shown)
+    def announce(self, instruction, line, address):
+        """Takes an instruction that is about to retire, at the level that its line shows."""
+        level = self.agreed_level(instruction, address)
         self.reach(address, level)
+        if self.is_outside and instruction.is_inside and not self.why_ended:
+            self.come_back(address, level)
         if self.why_ended:
             return
-        self.level, self.before = level, None
-        if address in self.image:
-            self.has_begun = True
-            self.held = entry if entry is not None and level == shown else self.image.entry(address, level)
-        elif self.has_begun:
-            self.end(f"left the image at {address:x}")
-        else:
-            self.before = OUTSIDE
+        if level != instruction.level:
+            instruction = self.image.instruction(self, address, level) if instruction.is_inside else instruction
+        if instruction.is_inside:
+            self.begin()
+        elif not self.is_outside:
+            self.way_out = address
+            if not self.has_inside:
+                return self.end(f"left the image at {address:x}")
+        self.hold(instruction, line)
+        self.level = level
 
-    def agreed_level(self, address, shown):
-        """The level of an instruction: what its line shows behind a return or a trap, else that of the event before."""
-        is_return = self.held is not None and self.held[LEVEL] & IS_RETURN
-        may_change = self.before or self.trapped or is_return
-        follows = None if may_change else self.level
+    def begin(self):
+        """An instruction of the image: the first row of the log is that of the first such."""
+        if not self.has_begun:
+            self.has_begun, self.outside = True, 0
+            self.rows.clear()
+
+    def agreed_level(self, instruction, address):
+        """The level of an instruction: what its line shows behind a return, a trap or something outside, else that of the event
+        before."""
+        held, shown = self.held, instruction.level
+        may_change = held is not None and (held.highest is not None or not held.is_inside)
+        follows = None if may_change or self.before or self.trapped else self.level
         level = follows if follows is not None else shown if shown in (USER, SUPERVISOR, MACHINE) else SUPERVISOR
-        if level != shown and not self.has_warned:
-            self.has_warned = True
-            self.warn(f"hart {self.number}: at {address:x} a line shows level {shown}, and the log has {level}; no other is named")
+        if level != shown:
+            self.noticed.level(self.number, address, shown, level)
         return level
 
     def withdraw(self):
@@ -116,11 +84,12 @@ class Hart:
 
     def trap(self, is_interrupt, cause, epc, value=0):
         """Takes a trap; its value may come later, by `value_of_trap`."""
+        self.noticed.has_traps = True
         if self.why_ended:
             return
         trap = Trap(is_interrupt, cause, epc, value)
         shown = None if is_interrupt else LEVEL_OF_ECALL.get(cause)
-        if self.form.ANNOUNCES and not is_interrupt and self.held is not None and self.held[ADDRESS] == epc:
+        if self.form.ANNOUNCES and not is_interrupt and self.held is not None and self.place() == epc:
             self.withdraw()
         else:
             trap.same = self.reach(epc, shown)
@@ -137,14 +106,50 @@ class Hart:
         """The next event stands at an address, at a level, which is None where nothing shows it: so the event before is decided.
         Returns the open trap whose level is that of the next event and not seen yet; None if there is none."""
         if self.trapped:
-            self.settle(level)
-        held, self.held = self.held, None
+            self.settle(address, level)
+        held = self.held
         if held is None:
             return None
-        self.rows.append(held[TAKEN] if address == held[TARGET] else held[ROW])
-        if not held[LEVEL] & IS_RETURN:
+        if not held.is_inside:
+            self.pass_by(address)
             return None
-        return self.go_back(held[HIGHEST], address, level)
+        self.held, self.last = None, held
+        self.rows.append(held.row_before(address))
+        if held.highest is not None:
+            return self.go_back(held.highest, address, level)
+        if not held.leads_to(address):
+            self.noticed.stray(self.number, held, address)
+        return None
+
+    def pass_by(self, address):
+        """The held instruction, outside the image, retires. It may be a return, where it is above user level and does not lead to
+        the instruction behind it."""
+        self.rows.append(NO_ROW)
+        if self.held.level != USER and address - self.place() not in AT_OR_BEHIND:
+            self.before = UNKNOWN
+        self.held = None
+        self.leave()
+
+    def leave(self):
+        """The hart is outside the image. Behind an instruction that leads to one place no other event can have a row."""
+        if self.is_outside:
+            return
+        self.is_outside = True
+        self.times_left += 1
+        if not self.last.leads_anywhere():
+            self.end(f"left the image at {self.way_out:x}")
+
+    def come_back(self, address, level):
+        """The next event that is inside, behind something outside, stands at an address; its level is None where nothing shows
+        it. Where a trap led outside, this goes back from it: returns as `go_back` does."""
+        self.is_outside = False
+        if self.last is None:
+            return None
+        found = self.go_back(MACHINE, address, level) if self.last.is_trap else None
+        lowest, highest = self.last.levels_behind()
+        if level is not None and not lowest <= level <= highest:
+            self.end(f"came back at {address:x} at level {level}, where no row may follow")
+        return found
 
     def go_back(self, highest, address, level):
         """A return, which leads to no level above `highest`, leads to an address: sets the level of the open trap that it goes
@@ -168,10 +173,29 @@ class Hart:
             for place in found.places:
                 self.files.set_digit(place, level)
 
-    def settle(self, handler):
-        """Writes the row of the trap that has none yet, `handler` the level that its handler begins at, None if not known."""
+    def is_left_out(self, trap, handler):
+        """Whether a trap is one of what stands outside, `handler` the address of its handler, None if that is not known."""
+        if not self.has_inside or handler is not None and handler in self.image:
+            return False
+        return self.is_outside or trap.epc not in self.image
+
+    def settle(self, handler, level_of_handler):
+        """Writes the row of the trap that has none yet; address and level of its handler are None if they are not known."""
         trap, self.trapped = self.trapped, None
-        level = trap.likely_level(handler) if trap.level is None else trap.level
+        if self.is_left_out(trap, handler):
+            self.before, self.way_out = UNKNOWN, trap.epc
+            return self.leave()
+        if self.is_outside:
+            trap.same = self.come_back(trap.epc, trap.level)
+            if self.why_ended:
+                return
+            if trap.level is None:
+                trap.before = self.before.within(*self.last.levels_behind())
+        level = trap.likely_level(level_of_handler) if trap.level is None else trap.level
+        self.write(trap, level)
+
+    def write(self, trap, level):
+        """Writes the row of a trap, at a level."""
         self.before = Before(max(level, SUPERVISOR), MACHINE, is_trap=True)
         self.rows.append(trap.row(level))
         self.flush()
@@ -180,6 +204,7 @@ class Hart:
         self.traps += 1
         self.depth += 1
         self.taken.append((trap.epc, level))
+        self.last, trap.written = trap, level
         if trap.level is None:
             self.set_level(trap.same, level)
             places = trap.same.places if trap.same else []
@@ -188,7 +213,9 @@ class Hart:
 
     def flush(self):
         """Gives the rows to `files`."""
-        self.files.write(self.rows)
+        rows = list(filter(None, self.rows))
+        self.outside += len(self.rows) - len(rows)
+        self.files.write(rows)
         self.rows.clear()
         if self.files.is_full and not self.why_ended:
             self.why_ended = "row limit"
@@ -197,7 +224,7 @@ class Hart:
     def end(self, why):
         """The log of this hart ends here."""
         if self.trapped:
-            self.settle(None)
+            self.settle(None, None)
         self.flush()
         self.held = None
         self.why_ended = self.why_ended or why
@@ -205,7 +232,7 @@ class Hart:
     def finish(self):
         """The recording ends. An instruction that was only announced may not have retired, and nothing shows of a branch that
         retired last where it led: such a row is left out."""
-        if self.form.LAST_RETIRED and self.held is not None and self.held[TARGET] is None:
-            self.rows.append(self.held[ROW])
+        if self.form.LAST_RETIRED and self.held is not None and self.held.is_inside and self.held.is_certain():
+            self.rows.append(self.held.row)
         self.end("end of the recording" if self.has_begun else "never came to the image")
         self.files.close()

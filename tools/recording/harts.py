@@ -1,44 +1,132 @@
-"""The harts of a recording: each line goes to its hart, and a line of text sums each up."""
+"""The harts of a recording: each line goes to its hart, and a line of text sums each up.
+
+Most lines repeat others byte by byte, and so do most pairs of lines. So lines are looked up whole in `known`, which has the
+instruction that each announces, and pairs of instructions in `pairs`, which has the row of the first where the second follows. Only
+what is not there is looked into: new lines, traps, returns, changes of hart, and whatever is out of order.
+"""
+from itertools import chain
+
 from recording.files import Files
-from recording.hart import Hart
+from recording.hart import NO_ROW, Hart
+from recording.image import Outside, is_jump_and_link_of_rv32
+from recording.noticed import Noticed
 
 KEPT_ROWS = 1024  # of a hart, before they go to its file
+KEPT_LINES = 1 << 17  # of `known`, so that an image of any length takes no more memory
 
 
 class Harts:
     """The harts that a recording names, each from its first line on."""
 
-    def __init__(self, image, form, folder, has_pieces, warn):
-        self.image, self.form, self.folder, self.has_pieces, self.warn = image, form, folder, has_pieces, warn
+    def __init__(self, image, form, folder, warn, has_pieces=False, has_inside=False):
+        self.image, self.form, self.folder, self.has_pieces, self.has_inside = image, form, folder, has_pieces, has_inside
+        self.noticed = Noticed(form, warn, image.is_user)
         self.found = {}
-        self.known = {}  # entries of instructions by what lines say, for all harts
-        self.last = None  # the hart of the last line that announced an instruction
+        self.known = {}  # the instructions that lines announce
+        self.same = {}  # the one instruction of all lines that announce it
+        self.pairs = {}  # the row of an instruction before another
+        self.current = None  # the hart of the last line that announced an instruction
 
     def at(self, number):
         """The hart with this number."""
         if number not in self.found:
             files = Files(self.folder, number, self.has_pieces)
-            self.found[number] = Hart(number, self.image, self.form, self.known, files, self.warn)
+            self.found[number] = Hart(number, self.image, self.form, self.has_inside, files, self.noticed)
         return self.found[number]
 
     def take(self, lines):
         """Takes lines of the recording."""
-        lines = iter(self.form.wanted(lines))
-        line = next(lines, None)
-        while line is not None:
-            if found := self.form.INSTRUCTION.match(line):
-                self.last = self.at(int(found["hart"]))
-                line = self.last.follow(line, lines)
-            else:
-                self.form.other(line, self)
-                line = next(lines, None)
+        lines = self.form.wanted(lines)
+        keys = self.form.keys(lines)
+        instructions = [*map(self.known.get, keys)]
+        steps = enumerate(map(self.pairs.get, zip(chain((None,), instructions), instructions)))
+        rows, count = [], 0
+        append = rows.append
+        for at, row in steps:
+            if row is not None:
+                append(row)
+                continue
+            if len(rows) > count:
+                self.current.hold(instructions[at - 1], lines[at - 1])
+            while not self.step(lines[at], keys[at]):
+                at, _ = next(steps, (None, None))
+                if at is None:
+                    break
+            if self.current:
+                rows = self.current.rows
+                append, count = rows.append, len(rows)
+        if len(rows) > count:
+            self.current.hold(instructions[-1], lines[-1])
         for hart in self.found.values():
             if len(hart.rows) > KEPT_ROWS:
                 hart.flush()
 
+    def step(self, line, key):
+        """Takes a line; returns whether the next may be taken by its pair with this one."""
+        instruction = self.known.get(key)
+        seen = None
+        if instruction is None:
+            seen = self.form.instruction(line)
+            if seen is None:
+                self.form.other(line, self)
+                return True
+            instruction = self.learn(key, *seen)
+        hart = self.current = instruction.hart
+        if hart.why_ended:
+            return False
+        before = hart.held
+        row = self.pairs.get((before, instruction))
+        if row is not None:
+            hart.rows.append(row)
+            hart.hold(instruction, line)
+            return True
+        if instruction.is_inside:
+            address = instruction.address
+        else:
+            address = (seen or self.form.instruction(line))[1]
+        hart.announce(instruction, line, address)
+        if hart.held is not instruction:
+            return False
+        if before is not None:
+            self.keep_pair(before, instruction)
+        return True
+
+    def learn(self, key, number, address, level, is_rv32, how):
+        """The instruction that a new line announces; it may be known by other lines."""
+        if len(self.known) >= KEPT_LINES:
+            self.known.clear()
+            self.same.clear()
+            self.pairs.clear()
+        self.noticed.ran(how)
+        is_inside = address in self.image
+        which = number, address if is_inside else None, level
+        instruction = self.same.get(which)
+        if instruction is None:
+            hart = self.at(number)
+            instruction = self.image.instruction(hart, address, level) if is_inside else Outside(hart, level)
+            self.same[which] = instruction
+            if is_rv32 and is_inside and is_jump_and_link_of_rv32(self.image.word(address)):
+                self.noticed.jump_and_link(number, address)
+        self.known[key] = instruction
+        return instruction
+
+    def keep_pair(self, before, instruction):
+        """Keeps the row of an instruction before another, where nothing but these two decides it."""
+        if instruction.is_inside and before.is_inside:
+            is_plain = before.highest is None and before.level == instruction.level
+            if is_plain and before.leads_to(instruction.address):
+                self.pairs[before, instruction] = before.row_before(instruction.address)
+        elif not instruction.is_inside and not before.is_inside:
+            self.pairs[before, instruction] = NO_ROW
+
+    def rows(self):
+        """How many rows there are by now."""
+        return sum(hart.files.rows for hart in self.found.values())
+
     def finish(self):
         for hart in self.found.values():
             hart.finish()
+        self.noticed.finish()
 
     def are_whole(self):
         """Whether the log of each hart goes to the end of the recording."""
@@ -52,7 +140,8 @@ def summary(hart):
         return f"hart {hart.number}: 0 rows; {hart.why_ended}"
     pieces = f" in {files.piece + 1} files" if files.piece else ""
     last = files.last_row.split(b",")[0].decode()
+    outside = f"; left the image {hart.times_left} times, {hart.outside} instructions outside" if hart.has_inside else ""
     return (
         f"hart {hart.number}: {files.rows} rows{pieces}, {files.rows - hart.traps} retirements, {hart.traps} traps; "
-        f"last at {last}: {hart.why_ended}; {hart.opened.guessed()} levels guessed"
+        f"last at {last}: {hart.why_ended}; {hart.opened.guessed()} levels guessed{outside}"
     )

@@ -1,9 +1,8 @@
 """The image, and what its words say of the rows of a log."""
 
-ADDRESS, LEVEL, TARGET, ROW, TAKEN, HIGHEST = range(6)  # the places in an entry
-IS_RETURN = 4  # a bit of an entry's level
-SRET, MRET = 0x10200073, 0x30200073
+SRET, MRET, ECALL, NOP = 0x10200073, 0x30200073, 0x73, 0x13
 HIGHEST_LEVEL = {SRET: 1, MRET: 3}  # that a return leads to
+LARGEST_IMAGE = 16_777_216  # bytes
 NONE, BACK_FROM_TRAP, NOT_TAKEN, TAKEN_BRANCH, UNINFERABLE = 0, 3, 4, 5, 6  # the types of retirements
 
 
@@ -26,6 +25,20 @@ def branch_offset(word):
     return None
 
 
+def jump_target(word, address):
+    """Where a jump leads whose target its word says; None for any other word."""
+    if word & 0x7F == 0x6F:
+        far = bits(word, 31, 31) << 20 | bits(word, 19, 12) << 12 | bits(word, 20, 20) << 11
+        return address + signed(far | bits(word, 30, 21) << 1, 21)
+    if word & 3 == 1 and bits(word, 15, 13) == 5:
+        far = bits(word, 12, 12) << 11 | bits(word, 8, 8) << 10 | bits(word, 10, 9) << 8 | bits(word, 6, 6) << 7
+        far |= bits(word, 7, 7) << 6 | bits(word, 2, 2) << 5 | bits(word, 11, 11) << 4
+        return address + signed(far | bits(word, 5, 3) << 1, 12)
+    if word & 0xFF07F == 0x67:
+        return signed(bits(word, 31, 20), 12) & ~1
+    return None
+
+
 def is_uninferable(word):
     """Whether the word is JALR with a source register other than x0, C.JR or C.JALR."""
     if word & 0x707F == 0x67:
@@ -33,11 +46,83 @@ def is_uninferable(word):
     return word & 3 == 2 and bits(word, 15, 13) == 4 and bits(word, 6, 2) == 0 and bits(word, 11, 7) != 0
 
 
-class Image:
-    """The bytes of a program from its base address on."""
+def is_jump_and_link_of_rv32(word):
+    """Whether the word is C.JAL of RV32, which is C.ADDIW of RV64."""
+    return word & 3 == 1 and bits(word, 15, 13) == 1
 
-    def __init__(self, base, content):
-        self.base, self.content = base, content
+
+class Instruction:
+    """A retirement of one hart: an instruction of the image at a level. `next` is the address behind it and `target` that of its
+    jump or its taken branch, each None where it does not lead there; where both are None it may lead anywhere. `row` is its row,
+    `taken` its row where the next event stands at `target`, and `highest` the highest level that a return leads to, None for what
+    is no return."""
+
+    __slots__ = ("hart", "address", "level", "next", "target", "row", "taken", "highest")
+    is_inside, is_trap = True, False
+
+    def __init__(self, hart, address, level, word):
+        self.hart, self.address, self.level = hart, address, level
+        self.next = self.target = None
+        self.highest = HIGHEST_LEVEL.get(word)
+        itype = NONE if self.highest is None else BACK_FROM_TRAP
+        offset, jump = branch_offset(word), jump_target(word, address)
+        if offset is not None:
+            itype, self.next, self.target = NOT_TAKEN, behind(address, word), address + offset & (1 << 64) - 1
+        elif jump is not None:
+            self.target = jump & (1 << 64) - 1
+        elif is_uninferable(word):
+            itype = UNINFERABLE
+        elif self.highest is None:
+            self.next = behind(address, word)
+        self.row = self.taken = row(address, itype, level)
+        if offset is not None:
+            self.taken = row(address, TAKEN_BRANCH, level)
+
+    def leads_anywhere(self):
+        return self.next is None and self.target is None
+
+    def leads_to(self, address):
+        return address in (self.next, self.target) or self.leads_anywhere()
+
+    def row_before(self, address):
+        """Its row, where the next event stands at an address."""
+        return self.taken if address == self.target else self.row
+
+    def is_certain(self):
+        """Whether its row is the same whatever follows."""
+        return self.next is None or self.target is None
+
+    def levels_behind(self):
+        """The lowest and the highest level of an event behind it."""
+        if self.highest is not None:
+            return 0, self.highest
+        return self.level, self.level
+
+
+class Outside:
+    """Any instruction of one hart outside the image at a level: it has no row."""
+
+    __slots__ = ("hart", "level")
+    is_inside, highest = False, None
+
+    def __init__(self, hart, level):
+        self.hart, self.level = hart, level
+
+
+def behind(address, word):
+    return address + (4 if word & 3 == 3 else 2) & (1 << 64) - 1
+
+
+def row(address, itype, level):
+    return b"%x,%d,%d,,\n" % (address, itype, level)
+
+
+class Image:
+    """The bytes of a program from its base address on. For a program of user level alone, whose calls no trap shows, a call that
+    is executed is written over with a word that does nothing."""
+
+    def __init__(self, base, content, is_user=False):
+        self.base, self.content, self.is_user = base, bytearray(content) if is_user else content, is_user
 
     def __contains__(self, address):
         return 0 <= address - self.base < len(self.content)
@@ -46,21 +131,10 @@ class Image:
         """The word at an address of the image: 16 bits of it, or 32 where its two lowest bits are 11."""
         place = address - self.base
         word = int.from_bytes(self.content[place : place + 4], "little")
+        if word == ECALL and self.is_user:
+            self.content[place : place + 4] = NOP.to_bytes(4, "little")
+            word = NOP
         return word if word & 3 == 3 else word & 0xFFFF
 
-    def entry(self, address, level):
-        """What a retirement needs: its address, its level with `IS_RETURN` for MRET and SRET, the address that it leads to as
-        a taken branch (None for any other word), its row, its row where the branch is taken, and the highest level that a return
-        leads to."""
-        word = self.word(address)
-        offset = branch_offset(word)
-        if offset is not None:
-            target = address + offset & (1 << 64) - 1
-            return address, level, target, row(address, NOT_TAKEN, level), row(address, TAKEN_BRANCH, level), None
-        if word in HIGHEST_LEVEL:
-            return address, level | IS_RETURN, None, row(address, BACK_FROM_TRAP, level), None, HIGHEST_LEVEL[word]
-        return address, level, None, row(address, UNINFERABLE if is_uninferable(word) else NONE, level), None, None
-
-
-def row(address, itype, level):
-    return b"%x,%d,%d,,\n" % (address, itype, level)
+    def instruction(self, hart, address, level):
+        return Instruction(hart, address, level, self.word(address))

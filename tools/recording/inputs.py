@@ -3,40 +3,50 @@ import glob
 import os
 import re
 
-from recording.image import Image
+from recording import elf
+from recording.image import LARGEST_IMAGE, Image
+from recording.unusable import Unusable
 
-LARGEST_IMAGE = 16_777_216
-BLOCK = 1 << 20
+BLOCK = 1 << 16
 LONGEST_LINE = 1 << 16
 
 
-class Unusable(Exception):
-    """What the user has to put right, as a text."""
-
-
-def image_at(base, path):
-    """The image in a file, at a base that is a number of a log."""
-    if not re.fullmatch(r"(0[xX])?[0-9a-fA-F]{1,16}", base):
-        raise Unusable(f"{base}: base is not a hexadecimal number")
-    start = int(base, 16)
-    if start % 2:
-        raise Unusable(f"{base}: base is odd")
-    try:
-        with open(path, "rb") as file:
-            content = file.read(LARGEST_IMAGE + 1)
-    except OSError as error:
-        raise Unusable(f"{path}: {error.strerror}")
-    if content.startswith(b"\x7fELF"):
-        raise Unusable(
-            f"{path} is an ELF file; the raw image is what this writes: riscv64-unknown-elf-objcopy -O binary {path} {path}.bin"
-        )
+def image_at(base, path, is_user=False):
+    """The image in a raw file, at a base that is a number of a log. An ELF file has a base of its own, so `base` is None there."""
+    content = content_of(path)
+    if elf.is_elf(content):
+        if base is not None:
+            raise Unusable(f"{path} is an ELF file, which has its own base: leave {base} out, or give the raw image")
+        start, content = elf.image_in(path)
+    else:
+        if base is None:
+            raise Unusable(f"{path} is a raw image, which needs a base before it")
+        start = number_of(base)
     if not content:
         raise Unusable(f"{path}: image is empty")
     if len(content) > LARGEST_IMAGE:
         raise Unusable(f"{path}: image is larger than {LARGEST_IMAGE} bytes")
     if start + len(content) >= 1 << 64:
         raise Unusable(f"{path}: image runs past the last address")
-    return Image(start, content)
+    return Image(start, content, is_user)
+
+
+def content_of(path):
+    """The bytes of a file, as many as an image may have and one."""
+    try:
+        with open(path, "rb") as file:
+            return file.read(LARGEST_IMAGE + 1)
+    except OSError as error:
+        raise Unusable(f"{path}: {error.strerror}")
+
+
+def number_of(base):
+    if not re.fullmatch(r"(0[xX])?[0-9a-fA-F]{1,16}", base):
+        raise Unusable(f"{base}: base is not a hexadecimal number")
+    start = int(base, 16)
+    if start % 2:
+        raise Unusable(f"{base}: base is odd")
+    return start
 
 
 def test_folder(folder):
@@ -58,12 +68,13 @@ def opened(path):
 
 
 def blocks(stream):
-    """Lists of the lines of a recording. A line is never as long as `LONGEST_LINE`; what is, is left out."""
+    """Lists of the lines of a recording, each with how many bytes were read for it. A line is never as long as `LONGEST_LINE`; what
+    is, is left out."""
     rest = b""
     while data := stream.read(BLOCK):
         lines = (rest + data).split(b"\n")
         rest = lines.pop()
         if len(rest) > LONGEST_LINE:
             rest = b""
-        yield lines
-    yield [rest]
+        yield lines, len(data)
+    yield [rest], 0

@@ -11,14 +11,24 @@ class Before:
     def __init__(self, lowest, highest, is_trap=False, level_of_trap=None):
         self.lowest, self.highest, self.is_trap, self.level_of_trap = lowest, highest, is_trap, level_of_trap
 
+    def within(self, lowest, highest):
+        """The same, where the level is not below `lowest` and not above `highest` either."""
+        return Before(max(self.lowest, lowest), min(self.highest, highest), self.is_trap, self.level_of_trap)
+
 
 class Trap:
     """A trap that has no row yet: `level` is None where it is not known, `before` what stands before it then, and `same` the open
-    trap whose handler went back to its place, so that both have the same level."""
+    trap whose handler went back to its place, so that both have the same level. `written` is the level that its row has."""
+
+    is_trap = True
 
     def __init__(self, is_interrupt, cause, epc, value):
         self.is_interrupt, self.cause, self.epc, self.value = is_interrupt, cause, epc, value
-        self.level, self.before, self.same = None, None, None
+        self.level, self.before, self.same, self.written = None, None, None, None
+
+    def levels_behind(self):
+        """The lowest and the highest level of an event behind it, by the rules of logs."""
+        return max(self.written, SUPERVISOR), MACHINE
 
     def row(self, level):
         if self.is_interrupt:

@@ -10,15 +10,15 @@ instruction without the level (`core   0: 0x... (0x...) addi ...`), which says n
 """
 import re
 
-MARK, SHIFT, WIDTH = b":", 2, len("3 0x0000000080000000 (")  # where a line says address and level
-NOWHERE = -1  # no address
 ANNOUNCES = False  # an instruction that has a line retired
 LAST_RETIRED = True
+WIDTH = len("core   0: 3 0x0000000080000000 (")  # of what says hart, level and address
 
-INSTRUCTION = re.compile(rb"core +(?P<hart>\d+): (?P<level>\d) 0x(?P<pc>[0-9a-f]{16}) \(0x")
+INSTRUCTION = re.compile(rb"core +(\d+): (\d) 0x([0-9a-f]{16}) \(0x")
 TRAP = re.compile(rb"core +(\d+): exception (\w+|interrupt #\d+|trap #\d+), epc 0x([0-9a-f]{16})")
 VALUE = re.compile(rb"core +(\d+): +tval 0x([0-9a-f]{16})")
 FORM = "-l --log-commits"
+EXPLAINS_ALL = EXPLAINS_TWICE = frozenset()
 
 CAUSES = {
     b"trap_instruction_address_misaligned": 0,
@@ -38,28 +38,24 @@ CAUSES = {
 }
 
 
-def prefix(hart):
-    return b"core %3d: " % hart
-
-
 def wanted(lines):
     """The lines but those of `-l` that have no level."""
     return [line for line in lines if line[10:12] != b"0x"]
 
 
-def instruction(found):
-    """The address and the level that a line shows."""
-    return int(found["pc"], 16), int(found["level"])
+def keys(lines):
+    """What says of each line which instruction retired, of which hart and at what level. A longer number of a hart is no key."""
+    return [line[:WIDTH] if line[WIDTH - 2 : WIDTH] == b" (" else line for line in lines]
 
 
-def address_and_level(key):
-    """What the part of a line says that begins with the level; `NOWHERE` if it is of no instruction that retired."""
-    if len(key) != WIDTH or key[1:4] != b" 0x" or key[20:] != b" (":
-        return NOWHERE, None
-    try:
-        return int(key[4:20], 16), int(key[:1])
-    except ValueError:
-        return NOWHERE, None
+def instruction(line):
+    """Hart, address, level, False since no line says RV32, and None; None alone if the line is of no instruction that retired."""
+    found = INSTRUCTION.match(line)
+    return (int(found[1]), int(found[3], 16), int(found[2]), False, None) if found else None
+
+
+def faults(_):
+    return ()
 
 
 def other(line, harts):

@@ -84,16 +84,16 @@ class Command(unittest.TestCase):
     def test_a_recording_without_an_instruction_is_status_1(self):
         ran = self.run_with(recording="-", given=b"hello\n")
         self.assertEqual((ran.returncode, ran.stdout), (1, b""))
-        self.assertIn(b"- has no line of an instruction: qemu writes them with -singlestep -d exec,int,nochain", ran.stderr)
+        self.assertIn(b"- has no line of an instruction: qemu writes them with -d exec,int,nochain, and -singlestep or", ran.stderr)
 
     def test_a_warning_is_a_line_of_standard_error(self):
         lines = LINES + trace(3, MACHINE) + "\n" + trace(4, MACHINE) + "\n"
         ran = self.run_with(recording="-", given=lines.encode())
-        self.assertEqual((ran.returncode, ran.stderr.count(b"\n")), (0, 1))
+        self.assertEqual((ran.returncode, ran.stderr.count(b"\n")), (1, 1))
         self.assertTrue(ran.stderr.startswith(b"record: hart 0: at 8000000c a line shows level 3"))
 
     def test_no_words_are_usage_and_status_2(self):
-        for words in ((), ("qemu",), ("qemu", "80000000", self.image, self.recording)):
+        for words in ((), ("qemu",), ("qemu", self.image, self.recording), ("qemu", *"abcde")):
             ran = record(*words)
             self.assertEqual((ran.returncode, ran.stdout), (2, b""))
             self.assertTrue(ran.stderr.startswith(b"usage: tools/record"))
@@ -108,10 +108,6 @@ class Command(unittest.TestCase):
     def test_an_unknown_simulator(self):
         self.assertEqual(self.run_with(form="gdb").returncode, 2)
 
-    def test_an_elf_file_is_named_with_the_line_that_makes_an_image(self):
-        elf = self.file("program.elf", b"\x7fELF" + IMAGE)
-        self.refused(f"{elf} is an ELF file; the raw image is what this writes: riscv64-unknown-elf-objcopy -O binary {elf} ", image=elf)
-
     def test_images(self):
         self.refused("No such file", image=os.path.join(self.folder, "none.bin"))
         self.refused("Is a directory", image=self.folder)
@@ -120,7 +116,8 @@ class Command(unittest.TestCase):
         self.refused("image runs past the last address", base="ffffffffffffffe0")
 
     def test_the_largest_image_is_taken(self):
-        self.assertEqual(self.run_with(image=self.file("large.bin", bytes(1 << 24))).returncode, 0)
+        large = self.file("large.bin", IMAGE + bytes((1 << 24) - len(IMAGE)))
+        self.assertEqual(self.run_with(image=large).returncode, 0)
 
     def test_bases(self):
         for base in ("program.bin", "", "0x", "8000_0000", "12345678123456781", "+80000000"):

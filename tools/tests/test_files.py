@@ -38,8 +38,8 @@ class Limit(unittest.TestCase):
 
     def test_pieces(self):
         run = self.run_of(traces(range(11), USER), has_pieces=True)
-        self.assertEqual(run.names(), ["hart00.1.csv", "hart00.2.csv", "hart00.csv"])
-        rows = run.rows() + run.rows("hart00.1.csv") + run.rows("hart00.2.csv")
+        self.assertEqual(run.names(), ["hart00_0001.csv", "hart00_0002.csv", "hart00_0003.csv"])
+        rows = [row for name in run.names() for row in run.rows(name)]
         self.assertEqual(rows, [f"{BASE + 4 * place:x},0,0,," for place in range(10)])
         self.assertTrue(run.harts.are_whole())
         want = "hart 0: 10 rows in 3 files, 10 retirements, 0 traps; last at 80000024: end of the recording; 0 levels guessed"
@@ -53,7 +53,7 @@ class Limit(unittest.TestCase):
             self.assertIsNone(run.first_illegal(name))
 
     def test_no_piece_is_begun_for_nothing(self):
-        self.assertEqual(self.run_of(traces(range(5), USER), has_pieces=True).names(), ["hart00.csv"])
+        self.assertEqual(self.run_of(traces(range(5), USER), has_pieces=True).names(), ["hart00_0001.csv"])
 
 
 class Digits(unittest.TestCase):
@@ -65,13 +65,12 @@ class Digits(unittest.TestCase):
             return Run(IMAGE, lines, has_pieces=True)
 
     def test_in_the_last_piece(self):
-        self.assertEqual(self.run_of(1000).rows()[2], "80000010,2,0,7,")
+        self.assertEqual(self.run_of(1000).rows("hart00_0001.csv")[2], "80000010,2,0,7,")
 
     def test_in_any_earlier_piece(self):
         for limit in range(1, 12):
             run = self.run_of(limit)
-            names = ["hart00.csv"] + [f"hart00.{piece}.csv" for piece in range(1, len(run.names()))]
-            rows = [row for name in names for row in run.rows(name)]
+            rows = [row for name in run.names() for row in run.rows(name)]
             self.assertEqual((len(rows), rows[2]), (61, "80000010,2,0,7,"), limit)
 
     def test_of_a_long_address(self):
@@ -84,5 +83,5 @@ class Digits(unittest.TestCase):
         self.assertEqual(run.rows()[1], "fffffffffffff010,2,0,7,")
 
     def test_rows_are_as_the_formats_spell_them(self):
-        text = self.run_of(1000).text()
+        text = self.run_of(1000).text("hart00_0001.csv")
         self.assertEqual(reading.log_text(reading.read_log(text.encode())), text)

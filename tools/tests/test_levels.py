@@ -6,7 +6,7 @@ from support import (
     BASE, MACHINE, MRET, NOP, RET, SRET, STOPPED, SUPERVISOR, USER, Run, at, exception, image_of, interrupt, trace, traces,
 )
 
-from recording import hart, open_traps
+from recording import harts, open_traps
 
 # 0 and 1: NOP, MRET; 2 and 3: NOP, SRET; 4 to 9: NOP; 10 and 11: JALR, MRET
 IMAGE = image_of(NOP, MRET, NOP, SRET, NOP, NOP, NOP, NOP, NOP, NOP, RET, MRET)
@@ -160,10 +160,10 @@ class Following(unittest.TestCase):
         lines = [trace(place, level, hart) for hart in (0, 1) for place, level in ((4, 0), (5, 1), (6, 1))]
         self.assertEqual([text.split(":")[0] for text in Run(IMAGE, lines).warnings], ["hart 0", "hart 1"])
 
-    def test_a_level_that_is_none_is_supervisor_level(self):
-        run = Run(IMAGE, TO_MACHINE + traces((4, 5, 6), 2))
-        self.assertEqual([row.split(",")[2] for row in run.rows()], ["3", "3", "1", "1"])
-        self.assertEqual(len(run.warnings), 1)
+    def test_level_2_is_supervisor_level_with_user_memory_open(self):
+        run = Run(IMAGE, TO_MACHINE + traces((4, 5), 2) + traces((6, 7), SUPERVISOR) + traces((8, 9), 2))
+        self.assertEqual([row.split(",")[2] for row in run.rows()], ["3", "3", "1", "1", "1", "1", "1"])
+        self.assertEqual(run.warnings, [])
 
     def test_returns_and_traps_are_not_warned_of(self):
         lines = TO_MACHINE + traces((4, 5), USER) + [interrupt(7, 6)] + TO_SUPERVISOR + traces((6, 7), USER)
@@ -196,7 +196,7 @@ class Bounds(unittest.TestCase):
             self.assertEqual(guessed(run), 2)
 
     def test_entries_are_forgotten(self):
-        with mock.patch.object(hart, "KEPT_ENTRIES", 2):
+        with mock.patch.object(harts, "KEPT_LINES", 2):
             run = Run(IMAGE, traces((4, 5, 6, 7, 8, 9), USER))
             self.assertEqual(run.rows(), [f"{at(place):x},0,0,," for place in range(4, 9)])
             self.assertLessEqual(len(run.harts.known), 2)

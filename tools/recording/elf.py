@@ -1,0 +1,86 @@
+"""ELF files: the image that their loadable segments make, and their symbols. `pyelftools` reads them."""
+from contextlib import contextmanager
+
+from recording.image import LARGEST_IMAGE
+from recording.unusable import Unusable
+
+EXECUTABLE = 1  # the flag of a segment
+MAGIC = b"\x7fELF"
+LEFT_OUT = "STT_SECTION", "STT_FILE"  # kinds of symbols that name nothing of the program
+
+
+def is_elf(content):
+    return content.startswith(MAGIC)
+
+
+@contextmanager
+def opened(path):
+    """The file as `pyelftools` has it."""
+    try:
+        from elftools.common.exceptions import ELFError
+        from elftools.elf.elffile import ELFFile
+    except ImportError:
+        raise Unusable(
+            f"{path} is an ELF file, which Debian's python3-pyelftools reads (elsewhere pip install pyelftools); without it, "
+            f"the raw image is what this writes: riscv64-unknown-elf-objcopy -O binary {path} {path}.bin"
+        )
+    with open(path, "rb") as file:
+        try:
+            yield ELFFile(file)
+        except ELFError as error:
+            raise Unusable(f"{path} is no whole ELF file: {error}")
+
+
+def segments_of(elf):
+    """Address, bytes and flags of each segment that is loaded and has bytes in the file."""
+    loaded = [part for part in elf.iter_segments("PT_LOAD") if part["p_filesz"]]
+    return sorted((part["p_vaddr"], part.data(), part["p_flags"]) for part in loaded)
+
+
+def length(segments):
+    """How many bytes there are from the lowest address to the end of the highest."""
+    return max(address + len(data) for address, data, _ in segments) - segments[0][0]
+
+
+def joined(segments):
+    """The lowest address and the bytes from there on, zeros between segments."""
+    base = segments[0][0]
+    content = bytearray(length(segments))
+    for address, data, _ in segments:
+        content[address - base : address - base + len(data)] = data
+    return base, bytes(content)
+
+
+def image_in(path):
+    """Base and bytes of the image in an ELF file: all that is loaded, or where that is too large, what may be executed."""
+    with opened(path) as elf:
+        if elf["e_machine"] != "EM_RISCV" or not elf.little_endian:
+            raise Unusable(f"{path} is an ELF file of another machine than RISC-V")
+        if elf["e_type"] != "ET_EXEC":
+            raise Unusable(f"{path} has no fixed address: link it with -static -no-pie, or give the base and the raw image")
+        segments = segments_of(elf)
+    for kept in (segments, [part for part in segments if part[2] & EXECUTABLE]):
+        if kept and length(kept) <= LARGEST_IMAGE:
+            return joined(kept)
+    raise Unusable(f"{path}: its segments do not lie within {LARGEST_IMAGE} bytes: give the base and the raw image of a part")
+
+
+def letter_of(elf, symbol):
+    """The letter by which `nm` says what a symbol is; None for one that names nothing of the program."""
+    section = symbol["st_shndx"]
+    if not symbol.name or symbol.name.startswith("$") or symbol["st_info"]["type"] in LEFT_OUT or section == "SHN_UNDEF":
+        return None
+    is_code = isinstance(section, int) and elf.get_section(section)["sh_flags"] & 4
+    letter = "A" if section == "SHN_ABS" else "T" if is_code else "D"
+    return letter.lower() if symbol["st_info"]["bind"] == "STB_LOCAL" else letter
+
+
+def symbols_in(path):
+    """The names of an ELF file as `nm` prints them, by their addresses."""
+    with opened(path) as elf:
+        table = elf.get_section_by_name(".symtab")
+        found = []
+        for symbol in table.iter_symbols() if table else ():
+            if letter := letter_of(elf, symbol):
+                found.append((symbol["st_value"], symbol.name, letter))
+    return "".join(f"{address:016x} {letter} {name}\n" for address, name, letter in sorted(found))
