@@ -1,15 +1,21 @@
 """The harts of a recording: each line goes to its hart, and a line of text sums each up.
 
 Most lines repeat others byte by byte, and so do most pairs of lines. So lines are looked up whole in `known`, which has the
-instruction that each announces, and pairs of instructions in `pairs`, which has the row of the first where the second follows. Only
-what is not there is looked into: new lines, traps, returns, changes of hart, and whatever is out of order.
+instruction that each announces, and each instruction has the one that followed it last, and its row before that one. Stretches
+in which each line is the usual one are taken as a whole. Only the others are looked into: an instruction that now leads elsewhere,
+whose row `pairs` may have, new lines, traps, returns, changes of hart, and whatever is out of order.
 """
-from itertools import chain
+from itertools import islice, repeat
+from operator import attrgetter, is_
 
 from recording.files import Files
 from recording.hart import NO_ROW, Hart
-from recording.image import Outside, is_jump_and_link_of_rv32
+from recording.image import Nothing, Outside, is_jump_and_link_of_rv32
 from recording.noticed import Noticed
+
+NOTHING = Nothing()
+USUAL, USUAL_ROW = attrgetter("usual"), attrgetter("usual_row")
+IS_UNUSUAL = b"\0"
 
 KEPT_ROWS = 1024  # of a hart, before they go to its file
 KEPT_LINES = 1 << 17  # of `known`, so that an image of any length takes no more memory
@@ -38,33 +44,25 @@ class Harts:
         """Takes lines of the recording."""
         lines = self.form.wanted(lines)
         keys = self.form.keys(lines)
-        instructions = [*map(self.known.get, keys)]
-        steps = enumerate(map(self.pairs.get, zip(chain((None,), instructions), instructions)))
-        rows, count = [], 0
-        append = rows.append
-        for at, row in steps:
-            if row is not None:
-                append(row)
-                continue
-            if len(rows) > count:
-                self.current.hold(instructions[at - 1], lines[at - 1])
-            while not self.step(lines[at], keys[at]):
-                at, _ = next(steps, (None, None))
-                if at is None:
-                    break
-            if self.current:
-                rows = self.current.rows
-                append, count = rows.append, len(rows)
-        if len(rows) > count:
-            self.current.hold(instructions[-1], lines[-1])
+        found = [*map(self.known.get, keys, repeat(NOTHING))]
+        rows = [*map(USUAL_ROW, found)]
+        are_usual = bytes(map(is_, map(USUAL, found), islice(found, 1, None)))
+        at, count = 0, len(lines)
+        while at < count:
+            is_in_order = self.step(lines[at], keys[at])
+            if is_in_order and at < len(are_usual) and are_usual[at]:
+                end = are_usual.find(IS_UNUSUAL, at) % count
+                self.current.rows += rows[at:end]
+                self.current.hold(found[end], lines[end])
+                at = end
+            at += 1
         for hart in self.found.values():
             if len(hart.rows) > KEPT_ROWS:
                 hart.flush()
 
     def step(self, line, key):
-        """Takes a line; returns whether the next may be taken by its pair with this one."""
-        instruction = self.known.get(key)
-        seen = None
+        """Takes a line; returns whether the hart now stands at the instruction that the line announces, if it does so."""
+        instruction, seen = self.known.get(key), None
         if instruction is None:
             seen = self.form.instruction(line)
             if seen is None:
@@ -72,24 +70,20 @@ class Harts:
                 return True
             instruction = self.learn(key, *seen)
         hart = self.current = instruction.hart
-        if hart.why_ended:
-            return False
         before = hart.held
         row = self.pairs.get((before, instruction))
         if row is not None:
             hart.rows.append(row)
             hart.hold(instruction, line)
+            before.usual, before.usual_row = instruction, row
             return True
-        if instruction.is_inside:
-            address = instruction.address
-        else:
-            address = (seen or self.form.instruction(line))[1]
-        hart.announce(instruction, line, address)
-        if hart.held is not instruction:
+        if hart.why_ended:
             return False
-        if before is not None:
+        address = instruction.address if instruction.is_inside else (seen or self.form.instruction(line))[1]
+        hart.announce(instruction, line, address)
+        if hart.held is instruction and before is not None:
             self.keep_pair(before, instruction)
-        return True
+        return hart.held is instruction
 
     def learn(self, key, number, address, level, is_rv32, how):
         """The instruction that a new line announces; it may be known by other lines."""
@@ -114,10 +108,15 @@ class Harts:
         """Keeps the row of an instruction before another, where nothing but these two decides it."""
         if instruction.is_inside and before.is_inside:
             is_plain = before.highest is None and before.level == instruction.level
-            if is_plain and before.leads_to(instruction.address):
-                self.pairs[before, instruction] = before.row_before(instruction.address)
-        elif not instruction.is_inside and not before.is_inside:
-            self.pairs[before, instruction] = NO_ROW
+            if not is_plain or not before.leads_to(instruction.address):
+                return
+            row = before.row_before(instruction.address)
+        elif instruction.is_inside or before.is_inside:
+            return
+        else:
+            row = NO_ROW
+        self.pairs[before, instruction] = row
+        before.usual, before.usual_row = instruction, row
 
     def rows(self):
         """How many rows there are by now."""

@@ -55,14 +55,14 @@ class Instruction:
     """A retirement of one hart: an instruction of the image at a level. `next` is the address behind it and `target` that of its
     jump or its taken branch, each None where it does not lead there; where both are None it may lead anywhere. `row` is its row,
     `taken` its row where the next event stands at `target`, and `highest` the highest level that a return leads to, None for what
-    is no return."""
+    is no return. `usual` is the instruction that followed it last, and `usual_row` its row before that one."""
 
-    __slots__ = ("hart", "address", "level", "next", "target", "row", "taken", "highest")
+    __slots__ = ("hart", "address", "level", "next", "target", "row", "taken", "highest", "usual", "usual_row")
     is_inside, is_trap = True, False
 
     def __init__(self, hart, address, level, word):
         self.hart, self.address, self.level = hart, address, level
-        self.next = self.target = None
+        self.next = self.target = self.usual = self.usual_row = None
         self.highest = HIGHEST_LEVEL.get(word)
         itype = NONE if self.highest is None else BACK_FROM_TRAP
         offset, jump = branch_offset(word), jump_target(word, address)
@@ -102,11 +102,17 @@ class Instruction:
 class Outside:
     """Any instruction of one hart outside the image at a level: it has no row."""
 
-    __slots__ = ("hart", "level")
+    __slots__ = ("hart", "level", "usual", "usual_row")
     is_inside, highest = False, None
 
     def __init__(self, hart, level):
-        self.hart, self.level = hart, level
+        self.hart, self.level, self.usual, self.usual_row = hart, level, None, None
+
+
+class Nothing:
+    """What a line announces that was not looked into yet, or is no line of an instruction."""
+
+    usual = usual_row = None
 
 
 def behind(address, word):

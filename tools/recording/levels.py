@@ -26,6 +26,9 @@ class Trap:
         self.is_interrupt, self.cause, self.epc, self.value = is_interrupt, cause, epc, value
         self.level, self.before, self.same, self.written = None, None, None, None
 
+    def leads_anywhere(self):
+        return True
+
     def levels_behind(self):
         """The lowest and the highest level of an event behind it, by the rules of logs."""
         return max(self.written, SUPERVISOR), MACHINE
