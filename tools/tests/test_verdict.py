@@ -9,7 +9,7 @@ import unittest
 from support import BASE, RECORDED, TOOLS, TRACEBENCH, record, recorded
 
 HEADER = "addr,itype,priv,cause,tval\n"
-LOGS = [HEADER + "80000000,0,3,,\n80000004,0,3,,\n", HEADER + "80000000,0,0,,\n"]
+LOGS = [HEADER + "80000000,0,3,,\n80000004,0,3,,\n80000008,0,3,,\n", HEADER + "80000000,0,0,,\n80000004,0,3,,\n"]
 
 STAND_IN = '''\
     #!{python}
@@ -26,12 +26,14 @@ STAND_IN = '''\
         texts = [open(log).read() for log in logs]
         lines = [f"{{log}}: legal, {{text.count(chr(10)) - 1}} events" for log, text in zip(logs, texts)]
         if wrong == "illegal":
-            lines[-1] = f"{{logs[-1]}}: row 1: WrongPrivilege"
+            lines[-1] = f"{{logs[-1]}}: row 2: WrongPrivilege\\n  80000000: something follows"
+        if wrong == "illegal at 1":
+            lines[-1] = f"{{logs[-1]}}: row 1: OffProgram"
         if wrong == "no image":
             sys.stderr.write("tracebench: image.bin: cannot be read\\n")
             sys.exit(3)
         print("\\n".join(lines))
-        sys.exit(2 if wrong == "illegal" else 0)
+        sys.exit(2 if wrong and wrong.startswith("illegal") else 0)
     if command == "encode":
         text = "".join(f"hart {{hart}}\\n" + open(log).read() for hart, log in enumerate(logs))
         sys.stdout.write(text)
@@ -67,6 +69,7 @@ class StandIn(unittest.TestCase):
         self.addCleanup(kept.cleanup)
         self.folder = kept.name
         self.calls = self.path("calls")
+        self.image = self.file("image.bin", "raw")
         self.paths = [self.file(f"hart{hart:02}.csv", text) for hart, text in enumerate(LOGS)]
 
     def path(self, name):
@@ -80,7 +83,7 @@ class StandIn(unittest.TestCase):
     def run_with(self, wrong=None, words=(), logs=None):
         program = self.file("program", textwrap.dedent(STAND_IN).format(python=sys.executable, wrong=wrong, calls=self.calls))
         os.chmod(program, 0o755)
-        given = [*words, "--program", program, "80000000", "image.bin", *(self.paths if logs is None else logs)]
+        given = [*words, "--program", program, "80000000", self.image, *(self.paths if logs is None else logs)]
         return subprocess.run([os.path.join(TOOLS, "verdict"), *given], capture_output=True, text=True)
 
     def commands(self):
@@ -89,28 +92,43 @@ class StandIn(unittest.TestCase):
 
     def test_all_is_as_it_should_be(self):
         ran = self.run_with()
-        want = "check: 2 logs legal, 3 rows\nperiod 1024: capture of 113 bytes; decoded to the same bytes; "
-        want += "whole over threads, 10 packets, 24 payload bytes; 64.000 bits a row\n"
+        want = f"hart 0: {self.paths[0]}, 3 rows\nhart 1: {self.paths[1]}, 2 rows\n"
+        want += "check: 2 logs legal, 5 rows\nperiod 1024: capture of 143 bytes; decoded to the same bytes; "
+        want += "whole over threads, 10 packets, 24 payload bytes; 38.400 bits a row\n"
         want += "hart,packets\n0,5\n1,5\nall,10\nverdict: good\n"
         self.assertEqual((ran.returncode, ran.stdout, ran.stderr), (0, want, ""))
 
     def test_each_command_is_run_at_each_period(self):
         ran = self.run_with(words=["--periods", "1,16", "--full"])
         lines = [line.split(":")[0] for line in ran.stdout.splitlines() if ":" in line]
-        self.assertEqual(lines, ["check", "period 1", "period 16", "verdict"])
+        self.assertEqual(lines, ["hart 0", "hart 1", "check", "period 1", "period 16", "verdict"])
         calls = self.commands()
         each = ["encode", "decode", "bench", "measure"]
         self.assertEqual([call[0] for call in calls], ["check", *each, *each])
+        self.assertEqual(calls[0][1:], ["--base", "80000000", "--explain", self.image, *self.paths])
         for place, period in ((1, "1"), (3, "1"), (4, "1"), (5, "16"), (7, "16"), (8, "16")):
             call = calls[place]
-            self.assertEqual(call[1:7], ["--base", "80000000", "--period", period, "--full", "image.bin"])
+            self.assertEqual(call[1:7], ["--base", "80000000", "--period", period, "--full", self.image])
             self.assertEqual(call[7:], self.paths)
 
     def test_an_illegal_log(self):
         ran = self.run_with("illegal")
-        want = f"{self.paths[1]}: row 1: WrongPrivilege\nverdict: bad, 1 of 2 logs not legal; none is encoded\n"
+        want = f"{self.paths[1]}: row 2: WrongPrivilege\n  80000000: something follows\n"
+        want += "  row 1: 80000000,0,0,,\n  row 2: 80000004,0,3,,\n"
+        want += "verdict: bad, 1 of 2 logs not legal; none is encoded\n"
         self.assertEqual((ran.returncode, ran.stdout, ran.stderr), (1, want, ""))
         self.assertEqual([call[0] for call in self.commands()], ["check"])
+
+    def test_a_first_row_has_none_before_it(self):
+        ran = self.run_with("illegal at 1")
+        self.assertIn("row 1: OffProgram\n  row 1: 80000000,0,0,,\nverdict: bad, ", ran.stdout)
+
+    def test_an_elf_file_is_no_image(self):
+        self.image = self.file("program.elf", "\x7fELF and so on")
+        ran = self.run_with()
+        want = f"verdict: {self.image} is an ELF file; tools/record --image FILE writes the raw image of one\n"
+        self.assertEqual((ran.returncode, ran.stdout, ran.stderr), (2, "", want))
+        self.assertFalse(os.path.exists(self.calls))
 
     def wrong(self, wrong, text):
         ran = self.run_with(wrong)
@@ -119,13 +137,13 @@ class StandIn(unittest.TestCase):
         self.assertTrue(ran.stdout.endswith("verdict: bad at period 1024\n"))
 
     def test_another_digit(self):
-        self.wrong("a digit", f"; {self.paths[1]} differs at row 1; whole over")
+        self.wrong("a digit", f"; {self.paths[1]} differs at row 2; whole over")
 
     def test_a_digit_before_more_than_a_pipe_holds(self):
         self.wrong("early", f"; {self.paths[0]} differs at row 1; whole over")
 
     def test_rows_that_are_missing(self):
-        self.wrong("short", f"; {self.paths[1]} differs at row 1 (tracebench: hart 1: no closing packet);")
+        self.wrong("short", f"; {self.paths[1]} differs at row 2 (tracebench: hart 1: no closing packet);")
 
     def test_a_hart_that_is_missing(self):
         self.wrong("a hart", "; hart 1 is missing (tracebench: hart 1: no closing packet);")
