@@ -38,6 +38,14 @@ class Hart:
         """The address of the held instruction."""
         return self.held.address if self.held.is_inside else self.form.instruction(self.line)[1]
 
+    def follow(self, rows, instruction, line):
+        """Takes the rows of a stretch behind which stands the instruction of a line, all of it inside the image or all outside."""
+        self.rows += rows
+        if not instruction.is_inside:
+            self.leave()
+        if not self.why_ended:
+            self.hold(instruction, line)
+
     def hold(self, instruction, line):
         """The instruction of a line is the last, and those before it have their rows."""
         self.held, self.line, self.level, self.before = instruction, line, instruction.level, None

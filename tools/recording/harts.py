@@ -52,8 +52,7 @@ class Harts:
             is_in_order = self.step(lines[at], keys[at])
             if is_in_order and at < len(are_usual) and are_usual[at]:
                 end = are_usual.find(IS_UNUSUAL, at) % count
-                self.current.rows += rows[at:end]
-                self.current.hold(found[end], lines[end])
+                self.current.follow(rows[at:end], found[end], lines[end])
                 at = end
             at += 1
         for hart in self.found.values():
@@ -73,10 +72,9 @@ class Harts:
         before = hart.held
         row = self.pairs.get((before, instruction))
         if row is not None:
-            hart.rows.append(row)
-            hart.hold(instruction, line)
+            hart.follow((row,), instruction, line)
             before.usual, before.usual_row = instruction, row
-            return True
+            return hart.held is instruction
         if hart.why_ended:
             return False
         address = instruction.address if instruction.is_inside else (seen or self.form.instruction(line))[1]

@@ -1,6 +1,8 @@
 """The image, and what its words say of the rows of a log."""
 
-SRET, MRET, ECALL, NOP = 0x10200073, 0x30200073, 0x73, 0x13
+SRET, MRET, ECALL, EBREAK, NOP = 0x10200073, 0x30200073, 0x73, 0x100073, 0x13
+COMPRESSED_EBREAK = 0x9002
+NOWHERE = -1  # an address to which nothing leads
 HIGHEST_LEVEL = {SRET: 1, MRET: 3}  # that a return leads to
 LARGEST_IMAGE = 16_777_216  # bytes
 NONE, BACK_FROM_TRAP, NOT_TAKEN, TAKEN_BRANCH, UNINFERABLE = 0, 3, 4, 5, 6  # the types of retirements
@@ -51,9 +53,15 @@ def is_jump_and_link_of_rv32(word):
     return word & 3 == 1 and bits(word, 15, 13) == 1
 
 
+def retires(word):
+    """Whether a word may retire: calls and breakpoints trap, and what is no instruction does too."""
+    return word not in (ECALL, EBREAK, COMPRESSED_EBREAK, 0) and word & 0x1F != 0x1F
+
+
 class Instruction:
     """A retirement of one hart: an instruction of the image at a level. `next` is the address behind it and `target` that of its
-    jump or its taken branch, each None where it does not lead there; where both are None it may lead anywhere. `row` is its row,
+    jump or its taken branch, each None where it does not lead there; where both are None it may lead anywhere, and where the word
+    does not retire, `next` is `NOWHERE`. `row` is its row,
     `taken` its row where the next event stands at `target`, and `highest` the highest level that a return leads to, None for what
     is no return. `usual` is the instruction that followed it last, and `usual_row` its row before that one."""
 
@@ -70,6 +78,8 @@ class Instruction:
             itype, self.next, self.target = NOT_TAKEN, behind(address, word), address + offset & (1 << 64) - 1
         elif jump is not None:
             self.target = jump & (1 << 64) - 1
+        elif not retires(word):
+            self.next = NOWHERE
         elif is_uninferable(word):
             itype = UNINFERABLE
         elif self.highest is None:

@@ -1,5 +1,11 @@
 """What a recording shows of a run that was not recorded as it has to be: each with what to do, and once."""
 
+from recording.image import NOWHERE
+
+CALLS = (
+    "does not retire, but goes on without a trap: run QEMU with -d exec,int,nochain and without semihosting; a program under "
+    "qemu-riscv64 wants --user and --image FILE here"
+)
 NO_TRAPS = "; no trap is in the whole recording: run QEMU with -d exec,int,nochain"
 OTHER_WORDS = ": the image has other words than ran (another build, code that changed), or lines are missing"
 JUMP_AND_LINK = "is C.JAL of RV32, which the bench takes for C.ADDIW: build without compressed instructions, -march=rv32ima"
@@ -38,23 +44,32 @@ class Noticed:
     def stray(self, number, before, address):
         """An event stands at an address to which the instruction before does not lead."""
         if number not in self.strays:
-            self.strays[number] = before.address, address
+            self.strays[number] = before, address
 
     def level(self, number, address, shown, level):
         """A line shows another level than the log has."""
         if number not in self.levels:
             self.levels[number] = address, shown, level
 
+    def why_stray(self, before, address):
+        """The text of an event that does not follow the instruction before; None where another warning explains it."""
+        if before.next == NOWHERE:
+            return f"the instruction at {before.address:x} {CALLS}"
+        if before.address == address:
+            twice = f"the instruction at {address:x} is announced twice: leave -icount out"
+            return None if self.faults & self.form.EXPLAINS_TWICE else twice
+        if self.has_jump_and_link:
+            return None
+        end = OTHER_WORDS if self.has_traps or self.is_user else NO_TRAPS
+        return f"{address:x} does not follow the instruction at {before.address:x}{end}"
+
     def finish(self):
         """The recording ends. Lines that stand for blocks explain all that follows of them."""
         if self.faults & self.form.EXPLAINS_ALL:
             return
-        end = OTHER_WORDS if self.has_traps or self.is_user else NO_TRAPS
         for number, (before, address) in sorted(self.strays.items()):
-            if before != address:
-                self.say(f"hart {number}: {address:x} does not follow the instruction at {before:x}{end}")
-            elif not self.faults & self.form.EXPLAINS_TWICE:
-                self.say(f"hart {number}: the instruction at {before:x} is announced twice: leave -icount out")
+            if text := self.why_stray(before, address):
+                self.say(f"hart {number}: {text}")
         if self.strays and not self.has_traps:
             return
         for number, (address, shown, level) in sorted(self.levels.items()):
