@@ -104,7 +104,7 @@ def first_illegal(program, text):
 
 def record(*words, given=b""):
     """Runs the program `tools/record`."""
-    return subprocess.run([os.path.join(TOOLS, "record"), *words], input=given, capture_output=True)
+    return subprocess.run([sys.executable, os.path.join(TOOLS, "record"), *words], input=given, capture_output=True)
 
 
 def recorded(name):

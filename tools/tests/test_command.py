@@ -60,7 +60,7 @@ class Command(unittest.TestCase):
         fifo = os.path.join(self.folder, "fifo")
         os.mkfifo(fifo)
         words = ["qemu", "80000000", self.image, fifo, self.logs]
-        with subprocess.Popen([os.path.join(TOOLS, "record"), *words], stdout=subprocess.PIPE) as reader:
+        with subprocess.Popen([sys.executable, os.path.join(TOOLS, "record"), *words], stdout=subprocess.PIPE) as reader:
             with open(fifo, "w") as writer:
                 writer.write(LINES)
             self.assertEqual(reader.communicate()[0], self.summary_of_file())
@@ -102,11 +102,47 @@ class Command(unittest.TestCase):
     def test_help(self):
         ran = record("--help")
         self.assertEqual((ran.returncode, ran.stderr), (0, b""))
-        for word in (b"BASE", b"IMAGE", b"LOG", b"FOLDER", b"--pieces", b"qemu", b"spike", b"status: 0"):
+        words = (b"BASE", b"IMAGE", b"LOG", b"FOLDER", b"--pieces", b"--inside", b"--user", b"--image FILE", b"qemu", b"spike", b"status: 0")
+        for word in words:
             self.assertIn(word, ran.stdout)
 
     def test_an_unknown_simulator(self):
         self.assertEqual(self.run_with(form="gdb").returncode, 2)
+
+    def test_flags_may_stand_anywhere(self):
+        words = ["--pieces", "qemu", "80000000", "--inside", self.image, self.recording, self.logs]
+        ran = record(*words)
+        self.assertEqual((ran.returncode, os.listdir(self.logs)), (0, ["hart00_0001.csv"]), ran.stderr)
+
+    def test_the_image_is_written_where_that_is_asked_for(self):
+        copy = os.path.join(self.folder, "copy.bin")
+        ran = self.run_with(more=["--image", copy])
+        self.assertEqual(ran.stdout.splitlines()[0].decode(), f"image: base 80000000, 32 bytes; written to {copy}")
+        with open(copy, "rb") as file:
+            self.assertEqual(file.read(), IMAGE)
+        self.assertFalse(os.path.exists(copy + ".symbols"))
+
+    def test_a_program_of_user_level(self):
+        image, copy = self.file("user.bin", image_of(NOP, 0x73, NOP)), os.path.join(self.folder, "copy.bin")
+        ran = self.run_with(image=image, more=["--user", "--image", copy])
+        self.assertEqual((ran.returncode, ran.stderr), (0, b""))
+        with open(copy, "rb") as file:
+            self.assertEqual(file.read(), image_of(NOP, NOP, NOP))
+
+    def test_a_program_of_user_level_without_a_place_for_the_image(self):
+        ran = self.run_with(more=["--user"])
+        self.assertEqual((ran.returncode, ran.stdout), (2, b""))
+        self.assertIn(b"--user changes the image: say by --image FILE where it is written", ran.stderr)
+
+    def test_an_image_that_cannot_be_written_is_status_3(self):
+        copy = os.path.join(self.folder, "none", "copy.bin")
+        ran = self.run_with(more=["--image", copy])
+        self.assertEqual((ran.returncode, ran.stderr), (3, f"record: {copy}: No such file or directory\n".encode()))
+
+    def test_a_raw_image_without_a_base(self):
+        ran = record("qemu", self.image, self.recording, self.logs)
+        self.assertEqual((ran.returncode, ran.stdout), (2, b""))
+        self.assertEqual(ran.stderr, f"record: {self.image} is a raw image, which needs a base before it\n".encode())
 
     def test_images(self):
         self.refused("No such file", image=os.path.join(self.folder, "none.bin"))
@@ -175,7 +211,7 @@ class Costs(unittest.TestCase):
         """Rows, seconds and kilobytes of a recording that has a block so many times."""
         logs = os.path.join(self.folder, name)
         os.mkdir(logs)
-        words = [os.path.join(TOOLS, "record"), "qemu", "80000000", self.image, "-", logs]
+        words = [sys.executable, os.path.join(TOOLS, "record"), "qemu", "80000000", self.image, "-", logs]
         with subprocess.Popen(words, stdin=subprocess.PIPE, stdout=subprocess.PIPE) as ran:
             for _ in range(count):
                 ran.stdin.write(block)

@@ -1,0 +1,123 @@
+"""ELF files: the image and the symbols that they give, and what is refused."""
+import importlib.util
+import os
+import struct
+import tempfile
+import unittest
+from unittest import mock
+
+from support import BASE, NOP, RECORDED, image_of, record, recorded
+
+from recording import elf
+from recording.inputs import image_at
+from recording.unusable import Unusable
+
+HAS_LIBRARY = importlib.util.find_spec("elftools") is not None
+RISCV, EXECUTABLE_FILE, SHARED = 243, 2, 3
+READ_EXECUTE, READ_WRITE = 5, 6
+
+
+def elf_of(*segments, machine=RISCV, kind=EXECUTABLE_FILE):
+    """An ELF file with no sections. A segment is its address, its bytes and its flags."""
+    head = struct.pack("<4s5B7xHHIQQQIHHHHHH", b"\x7fELF", 2, 1, 1, 0, 0, kind, machine, 1, 0, 64, 0, 0, 64, 56, len(segments), 0, 0, 0)
+    place, table, content = 64 + 56 * len(segments), b"", b""
+    for address, data, flags in segments:
+        at = place + len(content)
+        table += struct.pack("<IIQQQQQQ", 1, flags, at, address, address, len(data), len(data) + 100, 1)
+        content += data
+    return head + table + content
+
+
+class Files(unittest.TestCase):
+    def setUp(self):
+        kept = tempfile.TemporaryDirectory()
+        self.addCleanup(kept.cleanup)
+        self.folder = kept.name
+
+    def file(self, content):
+        path = os.path.join(self.folder, "program.elf")
+        with open(path, "wb") as file:
+            file.write(content)
+        return path
+
+
+@unittest.skipUnless(HAS_LIBRARY, "pyelftools is not there")
+class Read(Files):
+    def image(self, content, base=None):
+        found = image_at(base, self.file(content))
+        return found.base, found.content
+
+    def refused(self, content, want, base=None):
+        with self.assertRaisesRegex(Unusable, want):
+            self.image(content, base)
+
+    def test_a_segment(self):
+        self.assertEqual(self.image(elf_of((BASE, image_of(NOP), READ_EXECUTE))), (BASE, image_of(NOP)))
+
+    def test_zeros_between_segments(self):
+        content = elf_of((BASE + 8, b"\x01\x02", READ_WRITE), (BASE, image_of(NOP), READ_EXECUTE))
+        self.assertEqual(self.image(content), (BASE, image_of(NOP) + bytes(4) + b"\x01\x02"))
+
+    def test_a_segment_without_bytes_is_nothing(self):
+        content = elf_of((0x100, b"", READ_WRITE), (BASE, image_of(NOP), READ_EXECUTE))
+        self.assertEqual(self.image(content), (BASE, image_of(NOP)))
+
+    def test_data_that_lie_far_away_are_left_out(self):
+        content = elf_of((0x20000000, image_of(NOP), READ_EXECUTE), (BASE, b"data", READ_WRITE))
+        self.assertEqual(self.image(content), (0x20000000, image_of(NOP)))
+
+    def test_code_that_lies_far_away_is_refused(self):
+        content = elf_of((0x20000000, image_of(NOP), READ_EXECUTE), (BASE, image_of(NOP), READ_EXECUTE))
+        self.refused(content, "do not lie within 16777216 bytes")
+
+    def test_nothing_that_is_loaded(self):
+        self.refused(elf_of(), "do not lie within")
+
+    def test_another_machine(self):
+        self.refused(elf_of((BASE, b"1234", READ_EXECUTE), machine=62), "another machine than RISC-V")
+
+    def test_no_fixed_address(self):
+        self.refused(elf_of((0, b"1234", READ_EXECUTE), kind=SHARED), "has no fixed address")
+
+    def test_a_base_is_refused(self):
+        self.refused(elf_of((BASE, b"1234", READ_EXECUTE)), "which has its own base: leave 80000000 out", "80000000")
+
+    def test_a_file_that_is_cut(self):
+        whole = elf_of((BASE, b"1234", READ_EXECUTE))
+        for length in (4, 40, 64, 100):
+            self.refused(whole[:length], "is no whole ELF file")
+
+    def test_symbols(self):
+        """They are those that `riscv64-unknown-elf-nm` prints."""
+        want = "100b0 T _start, 100d4 t text, 110da T __DATA_BEGIN__, 110da T __SDATA_BEGIN__, 110da T __bss_start, 110da T _edata, "
+        want += "110e0 T __BSS_END__, 110e0 T _end, 118da A __global_pointer$"
+        lines = elf.symbols_in(os.path.join(RECORDED, "user.elf")).splitlines()
+        self.assertEqual(", ".join(line.lstrip("0") for line in lines), want)
+        self.assertEqual({len(line.split()[0]) for line in lines}, {16})
+
+    def test_a_recording(self):
+        """The program of user level writes ten lines, and its calls are plain words of the image that is written."""
+        for version in ("7.2", "10.0"):
+            logs, image = os.path.join(self.folder, version), os.path.join(self.folder, version + ".bin")
+            os.mkdir(logs)
+            words = ["qemu", "--user", "--image", image, os.path.join(RECORDED, "user.elf"), "-", logs]
+            ran = record(*words, given=recorded(f"user_{version}.log.xz"))
+            self.assertEqual((ran.returncode, ran.stderr), (0, b""))
+            first, second = ran.stdout.decode().splitlines()
+            self.assertTrue(first.startswith("image: base 10000, "))
+            self.assertTrue(first.endswith(f"; written to {image}, symbols to {image}.symbols"))
+            self.assertTrue(second.startswith("hart 0: 83 rows, 83 retirements, 0 traps; last at 100cc: "), second)
+            with open(image, "rb") as file:
+                content = file.read()
+            self.assertEqual(content[0xC2:0xC6] + content[0xD0:0xD4], image_of(NOP, NOP))
+            self.assertEqual(content[:0xC2], recorded("user.elf")[:0xC2])
+            with open(image + ".symbols") as file:
+                self.assertIn("T _start\n", file.read())
+
+
+class WithoutTheLibrary(Files):
+    def test_the_line_to_use(self):
+        path = self.file(elf_of((BASE, image_of(NOP), READ_EXECUTE)))
+        with mock.patch.dict("sys.modules", {"elftools": None, "elftools.elf.elffile": None, "elftools.common.exceptions": None}):
+            with self.assertRaisesRegex(Unusable, "python3-pyelftools.*: riscv64-unknown-elf-objcopy -O binary .*program.elf"):
+                image_at(None, path)
