@@ -6,7 +6,7 @@ CALLS = (
     "does not retire, but goes on without a trap: run QEMU with -d exec,int,nochain and without semihosting; a program under "
     "qemu-riscv64 wants --user and --image FILE here"
 )
-NO_TRAPS = "; no trap is in the whole recording: run QEMU with -d exec,int,nochain"
+NO_TRAPS = "; no trap is in the recording: run QEMU with -d exec,int,nochain, unless the image has other words than ran"
 OTHER_WORDS = ": the image has other words than ran (another build, code that changed), or lines are missing"
 JUMP_AND_LINK = "is C.JAL of RV32, which the bench takes for C.ADDIW: build without compressed instructions, -march=rv32ima"
 

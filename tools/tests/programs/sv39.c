@@ -14,7 +14,8 @@
 #define CSRC(name, value) asm volatile("csrc " #name ", %0" : : "r"((uint64_t)(value)) : "memory")
 
 enum { VALID = 1, READ = 2, WRITE = 4, EXECUTE = 8, USER = 16, GLOBAL = 32, ACCESSED = 64, DIRTY = 128 };
-enum { TASKS = 2, PAGES = 64 };
+enum { TASKS = 2, PAGES = 512 };
+enum { GOOD = 0x5555, BAD = 0x13333 };
 enum { CALL_FROM_USER = 8, LOAD_PAGE_FAULT = 13, STORE_PAGE_FAULT = 15 };
 
 struct frame { uint64_t registers[32], place, status; };
@@ -42,11 +43,13 @@ void machine_start(void)
     asm volatile("mret");
 }
 
+/* The device that ends QEMU. */
+static void end(uint32_t how) { *(volatile uint32_t *)0x100000 = how; }
+
 static uint64_t *page(void)
 {
     if (pages_used == PAGES)
-        for (;;)
-            asm volatile("wfi");
+        end(BAD);
     return pages[pages_used++];
 }
 
@@ -103,7 +106,7 @@ struct frame *at_trap(struct frame *frame)
     if (tasks[current].has_ended)
         current = (current + 1) % TASKS;
     if (tasks[current].has_ended)
-        *(volatile uint32_t *)0x100000 = 0x5555;
+        end(GOOD);
     run(&tasks[current]);
     return &tasks[current].frame;
 }
