@@ -11,8 +11,8 @@ KEPT_TRAPS = 1000  # that are not returned from, of a hart
 
 
 class Hart:
-    """The rows of one hart. `form` is the module that reads the lines, `has_inside` says whether what stands outside the image is
-    left out, `files` is where rows go, and `noticed` is told what the user should see."""
+    """The rows of one hart. `form` is the module that reads the lines, `has_inside` says whether what is outside the image
+    is left out, `files` is where rows go, and `noticed` is told what the user should see."""
 
     def __init__(self, number, image, form, has_inside, files, noticed):
         self.number, self.image, self.form, self.has_inside = number, image, form, has_inside
@@ -39,7 +39,7 @@ class Hart:
         return self.held.address if self.held.is_inside else self.form.instruction(self.line)[1]
 
     def follow(self, rows, instruction, line):
-        """Takes the rows of a stretch behind which stands the instruction of a line, all of it inside the image or all outside."""
+        """Takes the rows of a stretch and the instruction of a line after it, all inside the image or all outside."""
         self.rows += rows
         if not instruction.is_inside:
             self.leave()
@@ -76,8 +76,8 @@ class Hart:
             self.rows.clear()
 
     def agreed_level(self, instruction, address):
-        """The level of an instruction: what its line shows behind a return, a trap or something outside, else that of the event
-        before."""
+        """The level of an instruction: what its line shows after a return, a trap or something outside, else that of the
+        event before."""
         held, shown = self.held, instruction.level
         may_change = held is not None and (held.highest is not None or not held.is_inside)
         follows = None if may_change or self.before or self.trapped else self.level
@@ -130,8 +130,8 @@ class Hart:
         return None
 
     def pass_by(self, address):
-        """The held instruction, outside the image, retires. It may be a return, where it is above user level and does not lead to
-        the instruction behind it."""
+        """The held instruction, outside the image, retires. It may be a return, where it is above user level and does not
+        lead to the instruction behind it."""
         self.rows.append(NO_ROW)
         if self.held.level != USER and address - self.place() not in AT_OR_BEHIND:
             self.before = UNKNOWN
@@ -139,7 +139,7 @@ class Hart:
         self.leave()
 
     def leave(self):
-        """The hart is outside the image. Behind an instruction that leads to one place no other event can have a row."""
+        """The hart is outside the image. After an instruction that leads to one place no other event can have a row."""
         if self.is_outside:
             return
         self.is_outside = True
@@ -148,7 +148,7 @@ class Hart:
             self.end(f"left the image at {self.way_out:x}")
 
     def come_back(self, address, level):
-        """The next event that is inside, behind something outside, stands at an address; its level is None where nothing shows
+        """The next event that is inside, after something outside, is at an address; its level is None where nothing shows
         it. Where a trap led outside, this goes back from it: returns as `go_back` does."""
         self.is_outside = False
         if self.last is None:
@@ -182,13 +182,13 @@ class Hart:
                 self.files.set_digit(place, level)
 
     def is_left_out(self, trap, handler):
-        """Whether a trap is one of what stands outside, `handler` the address of its handler, None if that is not known."""
+        """Whether a trap is one of what is outside, `handler` the address of its handler, None if that is not known."""
         if not self.has_inside or handler is not None and handler in self.image:
             return False
         return self.is_outside or trap.epc not in self.image
 
     def settle(self, handler, level_of_handler):
-        """Writes the row of the trap that has none yet; address and level of its handler are None if they are not known."""
+        """Writes the row of the trap that has none yet; address and level of its handler are None where not known."""
         trap, self.trapped = self.trapped, None
         if self.is_left_out(trap, handler):
             self.before, self.way_out = UNKNOWN, trap.epc

@@ -1,9 +1,9 @@
 """The harts of a recording: each line goes to its hart, and a line of text sums each up.
 
-Most lines repeat others byte by byte, and so do most pairs of lines. So lines are looked up whole in `known`, which has the
-instruction that each announces, and each instruction has the one that followed it last, and its row before that one. Stretches
-in which each line is the usual one are taken as a whole. Only the others are looked into: an instruction that now leads elsewhere,
-whose row `pairs` may have, new lines, traps, returns, changes of hart, and whatever is out of order.
+Most lines repeat others byte by byte, and so do most pairs of lines. So lines are looked up whole in `known`, which has
+the instruction that each announces, and each instruction has the one that followed it last, and its row before that one.
+Stretches in which each line is the usual one are taken as a whole. Only the others are looked into: an instruction that
+now leads elsewhere, whose row `pairs` may have, new lines, traps, returns, changes of hart, and what is out of order.
 """
 from itertools import islice, repeat
 from operator import attrgetter, is_
@@ -25,7 +25,8 @@ class Harts:
     """The harts that a recording names, each from its first line on."""
 
     def __init__(self, image, form, folder, warn, has_pieces=False, has_inside=False):
-        self.image, self.form, self.folder, self.has_pieces, self.has_inside = image, form, folder, has_pieces, has_inside
+        self.image, self.form, self.folder = image, form, folder
+        self.has_pieces, self.has_inside = has_pieces, has_inside
         self.noticed = Noticed(form, warn, image.is_user)
         self.found = {}
         self.known = {}  # the instructions that lines announce
@@ -60,7 +61,7 @@ class Harts:
                 hart.flush()
 
     def step(self, line, key):
-        """Takes a line; returns whether the hart now stands at the instruction that the line announces, if it does so."""
+        """Takes a line; returns False where it announces an instruction that is not the hart's last event then."""
         instruction, seen = self.known.get(key), None
         if instruction is None:
             seen = self.form.instruction(line)
@@ -137,8 +138,8 @@ def summary(hart):
         return f"hart {hart.number}: 0 rows; {hart.why_ended}"
     pieces = f" in {files.piece + 1} files" if files.piece else ""
     last = files.last_row.split(b",")[0].decode()
-    outside = f"; left the image {hart.times_left} times, {hart.outside} instructions outside" if hart.has_inside else ""
+    outside = f"; left the image {hart.times_left} times, {hart.outside} instructions outside"
     return (
         f"hart {hart.number}: {files.rows} rows{pieces}, {files.rows - hart.traps} retirements, {hart.traps} traps; "
-        f"last at {last}: {hart.why_ended}; {hart.opened.guessed()} levels guessed{outside}"
+        f"last at {last}: {hart.why_ended}; {hart.opened.guessed()} levels guessed{outside if hart.has_inside else ''}"
     )

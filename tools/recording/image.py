@@ -59,11 +59,10 @@ def retires(word):
 
 
 class Instruction:
-    """A retirement of one hart: an instruction of the image at a level. `next` is the address behind it and `target` that of its
-    jump or its taken branch, each None where it does not lead there; where both are None it may lead anywhere, and where the word
-    does not retire, `next` is `NOWHERE`. `row` is its row,
-    `taken` its row where the next event stands at `target`, and `highest` the highest level that a return leads to, None for what
-    is no return. `usual` is the instruction that followed it last, and `usual_row` its row before that one."""
+    """A retirement of one hart: an instruction of the image at a level. `next` is the address behind it and `target` that
+    of its jump or its taken branch, each None where it does not lead there; where both are None it may lead anywhere, and
+    where the word does not retire, `next` is `NOWHERE`. `row` is its row, `taken` its row where the next event is at
+    `target`, and `highest` the highest level that a return leads to, None for what is no return. `usual` is the instruction that followed it last, and `usual_row` its row before that one."""
 
     __slots__ = ("hart", "address", "level", "next", "target", "row", "taken", "highest", "usual", "usual_row")
     is_inside, is_trap = True, False
@@ -134,8 +133,8 @@ def row(address, itype, level):
 
 
 class Image:
-    """The bytes of a program from its base address on. For a program of user level alone, whose calls no trap shows, a call that
-    is executed is written over with a word that does nothing."""
+    """The bytes of a program from its base address on. Of a program of user level alone, whose calls no trap shows, each
+    call that is executed is written over with a word that does nothing."""
 
     def __init__(self, base, content, is_user=False):
         self.base, self.content, self.is_user = base, bytearray(content) if is_user else content, is_user

@@ -12,7 +12,7 @@ LONGEST_LINE = 1 << 16
 
 
 def image_at(base, path, is_user=False):
-    """The image in a raw file, at a base that is a number of a log. An ELF file has a base of its own, so `base` is None there."""
+    """The image in a raw file, at a base that is a number of a log. An ELF file has its own, so `base` is None there."""
     content = content_of(path)
     if elf.is_elf(content):
         if base is not None:
@@ -68,8 +68,8 @@ def opened(path):
 
 
 def blocks(stream):
-    """Lists of the lines of a recording, each with how many bytes were read for it. A line is never as long as `LONGEST_LINE`; what
-    is, is left out."""
+    """Lists of the lines of a recording, each with how many bytes were read for it. A line is never as long as
+    `LONGEST_LINE`; what is, is left out."""
     rest = b""
     while data := stream.read(BLOCK):
         lines = (rest + data).split(b"\n")

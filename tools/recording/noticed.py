@@ -73,5 +73,6 @@ class Noticed:
         if self.strays and not self.has_traps:
             return
         for number, (address, shown, level) in sorted(self.levels.items()):
-            text = f"hart {number}: at {address:x} a line shows level {shown}, and the log has {level}; no other is named"
-            self.say(text if self.has_traps or self.is_user else text + NO_TRAPS)
+            end = "" if self.has_traps or self.is_user else NO_TRAPS
+            text = f"at {address:x} a line shows level {shown}, and the log has {level}; no other is named"
+            self.say(f"hart {number}: {text}{end}")

@@ -10,8 +10,8 @@ CLEARED = "\r\x1b[K"
 
 
 class Progress:
-    """How much of a recording was read. It is shown where standard error is a terminal; a recording that is no file has no bar,
-    since its length is not known."""
+    """How much of a recording was read. It is shown where standard error is a terminal; a recording that is no file has
+    no bar, since its length is not known."""
 
     def __init__(self, recording, out=None, clock=time.monotonic):
         self.out = sys.stderr if out is None else out

@@ -1,8 +1,8 @@
 """The lines of QEMU's log, `-singlestep -d exec,int,nochain`, as versions 7.2 and 10.0 print them.
 
-A line `Trace H: HOST [CS_BASE/PC/FLAGS/CFLAGS]` announces the instruction at PC. It retires unless `Stopped execution` stands
-behind it, or an exception whose `epc` is PC. Version 7.2 prints CS_BASE and PC with as many digits as an address has, version 10.0
-with 8 and 16. CFLAGS says how QEMU ran.
+A line `Trace H: HOST [CS_BASE/PC/FLAGS/CFLAGS]` announces the instruction at PC. It retires unless `Stopped execution`
+comes after it, or an exception whose `epc` is PC. Version 7.2 prints CS_BASE and PC with as many digits as an address has,
+version 10.0 with 8 and 16. CFLAGS says how QEMU ran.
 """
 import re
 
@@ -16,7 +16,8 @@ INSTRUCTION = re.compile(
 STOPPED = b"Stopped execution of TB chain before"
 NUMBER = rb"([0-9a-f]{16}|[0-9a-f]{8})"
 TRAP = re.compile(
-    rb"riscv_cpu_do_interrupt: hart:(\d+), async:([01]), cause:" + NUMBER + rb", epc:0x" + NUMBER + rb", tval:0x" + NUMBER
+    rb"riscv_cpu_do_interrupt: hart:(\d+), async:([01]), "
+    rb"cause:" + NUMBER + rb", epc:0x" + NUMBER + rb", tval:0x" + NUMBER
 )
 LEVELS = 0, 1, 1, 3  # by the two lowest bits of FLAGS; 2 is supervisor level with user memory open
 COUNT = 0x1FF  # of CFLAGS: how many instructions a block may have
@@ -40,7 +41,7 @@ def keys(lines):
 
 
 def instruction(line):
-    """Hart, address, level, whether the hart is of RV32, and what says how QEMU ran; None if the line announces no instruction."""
+    """Hart, address, level, whether the hart is of RV32, and what says how QEMU ran; None for any other line."""
     found = INSTRUCTION.match(line)
     if not found:
         return None
@@ -49,7 +50,7 @@ def instruction(line):
     bits = int(flags, 16)
     level = LEVELS[bits & 3]
     if is_later:
-        level = 3 if bits >> 22 & 3 == 3 else level  # the two lowest bits are those of the level that loads and stores have
+        level = 3 if bits >> 22 & 3 == 3 else level  # the two lowest bits have the level of loads and stores
         is_rv32 = bits >> 16 & 3 == 1
     else:
         is_rv32 = len(address) == 8

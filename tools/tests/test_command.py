@@ -207,11 +207,11 @@ class Costs(unittest.TestCase):
         with open(self.image, "wb") as file:
             file.write(IMAGE)
 
-    def cost(self, name, block, count):
+    def cost(self, name, block, count, more=()):
         """Rows, seconds and kilobytes of a recording that has a block so many times."""
         logs = os.path.join(self.folder, name)
         os.mkdir(logs)
-        words = [sys.executable, os.path.join(TOOLS, "record"), "qemu", "80000000", self.image, "-", logs]
+        words = [sys.executable, os.path.join(TOOLS, "record"), "qemu", *more, "80000000", self.image, "-", logs]
         with subprocess.Popen(words, stdin=subprocess.PIPE, stdout=subprocess.PIPE) as ran:
             for _ in range(count):
                 ran.stdin.write(block)
@@ -234,6 +234,18 @@ class Costs(unittest.TestCase):
             if fastest > 150_000:
                 break
         self.assertGreater(fastest, 150_000)
+
+    def test_outside_is_not_slower(self):
+        """Lines outside the image take at most twice the time of lines inside, each at the best of some tries."""
+        inside = "".join(line + "\n" for line in 1000 * traces((0, 1, 2, 3, 4, 5, 6), USER)).encode()
+        best = {"inside": 1000.0, "outside": 1000.0}
+        for attempt in range(5):
+            for name, block in (("inside", inside), ("outside", inside.replace(b"/0000000080", b"/0000000090"))):
+                _, seconds, _ = self.cost(f"{name}{attempt}", block, 20, ["--inside"])
+                best[name] = min(best[name], seconds)
+            if best["outside"] < 2 * best["inside"]:
+                break
+        self.assertLess(best["outside"], 2 * best["inside"])
 
     def test_a_line_without_end_takes_no_memory(self):
         rows, _, kilobytes = self.cost("logs", bytes(1 << 20), 300)
