@@ -5,10 +5,10 @@
 //! half of what it holds, and then sends many messages before it waits again. One of the waiting ports stays awake for
 //! a while and looks for the outlet's call, which then costs the outlet no call of the kernel. The others sleep.
 //!
-//! No contract speaks of this. A test in `channel_tests` shows that ports are woken, and that one is called at the
-//! mark. No test shows the rest: that no port is called before the mark; that all are called where no message waits,
-//! unless one was called since the last message; that a dropped outlet calls all; which port stays awake, and when. The
-//! rest changes when a port goes on, and not what is sent: it is a matter of speed.
+//! No contract speaks of this. Tests in `channel_tests` show that ports are woken, that one is called at the mark, and
+//! that all are called where no message waits and where the outlet is dropped. No test shows the rest: that no port is
+//! called before the mark; that none is called where no message waits and one was called since the last message; which
+//! port stays awake, and when. All of this changes when a port goes on, and not what is sent: it is a matter of speed.
 
 use std::alloc::Allocator;
 use std::hint;
@@ -17,7 +17,7 @@ use std::sync::{Arc, Wait};
 use std::time::Duration;
 
 /// How many milliseconds a port sleeps at most. Before that one is called at a mark where none is awake, and all of them
-/// where no message waits. `funnels/waking.rt` of `channel_tests` counts on at least this many.
+/// where no message waits. `funnels/waking.rt` and `funnels/calling.rt` of `channel_tests` count on at least this many.
 const LONGEST: u64 = 10;
 
 /// How often a port looks for room before it waits, in a funnel so small that each message that is taken reaches the
