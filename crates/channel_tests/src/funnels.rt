@@ -1,5 +1,6 @@
 //! Queues and channels, in one thread and in several.
 
+mod calling;
 mod dropped;
 mod limits;
 mod made;

@@ -1,7 +1,9 @@
 //! What the bench makes of messages, of replays and of runs.
 
+mod calls;
 mod came;
 mod collect;
+mod ends;
 mod gates;
 mod large;
 mod made;

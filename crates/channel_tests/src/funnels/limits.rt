@@ -51,3 +51,28 @@ fn lowest_fault_is_named(rt: HostRuntime) {
         same_at(&rt, (harts, capacity), found, (of_queue, of_channel));
     }
 }
+
+const CAPACITIES: [u32; 8] = [1, 2, 16, 17, 64, 100, 513, 1023];
+
+// Each number of harts at some capacities, and each capacity up to 1,024 at some number of harts.
+#[test]
+fn queues_and_channels_are_made(rt: HostRuntime) {
+    for number in 0..512u16 {
+        let (harts, capacity) = (number / 8 + 1, CAPACITIES[usize::from(number % 8)]);
+        same_at(
+            &rt,
+            (harts, capacity),
+            faults(rt.alloc(), harts, capacity),
+            (None, None),
+        );
+    }
+    for capacity in 1..1025u32 {
+        let harts = 64 - (capacity % 60) as u16;
+        same_at(
+            &rt,
+            (harts, capacity),
+            faults(rt.alloc(), harts, capacity),
+            (None, None),
+        );
+    }
+}

@@ -18,19 +18,19 @@ use std::thread::Threads;
 use std::time::{Clock, Duration, Instant};
 
 /// How many messages the funnel holds.
-const CAPACITY: u32 = 8;
+pub(crate) const CAPACITY: u32 = 8;
 
 /// How many of them are taken down to the low-water mark.
 const DEPTH: u64 = 4;
 
 /// How many milliseconds a port that no one calls sleeps at least.
-const LONGEST: u128 = 10;
+pub(crate) const LONGEST: u128 = 10;
 
 /// How many rounds there are at most.
-const ROUNDS: u64 = 500;
+pub(crate) const ROUNDS: u64 = 500;
 
 /// In how many of them the port has to be called. No more rounds come then.
-const ENOUGH: u64 = 10;
+pub(crate) const ENOUGH: u64 = 10;
 
 /// What is raised in place of a round where no more come.
 const DONE: u64 = u64::MAX;

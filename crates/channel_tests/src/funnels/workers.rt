@@ -215,3 +215,8 @@ fn two_workers_at_capacity_1(rt: HostRuntime) {
 fn receipts_say_that_all_was_taken(rt: HostRuntime) {
     is_settled(&rt, 2, 1, 1000, 0);
 }
+
+#[test]
+fn a_port_sends_more_than_100000_messages(rt: HostRuntime) {
+    is_whole(&rt, 1, 1024, 100_001);
+}

@@ -3,14 +3,15 @@
 ghost use Rattle.std.specs.Prelude.{◌≤◌};
 
 use super::came::{End, came_at};
-use super::made::{logs, program};
+use super::made::{BYTES, KINDS, MESSAGES, came_back, kinds, logs, program};
+use super::runs::CONFIG;
 use crate::same::same_at;
-use bench::{CollectFault, Collector};
+use bench::{CollectFault, Collector, Config};
 use decoder::DecodeFault;
 use encoder::Source;
 use legalpath::LegalLog;
 use message::{DemuxFault, Message};
-use payload::{Mode, Payload};
+use payload::Payload;
 use std::alloc::Allocator;
 use std::process::Abort;
 
@@ -21,20 +22,17 @@ pub(crate) struct Sent {
     bytes: u64,
 }
 
-/// A period that is longer than both logs.
-const PERIOD: u16 = 1024;
-
-/// Takes in the first messages of a log, this many, at this period.
+/// Takes in the first messages of a log, this many, at this period and in this mode.
 pub(crate) fn send<A: Allocator + Copy>(
     collector: &mut Collector<'_, '_, A>,
     log: &LegalLog<'_>,
-    period: u16,
+    config: Config,
     hart: u16,
     count: u64,
 ) -> Sent
-    requires { 1 ≤ period }
+    requires { 1 ≤ config.period }
 {
-    let mut source = Source::new(log, period, Mode::Differential);
+    let mut source = Source::new(log, config.period, config.mode);
     let mut sent = Sent { taken: 0, bytes: 0 };
     for number in 0..count {
         if let Some(payload) = source.next() {
@@ -80,10 +78,10 @@ fn comes<R: Abort + AllocGlobal>(rt: &R, logs: &[LegalLog<'_>; 2], keep: bool, k
     same_at(
         rt,
         keep,
-        send(&mut collector, &logs[0], PERIOD, 0, 9).taken,
+        send(&mut collector, &logs[0], CONFIG, 0, 9).taken,
         5,
     );
-    let some = send(&mut collector, &logs[1], PERIOD, 1, 3);
+    let some = send(&mut collector, &logs[1], CONFIG, 1, 3);
     same_at(rt, keep, some.taken, 3);
     let outcome = collector.finish();
     same_at(rt, keep, outcome.stop, None);
@@ -99,6 +97,45 @@ fn what_comes_of_messages(rt: HostRuntime) {
     let logs = logs(&rt, &program);
     comes(&rt, &logs, true, [5, 3]);
     comes(&rt, &logs, false, [0, 0]);
+}
+
+/// Ends the test unless all messages of each kind of log are taken in, of so many bytes, and each log comes back.
+fn each_kind_comes<R: Abort + AllocGlobal>(
+    rt: &R,
+    logs: &[LegalLog<'_>],
+    config: Config,
+    bytes: [u64; 4],
+) {
+    assert!(rt; logs.len() == 4 && config.period > 0, "other logs");
+    let mut collector = Collector::new(rt.alloc(), logs, config.keep).expect(rt, "memory");
+    for hart in 0..4 {
+        let sent = send(&mut collector, &logs[hart], config, hart as u16, 9);
+        let wanted = (MESSAGES[3].1[hart], bytes[hart]);
+        same_at(rt, (config, hart), (sent.taken, sent.bytes), wanted);
+    }
+    let outcome = collector.finish();
+    assert!(rt; came_back(&outcome, logs), "{config:?}");
+    for (hart, came) in outcome.harts.iter().enumerate() {
+        let kept = if config.keep { came.taken } else { 0 };
+        same_at(rt, (config, hart), came.packets.len() as u64, kept);
+    }
+}
+
+// Beside those that open, synchronise and close: a map packet, a trap with a handler and one without, a notify packet.
+#[test]
+fn each_kind_of_packet_is_taken_in(rt: HostRuntime) {
+    let program = program(&rt);
+    let logs = kinds(&rt, &program, KINDS);
+    for keep in [false, true] {
+        for (mode, bytes) in BYTES {
+            let config = Config {
+                mode,
+                keep,
+                ..CONFIG
+            };
+            each_kind_comes(&rt, &logs, config, bytes);
+        }
+    }
 }
 
 /// A message, by its hart, its number and its payload, and the answer to it.
@@ -179,13 +216,13 @@ fn a_refused_hart_is_passed_over(rt: HostRuntime) {
     same_at(
         &rt,
         0,
-        send(&mut collector, &logs[0], PERIOD, 0, 5).taken,
+        send(&mut collector, &logs[0], CONFIG, 0, 5).taken,
         5,
     );
     same_at(
         &rt,
         1,
-        send(&mut collector, &logs[1], PERIOD, 1, 4).taken,
+        send(&mut collector, &logs[1], CONFIG, 1, 4).taken,
         4,
     );
     let nothing = End {

@@ -1,111 +1,103 @@
-//! The gate round each send of a run, in each mode, with packets kept and not, at two capacities.
+//! The gate round each send of a run: of 2, 5 and 64 harts, at each period, in each mode, with packets kept and not, with
+//! rooms for the events of no hart, of one and of all, and at two capacities.
 
-use super::made::{came_back, logs, program};
+use super::calls::Calls;
+use super::made::{MESSAGES, came_back, kinds, program};
+use super::rooms::rooms_of;
 use crate::same::same_at;
-use bench::{Config, Gate, run};
+use bench::{Config, Gate, Outcome, Setup, run, run_in_rooms};
 use legalpath::LegalLog;
 use payload::Mode;
 use std::process::Abort;
 use std::sync::Wait;
-use std::sync::atomic::{AtomicBool, AtomicU64, Ordering};
+use std::sync::atomic::{AtomicBool, Ordering};
 use std::thread;
 use std::thread::Threads;
 use std::time::Duration;
 
-/// Whether packets are kept, the mode, and the capacity.
-type Setting = (bool, Mode, u32);
+/// How many harts run, the row of their period, how they do, and how many are handed a room; `None` where the run is
+/// one without rooms.
+#[derive(Clone, Copy, Debug)]
+struct Setting {
+    harts: u16,
+    row: usize,
+    config: Config,
+    rooms: Option<usize>,
+}
 
-const SETTINGS: [Setting; 8] = [
-    (false, Mode::Differential, 1),
-    (false, Mode::Differential, 16),
-    (false, Mode::Full, 1),
-    (false, Mode::Full, 16),
-    (true, Mode::Differential, 1),
-    (true, Mode::Differential, 16),
-    (true, Mode::Full, 1),
-    (true, Mode::Full, 16),
-];
+/// How many settings there are: each number of harts with each period, in each mode, with packets kept and not, with each
+/// number of rooms. The capacities come in turn.
+const SETTINGS: usize = 192;
 
-/// Ends the test unless both logs come back whole from a run with this gate.
+/// The setting of this number.
+fn setting_at(number: usize) -> Setting {
+    let row = number / 3 % 4;
+    Setting {
+        harts: [2, 5, 64][number % 3],
+        row,
+        config: Config {
+            period: MESSAGES[row].0,
+            mode: [Mode::Differential, Mode::Full][number / 12 % 2],
+            capacity: [1, 16][(number / 3 + number / 12 + number / 24 + number / 48) % 2],
+            keep: number / 24 % 2 == 1,
+        },
+        rooms: [None, Some(0), Some(1), Some(64)][number / 48 % 4],
+    }
+}
+
+/// The sizes of rooms that hold the events of every log.
+const SIZES: [usize; 64] = [33; 64];
+
+/// What comes of the logs in this setting with this gate.
+fn run_of<G: Gate, R: Abort + AllocGlobal + Threads + Wait + Sync>(
+    rt: &R,
+    logs: &[LegalLog<'_>],
+    setting: Setting,
+    gate: &G,
+) -> Result<Outcome, Setup> {
+    let alloc = rt.alloc();
+    match setting.rooms {
+        None => run(alloc, alloc, logs, setting.config, gate, rt),
+        Some(count) => {
+            let rooms = rooms_of(rt, alloc, &SIZES[..count.min(64)]);
+            run_in_rooms(alloc, alloc, logs, setting.config, gate, rt, rooms)
+        }
+    }
+}
+
+/// Ends the test unless all logs come back whole from a run with this gate.
 fn runs_through<G: Gate, R: Abort + AllocGlobal + Threads + Wait + Sync>(
     rt: &R,
     logs: &[LegalLog<'_>],
-    (keep, mode, capacity): Setting,
+    setting: Setting,
     gate: &G,
 ) {
-    let config = Config {
-        period: 1024,
-        mode,
-        capacity,
-        keep,
-    };
-    let outcome = run(rt.alloc(), rt.alloc(), logs, config, gate, rt).expect(rt, "a run");
-    same_at(rt, config, outcome.stop, None);
-    assert!(rt; came_back(&outcome, logs), "{config:?}");
+    let outcome = run_of(rt, logs, setting, gate).expect(rt, "a run");
+    same_at(rt, setting, outcome.stop, None);
+    assert!(rt; came_back(&outcome, logs), "{setting:?}");
 }
 
-/// Counts what two harts try to send and what they sent, and notes a number that is not the next of its hart.
-#[derive(Drop)]
-struct Counts {
-    tried: [AtomicU64; 2],
-    sent: [AtomicU64; 2],
-    strange: AtomicBool,
-}
-
-impl Counts {
-    /// Counts a message of a hart.
-    fn count(&self, counts: &[AtomicU64; 2], hart: u16, number: u64) {
-        let count = if hart == 0 { &counts[0] } else { &counts[1] };
-        if count.fetch_add(1, Ordering::SeqCst) != number {
-            self.strange.store(true, Ordering::SeqCst);
-        }
-    }
-
-    /// What each hart tried to send, what each sent, and whether a number was not the next.
-    fn counted(&self) -> ([u64; 2], [u64; 2], bool) {
-        let strange = self.strange.load(Ordering::SeqCst);
-        (loaded(&self.tried), loaded(&self.sent), strange)
-    }
-}
-
-/// What was counted of each hart.
-fn loaded(counts: &[AtomicU64; 2]) -> [u64; 2] {
-    [
-        counts[0].load(Ordering::SeqCst),
-        counts[1].load(Ordering::SeqCst),
-    ]
-}
-
-impl Gate for Counts {
-    fn before_send<R: Wait>(&self, _rt: &R, hart: u16, number: u64) {
-        self.count(&self.tried, hart, number);
-    }
-
-    fn after_send<R: Wait>(&self, _rt: &R, hart: u16, number: u64) {
-        self.count(&self.sent, hart, number);
-    }
-}
-
-/// Ends the test unless each of five messages of the first hart, and of four of the second, passes the gate.
+/// Ends the test unless each message of every hart passes the gate, which is called before it is sent and after.
 fn passes_the_gate<R: Abort + AllocGlobal + Threads + Wait + Sync>(
     rt: &R,
     logs: &[LegalLog<'_>],
     setting: Setting,
 ) {
-    let gate = Counts {
-        tried: [AtomicU64::new(0), AtomicU64::new(0)],
-        sent: [AtomicU64::new(0), AtomicU64::new(0)],
-        strange: AtomicBool::new(false),
-    };
+    let gate = Calls::new(rt, setting.harts);
     runs_through(rt, logs, setting, &gate);
-    same_at(rt, setting, gate.counted(), ([5, 4], [5, 4], false));
+    let (_, messages) = MESSAGES[setting.row.min(3)];
+    for hart in 0..usize::from(setting.harts) {
+        let calls = messages[hart % 4].saturating_mul(2);
+        same_at(rt, (setting, hart), gate.made(hart), Some(calls));
+    }
 }
 
 #[test]
 fn each_send_passes_the_gate(rt: HostRuntime) {
     let program = program(&rt);
-    let logs = logs(&rt, &program);
-    for setting in SETTINGS {
+    for number in 0..SETTINGS {
+        let setting = setting_at(number);
+        let logs = kinds(&rt, &program, setting.harts);
         passes_the_gate(&rt, &logs, setting);
     }
 }
@@ -144,23 +136,23 @@ impl Crossing {
 
 impl Gate for Crossing {
     fn before_send<R: Wait>(&self, _rt: &R, hart: u16, number: u64) {
-        if number == 0 {
-            if hart == 0 {
-                self.meet(&self.zero, &self.one);
-            } else {
-                self.meet(&self.one, &self.zero);
-            }
+        match (hart, number) {
+            (0, 0) => self.meet(&self.zero, &self.one),
+            (1, 0) => self.meet(&self.one, &self.zero),
+            _ => {}
         }
     }
 
     fn after_send<R: Wait>(&self, _rt: &R, _hart: u16, _number: u64) {}
 }
 
+// Every fifth setting.
 #[test]
 fn gate_crosses(rt: HostRuntime) {
     let program = program(&rt);
-    let logs = logs(&rt, &program);
-    for setting in SETTINGS {
+    for number in 0..SETTINGS / 5 {
+        let setting = setting_at(5 * number);
+        let logs = kinds(&rt, &program, setting.harts);
         let gate = Crossing {
             rt,
             zero: AtomicBool::new(false),

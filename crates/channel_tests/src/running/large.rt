@@ -1,9 +1,9 @@
 //! Calls that may return that memory is refused, with the most harts and with more than 65,536 messages of one hart.
 
 use super::collect::send;
-use super::made::{came_back, kinds, legal_log, program, retired};
+use super::made::{MESSAGES, add_turns, came_back, kinds, legal_log, program, retired};
 use crate::same::same_at;
-use bench::{Collector, Config, Open, Turn, replay, run};
+use bench::{Collector, Config, Open, replay, run};
 use legalpath::LegalLog;
 use payload::Mode;
 use rvclass::Program;
@@ -12,7 +12,7 @@ use std::process::Abort;
 /// How many events the longest log has.
 const LONGEST: usize = 65_600;
 
-/// Each event has a packet of its own, and the funnel holds as many messages as it may.
+/// Each retirement is synchronised, and the funnel holds as many messages as it may.
 const CONFIG: Config = Config {
     period: 1,
     mode: Mode::Differential,
@@ -33,17 +33,20 @@ fn long_logs<'p, R: Abort + AllocGlobal>(
     logs
 }
 
-/// How many messages a log has where each event has a packet of its own: these, the one that opens the trace, and the
-/// one that closes it.
-fn messages_of(log: &LegalLog<'_>) -> u64 {
-    (log.events().len() as u64).saturating_add(2)
+/// How many messages the log of a hart gives. Each event of the longest has one of its own; beside these one opens the
+/// trace, and one closes it.
+fn messages_of(hart: usize, log: &LegalLog<'_>) -> u64 {
+    if log.events().len() == LONGEST {
+        return 65_602;
+    }
+    MESSAGES[0].1[hart % 4]
 }
 
 /// Takes in all messages of a log.
 fn takes_all<R: Abort>(rt: &R, collector: &mut Collector<'_, '_>, hart: usize, log: &LegalLog<'_>) {
+    let count = messages_of(hart, log);
     let hart = u16::try_from(hart).expect(rt, "a hart");
-    let count = messages_of(log);
-    let sent = send(collector, log, CONFIG.period, hart, count);
+    let sent = send(collector, log, CONFIG, hart, count);
     same_at(rt, hart, sent.taken, count);
 }
 
@@ -70,22 +73,13 @@ fn a_collector_of_65535_harts_takes_messages_in(rt: HostRuntime) {
     takes_all(&rt, &mut collector, 65_534, last);
 }
 
-/// Adds turns by which a hart sends this many messages and each is taken at once.
-fn add_turns<R: Abort>(rt: &R, turns: &mut Vec<Turn>, hart: usize, count: u64) {
-    let hart = u16::try_from(hart).expect(rt, "a hart");
-    for _ in 0..count {
-        let added = turns.extend_from_slice(&[Turn::Hart(hart), Turn::Collect]);
-        added.expect(rt, "memory");
-    }
-}
-
 #[test]
 fn logs_of_1024_harts_are_replayed(rt: HostRuntime) {
     let program = program(&rt);
     let logs = long_logs(&rt, &program, 1024);
     let mut turns = Vec::new(rt.alloc());
     for (hart, log) in logs.iter().enumerate() {
-        add_turns(&rt, &mut turns, hart, messages_of(log));
+        add_turns(&rt, &mut turns, hart, messages_of(hart, log));
     }
     let outcome = replay(rt.alloc(), &logs, CONFIG, &turns).expect(&rt, "a replay");
     assert!(rt; came_back(&outcome, &logs), "not all came back");
@@ -95,6 +89,9 @@ fn logs_of_1024_harts_are_replayed(rt: HostRuntime) {
 fn logs_of_64_harts_are_run(rt: HostRuntime) {
     let program = program(&rt);
     let logs = long_logs(&rt, &program, 64);
-    let outcome = run(rt.alloc(), rt.alloc(), &logs, CONFIG, &Open, &rt).expect(&rt, "a run");
-    assert!(rt; came_back(&outcome, &logs), "not all came back");
+    for mode in [Mode::Differential, Mode::Full] {
+        let config = Config { mode, ..CONFIG };
+        let outcome = run(rt.alloc(), rt.alloc(), &logs, config, &Open, &rt).expect(&rt, "a run");
+        assert!(rt; came_back(&outcome, &logs), "{mode:?}: not all came back");
+    }
 }

@@ -19,7 +19,7 @@ const BEFORE_REPLAY: usize = 7;
 
 /// How many a run makes: for what comes of the harts, the receiver's four lists, which payloads were handed back, and
 /// the workers. The funnel takes `Global` alone, and so do threads.
-const BEFORE_RUN: usize = 7;
+pub(crate) const BEFORE_RUN: usize = 7;
 
 /// The reports where one of the requests behind these is refused: for packets of the first hart, for its events, for
 /// more of its packets, for packets of the second hart, and for its events.

@@ -1,6 +1,6 @@
 //! Logs through the funnel by schedules of turns.
 
-use super::made::{TURNS, WHOLE, kinds, logs, program, reports_at};
+use super::made::{FOUR, KINDS, MESSAGES, kinds, logs, program, reports_at, turns_of};
 use crate::same::same_at;
 use bench::{Config, Setup, Turn, replay};
 use payload::Mode;
@@ -19,9 +19,10 @@ pub(crate) fn config(mode: Mode) -> Config {
 #[test]
 fn each_message_is_taken_at_once(rt: HostRuntime) {
     let program = program(&rt);
-    let logs = logs(&rt, &program);
-    for (mode, want) in WHOLE {
-        let outcome = replay(rt.alloc(), &logs, config(mode), &TURNS).expect(&rt, "a replay");
+    let logs = kinds(&rt, &program, KINDS);
+    let turns = turns_of(&rt, &MESSAGES[3].1);
+    for (mode, want) in FOUR {
+        let outcome = replay(rt.alloc(), &logs, config(mode), &turns).expect(&rt, "a replay");
         reports_at(&rt, mode, &outcome, &logs, want);
     }
 }

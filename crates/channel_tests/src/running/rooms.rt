@@ -4,13 +4,16 @@ use super::made::{WHOLE, logs, program, reports_at, retired};
 use super::runs::CONFIG;
 use crate::same::same_at;
 use bench::{Config, Open, run, run_in_rooms};
+use legalpath::LegalLog;
 use refusing::Refusing;
 use retire::Event;
 use std::alloc::Allocator;
 use std::process::Abort;
+use std::sync::Wait;
+use std::thread::Threads;
 
 /// Lists of this many events, which no hart retires.
-fn rooms_of<R: Abort, A: Allocator + Copy>(
+pub(crate) fn rooms_of<R: Abort, A: Allocator + Copy>(
     rt: &R,
     alloc: A,
     sizes: &[usize],
@@ -42,19 +45,50 @@ fn what_comes_is_the_same_in_any_rooms(rt: HostRuntime) {
     }
 }
 
-// A run makes a request for the list of each of two harts, and none where their rooms hold all events.
+/// How many requests a run makes without rooms.
+fn requests_of<R: Abort + AllocGlobal + Threads + Wait + Sync>(
+    rt: &R,
+    logs: &[LegalLog<'_>],
+    config: Config,
+) -> u64 {
+    let heap = Refusing::new(rt.alloc(), u64::MAX);
+    let outcome = run(&heap, rt.alloc(), logs, config, &Open, rt);
+    let _ = outcome.expect(rt, "a run");
+    heap.requests()
+}
+
+/// How many requests a run makes in rooms of these sizes.
+fn requests_in<R: Abort + AllocGlobal + Threads + Wait + Sync>(
+    rt: &R,
+    logs: &[LegalLog<'_>],
+    config: Config,
+    sizes: &[usize],
+) -> u64 {
+    let heap = Refusing::new(rt.alloc(), u64::MAX);
+    let rooms = rooms_of(rt, &heap, sizes);
+    let before = heap.requests();
+    let outcome = run_in_rooms(&heap, rt.alloc(), logs, config, &Open, rt, rooms);
+    let _ = outcome.expect(rt, "a run");
+    heap.requests().saturating_sub(before)
+}
+
+/// How many requests fewer a run makes in rooms of each of the sizes.
+const SAVED: [u64; 6] = [0, 1, 2, 0, 1, 2];
+
+// A run makes a request for the list of each of two harts, and none where the hart's room holds all its events.
 #[test]
 fn a_room_is_what_a_run_would_take(rt: HostRuntime) {
     let program = program(&rt);
     let logs = logs(&rt, &program);
-    let heap = Refusing::new(rt.alloc(), u64::MAX);
-    let _ = run(&heap, rt.alloc(), &logs, CONFIG, &Open, &rt).expect(&rt, "a run");
-    let wanted = heap.requests();
-    let heap = Refusing::new(rt.alloc(), u64::MAX);
-    let rooms = rooms_of(&rt, &heap, &[33, 4]);
-    let before = heap.requests();
-    let outcome = run_in_rooms(&heap, rt.alloc(), &logs, CONFIG, &Open, &rt, rooms);
-    let _ = outcome.expect(&rt, "a run");
-    let made = heap.requests().saturating_sub(before);
-    same_at(&rt, "requests", made.saturating_add(2), wanted);
+    for number in 0..24 {
+        let config = Config {
+            mode: WHOLE[number / 12].0,
+            keep: number / 6 % 2 == 1,
+            ..CONFIG
+        };
+        let place = number % 6;
+        let made = requests_in(&rt, &logs, config, SIZES[place]);
+        let all = requests_of(&rt, &logs, config);
+        same_at(&rt, (config, place), made.saturating_add(SAVED[place]), all);
+    }
 }

@@ -1,11 +1,14 @@
 //! Logs through the funnel over threads.
 
 use super::came::end_of;
-use super::made::{TURNS, WHOLE, kinds, logs, program, reports_at};
+use super::made::{FOUR, KINDS, MESSAGES, came_back, kinds, program, reports_at, turns_of};
 use crate::same::same_at;
-use bench::{Config, HartOutcome, Open, Setup, replay, run};
+use bench::{Config, HartOutcome, Open, Outcome, Setup, replay, run};
+use legalpath::LegalLog;
 use payload::Mode;
 use std::process::Abort;
+use std::sync::Wait;
+use std::thread::Threads;
 
 /// One message at a time.
 pub(crate) const CONFIG: Config = Config {
@@ -16,27 +19,51 @@ pub(crate) const CONFIG: Config = Config {
 };
 
 /// Ends the test unless the same came of a hart.
-fn same_hart(rt: &impl Abort, place: (Mode, usize), one: &HartOutcome, other: &HartOutcome) {
+fn same_hart(rt: &impl Abort, place: (Config, usize), one: &HartOutcome, other: &HartOutcome) {
     same_at(rt, place, end_of(one), end_of(other));
     same_at(rt, place, one.packets.as_slice(), other.packets.as_slice());
     same_at(rt, place, one.decoded.as_slice(), other.decoded.as_slice());
 }
 
+/// Ends the test unless the same comes of a run of a log of each kind as of turns by which each message is taken at
+/// once, of which each log gives so many. Returns what came.
+fn comes_as_by_turns<R: Abort + AllocGlobal + Threads + Wait + Sync>(
+    rt: &R,
+    logs: &[LegalLog<'_>],
+    config: Config,
+    messages: [u64; 4],
+) -> Outcome {
+    let turns = turns_of(rt, &messages);
+    let by_turns = replay(rt.alloc(), logs, config, &turns).expect(rt, "a replay");
+    let outcome = run(rt.alloc(), rt.alloc(), logs, config, &Open, rt).expect(rt, "a run");
+    same_at(rt, config, outcome.stop, None);
+    assert!(rt;
+        came_back(&by_turns, logs) && came_back(&outcome, logs),
+        "{config:?}"
+    );
+    for (hart, (one, other)) in outcome.harts.iter().zip(&by_turns.harts).enumerate() {
+        same_hart(rt, (config, hart), one, other);
+    }
+    outcome
+}
+
 #[test]
 fn what_comes_is_what_comes_by_turns(rt: HostRuntime) {
     let program = program(&rt);
-    let logs = logs(&rt, &program);
-    for (mode, want) in WHOLE {
-        let config = Config { mode, ..CONFIG };
-        let by_turns = replay(rt.alloc(), &logs, config, &TURNS).expect(&rt, "a replay");
-        let outcome = run(rt.alloc(), rt.alloc(), &logs, config, &Open, &rt).expect(&rt, "a run");
-        same_at(&rt, mode, outcome.stop, None);
-        same_at(&rt, mode, outcome.harts.len(), 2);
-        same_at(&rt, mode, by_turns.harts.len(), 2);
-        for (hart, (one, other)) in outcome.harts.iter().zip(&by_turns.harts).enumerate() {
-            same_hart(&rt, (mode, hart), one, other);
+    let logs = kinds(&rt, &program, KINDS);
+    for number in 0..16 {
+        let (period, messages) = MESSAGES[number % 4];
+        let (mode, wanted) = FOUR[number / 4 % 2];
+        let config = Config {
+            period,
+            mode,
+            keep: number / 8 == 1,
+            ..CONFIG
+        };
+        let outcome = comes_as_by_turns(&rt, &logs, config, messages);
+        if period == CONFIG.period {
+            reports_at(&rt, config, &outcome, &logs, wanted);
         }
-        reports_at(&rt, mode, &outcome, &logs, want);
     }
 }
 
