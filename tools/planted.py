@@ -36,7 +36,7 @@ BODIES = [
     ("read_log always Read", "retire", "read.rt",
         *tail("read_from(Vec::new(alloc), global, source)", "Err(LogFault::Read)")),
     ("read_log_from_slice always Memory", "retire", "in_memory.rt",
-        *tail("read_by_csv(events, global, text)", "Err(LogFault::Memory)"),
+        *tail("read_in_pieces(events, global, text)", "Err(LogFault::Memory)"),
         "        return Ok(events);\n", "        return Err(LogFault::Memory);\n"),
     ("write_log always Write", "retire", "write.rt",
         "    put(sink, room.as_slice())?;\n    Ok(())\n",

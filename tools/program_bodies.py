@@ -53,7 +53,7 @@ BODIES = [
         "    match explaining::explain(program, log, illegal, out) {\n"),
     ("list Memory past 4,096 bytes", "capture_commands", "message_listing.rt",
         *memory_first("    write_listing(\n", "bytes.len() > 4096")),
-    ("salvage Memory past 3 harts", "capture_commands", "salvaging_capture.rt",
+    ("the salvage of the program Memory past 3 harts", "capture_commands", "salvaging_capture.rt",
         "    let salvaged = salvaging::salvage(\n",
         "    if harts_counted(harts, front.header) > 3 {\n        return Err(AllocError);\n    }\n"
         "    let salvaged = salvaging::salvage(\n"),
