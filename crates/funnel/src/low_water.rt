@@ -17,7 +17,7 @@ use std::sync::{Arc, Wait};
 use std::time::Duration;
 
 /// How many milliseconds a port sleeps at most. Before that one is called at a mark where none is awake, and all of them
-/// where no message waits. `funnels/waking.rt` and `funnels/calling.rt` of `channel_tests` count on at least this many.
+/// where no message waits. `funnels/waking.rt` and `funnels/calling.rt` of `channel_tests` count on so many.
 const LONGEST: u64 = 10;
 
 /// How often a port looks for room before it waits, in a funnel so small that each message that is taken reaches the

@@ -50,8 +50,8 @@ fn all_wait<R: Abort + Clock>(rt: &R, counts: &Counts) {
     panic!(rt; "a port never sends");
 }
 
-/// Lets the ports go on: takes what fills the funnel and what they send, or drops the outlet where their payloads are to
-/// come back.
+/// Lets the ports go on: takes what fills the funnel and what they send, or drops the outlet where their payloads are
+/// to come back.
 fn let_go<R: Abort + Wait>(rt: &R, mut outlet: Outlet, wanted: Fate) {
     if wanted == Fate::HandedBack {
         return;

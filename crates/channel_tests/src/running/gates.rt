@@ -1,5 +1,5 @@
-//! The gate round each send of a run: of 2, 5 and 64 harts, at each period, in each mode, with packets kept and not, with
-//! rooms for the events of no hart, of one and of all, and at two capacities.
+//! The gate round each send of a run: of 2, 5 and 64 harts, at each period, in each mode, with packets kept and not,
+//! with rooms for the events of no hart, of one and of all, and at two capacities.
 
 use super::calls::Calls;
 use super::made::{MESSAGES, came_back, kinds, program};
@@ -25,8 +25,8 @@ struct Setting {
     rooms: Option<usize>,
 }
 
-/// How many settings there are: each number of harts with each period, in each mode, with packets kept and not, with each
-/// number of rooms. The capacities come in turn.
+/// How many settings there are: each number of harts with each period, in each mode, with packets kept and not, with
+/// each number of rooms. The capacities come in turn.
 const SETTINGS: usize = 192;
 
 /// The setting of this number.

@@ -62,8 +62,8 @@ pub(crate) const FOUR: [(Mode, &str); 2] = [
     ),
 ];
 
-/// The bytes of all payloads of a log of each kind, in each mode, at a period that is longer than the logs. In full mode
-/// Open takes one byte more, and an address packet four where it is not a notify packet.
+/// The bytes of all payloads of a log of each kind, in each mode, at a period that is longer than the logs. In full
+/// mode Open takes one byte more, and an address packet four where it is not a notify packet.
 pub(crate) const BYTES: [(Mode, [u64; 4]); 2] = [
     (Mode::Differential, [9, 9, 20, 17]),
     (Mode::Full, [14, 14, 21, 22]),
