@@ -94,6 +94,7 @@ log_status (log.Cause row) = LARGE_CAUSE
 log_status (log.TrapFields row) = WRONG_TRAP_FIELDS
 log_status (log.InterruptValue row) = VALUED_INTERRUPT
 log_status log.TooLong = TOO_MANY_ROWS
+log_status (log.LongerThan most) = TOO_MANY_ROWS
 log_status log.Read = UNREAD
 log_status log.Memory = MEMORY
 
@@ -109,6 +110,7 @@ log_row (log.Cause row) = row
 log_row (log.TrapFields row) = row
 log_row (log.InterruptValue row) = row
 log_row log.TooLong = 0
+log_row (log.LongerThan most) = 0
 log_row log.Read = 0
 log_row log.Memory = 0
 

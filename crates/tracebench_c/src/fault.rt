@@ -118,7 +118,7 @@ fn log_status(why: LogFault) -> u32
         LogFault::Cause(_) => LARGE_CAUSE,
         LogFault::TrapFields(_) => WRONG_TRAP_FIELDS,
         LogFault::InterruptValue(_) => VALUED_INTERRUPT,
-        LogFault::TooLong => TOO_MANY_ROWS,
+        LogFault::TooLong | LogFault::LongerThan(_) => TOO_MANY_ROWS,
         LogFault::Read => UNREAD,
         LogFault::Memory => MEMORY,
     }
