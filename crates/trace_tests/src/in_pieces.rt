@@ -1,6 +1,8 @@
 //! Logs that are read in pieces (`log_pieces`, `side_encoding`): they are as the same logs read as a whole; and which
 //! texts are not read so.
 
+mod settings;
+
 use crate::fixtures::{BACK_JUMP, NOP, add, program_of};
 use crate::packets::legal_log;
 use crate::same::same_at;

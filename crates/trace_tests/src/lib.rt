@@ -1,5 +1,5 @@
 //! Tests of logs, of logs read in pieces, of their packets, of their captures and of what is decoded of them, also after
-//! losses; and of long texts.
+//! losses; of listings, symbols, measures and explanations; of jobs side by side; and of long texts.
 //!
 //! They stand in a crate of their own: the gate proves a crate that has tests once more with them.
 #![tactic(auto)]
@@ -9,15 +9,25 @@ mod audits;
 #[cfg(test)]
 mod decoding;
 #[cfg(test)]
+mod explained;
+#[cfg(test)]
 mod fixtures;
 #[cfg(test)]
 mod in_pieces;
+#[cfg(test)]
+mod jobs;
+#[cfg(test)]
+mod large;
 #[cfg(test)]
 mod logs;
 #[cfg(test)]
 mod long_texts;
 #[cfg(test)]
 mod lossy;
+#[cfg(test)]
+mod measured;
+#[cfg(test)]
+mod named;
 #[cfg(test)]
 mod packets;
 #[cfg(test)]

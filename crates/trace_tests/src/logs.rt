@@ -5,4 +5,5 @@ mod legal_paths;
 mod programs;
 mod refused;
 mod schedules;
+mod streams;
 mod texts;

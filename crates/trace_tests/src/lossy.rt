@@ -2,6 +2,7 @@
 
 mod collected;
 mod faults;
+mod gaps;
 mod many;
 mod small_logs;
 mod worked_logs;

@@ -35,6 +35,20 @@ const CAPTURE: [u8; 134] = [
     0, 0, 4, 0, 0, 0, 0, 0, 0, 0, 1, 0x4f, // closes
 ];
 
+/// The same with full addresses.
+const FULL: [u8; 145] = [
+    0, 0, 0, 0, 0, 0, 0, 0, 0, 0, 2, 0x1f, 0x01, // opens
+    1, 0, 0, 0, 0, 0, 0, 0, 0, 0, 2, 0x1f, 0x01, // opens
+    0, 0, 1, 0, 0, 0, 0, 0, 0, 0, 5, 0x63, 0, 0, 0, 0x20, // the first branch
+    1, 0, 1, 0, 0, 0, 0, 0, 0, 0, 5, 0x63, 0, 0, 0, 0x20, // the first branch
+    0, 0, 2, 0, 0, 0, 0, 0, 0, 0, 1, 0x01, // 31 branches
+    1, 0, 2, 0, 0, 0, 0, 0, 0, 0, 6, 0x0d, 0, 0, 0, 0, 0x01, // three branches, which wait
+    0, 0, 3, 0, 0, 0, 0, 0, 0, 0, 5, 0x05, 0, 0, 0, 0x40, // the last branch, which waits
+    1, 0, 3, 0, 0, 0, 0, 0, 0, 0, 6, 0xf7, 0x23, 0, 0, 0, 0x20, // the interrupt
+    1, 0, 4, 0, 0, 0, 0, 0, 0, 0, 2, 0xcf, 0, // closes
+    0, 0, 4, 0, 0, 0, 0, 0, 0, 0, 1, 0x4f, // closes
+];
+
 /// How many requests come before a message is decoded: for the numbers, the decoders, the lists and the flags of the
 /// harts.
 const BEFORE: usize = 4;
@@ -85,14 +99,20 @@ fn ends_at<R: Abort + AllocGlobal>(rt: &R, place: usize, answer: Answer<'_>) {
     has_first(rt, (place, 1), &outcome, &INTERRUPTED, second);
 }
 
-#[test]
-fn each_request_of_a_decoding(rt: HostRuntime) {
-    let program = program_of(&rt, &[BRANCH_LOOP]);
+/// Ends the test unless each request of the decoding of a capture is refused in turn.
+fn are_refused<R: Abort + AllocGlobal>(rt: &R, capture: &[u8]) {
+    let program = program_of(rt, &[BRANCH_LOOP]);
     for place in 0..BEFORE + ENDS.len() + 1 {
         let heap = Refusing::new(rt.alloc(), place as u64);
-        let answer = decode_capture(&heap, &program, 2, &CAPTURE);
+        let answer = decode_capture(&heap, &program, 2, capture);
         let refused = place < BEFORE + ENDS.len();
-        same_at(&rt, place, heap.has_refused(), refused);
-        ends_at(&rt, place, answer);
+        same_at(rt, place, heap.has_refused(), refused);
+        ends_at(rt, place, answer);
     }
+}
+
+#[test]
+fn each_request_of_a_decoding(rt: HostRuntime) {
+    are_refused(&rt, &CAPTURE);
+    are_refused(&rt, &FULL);
 }

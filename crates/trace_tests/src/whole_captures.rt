@@ -1,14 +1,13 @@
-//! Whole captures (`captures`): of worked logs with each byte changed, of many harts, of long logs, to writers that
-//! fail, and as lines.
+//! Whole captures (`captures`): of worked logs with each byte changed, of long logs, to writers that fail, and as lines.
 
 mod by_bytes;
 mod changed;
-mod copies;
 mod failing;
 mod lines;
 mod long_logs;
 
 use crate::fixtures::add;
+use crate::packets::legal_log;
 use captures::{CaptureOutcome, decode_capture, encode_capture};
 use legalpath::LegalLog;
 use message::{MessageFault, Version};
@@ -28,32 +27,46 @@ fn decoded<R: Abort + AllocGlobal>(
     decode_capture(rt.alloc(), program, harts, capture).expect(rt, "memory")
 }
 
-/// Writes the capture of logs, 1 to 1,024, in differential mode.
+/// The same log for each of these harts.
+fn copies_of<'p, R: Abort + AllocGlobal>(
+    rt: &R,
+    program: &'p Program,
+    log: &[Event],
+    harts: u16,
+) -> Vec<LegalLog<'p>> {
+    let mut logs = Vec::new(rt.alloc());
+    for _ in 0..harts {
+        logs.push(legal_log(rt, program, log)).expect(rt, "memory");
+    }
+    logs
+}
+
+/// Writes the capture of logs, 1 to 1,024, in a version and a mode.
 fn write_capture<R: Abort, W: Write>(
     rt: &R,
     logs: &[LegalLog<'_>],
     period: u16,
-    version: Version,
+    (version, mode): (Version, Mode),
     sink: &mut W,
 ) -> Result<(), MessageFault> {
     let count = logs.len();
     assert!(rt; 0 < count && count <= 1024, "{count} logs");
     let period = period.max(1);
     match version {
-        Version::One => encode_capture(logs, period, Mode::Differential, Version::One, sink),
-        Version::Two => encode_capture(logs, period, Mode::Differential, Version::Two, sink),
+        Version::One => encode_capture(logs, period, mode, Version::One, sink),
+        Version::Two => encode_capture(logs, period, mode, Version::Two, sink),
     }
 }
 
-/// The capture of logs, 1 to 1,024, in differential mode.
+/// The capture of logs, 1 to 1,024, of version 2 in this mode.
 fn capture_of<R: Abort + AllocGlobal>(
     rt: &R,
     logs: &[LegalLog<'_>],
     period: u16,
-    version: Version,
+    mode: Mode,
 ) -> Vec<u8> {
     let mut capture = Vec::new(rt.alloc());
-    write_capture(rt, logs, period, version, &mut capture).expect(rt, "a capture");
+    write_capture(rt, logs, period, (Version::Two, mode), &mut capture).expect(rt, "a capture");
     capture
 }
 
@@ -72,25 +85,29 @@ fn add_messages<R: Abort + AllocGlobal>(
     }
 }
 
-/// What stands before the messages of these harts in a capture of this version, at the period 1,024 in differential
-/// mode.
-fn start_of<R: Abort + AllocGlobal>(rt: &R, version: Version, harts: u16) -> Vec<u8> {
+/// What stands before the messages of these harts in a capture of this version, at the period 1,024 in this mode.
+fn start_of<R: Abort + AllocGlobal>(
+    rt: &R,
+    (version, mode): (Version, Mode),
+    harts: u16,
+) -> Vec<u8> {
     let mut start = Vec::new(rt.alloc());
     if version == Version::Two {
-        add(rt, &mut start, b"\xff\xffrvtrace2\0\0\0\x04");
+        add(rt, &mut start, b"\xff\xffrvtrace2\0");
+        add(rt, &mut start, &[u8::from(mode == Mode::Full), 0, 4]);
         add(rt, &mut start, &harts.to_le_bytes());
     }
     start
 }
 
-/// The capture of these harts, where each sends these payloads, at the period 1,024 in differential mode.
+/// The capture of these harts, where each sends these payloads, at the period 1,024 in this mode.
 fn capture_by_hand<R: Abort + AllocGlobal>(
     rt: &R,
-    version: Version,
+    (version, mode): (Version, Mode),
     harts: u16,
     payloads: &[&[u8]],
 ) -> Vec<u8> {
-    let mut capture = start_of(rt, version, harts);
+    let mut capture = start_of(rt, (version, mode), harts);
     for hart in 0..harts {
         add_messages(rt, &mut capture, hart, payloads);
     }

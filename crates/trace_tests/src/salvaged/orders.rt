@@ -1,6 +1,6 @@
 //! All orders of the messages of two harts, each also doubled.
 
-use super::rows::{Wanted, add_sent, are_wanted, copies_and_late, log_of, salvaged_of};
+use super::rows::{Wanted, add_sent, are_wanted, copies_and_late, log_of, mode_of, salvaged_of};
 use crate::fixtures::{NOP, program_of};
 use crate::packets::{legal_log, sourced};
 use crate::same::same_at;
@@ -37,7 +37,7 @@ fn order_of<R: Abort + AllocGlobal>(rt: &R, number: usize) -> Vec<(u16, usize)> 
 fn are_left<R: Abort + AllocGlobal>(
     rt: &R,
     place: usize,
-    program: &Program,
+    (program, mode): (&Program, Mode),
     (log, payloads): (&[Event], &[Payload]),
     order: &[(u16, usize)],
 ) {
@@ -45,7 +45,7 @@ fn are_left<R: Abort + AllocGlobal>(
     for sent in order {
         add_sent(rt, &mut messages, payloads, *sent);
     }
-    let salvaged = salvaged_of(rt, place, program, &messages);
+    let salvaged = salvaged_of(rt, place, program, mode, &messages);
     same_at(
         rt,
         place,
@@ -60,18 +60,21 @@ fn are_left<R: Abort + AllocGlobal>(
     }
 }
 
-/// Whatever the order, the logs are left whole, and also where all messages come in it once more.
+/// Whatever the order, the logs are left whole, and also where all messages come in it once more, in the other mode.
 #[test]
 fn all_orders(rt: HostRuntime) {
     let program = program_of(&rt, &[NOP]);
     let log = log_of(&rt, 1);
-    let payloads = sourced(&rt, &legal_log(&rt, &program, &log), 2, Mode::Differential);
+    let legal = legal_log(&rt, &program, &log);
     for place in 0..ORDERS {
+        let (one, other) = (mode_of(place), mode_of(place + 1));
         let mut order = order_of(&rt, place);
         same_at(&rt, place, order.len(), SENT.len());
-        are_left(&rt, place, &program, (&log, &payloads), &order);
+        let payloads = sourced(&rt, &legal, 2, one);
+        are_left(&rt, place, (&program, one), (&log, &payloads), &order);
         let again = order.to_vec(rt.alloc()).expect(&rt, "memory");
         order.extend_from_slice(&again).expect(&rt, "memory");
-        are_left(&rt, place, &program, (&log, &payloads), &order);
+        let payloads = sourced(&rt, &legal, 2, other);
+        are_left(&rt, place, (&program, other), (&log, &payloads), &order);
     }
 }

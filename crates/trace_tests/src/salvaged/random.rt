@@ -1,6 +1,6 @@
 //! Random messages of logs, in any order and with repeats.
 
-use super::rows::{add_sent, are_wanted, copies_and_late, log_of, salvaged_of, wanted_of};
+use super::rows::{add_sent, are_wanted, copies_and_late, log_of, mode_of, salvaged_of, wanted_of};
 use crate::fixtures::{NOP, program_of};
 use crate::packets::{legal_log, sourced};
 use crate::same::same_at;
@@ -56,7 +56,7 @@ fn came_of(drawn: &[(u16, usize)], hart: u16) -> [bool; SENT] {
 fn are_left<R: Abort + AllocGlobal>(
     rt: &R,
     place: usize,
-    program: &Program,
+    (program, mode): (&Program, Mode),
     (log, payloads): (&[Event], &[Payload]),
     drawn: &[(u16, usize)],
 ) {
@@ -64,7 +64,7 @@ fn are_left<R: Abort + AllocGlobal>(
     for sent in drawn {
         add_sent(rt, &mut messages, payloads, *sent);
     }
-    let salvaged = salvaged_of(rt, place, program, &messages);
+    let salvaged = salvaged_of(rt, place, program, mode, &messages);
     same_at(
         rt,
         place,
@@ -81,16 +81,18 @@ fn are_left<R: Abort + AllocGlobal>(
     }
 }
 
-/// In each round other messages come, from none to 59.
+/// In each round other messages come, from none to 59; behind each 60 rounds in the other mode.
 #[test]
 fn random_messages(rt: HostRuntime) {
     let program = program_of(&rt, &[NOP; WORDS]);
     let log = log_of(&rt, WORDS);
-    let payloads = sourced(&rt, &legal_log(&rt, &program, &log), 2, Mode::Differential);
-    same_at(&rt, "sent", payloads.len(), SENT);
+    let legal = legal_log(&rt, &program, &log);
     let mut state = 1;
     for place in 0..ROUNDS {
+        let mode = mode_of(place / 60);
+        let payloads = sourced(&rt, &legal, 2, mode);
+        same_at(&rt, "sent", payloads.len(), SENT);
         let drawn = drawn(&rt, &mut state, place % 60);
-        are_left(&rt, place, &program, (&log, &payloads), &drawn);
+        are_left(&rt, place, (&program, mode), (&log, &payloads), &drawn);
     }
 }

@@ -22,6 +22,15 @@ pub(crate) fn add_sent<R: Abort>(
     add(rt, messages, hart, number as u64, payload.bytes());
 }
 
+/// The mode of the round with this number: the other one from round to round.
+pub(crate) fn mode_of(round: usize) -> Mode {
+    if round % 2 == 0 {
+        Mode::Differential
+    } else {
+        Mode::Full
+    }
+}
+
 /// The log of this many words, one after the other.
 pub(crate) fn log_of<R: Abort + AllocGlobal>(rt: &R, count: usize) -> Vec<Event> {
     let mut log = Vec::new(rt.alloc());
@@ -162,14 +171,15 @@ fn has_greater(numbers: &[usize], number: usize) -> bool {
     false
 }
 
-/// What is salvaged of messages of two harts.
+/// What is salvaged of messages of two harts in a mode.
 pub(crate) fn salvaged_of<P: Debug + Drop, R: Abort + AllocGlobal>(
     rt: &R,
     place: P,
     program: &Program,
+    mode: Mode,
     messages: &[Message],
 ) -> Salvaged {
-    match salvage(rt.alloc(), program, 2, Mode::Differential, messages) {
+    match salvage(rt.alloc(), program, 2, mode, messages) {
         Ok(salvaged) => salvaged,
         Err(why) => panic!(rt; "at {place:?}: {why:?}"),
     }

@@ -2,8 +2,9 @@
 
 use super::by_bytes::stop_of;
 use super::{decoded, is_whole};
-use crate::fixtures::Step::{self, Retires, Traps};
-use crate::fixtures::{BASE, FAR, JUMP_LOOP, NOP, log_of, program_of};
+use crate::fixtures::Step::{self, Retires};
+use crate::fixtures::{JUMP_LOOP, NOP, log_of, program_of};
+use crate::large::{KINDS, WORDS};
 use captures::{CaptureFault, CaptureOutcome};
 use decoder::DecodeFault;
 use retire::Event;
@@ -41,19 +42,32 @@ const JUMPS: Row = (
     &[(0, 0), (12, 0), (28, 1), (48, 2), (60, 2)],
 );
 
-/// An exception with its handler.
-const EXCEPTION: Row = (
-    &FAR,
-    b"\0\0\0\0\0\0\0\0\0\0\x01\x1f\
-      \0\0\x01\0\0\0\0\0\0\0\x05\x73\0\0\0\x20\
-      \0\0\x02\0\0\0\0\0\0\0\x06\xf7\x45\x40\0\0\x20\
-      \0\0\x03\0\0\0\0\0\0\0\x02\xcf\0",
+/// Each kind of packet but a map, with full addresses.
+const EACH_KIND: Row = (
+    &WORDS,
+    b"\0\0\0\0\0\0\0\0\0\0\x02\x1f\x01\
+      \0\0\x01\0\0\0\0\0\0\0\x06\xf7\x05\0\0\0\x20\
+      \0\0\x02\0\0\0\0\0\0\0\x05\x73\0\0\0\x20\
+      \0\0\x03\0\0\0\0\0\0\0\x05\x0a\0\0\0\x01\
+      \0\0\x04\0\0\0\0\0\0\0\x06\xf7\x63\x05\0\0\x20\
+      \0\0\x05\0\0\0\0\0\0\0\x05\x13\x03\0\0\x20\
+      \0\0\x06\0\0\0\0\0\0\0\x09\x22\0\0\0\x01\0\0\0\xfe\
+      \0\0\x07\0\0\0\0\0\0\0\x09\x02\0\0\0\x01\0\0\0\xfc\
+      \0\0\x08\0\0\0\0\0\0\0\x06\x17\x01\x01\0\0\x20\
+      \0\0\x09\0\0\0\0\0\0\0\x02\xcf\0",
+    KINDS,
     &[
-        Retires(0, 0, 3),
-        Traps(BASE + 4, 3, false, 0xb, 0),
-        Retires(0x100, 0, 3),
+        (0, 0),
+        (13, 0),
+        (30, 1),
+        (46, 2),
+        (62, 2),
+        (79, 5),
+        (95, 6),
+        (115, 7),
+        (135, 9),
+        (152, 10),
     ],
-    &[(0, 0), (12, 0), (28, 1), (45, 3)],
 );
 
 /// The message in which a byte stands, by its number, and how many events are known before it.
@@ -145,7 +159,7 @@ fn change_each_byte<R: Abort + AllocGlobal>(rt: &R, (words, bytes, steps, messag
 
 #[test]
 fn each_byte_changed(rt: HostRuntime) {
-    for row in [TWO_WORDS, JUMPS, EXCEPTION] {
+    for row in [TWO_WORDS, JUMPS, EACH_KIND] {
         change_each_byte(&rt, &row);
     }
 }

@@ -1,30 +1,25 @@
-//! Captures of one hart with many events and messages.
+//! Captures of one hart with many events.
 
-use super::copies::copies_of;
-use super::{capture_of, decoded, is_whole};
+use super::{capture_of, copies_of, decoded, is_whole};
 use crate::fixtures::{short_log, short_words};
 use crate::same::same_at;
 use captures::read_messages;
-use message::Version;
+use payload::Mode;
 use std::process::Abort;
 
-/// The capture of a log that retires each of this count of words once, at this period, has this many messages, and
-/// decodes to the log.
-fn comes_back<R: Abort + AllocGlobal>(rt: &R, count: u32, period: u16, messages: usize) {
-    let program = short_words(rt, count);
-    let log = short_log(rt, count);
-    let logs = copies_of(rt, &program, &log, 1);
-    let capture = capture_of(rt, &logs, period, Version::Two);
-    let outcome = decoded(rt, &program, 1, &capture);
-    assert!(rt; is_whole(&outcome, 1, &log), "{count} events");
-    let whole = read_messages(rt.alloc(), &capture).expect(rt, "messages");
-    same_at(rt, count, whole.messages.len(), messages);
-}
-
-/// Beside the packets that open and close the trace, the first log has 512 synchronisations, an address before each but
-/// the first, and the last address. The second has a synchronisation for each event.
+/// The capture of a log that retires 524,288 words once has 1,026 messages in each mode, and decodes to the log: beside
+/// the packets that open and close the trace, there are 512 synchronisations, an address before each but the first, and
+/// the last address.
 #[test]
 fn long_logs(rt: HostRuntime) {
-    comes_back(&rt, 524_288, 1024, 1_026);
-    comes_back(&rt, 70_000, 1, 70_002);
+    let program = short_words(&rt, 524_288);
+    let log = short_log(&rt, 524_288);
+    let logs = copies_of(&rt, &program, &log, 1);
+    for mode in [Mode::Differential, Mode::Full] {
+        let capture = capture_of(&rt, &logs, 1024, mode);
+        let outcome = decoded(&rt, &program, 1, &capture);
+        same_at(&rt, mode, is_whole(&outcome, 1, &log), true);
+        let whole = read_messages(rt.alloc(), &capture).expect(&rt, "messages");
+        same_at(&rt, mode, whole.messages.len(), 1_026);
+    }
 }

@@ -1,23 +1,50 @@
 //! What `check` returns for logs.
 
+ghost use Rattle.std.specs.Prelude.{◌≤◌, length};
+
 use crate::fixtures::Step::{self, Retires, Traps};
 use crate::fixtures::{
     BASE, BEQ, ECALL, JAL, MRET, NOP, RET, SRET, event_of, log_of, program_of, retired,
 };
 use crate::same::same_at;
-use legalpath::check;
+use legalpath::{PathCheck, PathFault, check};
 use retire::Event;
 use rvclass::Program;
 use std::process::Abort;
 
-/// What `check` returns for a log, as the program prints it, is this.
-fn prints<R: Abort + AllocGlobal>(rt: &R, program: &Program, log: &[Event], want: &str) {
-    assert!(rt; log.len() <= 100, "a log is too long");
-    let printed = match check(program, log) {
+/// What a log is found to be, as the program prints it.
+fn printed<R: Abort + AllocGlobal>(rt: &R, log: &[Event], found: Result<(), PathFault>) -> String {
+    let text = match found {
         Ok(()) => format!(in rt.alloc(); "legal, {} events", log.len()),
         Err(fault) => format!(in rt.alloc(); "{fault}"),
     };
-    same_at(rt, log, printed.expect(rt, "memory").as_str(), want);
+    text.expect(rt, "memory")
+}
+
+/// What a checker returns for a log that comes in two pieces, the first of so many events.
+fn checked_in_pieces(program: &Program, log: &[Event], count: usize) -> Result<(), PathFault>
+    requires { length log.now ≤ 100 }
+{
+    let (front, rest) = log.split_at(count.min(log.len()));
+    let mut checker = PathCheck::new();
+    checker.pass(program, front)?;
+    checker.pass(program, rest)
+}
+
+/// What `check` returns for a log, as the program prints it, is this. So it is for the log in two pieces, wherever the
+/// first ends.
+fn prints<R: Abort + AllocGlobal>(rt: &R, program: &Program, log: &[Event], want: &str) {
+    assert!(rt; log.len() <= 100, "a log is too long");
+    same_at(
+        rt,
+        log,
+        printed(rt, log, check(program, log)).as_str(),
+        want,
+    );
+    for count in 0..log.len().saturating_add(1) {
+        let found = checked_in_pieces(program, log, count);
+        same_at(rt, log, printed(rt, log, found).as_str(), want);
+    }
 }
 
 /// The words of a program, a log, and what is printed of it.

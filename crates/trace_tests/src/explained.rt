@@ -1,0 +1,133 @@
+//! Why rows are illegal, in a line each, at the first rows and far behind them (`explaining`).
+
+use crate::fixtures::Step::{self, Retires, Traps};
+use crate::fixtures::{BACK_JUMP, BASE, BEQ, ECALL, MRET, NOP, event_of, program_of, retired};
+use crate::same::same_at;
+use explaining::explain;
+use legalpath::{PathFault, Why, check};
+use retire::Event;
+use rvclass::Program;
+use std::process::Abort;
+
+/// The words: the first two follow each other again and again.
+const WORDS: [u32; 6] = [NOP, BACK_JUMP, ECALL, BEQ, NOP, MRET];
+
+/// An event behind the jump back, why it is illegal, and the line that explains it.
+type Row = (Step, Why, &'static str);
+
+const ROWS: [Row; 10] = [
+    (
+        Retires(0x18, 0, 3),
+        Why::OffProgram,
+        "  80000018: no whole word: the image is 80000000 to 80000017\n",
+    ),
+    (
+        Retires(8, 0, 3),
+        Why::NotRetirable,
+        "  80000008: 00000073 does not retire\n",
+    ),
+    (
+        Retires(0, 4, 3),
+        Why::WrongType,
+        "  80000000: 00000013 is a plain word: its type is 0\n",
+    ),
+    (
+        Traps(BASE, 3, true, 7, 1),
+        Why::WrongType,
+        "  80000000: an interrupt from privilege 3: its value is 0\n",
+    ),
+    (
+        Traps(BASE, 3, false, 0x40, 0),
+        Why::WrongType,
+        "  80000000: an exception from privilege 3: its cause is at most 3f\n",
+    ),
+    (
+        Retires(0xc, 4, 3),
+        Why::WrongNext,
+        "  80000004: ffdff06f is a jump: 80000000 follows\n",
+    ),
+    (
+        Retires(0, 0, 2),
+        Why::WrongPrivilege,
+        "  80000000: 00000013 is a plain word: its privilege is 0, 1 or 3\n",
+    ),
+    (
+        Retires(0, 0, 1),
+        Why::WrongPrivilege,
+        "  80000004: ffdff06f is a jump: privilege 3 follows\n",
+    ),
+    (
+        Traps(BASE + 1, 3, false, 2, 0),
+        Why::WrongEpc,
+        "  80000001: an exception from privilege 3: its address is even\n",
+    ),
+    (
+        Traps(BASE + 0x10, 3, true, 7, 0),
+        Why::WrongEpc,
+        "  80000004: ffdff06f is a jump: 80000000 follows\n",
+    ),
+];
+
+/// The log of the word and the jump back to it, in turn, at most 70,000 events.
+fn turns<R: Abort + AllocGlobal>(rt: &R, count: u32) -> Vec<Event> {
+    let mut log = Vec::new(rt.alloc());
+    for number in 0..u64::from(count.min(70_000)) {
+        log.push(retired(number % 2 * 4, 0, 3)).expect(rt, "memory");
+    }
+    log
+}
+
+/// Ends the test unless this line explains the fault of a log.
+fn is_explained<R: Abort + AllocGlobal>(
+    rt: &R,
+    program: &Program,
+    log: &[Event],
+    fault: PathFault,
+    wanted: &str,
+) {
+    let mut text = Vec::new(rt.alloc());
+    same_at(rt, fault, explain(program, log, fault, &mut text), Ok(()));
+    same_at(rt, fault, text.as_slice(), wanted.as_bytes());
+}
+
+/// Ends the test unless each row is refused and explained where it stands behind so many legal ones.
+fn are_explained<R: Abort + AllocGlobal>(rt: &R, program: &Program, count: u32) {
+    for (step, why, wanted) in ROWS {
+        let mut log = turns(rt, count);
+        log.push(event_of(step)).expect(rt, "memory");
+        assert!(rt; log.len() <= 70_001, "a log is too long");
+        let fault = PathFault {
+            row: count.saturating_add(1),
+            why,
+        };
+        same_at(rt, fault, check(program, &log), Err(fault));
+        is_explained(rt, program, &log, fault, wanted);
+    }
+}
+
+#[test]
+fn each_fault_at_far_rows(rt: HostRuntime) {
+    let program = program_of(&rt, &WORDS);
+    for count in [2u32, 4, 6, 8, 64, 1_024, 70_000] {
+        are_explained(&rt, &program, count);
+    }
+}
+
+/// The line of each row for a fault of its type, whatever the type is.
+#[test]
+fn each_row(rt: HostRuntime) {
+    let program = program_of(&rt, &WORDS);
+    let log = turns(&rt, 70_000);
+    for row in 1..70_001u32 {
+        let wanted = if row % 2 == 1 {
+            "  80000000: 00000013 is a plain word: its type is 0\n"
+        } else {
+            "  80000004: ffdff06f is a jump: its type is 0\n"
+        };
+        let fault = PathFault {
+            row,
+            why: Why::WrongType,
+        };
+        is_explained(&rt, &program, &log, fault, wanted);
+    }
+}
