@@ -10,6 +10,8 @@ NEED_WORDS = ["examples", "fuzz/fuzz", "fuzz-c/fuzz-c", "record", "side-by-side"
 SCRIPTS = NEED_WORDS + [
     "at-scale",
     "check-docs",
+    "crate-graph",
+    "definitions-below",
     "error-lines",
     "long-edits/check-functions",
     "long-edits/long-edits",
