@@ -4,7 +4,8 @@ import tempfile
 import unittest
 
 from support import (
-    BASE, LOOP, MACHINE, MRET, NOP, RECORDED, USER, Run, at, exception, image_of, interrupt, record, recorded, trace, traces,
+    BASE, LOOP, MACHINE, MRET, NOP, RECORDED, USER, Run, at, exception, first_illegal, image_of, interrupt, reading, record,
+    recorded, trace, traces,
 )
 
 from recording import noticed, qemu
@@ -147,24 +148,36 @@ class Rv32(unittest.TestCase):
 class Recorded(unittest.TestCase):
     """Recordings of `programs/record-forms`, those of each version alike."""
 
-    def record(self, name, version, image, *more):
+    def record(self, name, version, image):
+        """Status, output and errors, and of each log whether it is legal."""
+        program = reading.Program(BASE, recorded(image))
         with tempfile.TemporaryDirectory() as folder:
             given = recorded(f"{name}_{version}.log.xz")
-            ran = record("qemu", *more, f"{BASE:x}", os.path.join(RECORDED, image), "-", folder, given=given)
-        return ran.returncode, ran.stdout.decode(), ran.stderr.decode()
+            ran = record("qemu", f"{BASE:x}", os.path.join(RECORDED, image), "-", folder, given=given)
+            logs = []
+            for log in sorted(os.listdir(folder)):
+                with open(os.path.join(folder, log)) as file:
+                    logs.append(first_illegal(program, file.read()) is None)
+        return ran.returncode, ran.stdout.decode(), ran.stderr.decode(), logs
 
     def check(self, name, want, image="page.bin"):
         for version in VERSIONS:
             with self.subTest(version=version):
-                status, _, text = self.record(name, version, image)
+                status, _, text, _ = self.record(name, version, image)
                 self.assertEqual((status, text), (1, "".join(f"record: {line}\n" for line in want)))
 
     def test_good_ones(self):
         for name in ("page", "page32"):
             for version in VERSIONS:
-                status, text, errors = self.record(name, version, name + ".bin")
-                self.assertEqual((status, errors), (0, ""), text)
+                status, text, errors, logs = self.record(name, version, name + ".bin")
+                self.assertEqual((status, errors, logs), (0, "", [True, True]), text)
                 self.assertEqual(text.count(", 1 traps; "), 2)
+
+    def test_useless_ones_are_not_legal(self):
+        """Lines of threads may be in order, and here the last instruction is the one that is announced twice."""
+        for name in ("blocks", "no_int"):
+            for version in VERSIONS:
+                self.assertIn(False, self.record(name, version, "page.bin")[3], name)
 
     def test_blocks(self):
         self.check("blocks", [qemu.BLOCKS_TEXT])
@@ -207,7 +220,7 @@ class Kernel(unittest.TestCase):
                 with open(os.path.join(folder, "hart00.csv")) as file:
                     text = file.read()
             self.compare(text, given.decode())
-            self.assertIsNone(self.first_illegal(text))
+            self.assertIsNone(first_illegal(reading.Program(BASE, recorded("sv39.bin")), text))
             outside = self.outside(given.decode())
             self.assertIn(f", {outside} instructions outside\n", ran.stdout.decode())
 
@@ -227,11 +240,6 @@ class Kernel(unittest.TestCase):
                 self.assertEqual(row[2] == "0", row[0].startswith("4000"), row)
             else:
                 self.assertTrue(row[0].startswith("8000"))
-
-    def first_illegal(self, text):
-        from support import first_illegal, reading
-
-        return first_illegal(reading.Program(BASE, recorded("sv39.bin")), text)
 
     def outside(self, given):
         """How many instructions retire at 40000000 and above: announced, and neither stopped nor trapping themselves."""

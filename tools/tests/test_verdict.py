@@ -187,11 +187,19 @@ class StandIn(unittest.TestCase):
 
 @unittest.skipUnless(TRACEBENCH, "TRACEBENCH does not name the program")
 class WithTheProgram(unittest.TestCase):
+    RUNS = (
+        ("four.log.xz", "four.bin", 4, []),
+        ("behind_trap.log.xz", "behind_trap.bin", 1, []),
+        ("faults.log.xz", "faults.bin", 1, []),
+        ("page_10.0.log.xz", "page.bin", 2, []),
+        ("sv39_7.2.log.xz", "sv39.bin", 1, ["--inside"]),
+    )
+
     def test_recorded_runs(self):
-        for name, harts in (("four", 4), ("behind_trap", 1), ("faults", 1)):
+        for recording, name, harts, flags in self.RUNS:
             with tempfile.TemporaryDirectory() as folder:
-                image = os.path.join(RECORDED, f"{name}.bin")
-                record("qemu", f"{BASE:x}", image, "-", folder, given=recorded(f"{name}.log.xz"))
+                image = os.path.join(RECORDED, name)
+                record("qemu", *flags, f"{BASE:x}", image, "-", folder, given=recorded(recording))
                 logs = [os.path.join(folder, f"hart{hart:02}.csv") for hart in range(harts)]
                 for mode in ([], ["--full"]):
                     words = ["--periods", "1,7,1024", *mode, f"{BASE:x}", image, *logs]
