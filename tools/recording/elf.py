@@ -5,6 +5,7 @@ from recording.image import LARGEST_IMAGE
 from recording.unusable import Unusable
 
 EXECUTABLE = 1  # the flag of a segment
+ALLOCATED, CODE = 2, 4  # flags of a section
 MAGIC = b"\x7fELF"
 LEFT_OUT = "STT_SECTION", "STT_FILE"  # kinds of symbols that name nothing of the program
 
@@ -31,10 +32,23 @@ def opened(path):
             raise Unusable(f"{path} is no whole ELF file: {error}")
 
 
+def start_of(elf):
+    """Where the program begins: at its first section that is loaded. None where there is no section."""
+    loaded = [part for part in elf.iter_sections() if part["sh_flags"] & ALLOCATED and part["sh_type"] != "SHT_NOBITS"]
+    return min((part["sh_addr"] for part in loaded if part["sh_size"]), default=None)
+
+
 def segments_of(elf):
-    """Address, bytes and flags of each segment that is loaded and has bytes in the file."""
-    loaded = [part for part in elf.iter_segments("PT_LOAD") if part["p_filesz"]]
-    return sorted((part["p_vaddr"], part.data(), part["p_flags"]) for part in loaded)
+    """Address, bytes and flags of each segment that is loaded and has bytes in the file. What lies before the program is left
+    out: the headers of the file, which may be loaded too."""
+    headers, start = elf["e_phoff"] + elf["e_phnum"] * elf["e_phentsize"], start_of(elf)
+    segments = []
+    for part in elf.iter_segments("PT_LOAD"):
+        address = part["p_vaddr"]
+        cut = max(headers - part["p_offset"], 0) if start is None else max(start - address, 0)
+        if cut < part["p_filesz"]:
+            segments.append((address + cut, part.data()[cut:], part["p_flags"]))
+    return sorted(segments)
 
 
 def length(segments):
@@ -70,7 +84,7 @@ def letter_of(elf, symbol):
     section = symbol["st_shndx"]
     if not symbol.name or symbol.name.startswith("$") or symbol["st_info"]["type"] in LEFT_OUT or section == "SHN_UNDEF":
         return None
-    is_code = isinstance(section, int) and elf.get_section(section)["sh_flags"] & 4
+    is_code = isinstance(section, int) and elf.get_section(section)["sh_flags"] & CODE
     letter = "A" if section == "SHN_ABS" else "T" if is_code else "D"
     return letter.lower() if symbol["st_info"]["bind"] == "STB_LOCAL" else letter
 

@@ -70,6 +70,12 @@ class Read(Files):
         content = elf_of((0x20000000, image_of(NOP), READ_EXECUTE), (BASE, image_of(NOP), READ_EXECUTE))
         self.refused(content, "do not lie within 16777216 bytes")
 
+    def test_headers_that_are_loaded_are_left_out(self):
+        """The first segment of this file begins with the file's own headers, and the file has no sections."""
+        content = bytearray(elf_of((BASE, image_of(NOP), READ_EXECUTE)))
+        struct.pack_into("<QQQQ", content, 64 + 8, 0, BASE - 120, BASE - 120, 124)
+        self.assertEqual(self.image(bytes(content)), (BASE, image_of(NOP)))
+
     def test_nothing_that_is_loaded(self):
         self.refused(elf_of(), "do not lie within")
 
@@ -104,13 +110,13 @@ class Read(Files):
             ran = record(*words, given=recorded(f"user_{version}.log.xz"))
             self.assertEqual((ran.returncode, ran.stderr), (0, b""))
             first, second = ran.stdout.decode().splitlines()
-            self.assertTrue(first.startswith("image: base 10000, "))
+            self.assertTrue(first.startswith("image: base 100b0, 42 bytes; "), first)
             self.assertTrue(first.endswith(f"; written to {image}, symbols to {image}.symbols"))
             self.assertTrue(second.startswith("hart 0: 83 rows, 83 retirements, 0 traps; last at 100cc: "), second)
             with open(image, "rb") as file:
                 content = file.read()
-            self.assertEqual(content[0xC2:0xC6] + content[0xD0:0xD4], image_of(NOP, NOP))
-            self.assertEqual(content[:0xC2], recorded("user.elf")[:0xC2])
+            self.assertEqual(content[0x12:0x16] + content[0x20:0x24], image_of(NOP, NOP))
+            self.assertEqual(content[:0x12], recorded("user.elf")[0xB0:0xC2])
             with open(image + ".symbols") as file:
                 self.assertIn("T _start\n", file.read())
 
