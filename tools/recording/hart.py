@@ -101,7 +101,9 @@ class Hart:
             self.withdraw()
         else:
             trap.same = self.reach(epc, shown)
-        if self.has_begun and not self.why_ended:
+        if not self.has_begun:
+            self.before = UNKNOWN
+        elif not self.why_ended:
             trap.level, trap.before = shown if self.before else self.level, self.before
             self.trapped = trap
 
@@ -156,13 +158,17 @@ class Hart:
         found = self.go_back(MACHINE, address, level) if self.last.is_trap else None
         lowest, highest = self.last.levels_behind()
         if level is not None and not lowest <= level <= highest:
-            self.end(f"came back at {address:x} at level {level}, where no row may follow")
+            self.end_at(address, level)
         return found
+
+    def end_at(self, address, level):
+        """The last row does not lead to this level, so the log ends before an event at an address."""
+        self.end(f"came back at {address:x} at level {level}, where no row may follow")
 
     def go_back(self, highest, address, level):
         """A return, which leads to no level above `highest`, leads to an address: sets the level of the open trap that it goes
         back from, or returns the trap where the level is not known yet."""
-        found = self.opened.take(address, self.depth)
+        found = self.opened.take(address, self.depth, level)
         epc, level_of_trap = self.taken.pop() if self.taken else (None, None)
         is_nested = epc is not None and address - epc in AT_OR_BEHIND
         self.depth = max(self.depth - 1, 0)
@@ -170,7 +176,7 @@ class Hart:
         if level is None:
             return found
         if not is_nested:
-            found = found or self.opened.last_at(address)
+            found = found or self.opened.last_at(address, level)
         self.set_level(found, level)
         return None
 
@@ -182,10 +188,8 @@ class Hart:
                 self.files.set_digit(place, level)
 
     def is_left_out(self, trap, handler):
-        """Whether a trap is one of what is outside, `handler` the address of its handler, None if that is not known."""
-        if not self.has_inside or handler is not None and handler in self.image:
-            return False
-        return self.is_outside or trap.epc not in self.image
+        """Whether a trap is outside, its place and `handler`, the address of its handler, which is None if not known."""
+        return self.has_inside and trap.epc not in self.image and (handler is None or handler not in self.image)
 
     def settle(self, handler, level_of_handler):
         """Writes the row of the trap that has none yet; address and level of its handler are None where not known."""
@@ -199,10 +203,12 @@ class Hart:
                 return
             if trap.level is None:
                 trap.before = self.before.within(*self.last.levels_behind())
+                if level_of_handler is not None and trap.before.lowest > level_of_handler:
+                    return self.end_at(trap.epc, level_of_handler)
         level = trap.likely_level(level_of_handler) if trap.level is None else trap.level
-        self.write(trap, level)
+        self.write(trap, level, level_of_handler)
 
-    def write(self, trap, level):
+    def write(self, trap, level, level_of_handler):
         """Writes the row of a trap, at a level."""
         self.before = Before(max(level, SUPERVISOR), MACHINE, is_trap=True)
         self.rows.append(trap.row(level))
@@ -214,10 +220,17 @@ class Hart:
         self.taken.append((trap.epc, level))
         self.last, trap.written = trap, level
         if trap.level is None:
+            self.open(trap, level, MACHINE if level_of_handler is None else level_of_handler)
+
+    def open(self, trap, level, level_of_handler):
+        """Keeps the last row, that of a trap at a likely level, until its level is seen."""
+        place = trap.place_of_level(self.files.place_of_last())
+        found = Open(self.depth, [place], level, trap.before.lowest, min(trap.before.highest, level_of_handler))
+        if trap.same and trap.same.allows(level):
             self.set_level(trap.same, level)
-            places = trap.same.places if trap.same else []
-            places.append(trap.place_of_level(self.files.place_of_last()))
-            self.opened.add(trap.epc, Open(self.depth, places, level))
+            found.places = [*trap.same.places, place]
+            found.lowest, found.highest = max(found.lowest, trap.same.lowest), min(found.highest, trap.same.highest)
+        self.opened.add(trap.epc, found)
 
     def flush(self):
         """Gives the rows to `files`."""

@@ -9,11 +9,15 @@ MOST_KEPT = 10_000  # places of one hart, so that a run of any length takes no m
 
 
 class Open:
-    """A trap whose level is not seen yet, and those before it at the same address with nothing retired between them: the places
-    of their digits, and the level that is written there."""
+    """A trap whose level is not seen yet, and those before it at the same address with nothing retired between them: the
+    places of their digits, the level that is written there, and the lowest and the highest with which the log is legal."""
 
-    def __init__(self, depth, places, level):
-        self.depth, self.places, self.level = depth, places, level
+    def __init__(self, depth, places, level, lowest, highest):
+        self.depth, self.places, self.level, self.lowest, self.highest = depth, places, level, lowest, highest
+
+    def allows(self, level):
+        """Whether it may have a level, None where that is not known."""
+        return level is None or self.lowest <= level <= self.highest
 
 
 class OpenTraps:
@@ -46,18 +50,19 @@ class OpenTraps:
         if not self.at[address]:
             del self.at[address]
 
-    def take(self, address, depth):
-        """The trap that a return at this depth to this address goes back from, which is kept no more; None if there is none."""
+    def take(self, address, depth, level):
+        """The trap that a return at this depth to this address and level goes back from, which is kept no more; None if there
+        is none."""
         for found in reversed(self.at.get(address, ())):
-            if found.depth == depth:
+            if found.depth == depth and found.allows(level):
                 self.remove(address, found)
                 return found
         return None
 
-    def last_at(self, address):
-        """The last trap at this address, which stays open: where traps and returns do not nest, a return at another depth that
-        goes there shows its level too, if less surely."""
-        return self.at[address][-1] if address in self.at else None
+    def last_at(self, address, level):
+        """The last trap at this address, which stays open: where traps and returns do not nest, a return at another depth
+        that goes there at a level shows its level too, if less surely."""
+        return next((found for found in reversed(self.at.get(address, ())) if found.allows(level)), None)
 
     def guessed(self):
         """How many traps no return at their depth went back from."""

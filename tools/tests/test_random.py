@@ -6,6 +6,7 @@ the recording cuts.
 """
 import random
 import unittest
+from itertools import dropwhile, zip_longest
 
 from support import BEQ_8, MACHINE, MRET, NOP, RET, SRET, STOPPED, SUPERVISOR, USER, Run, at, image_of, trace, trap_line
 
@@ -117,3 +118,46 @@ class Random(unittest.TestCase):
                 lines += hart.lines
                 hart.lines = []
             list(self.compare(Run(IMAGE, lines), harts))
+
+
+class Inside(unittest.TestCase):
+    """The same runs with an image that has only some of the words: `--inside` leaves out what stands elsewhere."""
+
+    def wanted(self, hart, first, last):
+        """The rows that are left, by the rules of docs/RECORDING.md."""
+        def is_inside(row):
+            return row is not None and at(first) <= int(row.split(",")[0], 16) < at(last)
+
+        rows = []
+        for row, following in zip_longest(hart.rows, hart.rows[1:]):
+            if is_inside(row) or row.split(",")[1] in "12" and is_inside(following):
+                rows.append(row)
+        return rows
+
+    def from_first_instruction(self, rows):
+        """The rows without the traps at the beginning: whether these have rows depends on the line of an instruction that fails."""
+        return list(dropwhile(lambda row: row.split(",")[1] in "12", rows))
+
+    def test_what_is_left(self):
+        count, ended, wrong_levels, guessed = 0, 0, 0, 0
+        for seed in range(150):
+            draw = random.Random(seed)
+            hart = MadeUpHart(draw)
+            for _ in range(400):
+                hart.step()
+            first = draw.randrange(25)
+            last = draw.randrange(first + 10, len(WORDS) + 1)
+            run = Run(image_of(*WORDS[first:last]), hart.lines, has_inside=True, base=at(first))
+            rows, want = map(self.from_first_instruction, (run.rows(), self.wanted(hart, first, last)))
+            self.assertEqual(without_levels(rows), without_levels(want[: len(rows)]), seed)
+            self.assertIsNone(run.first_illegal(), seed)
+            self.assertEqual(run.warnings, [])
+            is_whole = run.harts.are_whole()
+            self.assertTrue(len(rows) >= len(want) - 2 if is_whole else rows or not want, seed)
+            count += len(rows)
+            ended += not is_whole
+            wrong_levels += sum(row != other for row, other in zip(rows, want))
+            guessed += run.harts.found[0].opened.guessed()
+        self.assertGreater(count, 10_000)
+        self.assertLess(ended, 150)
+        self.assertLessEqual(wrong_levels, guessed)
