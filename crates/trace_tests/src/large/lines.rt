@@ -51,7 +51,7 @@ fn say_decimal<R: Abort>(rt: &R, text: &mut Vec<u8>, number: u64) {
 
 /// Adds an offset in a capture: eight hexadecimal digits.
 pub(crate) fn say_offset<R: Abort>(rt: &R, text: &mut Vec<u8>, offset: usize) {
-    let mut left = offset as u32;
+    let mut left = (offset % (1 << 32)) as u32;
     for _ in 0..8u32 {
         left = left.rotate_left(4);
         add(rt, text, &[digit_of(u64::from(left % 16))]);
