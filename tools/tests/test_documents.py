@@ -103,7 +103,7 @@ module _ (n : ℕ) where
 
 class Agreeing(unittest.TestCase):
     def test_the_documents_agree(self):
-        for part in ("contracts", "definitions", "facts", "first_use"):
+        for part in ("contracts", "definitions", "facts", "first_use", "manual", "completions"):
             with self.subTest(part):
                 words = [sys.executable, "-B", os.path.join(TOOLS, "check-docs"), part]
                 ran = subprocess.run(words, capture_output=True, text=True, check=False)

@@ -1,0 +1,42 @@
+# shellcheck shell=bash
+# Completion of tracebench for bash, made by `tools/check-docs --write completions` from the grammar in `crates/cli` and `crates/arguments`.
+
+_tracebench_files() {
+    compopt -o filenames 2>/dev/null
+    mapfile -t COMPREPLY < <(compgen -f -- "$1")
+}
+
+_tracebench() {
+    local current=${COMP_WORDS[COMP_CWORD]} previous=${COMP_WORDS[COMP_CWORD - 1]}
+    local subcommands="check encode dump decode replay bench audit measure list salvage" options=""
+    if ((COMP_CWORD == 1)); then
+        mapfile -t COMPREPLY < <(compgen -W "$subcommands help --help --version" -- "$current")
+        return
+    fi
+    case ${COMP_WORDS[1]} in
+    check) options="--base --explain --help" ;;
+    encode) options="--base --period --full --v1 --hex --help" ;;
+    dump) options="--help" ;;
+    decode) options="--base --harts --lossy --help" ;;
+    replay) options="--base --period --full --capacity --help" ;;
+    bench) options="--base --period --full --capacity --help" ;;
+    audit) options="--help" ;;
+    measure) options="--base --period --full --help" ;;
+    list) options="--base --harts --symbols --help" ;;
+    salvage) options="--base --harts --help" ;;
+    help)
+        mapfile -t COMPREPLY < <(compgen -W "$subcommands" -- "$current")
+        return
+        ;;
+    *) return ;;
+    esac
+    case $previous in
+    --base | --capacity | --harts | --period) return ;;
+    esac
+    case $current in
+    -*) mapfile -t COMPREPLY < <(compgen -W "$options" -- "$current") ;;
+    *) _tracebench_files "$current" ;;
+    esac
+}
+
+complete -F _tracebench tracebench
