@@ -9,6 +9,7 @@ import support
 
 from documents import completions, grammar, manual
 
+BASH = [("sal", "salvage"), ("list --s", "--symbols"), ("help de", "decode"), ("list --base 8", "")]
 LIST = "vec![in alloc; capture(alloc)]?"
 # A file of the crates, a text of it, what stands in its place, and what some line says then.
 CHANGES = [
@@ -70,7 +71,7 @@ class Completions(unittest.TestCase):
     def test_bash(self):
         script = 'source "$0"; COMP_WORDS=(tracebench "$@"); COMP_CWORD=$#; _tracebench; echo "${COMPREPLY[*]}"'
         path = os.path.join(os.path.dirname(support.TOOLS), completions.FOLDER, "tracebench.bash")
-        for words, wanted in [("sal", "salvage"), ("list --s", "--symbols"), ("help de", "decode"), ("list --base 8", "")]:
+        for words, wanted in BASH:
             with self.subTest(words):
                 given = ["bash", "-c", script, path, *words.split()]
                 ran = subprocess.run(given, capture_output=True, text=True, check=True)
