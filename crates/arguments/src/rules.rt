@@ -167,7 +167,7 @@ pub fn received<'a>(alloc: Global) -> Arg<'a>
     file(alloc, "RECEIVED", "File of the trace messages that came")
 }
 
-/// SCHEDULE, the file of turns, which has to be given.
+/// SCHEDULE, the path of the schedule file, which has to be given.
 pub fn schedule<'a>(alloc: Global) -> Arg<'a>
     ensures { IsReadBy schedule_rule result }
 {

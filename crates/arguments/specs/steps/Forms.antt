@@ -7,7 +7,7 @@ use Rattle.clap.specs.declared.builder.action.ArgAction.TheVariants.{Set, SetTru
 abbrev pub flag_rule : Text → Rule
 flag_rule name = record (new_rule name) { long = Some name; action = Some SetTrue }
 
--- A word of its own that has to be there.
+-- A positional argument that has to be given.
 abbrev pub file_rule : Text → Rule
 file_rule name = record (new_rule name) { action = Some Set; required = true }
 
