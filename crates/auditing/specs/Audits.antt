@@ -10,7 +10,7 @@ use Rattle.auditing.specs.Sent.{harts_of}
 use Rattle.auditing.specs.declared.fate.Fate.TheVariants as fate
 use Rattle.auditing.specs.declared.tally.Counts.{Counts}
 
--- A count, where 2^64 - 1 stands for all that are greater.
+-- A count, or 2^64 - 1 where it is greater.
 abbrev pub capped : ℕ → ℕ
 capped count = min count (2 ^ 64 - 1)
 

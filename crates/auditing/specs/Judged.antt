@@ -15,7 +15,7 @@ pub record Judged : Type 0 where
 abbrev pub judged_one : List Message → List Message → Message → Judged
 judged_one sent before message = record { message = message; fate = fate_of sent before message }
 
--- The messages that came behind these, each with its fate.
+-- The messages that came after these, each with its fate.
 abbrev pub judged_behind : List Message → List Message → List Message → List Judged
 judged_behind sent before [] = []
 judged_behind sent before (message ∷ messages) =

@@ -3,8 +3,8 @@ use Rattle.std.specs.Prelude.{ℕ, Bool, List, Option}
 use Rattle.message.specs.declared.header.Header.{Header}
 use Rattle.auditing.specs.declared.tally.Counts.{Counts}
 
--- Of a hart: the payloads of its messages in SENT, and whether a true one came, by number; the number behind the
--- greatest of those that came; and what came, counted.
+-- Of a hart: the payloads of its messages in SENT, and whether a true one came, by number; the number after the
+-- greatest of those that came; and the counts of what came.
 pub record HartLedger : Type 0 where
   pub payloads : List (List ℕ)
   pub came : List Bool

@@ -15,7 +15,7 @@ abbrev pub lost_numbers : List Message → List Message → ℕ → List ℕ
 lost_numbers sent received hart =
     filter (is_lost sent received hart) (map (λ (message : Message). message.number) (of_hart hart sent))
 
--- A number in front of a run and those behind it. The number and the run are one run where no number is between them.
+-- These runs with a number before them. Where no number is between it and the first run, the two are one run.
 abbrev pub run_before : ℕ → List Lost → List Lost
 run_before number [] = record { first = number; last = number } ∷ []
 run_before number (run ∷ runs) =

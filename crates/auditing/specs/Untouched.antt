@@ -10,8 +10,8 @@ use Rattle.auditing.specs.declared.fate.Fate.TheVariants.{InOrder}
 abbrev pub is_touched : ℕ → Judged → Bool
 is_touched hart one = one.message.hart == hart && not (is_fate InOrder one.fate)
 
--- Nothing befell the messages of a hart: no number of it is lost, and none of its messages in RECEIVED is repeated,
--- late, changed or a stranger.
+-- Nothing happened to the messages of a hart: no number of it is lost, and none of its messages in RECEIVED is
+-- repeated, late, changed or a stranger.
 pub record IsUntouched (sent received : List Message) (hart : ℕ) : Type 0 where
   pub none_lost : lost_numbers sent received hart ≡ []
   pub in_order : list_any (is_touched hart) (judged sent received) ≡ false

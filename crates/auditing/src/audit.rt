@@ -47,12 +47,12 @@ impl<'a, A: Allocator> Model for Audit<'a, A> {
 }
 
 impl<'a, A: Allocator + Copy> Audit<'a, A> {
-    /// The audit of SENT, of which these are the bytes, before the first message of RECEIVED.
+    /// The audit of SENT, which has these bytes, before the first message of RECEIVED.
     ///
-    /// SENT is whole where of each message the hart is known and the number is the one that comes next of the hart,
-    /// from 0. The harts are those that the header counts, or without a header 0 to the highest that has a message,
-    /// which is below 1,024. The first message that is not so is the fault, or the header. It is a stranger before a
-    /// repeat, and that before a gap. Payloads are not unpacked.
+    /// SENT is complete if the hart of each message is known, and the number of each is the next one of its hart,
+    /// counted from 0. The harts are those that the header counts, or without a header 0 to the highest that has a
+    /// message, which is below 1,024. The fault is the header, where it is cut short or bad, or else the first message
+    /// that is not so. A stranger is tested before a repeat, and a repeat before a gap. Payloads are not unpacked.
     ///
     /// No other fault comes but [`SentFault::Memory`]. At most 17 bytes are taken for each message, and 150 for each
     /// hart that may come.
@@ -60,7 +60,7 @@ impl<'a, A: Allocator + Copy> Audit<'a, A> {
         ensures audits { IfOk result (λ audit. (sent : List AnyMessage) × IsSent bytes.entry.now audit.header sent
             × Audits sent [] audit) }
         ensures fault { IfErr result (IsSentFault bytes.entry.now) }
-        // Where SENT is whole, memory was refused.
+        // If SENT is complete, the only fault is that memory was refused.
         ensures memory { (header : Option AnyHeader) (sent : List AnyMessage) → IsSent bytes.entry.now header sent
             → IfErr result (λ fault. fault ≡ SentFault.Memory) }
     {
@@ -83,7 +83,8 @@ impl<'a, A: Allocator + Copy> Audit<'a, A> {
         }
     }
 
-    /// The audit of the messages of these bytes, behind this header or none, where so many harts may come.
+    /// The audit of the messages of these bytes, which follow this header or none. Only the harts below `harts` are
+    /// known.
     fn of_messages(
         alloc: A,
         header: Option<Header>,
@@ -178,7 +179,8 @@ impl<'a, A: Allocator> Audit<'a, A> {
     }
 }
 
-/// How many harts SENT has, behind this header or none, where so many stand in it up to the highest.
+/// How many harts SENT has: as many as its header counts, or without a header those up to the highest that has a
+/// message.
 fn count_of_harts(header: Option<Header>, highest: u16) -> u16
     ensures { result ≡ harts_by header highest }
 {

@@ -12,10 +12,10 @@ use std::fmt;
 /// Why SENT is refused.
 #[derive(Clone, Copy, Debug, PartialEq, Eq)]
 pub enum SentFault {
-    /// Behind so many messages no whole message stands, for this reason. The number is 0 where the header is cut short
-    /// or bad.
+    /// After so many messages there is no complete message, for this reason. The number is 0 where the header is cut
+    /// short or bad.
     Unread(u64, MessageFault),
-    /// The message behind so many is not the next of a hart that is known: it is a stranger, a repeat or a gap.
+    /// The message after so many is not the next one of a known hart: it is a stranger, a repeat or a gap.
     Misplaced(u64, DemuxFault),
     /// Memory was refused.
     Memory,

@@ -10,14 +10,14 @@ use crate::tally::{Counts, Tally};
 use std::alloc::{AllocError, Allocator};
 use std::marker::Model;
 
-/// The messages that SENT has of a hart, and what came of them so far.
+/// The messages that SENT has of a hart, and which of them came so far.
 #[derive(Drop)]
 pub(crate) struct HartAudit<'a, A: Allocator> {
     /// The payload of each message, by its number.
     pub(crate) payloads: Vec<&'a [u8], A>,
     /// Whether a true message came, by its number.
     pub(crate) came: Vec<bool, A>,
-    /// The number behind the greatest of the true messages that came, 0 where none came.
+    /// The number after the greatest of the true messages that came, 0 where none came.
     pub(crate) past: u64,
     pub(crate) counts: Counts,
 }
@@ -36,7 +36,7 @@ impl<'a, A: Allocator> Model for HartAudit<'a, A> {
 }
 
 impl<'a, A: Allocator + Copy> HartAudit<'a, A> {
-    /// Before the first message of SENT, with room for so many.
+    /// The state before the first message of SENT, with a capacity for so many messages.
     pub(crate) fn new(alloc: A, count: usize) -> Result<HartAudit<'a, A>, AllocError>
         ensures { IfOk result (λ own. own ≡ fresh []) }
     {

@@ -1,4 +1,4 @@
-//! Where the payload of each message of SENT stands.
+//! Where the payload of each message of SENT is.
 
 ghost use Rattle.std.specs.Prelude.{◌≡◌, ◌++◌, ◌<◌, ℕ, All, IfOk, IfSome, List, [], None, OnOk, IsSomeAnd, length};
 ghost use Rattle.message.specs.Capture.{capture, message_bytes};
@@ -10,11 +10,11 @@ use crate::hart::HartAudit;
 use message::Messages;
 use std::alloc::{AllocError, Allocator};
 
-/// How many bytes of a message stand before its payload.
+/// How many bytes of a message come before its payload.
 const HEAD: usize = 11;
 
-/// What an audit keeps of each of so many harts before a message of SENT is indexed, with room for these counts of
-/// messages.
+/// What an audit keeps of each of so many harts before a message of SENT is indexed, with capacities for these counts
+/// of messages.
 fn new_index<'a, A: Allocator + Copy>(
     alloc: A,
     counts: &[u64],
@@ -33,8 +33,8 @@ fn new_index<'a, A: Allocator + Copy>(
     Ok(index)
 }
 
-/// The hart of the message that bytes begin with, its payload, and the bytes behind it; `None` where they begin with no
-/// whole message.
+/// The hart of the message that bytes begin with, its payload, and the bytes after it; `None` where they begin with no
+/// complete message.
 fn split_message<'a>(bytes: &'a [u8]) -> Option<(u16, &'a [u8], &'a [u8])>
     ensures first { (message : AnyMessage) (rest : List ℕ) → IsMessage message
         → bytes.entry.now ≡ message_bytes message ++ rest

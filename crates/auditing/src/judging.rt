@@ -1,4 +1,4 @@
-//! Whether SENT is whole.
+//! Whether SENT is complete.
 
 ghost use Rattle.std.specs.Prelude.{◌≡◌, ◌+◌, ◌-◌, ◌^◌, ℕ, [], IfErr, IfOk, OnOk, min, slice_get, slice_index, slice_set};
 ghost use Rattle.auditing.specs.Sent.{misplaced_at};

@@ -19,8 +19,8 @@ ghost use Rattle.auditing.specs.Sent.{AreInTurn, IsSent};
 ghost use Rattle.auditing.specs.Tallies.{is_whole};
 ghost use Rattle.auditing.specs.Untouched.{IsUntouched};
 
-/// A hart is whole exactly where no number of it is lost, and none of its messages is repeated, late, changed or a
-/// stranger; and that is so exactly where what came of it is the list that was sent.
+/// A hart is whole if and only if no number of it is lost, and none of its messages is repeated, late, changed or a
+/// stranger. This is so if and only if the list of its messages that came is the list that was sent.
 pub fn whole_is_untouched()
     ensures untouched { (harts hart : ℕ) (sent received : List Message) → AreInTurn harts [] sent
         → (is_whole sent received hart ≡ true) ↔ IsUntouched sent received hart }
@@ -28,10 +28,10 @@ pub fn whole_is_untouched()
         → IsUntouched sent received hart ↔ (of_hart hart received ≡ of_hart hart sent) }
 {}
 
-/// Where SENT decodes without a fault, every hart of it is whole in RECEIVED, RECEIVED has no stranger and is read
-/// whole, and it has SENT's header or neither has one, RECEIVED decodes to the same logs and flags without a fault,
-/// unless memory is refused, in whatever way the messages of the harts are mixed. Both are decoded with the same count
-/// of harts.
+/// RECEIVED decodes to the same logs and flags as SENT, without a fault, unless memory is refused. This holds if SENT
+/// decodes without a fault, every hart of SENT is whole in RECEIVED, RECEIVED has no stranger and is read to its end,
+/// and it has SENT's header or neither has one. The messages of the harts may be mixed in any way. Both are decoded
+/// with the same count of harts.
 pub fn whole_decodes_again()
     ensures { (words : Words) (harts : ℕ) (sent received : List ℕ) (header : Option Header)
         (messages others : List Message) (lists again : List (List Event)) (closed flags : List Bool)
@@ -41,8 +41,8 @@ pub fn whole_decodes_again()
         → AreDecodedAgain lists closed again flags stop }
 {}
 
-/// What a demultiplexer answers to a message depends on the earlier messages of its own hart alone. So does why the
-/// message is not received, and so do the packets that a hart's log is decoded from.
+/// What a demultiplexer answers to a message depends on the earlier messages of its own hart alone. The same holds of
+/// why a message is not received, and of the packets that a hart's log is decoded from.
 pub fn harts_are_received_alone()
     ensures answered { (harts : ℕ) (messages : List Message) (message : Message)
         → accepting (expected_after (newcomers harts) messages) message

@@ -1,7 +1,7 @@
 //! What became of the messages that were sent.
 //!
 //! An [`Audit`] compares the messages that a path was given, SENT, with those that came out of it, RECEIVED. SENT is
-//! the bytes of a capture: [`Audit::new`] judges that it is whole, and keeps where the payload of each message stands.
+//! the bytes of a capture: [`Audit::new`] checks that it is complete, and keeps where the payload of each message is.
 //! RECEIVED is handed in message by message: [`Audit::take`] returns the [`Fate`] of each. Then [`Audit::tally`]
 //! returns what became of the messages of a hart, and [`Audit::lost`] the numbers of those that were lost.
 //!

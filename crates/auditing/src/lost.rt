@@ -43,7 +43,7 @@ impl<'a> LostRuns<'a> {
         LostRuns { came, number: 0 }
     }
 
-    /// The next run; `None` behind the last. Takes no memory.
+    /// The next run; `None` after the last. Takes no memory.
     pub fn next(&mut self) -> Option<Lost>
         ensures next { self.old ≡ option_to_list result ++ self.new }
         ensures end { result ≡ None → self.old ≡ [] }

@@ -29,7 +29,7 @@ pub record HasCounted (harts : ℕ) (bytes left : List ℕ) (counts : List ℕ) 
   pub each : (hart : ℕ) → slice_get counts hart ≡ next_number harts messages hart
   pub highest_is : highest ≡ harts_in messages
 
--- Counting stops behind so many messages of the bytes, each of which is the one that comes next of its hart.
+-- Counting stops after so many messages of the bytes, each of which is the next one of its hart.
 pub record StopsCounting (harts : ℕ) (bytes : List ℕ) (number : ℕ) (Refuses : List Message → List ℕ → Type 0)
     : Type 0 where
   pub messages : List Message
