@@ -1,4 +1,4 @@
--- What came of harts through a funnel.
+-- The outcomes of harts that send through a funnel.
 use Rattle.std.specs.Prelude.{ℕ, ◌≡◌, ◌≤◌, ◌<◌, All, Bool, true, false, IsFalse, IsSomeAnd, IsTrue, List, Option, Some}
 use Rattle.std.specs.Prelude.{None, length, slice_get}
 use Rattle.legalpath.specs.ProgramLog.{ProgramLog}
@@ -11,9 +11,9 @@ use Rattle.bench.specs.declared.outcome.HartOutcome.{HartOutcome}
 use Rattle.bench.specs.declared.stop.Stop.{Stop}
 use Rattle.bench.specs.declared.stop.Stop.TheVariants as stop
 
--- There is an outcome for each log. What came of each hart is what comes of the first packets of its log, some number
--- of them: each once, in order, none behind the closing one. They decode to a beginning of the log, and to the whole
--- log where the closing packet came.
+-- There is an outcome for each log. The outcome of each hart is that of the first packets of its log, some number of
+-- them: each once, in order, none after the closing one. They decode to a prefix of the log, and to the complete log
+-- where the closing packet came.
 pub record AreBeginnings {A : Type 0} (config : Config) (logs : List ProgramLog) (harts : List (HartOutcome A))
     : Type 0 where
   pub count : length harts ≡ length logs
@@ -21,13 +21,13 @@ pub record AreBeginnings {A : Type 0} (config : Config) (logs : List ProgramLog)
       → slice_get harts hart ≡ Some came
       → (count : ℕ) × HasGot config.period config.mode config.keep log count (got_of came)
 
--- As many messages came of a hart as were taken of it, or, where memory or its thread was refused for the hart, at most
--- as many.
+-- As many messages of a hart were decoded as were taken, or, where memory or its thread was refused for the hart, at
+-- most as many.
 abbrev pub CameOf : Bool → ℕ → ℕ → Type 0
 CameOf true taken count = count ≤ taken
 CameOf false taken count = count ≡ taken
 
--- These messages were taken of a funnel. What came of each hart is what comes of the first packets of its log: as many
+-- These messages were taken out of a funnel. The outcome of each hart is that of the first packets of its log: as many
 -- as the hart's messages among these, or, where memory or its thread was refused for the hart, at most as many.
 abbrev pub AreThoseTaken : {A : Type 0} → Config → List ProgramLog → List Message → List (HartOutcome A) → Type 0
 AreThoseTaken {A} config logs taken harts =
@@ -44,20 +44,20 @@ AreCarried {A} config logs taken harts =
     → slice_get harts hart ≡ Some came → IsFalse came.refused
     → CarryFirst config.period config.mode log (of_hart hart taken)
 
--- Where memory was refused for a hart, fewer packets of it came than messages of it are among these.
+-- If memory was refused for a hart, fewer packets of it were decoded than messages of it are among these.
 abbrev pub LackSome : {A : Type 0} → List Message → List (HartOutcome A) → Type 0
 LackSome {A} taken harts =
     (hart : ℕ) (came : HartOutcome A) → slice_get harts hart ≡ Some came → IsTrue came.refused
     → came.taken < length (of_hart hart taken)
 
--- Where memory or its thread was refused for a hart, and messages of it are among these, fewer packets of it came.
+-- If memory or its thread was refused for a hart, and messages of it are among these, fewer packets of it were decoded.
 abbrev pub LackSomeTaken : {A : Type 0} → List Message → List (HartOutcome A) → Type 0
 LackSomeTaken {A} taken harts =
     (hart : ℕ) (came : HartOutcome A) → slice_get harts hart ≡ Some came → IsTrue came.refused
     → 0 < length (of_hart hart taken) → came.taken < length (of_hart hart taken)
 
--- There is no stop exactly where memory was refused for no hart. Otherwise the stop is of the kind `Memory` and names a
--- hart for which memory was refused, and whose closing packet did not come.
+-- There is no stop if and only if memory was refused for no hart. Otherwise the stop is of the kind `Memory`. It names
+-- a hart for which memory was refused, and whose closing packet did not come.
 abbrev pub NamesRefused : {A : Type 0} → Option Stop → List (HartOutcome A) → Type 0
 NamesRefused None harts = All (λ hart. IsFalse hart.refused) harts
 NamesRefused (Some (stop.Memory hart)) harts =

@@ -1,4 +1,4 @@
--- What a collector has of harts.
+-- What a collector holds of harts.
 use Rattle.std.specs.Prelude.{ℕ, ◌+◌, ◌-◌, ◌^◌, ◌≡◌, ◌≤◌, ◌==◌, ◌++◌, Bool, false, if◌then◌else◌, IsSomeAnd, IsTrue}
 use Rattle.std.specs.Prelude.{List, [], ◌∷◌, Some, Ok, length, min, slice_get, take}
 use Rattle.rvclass.specs.Fetch.{words_of}
@@ -13,30 +13,30 @@ use Rattle.receiver.specs.Holds.{HoldsHart}
 use Rattle.receiver.specs.Received.{IsSameHart, Received}
 use Rattle.bench.specs.Got.{Got, got_after, kept}
 
--- What came of a hart, without its events and whether it is closed, which the receiver has.
+-- The outcome of a hart, without its events and whether it is closed, which the receiver has.
 pub record Taken : Type 0 where
   pub packets : List Packet
   pub taken : ℕ
   pub bytes : ℕ
   pub refused : Bool
 
--- The logs of harts, whether packets are kept, what the receiver has, and what came of each hart, at its place.
+-- The logs of harts, whether packets are kept, what the receiver has, and the outcome of each hart, at its place.
 pub record Collected : Type 0 where
   pub logs : List ProgramLog
   pub keep : Bool
   pub received : Received
   pub harts : List Taken
 
--- A collector has this outcome of a hart: what came of it, and whether memory or its thread was refused for it.
+-- A collector has this outcome of a hart: what was decoded of it, and whether memory or its thread was refused for it.
 pub record HasOutcome (hart : ℕ) (got : Got) (refused : Bool) (collected : Collected) : Type 0 where
   pub taken : slice_get collected.harts hart
       ≡ Some (record { packets = got.packets; taken = got.taken; bytes = got.bytes; refused = refused })
   pub decoded : slice_get collected.received.lists hart ≡ Some got.decoded
   pub closed : slice_get collected.received.closed hart ≡ Some got.closed
 
--- A collector has this log for a hart, took in its first packets, this many, and nothing was refused for the hart. What
--- came of the hart is what comes of these packets. Their count is the number that is expected next, and the hart is
--- closed where they are all of the log's. The decoder and the list of the hart are those of these packets.
+-- A collector has this log for a hart and took in its first packets, this many; nothing was refused for the hart. The
+-- outcome of the hart is that of these packets. Their count is the number that is expected next, and the hart is closed
+-- where they are all of the log's. The decoder and the list of the hart are those of these packets.
 pub record HasCollected (period : ℕ) (mode : Mode) (log : ProgramLog) (count hart : ℕ) (collected : Collected)
     : Type 0 where
   pub known : slice_get collected.logs hart ≡ Some log
@@ -59,7 +59,7 @@ pub record IsMessageOf (period : ℕ) (mode : Mode) (log : ProgramLog) (place : 
 abbrev pub IsRefusedHart : ℕ → Collected → Type 0
 IsRefusedHart hart collected = IsSomeAnd (slice_get collected.harts hart) (λ (taken : Taken). IsTrue taken.refused)
 
--- These packets, with one more behind them where packets are kept.
+-- These packets, with one more after them where packets are kept.
 abbrev pub packets_with : Bool → Packet → List Packet → List Packet
 packets_with keep packet packets = if keep then packets ++ packet ∷ [] else packets
 
@@ -67,7 +67,7 @@ packets_with keep packet packets = if keep then packets ++ packet ∷ [] else pa
 abbrev pub saturating_sum : ℕ → ℕ → ℕ
 saturating_sum number more = min (number + more) (2 ^ 64 - 1)
 
--- What came of a hart, with one packet more, whose payload has this many bytes. Both counts stop at 2^64 - 1.
+-- The outcome of a hart with one packet more, whose payload has this many bytes. Both counts stop at 2^64 - 1.
 abbrev pub one_packet_more : Bool → Packet → ℕ → Taken → Taken
 one_packet_more keep packet bytes taken = record {
   packets = packets_with keep packet taken.packets;
@@ -86,7 +86,7 @@ pub record HasDecoded (log : ProgramLog) (hart : ℕ) (packets : List Packet) (c
   pub known : slice_get collected.logs hart ≡ Some log
   pub holds : HoldsHart (words_of log.program) hart packets collected.received
 
--- What a collector has of the hart is the same.
+-- What a collector holds of the hart is the same.
 pub record IsSameOf (hart : ℕ) (old new : Collected) : Type 0 where
   pub taken : slice_get new.harts hart ≡ slice_get old.harts hart
   pub received : IsSameHart hart old.received new.received

@@ -1,4 +1,4 @@
--- What came of a hart.
+-- What was decoded of a hart.
 use Rattle.std.specs.Prelude.{◌≡◌, ◌≤◌, ◌==◌, ℕ, Bool, true, if◌then◌else◌, List, [], length, map, take, sum}
 use Rattle.retire.specs.declared.event.Event.{Event}
 use Rattle.rvclass.specs.Fetch.{words_of}
@@ -10,8 +10,8 @@ use Rattle.encoder.specs.Payloads.{payloads}
 use Rattle.roundtrip.specs.Reach.{reach}
 use Rattle.bench.specs.declared.outcome.HartOutcome.{HartOutcome}
 
--- What came of a hart: its packets, how many there were, how many bytes their payloads had, what they decode to, and
--- whether the closing one was among them. There are no packets where they are not kept.
+-- What was decoded of a hart: its packets, how many there were, how many bytes their payloads had, what they decode to,
+-- and whether the closing one was among them. There are no packets where they are not kept.
 pub record Got : Type 0 where
   pub packets : List Packet
   pub taken : ℕ
@@ -19,7 +19,7 @@ pub record Got : Type 0 where
   pub decoded : List Event
   pub closed : Bool
 
--- What came of a hart, by its outcome.
+-- What was decoded of a hart, by its outcome.
 abbrev pub got_of : {A : Type 0} → HartOutcome A → Got
 got_of hart = record {
   packets = hart.packets.items;
@@ -29,7 +29,7 @@ got_of hart = record {
   closed = hart.closed;
 }
 
--- What comes of the first packets of a hart's log, this many, at this period and in this mode.
+-- What the first packets of a hart's log give, this many, at this period and in this mode.
 abbrev pub got_after : ℕ → Mode → ProgramLog → ℕ → Got
 got_after period mode log count = record {
   packets = take count (packets (words_of log.program) period mode log.events);
@@ -39,12 +39,12 @@ got_after period mode log count = record {
   closed = count == length (packets (words_of log.program) period mode log.events);
 }
 
--- What came of a hart, with the packets left out where they are not kept.
+-- What was decoded of a hart, with the packets left out where they are not kept.
 abbrev pub kept : Bool → Got → Got
 kept keep got = record got { packets = if keep then got.packets else [] }
 
--- What came of a hart is what comes of the first packets of its log, this many; the log has at least as many. Where the
--- closing packet came, they decode to the whole log.
+-- What was decoded of a hart is what the first packets of its log give, this many; the log has at least as many. Where
+-- the closing packet came, they decode to the complete log.
 pub record HasGot (period : ℕ) (mode : Mode) (keep : Bool) (log : ProgramLog) (count : ℕ) (got : Got) : Type 0 where
   pub few : count ≤ length (packets (words_of log.program) period mode log.events)
   pub same : got ≡ kept keep (got_after period mode log count)

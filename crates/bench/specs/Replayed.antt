@@ -1,4 +1,4 @@
--- What turns let through of the payloads of logs.
+-- What a schedule delivers of the payloads of logs.
 use Rattle.std.specs.Prelude.{ℕ, List, length, map, sum}
 use Rattle.retire.specs.declared.event.Event.{Event}
 use Rattle.legalpath.specs.ProgramLog.{ProgramLog}
@@ -18,7 +18,7 @@ abbrev pub replayed : ℕ → Mode → ℕ → List ProgramLog → List Turn →
 replayed period mode capacity logs turns =
     after_turns capacity (map (payloads period mode) logs) turns (opening (map (payloads period mode) logs))
 
--- What comes of a hart's messages, whose packets decode to these events.
+-- What a hart's messages give, if their packets decode to these events.
 abbrev pub got_from : List Message → List Event → Got
 got_from messages decoded = record {
   packets = packets_in messages;

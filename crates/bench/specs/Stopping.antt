@@ -44,7 +44,8 @@ IsStopOf (stop.Memory hart) harts =
 IsStopOf (stop.HandedBack hart) harts = IsOpenHart harts hart
 IsStopOf (stop.Ended hart) harts = IsFirst (IsOpenNotRefused harts) hart
 
--- There is no stop exactly where every hart is closed. Otherwise the stop names a hart that is not, by its kind.
+-- There is no stop if and only if every hart is closed. Otherwise the stop names a hart that is not closed, by its
+-- kind.
 abbrev pub NamesOpen : {A : Type 0} → Option Stop → List (HartOutcome A) → Type 0
 NamesOpen None harts = AreClosed harts
 NamesOpen (Some why) harts = IsStopOf why harts

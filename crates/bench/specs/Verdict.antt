@@ -26,7 +26,7 @@ count_alike [] log = 0
 count_alike (event ∷ decoded) [] = 0
 count_alike (event ∷ decoded) (row ∷ log) = if is_alike event row then suc (count_alike decoded log) else 0
 
--- The whole log was decoded and the hart is closed; or else a beginning of the log, or all of it, was decoded; or else
+-- The complete log was decoded and the hart is closed; or else a prefix of the log, or all of it, was decoded; or else
 -- what was decoded differs from the log, first in this row, counted from 1.
 abbrev pub verdict : Bool → List Event → List Event → Verdict
 verdict closed decoded log =

@@ -48,14 +48,14 @@ pub enum CollectFault {
     Memory,
 }
 
-/// What came of harts so far, by the messages that were taken in.
+/// What was decoded of harts so far, from the messages that were taken in.
 #[derive(Drop)]
 pub struct Collector<'l, 'p, A: Allocator = Global, B: Allocator = Global> {
     logs: &'l [LegalLog<'p, B>],
     /// Whether packets are kept.
     keep: bool,
     receiver: Receiver<A>,
-    /// What came of each hart, without its events and whether it is closed, which the receiver has.
+    /// The outcome of each hart, without its events and whether it is closed, which the receiver has.
     harts: Vec<HartOutcome<A>, A>,
 }
 
@@ -100,7 +100,7 @@ impl<'l, 'p, A: Allocator + Copy, B: Allocator> Collector<'l, 'p, A, B> {
         })
     }
 
-    /// Takes rooms for the events that come of harts: of hart 0 the first, and so on, where there are so many.
+    /// Takes lists for the events of harts: the first for those of hart 0, and so on, as far as there are harts.
     pub(crate) fn take_rooms(&mut self, rooms: Vec<Vec<Event, A>, A>)
         requires few { length self.old.logs ≤ 65_535 }
         ensures { self.new ≡ self.old }
@@ -110,8 +110,8 @@ impl<'l, 'p, A: Allocator + Copy, B: Allocator> Collector<'l, 'p, A, B> {
 
     /// Takes the next message of a hart in: demultiplexes it and decodes its packet.
     ///
-    /// A fault leaves what came of all harts as it was. After [`CollectFault::Memory`] the collector notes that memory
-    /// was refused for the hart. From then on messages of that hart change nothing.
+    /// A fault leaves what was decoded of all harts as it was. After [`CollectFault::Memory`] the collector notes that
+    /// memory was refused for the hart. From then on messages of that hart change nothing.
     pub fn take_in(&mut self, message: Message) -> Result<(), CollectFault>
         ensures logs { (self.new.logs ≡ self.old.logs) × (self.new.keep ≡ self.old.keep) }
 
@@ -125,7 +125,7 @@ impl<'l, 'p, A: Allocator + Copy, B: Allocator> Collector<'l, 'p, A, B> {
             → IsMessageOf period mode log count message → IfErr result (λ fault. fault ≡ CollectFault.Memory) }
         ensures others { (hart : ℕ) → hart ≢ message.hart → IsSameOf hart self.old self.new }
 
-        // A fault leaves what came of the hart as it was.
+        // A fault leaves what was decoded of the hart as it was.
         ensures memory { (got : Got) (refused : Bool) → HasOutcome message.hart got refused self.old
             → result ≡ Err CollectFault.Memory → HasOutcome message.hart got true self.new }
         ensures undecoded { (got : Got) (refused : Bool) (why : AnyDecodeFault)
@@ -136,8 +136,8 @@ impl<'l, 'p, A: Allocator + Copy, B: Allocator> Collector<'l, 'p, A, B> {
             → (result ≡ Err (CollectFault.Demux why)) ↔ (accepting self.old.received.expected message ≡ Err why) }
         ensures passed_over { IsRefusedHart message.hart self.old → (result ≡ Ok tt) × (self.new ≡ self.old) }
 
-        // Where nothing was refused for the hart, whatever its messages were: the packet of a message that is accepted
-        // is decoded behind those before it, and counted, unless no log is described with it or memory is refused.
+        // Of any hart for which memory was never refused, whatever its messages were. The packet of an accepted message
+        // is decoded after those before it, and counted, unless no log is described with it or memory is refused.
         ensures decoded { (packet : AnyPacket) (log : ProgramLog) (packets : List AnyPacket)
             → Accepts message packet self.old → HasDecoded log message.hart packets self.old
             → OnOk result (HasDecoded log message.hart (packets ++ packet ∷ []) self.new) }
@@ -196,7 +196,7 @@ impl<'l, 'p, A: Allocator + Copy, B: Allocator> Collector<'l, 'p, A, B> {
         self.harts[usize::from(hart)].refused = true;
     }
 
-    /// What came of the harts, with no stop. No memory is taken.
+    /// The outcome of all harts, with no stop. No memory is taken.
     pub fn finish(self) -> Outcome<A>
         ensures stop { result.stop ≡ None }
         ensures count { length result.harts.items ≡ length self.entry.logs }
@@ -210,7 +210,7 @@ impl<'l, 'p, A: Allocator + Copy, B: Allocator> Collector<'l, 'p, A, B> {
     }
 }
 
-/// Gives each hart below `harts` its room, as far as there are so many.
+/// Gives each hart below `harts` the list at its place, as far as there are lists.
 fn give_rooms<A: Allocator + Copy>(
     receiver: &mut Receiver<A>,
     harts: u16,
@@ -270,8 +270,8 @@ fn is_refused<A: Allocator>(harts: &Vec<HartOutcome<A>, A>, hart: usize) -> bool
 
 /// Decodes the next packet of a hart, whose log has `events` events, and counts it in the hart's outcome.
 ///
-/// Room is reserved first: for the packet, where packets are kept, and, from the second packet on, for all events of
-/// the log. The second packet is the first that settles an event. So a fault leaves the receiver and the outcome as
+/// Capacity is reserved first: for the packet, where packets are kept, and, from the second packet on, for all events
+/// of the log. The second packet is the first that settles an event. So a fault leaves the receiver and the outcome as
 /// they were, but that the outcome notes memory that was refused.
 fn take_packet<A: Allocator + Copy>(
     receiver: &mut Receiver<A>,
@@ -318,8 +318,8 @@ fn take_packet<A: Allocator + Copy>(
     Ok(())
 }
 
-/// Reserves room for the next packet of a hart, where packets are kept, and, from the second packet on, for `events`
-/// events. Returns whether there is room.
+/// Reserves capacity for the next packet of a hart, where packets are kept, and, from the second packet on, for
+/// `events` events. Returns whether there is capacity.
 fn has_room<A: Allocator + Copy>(
     receiver: &mut Receiver<A>,
     outcome: &mut HartOutcome<A>,

@@ -1,4 +1,4 @@
-//! What turns let through of logs.
+//! What schedules deliver of logs.
 
 ghost use Rattle.std.specs.Prelude.{ℕ, ◌≡◌, All, List, Some, length, slice_get, true};
 ghost use Rattle.retire.specs.declared.event.Event.{Event};
@@ -12,14 +12,14 @@ ghost use Rattle.funnel.specs.declared.turn.Turn.{Turn};
 ghost use Rattle.bench.specs.Got.{HasGot};
 ghost use Rattle.bench.specs.Replayed.{got_from, replayed};
 
-/// Does nothing. Its contract says what any turns let through of legal logs.
+/// Does nothing. Its contract says what any schedule of turns delivers of legal logs.
 pub fn turns_let_beginnings_through()
     // Every state is lawful.
     ensures lawful { (period : ℕ) (mode : Mode) (capacity : ℕ) (logs : List ProgramLog) (turns : List Turn) →
         All IsLegalLog logs → Lawful (replayed period mode capacity logs turns) }
 
-    // Where the packets that were taken of a hart describe these events, what comes of the hart is what comes of the
-    // first packets of its log, as many as were taken.
+    // If the packets that were taken of a hart describe these events, then the outcome of the hart is that of the first
+    // packets of its log, as many as were taken.
     ensures got { (period : ℕ) (mode : Mode) (capacity : ℕ) (logs : List ProgramLog) (turns : List Turn) (hart : ℕ)
         (log : ProgramLog)
         (decoded : List Event) → IsLegalLog log → slice_get logs hart ≡ Some log →

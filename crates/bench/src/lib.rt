@@ -1,9 +1,9 @@
-//! The bench: logs of harts through the funnel, what was decoded of them again, and the report that compares both.
+//! The bench: it sends logs of harts through the funnel, decodes what arrives, and reports whether both are the same.
 //!
-//! [`Config`] says how harts send and what is kept; [`Outcome`] is what came of each hart. [`replay`] sends logs
-//! through the funnel by turns in one thread; [`run`] and [`run_on`] send each log from a thread of its own, with a
-//! [`Gate`] round each send. A [`Collector`] takes messages in behind the funnel, and [`report`] writes the outcome as
-//! text.
+//! [`Config`] says how harts send and what is kept; [`Outcome`] is what was decoded of each hart. [`replay`] sends logs
+//! through the funnel in one thread, by a schedule; [`run`] and [`run_on`] send each log from a thread of its own, with
+//! a [`Gate`] round each send. A [`Collector`] decodes the messages that are taken out of the funnel, and [`report`]
+//! writes the outcome as text.
 #![tactic(auto)]
 
 mod collecting;

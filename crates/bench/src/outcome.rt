@@ -1,11 +1,11 @@
-//! What came of each hart.
+//! The outcome of a replay or a run: what was decoded of each hart.
 
 use crate::stop::Stop;
 use payload::Packet;
 use retire::Event;
 use std::alloc::{Allocator, Global};
 
-/// What came of a hart.
+/// What was decoded of a hart.
 #[derive(Debug, Drop)]
 pub struct HartOutcome<A: Allocator = Global> {
     /// The packets that were decoded, where they are kept, and else none.
@@ -22,10 +22,10 @@ pub struct HartOutcome<A: Allocator = Global> {
     pub refused: bool,
 }
 
-/// What came of all harts.
+/// What was decoded of all harts.
 #[derive(Debug, Drop)]
 pub struct Outcome<A: Allocator = Global> {
-    /// What came of each hart, at the hart's place.
+    /// The outcome of each hart, at the hart's place.
     pub harts: Vec<HartOutcome<A>, A>,
     /// Why some hart's packets were not all decoded, where that is so.
     pub stop: Option<Stop>,

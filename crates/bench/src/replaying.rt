@@ -27,12 +27,12 @@ use legalpath::LegalLog;
 use message::MOST_HARTS;
 use std::alloc::Allocator;
 
-/// Sends the messages of logs through a funnel and decodes what is taken of it, in the order of the turns.
+/// Sends the messages of logs through a funnel and decodes those that are taken out of it, in the order of the turns.
 ///
-/// A turn that cannot act changes nothing: the turn of a hart where the funnel is full, where the hart has no message
-/// left, or where there is no such hart; a collecting turn where the funnel is empty. The turns may end before all
-/// messages are taken. The only stop is [`Stop::Memory`]. Nothing more of that hart is decoded then, and the others go
-/// on.
+/// A turn that cannot act changes nothing. A turn of a hart cannot act where the funnel is full, the hart has no
+/// message left, or there is no such hart. A collecting turn cannot act where the funnel is empty. The turns may end
+/// before all messages are taken. The only stop is [`Stop::Memory`]. Nothing more of that hart is decoded then, and the
+/// others go on.
 pub fn replay<A: Allocator + Copy, B: Allocator>(
     alloc: A,
     logs: &[LegalLog<'_, B>],
@@ -40,7 +40,7 @@ pub fn replay<A: Allocator + Copy, B: Allocator>(
     turns: &[Turn],
 ) -> Result<Outcome<A>, Setup>
     ensures beginnings { IfOk result (λ outcome. AreBeginnings config logs.now outcome.harts.items) }
-    // As many messages came of each hart as were taken of it, unless memory for it was refused.
+    // As many messages of each hart were decoded as were taken, unless memory for it was refused.
     ensures taken { IfOk result (λ outcome. AreThoseTaken config logs.now
         (replayed config.period config.mode config.capacity logs.now turns.now).taken outcome.harts.items) }
     ensures lacks { IfOk result (λ outcome. LackSome
@@ -96,7 +96,7 @@ pub(crate) fn fault_of(most: u16, logs: usize, config: Config) -> Option<Setup>
     }
 }
 
-/// The turn of a hart: it sends its next message, where it has one and the funnel has room.
+/// The turn of a hart: it sends its next message, where it has one and the funnel is not full.
 fn send<A: Allocator, C: Allocator, B: Allocator>(
     core: &mut Core<A>,
     senders: &mut Vec<Sender<'_, '_, B>, C>,
@@ -125,8 +125,8 @@ fn send<A: Allocator, C: Allocator, B: Allocator>(
     }
 }
 
-/// The turn of the collector: it takes the front message in, where there is one. Where memory for it is refused, the
-/// stop names its hart.
+/// The turn of the collector: it takes the front message and decodes it, where there is one. Where memory for it is
+/// refused, the stop names its hart.
 fn collect<A: Allocator + Copy, B: Allocator>(
     core: &mut Core<A>,
     collector: &mut Collector<'_, '_, A, B>,

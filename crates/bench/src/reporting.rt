@@ -1,4 +1,4 @@
-//! What came of each hart, as text.
+//! The outcome of each hart, as text.
 
 ghost use Rattle.std.specs.Prelude.{◌≡◌, ◌≤◌, ◌<◌, ◌^◌, IfErr, IfOk, OnOk, length, map, slice_get, Some};
 ghost use Rattle.std.specs.Io.KnownBytes.{Appends};
@@ -22,7 +22,7 @@ use std::io::Write;
 /// Writes a line for each hart, one for the stop where there is one, and one for the result.
 ///
 /// The logs are those of the outcome's harts, in order. The only fault is [`WriteFault::Write`], where the writer
-/// failed; what was written then is a beginning of the text. No memory is taken, and the writer is not flushed.
+/// failed; what was written then is a prefix of the text. No memory is taken, and the writer is not flushed.
 pub fn report<W: Write, A: Allocator, B: Allocator>(
     outcome: &Outcome<A>,
     logs: &[LegalLog<'_, B>],

@@ -27,15 +27,15 @@ use std::sync::Wait;
 use std::thread;
 use std::thread::{Scope, Threads};
 
-/// Sends the payloads of logs through a funnel, each log's in a thread of its own, and decodes what is taken of it in
-/// the caller's thread. It opens the funnel, and then does as [`run_on`].
+/// Sends the payloads of logs through a funnel, each log's from a thread of its own, and decodes in the caller's thread
+/// what is taken out of the funnel. It opens the funnel, and then does as [`run_on`].
 ///
-/// Each send waits for the gate, and for room in the funnel. The caller's thread takes messages until the closing
+/// Each send waits for the gate, and while the funnel is full. The caller's thread takes messages until the closing
 /// message came of every hart whose thread was started, or the channel ended. Where memory or its thread is refused for
 /// a hart, the others go on.
 ///
-/// The stop names a hart that is not closed. A payload that was handed back comes before a channel that ended, and that
-/// before memory or a thread that was refused. Of each kind the stop names the first hart.
+/// The stop names a hart that is not closed. Of several reasons the first of these is named: a payload was handed back;
+/// the channel ended; memory or a thread was refused. Of several harts with that reason the first is named.
 ///
 /// The funnel takes its memory from `global`, and all else is taken from `alloc`. A fault says why nothing is sent at
 /// all: the count of logs, the capacity or the period, in this order and before memory is taken, or memory that was
@@ -67,11 +67,12 @@ pub fn run<A: Allocator + Copy, G: Gate, R: Threads + Wait + Sync>(
     }
 }
 
-/// The same, with rooms for the events that come of harts: of hart 0 the first, and so on, where there are so many. A
-/// room is a list whose memory is used, and what it holds is dropped. Memory that it lacks is taken as in [`run`].
+/// The same, with lists that were allocated before: `rooms` has one for the events of hart 0, one for those of hart 1,
+/// and so on, as far as it goes. The memory of a list is used again, and its content is dropped. More memory than it
+/// has is taken as in [`run`].
 ///
-/// A machine may hand out memory when it is first written, one page after another. Where rooms were written before, by
-/// several threads, the run waits for no page.
+/// A machine may hand out memory only when it is first written, one page after another. If the memory of the lists was
+/// written before, by several threads, the run waits for no page.
 pub fn run_in_rooms<A: Allocator + Copy, G: Gate, R: Threads + Wait + Sync>(
     alloc: A,
     global: Global,
@@ -109,7 +110,7 @@ pub fn run_in_rooms<A: Allocator + Copy, G: Gate, R: Threads + Wait + Sync>(
 /// The same over the ends of a funnel that was opened for as many harts and through which nothing was sent. The period
 /// is 1 or more; the configuration's capacity is not looked at.
 ///
-/// An error comes where memory is refused that is for no single hart. Then nothing is taken of the funnel, and the
+/// An error comes where memory is refused that is for no single hart. Then nothing is taken out of the funnel, and the
 /// ports are dropped.
 pub fn run_on<A: Allocator + Copy, G: Gate, R: Threads + Wait + Sync>(
     alloc: A,
@@ -125,11 +126,11 @@ pub fn run_on<A: Allocator + Copy, G: Gate, R: Threads + Wait + Sync>(
     requires outlet { (outlet.old.taken ≡ []) × (outlet.old.made ≡ length logs.now) }
     requires count { length logs.now ≤ most_ports }
     ensures beginnings { IfOk result (λ outcome. AreBeginnings config logs.now outcome.harts.items) }
-    // As many messages came of each hart as were taken of it, unless memory or its thread was refused for it.
+    // As many messages of each hart were decoded as were taken, unless memory or its thread was refused for it.
     ensures taken { IfOk result (λ outcome. AreThoseTaken config logs.now outlet.new.taken outcome.harts.items) }
     // They carry the first payloads of the hart's log, unless memory or its thread was refused for it.
     ensures carried { IfOk result (λ outcome. AreCarried config logs.now outlet.new.taken outcome.harts.items) }
-    // Where memory or its thread was refused for a hart, and messages of it were taken, fewer came.
+    // If memory or its thread was refused for a hart, and messages of it were taken, fewer were decoded.
     ensures lacks { IfOk result (λ outcome. LackSomeTaken outlet.new.taken outcome.harts.items) }
     ensures stop { IfOk result (λ outcome. NamesOpen outcome.stop outcome.harts.items) }
     ensures refused_harts { IfOk result (λ outcome. NoRefusedIsClosed outcome.harts.items) }
@@ -165,7 +166,7 @@ fn ends_of(global: Global, harts: usize, config: Config) -> Result<(Vec<Port>, O
     }
 }
 
-/// Runs what is planned over the ends of a funnel, with rooms for the events that come of harts.
+/// Runs what is planned over the ends of a funnel, with lists for the events of harts.
 fn run_plan<A: Allocator + Copy, G: Gate, R: Threads + Wait + Sync>(
     alloc: A,
     plan: Plan<'_, '_, G, R>,

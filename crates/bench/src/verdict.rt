@@ -12,7 +12,7 @@ use std::fmt;
 pub enum Verdict {
     /// The closing packet was decoded, and the whole log.
     Whole,
-    /// A beginning of the log, or all of it, was decoded.
+    /// A prefix of the log, or all of it, was decoded.
     Beginning,
     /// In this row, counted from 1, the decoded event is another than the log's, or the log has no such row.
     Differs(u64),
@@ -31,7 +31,7 @@ impl fmt::Display for Verdict {
 }
 
 impl Verdict {
-    /// Whether the whole log came back.
+    /// Whether the complete log came back.
     pub fn is_whole(&self) -> bool
         ensures { result ≡ is_whole_verdict self.now }
     {

@@ -22,7 +22,7 @@ pub(crate) struct Work {
     /// What its port leaves.
     pub(crate) receipt: Receipt,
     /// Whether the port gave a payload back. It does so only where the channel handed the message back, since no source
-    /// gives a payload behind its closing one.
+    /// gives a payload after its closing one.
     pub(crate) handed_back: bool,
 }
 

@@ -1,4 +1,4 @@
--- What one message changes of what came of its hart.
+-- What one message changes of the outcome of its hart.
 use Rattle.std.specs.Prelude.{◌≡◌, All, Bool, true, false, List, [], length, map}
 use Rattle.retire.specs.declared.event.Event.{Event}
 use Rattle.legalpath.specs.ProgramLog.{IsLegalLog}
@@ -8,7 +8,7 @@ use Rattle.bench.specs.declared.collecting.CollectFault.{CollectFault}
 use Rattle.bench.specs.declared.collecting.CollectFault.TheVariants as fault
 use Rattle.bench.specs.declared.outcome.HartOutcome.{HartOutcome}
 
--- What came of a hart, without its events and whether it is closed, by its outcome.
+-- The outcome of a hart, without its events and whether it is closed.
 abbrev pub taken_of_outcome : {A : Type 0} → HartOutcome A → Taken
 taken_of_outcome hart = record {
   packets = hart.packets.items;
@@ -17,7 +17,7 @@ taken_of_outcome hart = record {
   refused = hart.refused;
 }
 
--- What came of each hart, without its events and whether it is closed, by the harts' outcomes.
+-- The outcome of each hart, without its events and whether it is closed.
 abbrev pub taken_in : {A : Type 0} → List (HartOutcome A) → List Taken
 taken_in harts = map taken_of_outcome harts
 
@@ -29,12 +29,12 @@ decoded_in harts = map (λ hart. hart.decoded.items) harts
 abbrev pub closed_in : {A : Type 0} → List (HartOutcome A) → List Bool
 closed_in harts = map (λ hart. hart.closed) harts
 
--- What came of a hart before its first message.
+-- The outcome of a hart before its first message.
 abbrev pub nothing : Taken
 nothing = record { packets = []; taken = 0; bytes = 0; refused = false }
 
--- What came of a hart after a packet of it was not decoded. It is the same, but the flag that memory was refused is set
--- where that is the reason. A fault of the demultiplexer is not the reason.
+-- The outcome of a hart after a packet of it was not decoded. It is the same, but the flag that memory was refused is
+-- set where that is the reason. A fault of the demultiplexer is not the reason.
 abbrev pub IsLeftBy : CollectFault → Taken → Taken → Type 0
 IsLeftBy fault.Memory old new = new ≡ record old { refused = true }
 IsLeftBy (fault.Decode why) old new = new ≡ old

@@ -1,4 +1,4 @@
--- Where a replay stands.
+-- The state of a replay.
 use Rattle.std.specs.Prelude.{◌≡◌, List, Option}
 use Rattle.legalpath.specs.ProgramLog.{ProgramLog}
 use Rattle.funnel.specs.Held.{Held}
@@ -11,8 +11,8 @@ use Rattle.bench.specs.declared.stop.Stop.{Stop}
 use Rattle.bench.specs.steps.Sending.{AreSending}
 use Rattle.bench.specs.steps.Taking.{CameUnlessRefused, LacksSome, NamesRefusedHart}
 
--- The funnel and the harts stand where the funnel machine does after these turns. What it took of each hart came, or
--- memory for the hart was refused: then fewer messages came, and the stop names such a hart.
+-- The funnel and the harts are in the state of the funnel machine after these turns. What it took of each hart was
+-- decoded, or memory for the hart was refused: then fewer messages were decoded, and the stop names such a hart.
 pub record IsReplayed {B : Type 0} (config : Config) (logs : List ProgramLog) (turns : List Turn) (core : Held)
     (senders : List (Sender B)) (collected : Collected) (why : Option Stop) : Type 0 where
   pub sending : AreSending config.period config.mode config.capacity logs

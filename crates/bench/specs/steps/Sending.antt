@@ -1,4 +1,4 @@
--- Where a funnel and the harts that send into it stand.
+-- The state of a funnel and of the harts that send into it.
 use Rattle.std.specs.Prelude.{ℕ, ◌≡◌, List, Option, Some, None, length, slice_get}
 use Rattle.legalpath.specs.ProgramLog.{ProgramLog}
 use Rattle.payload.specs.declared.mode.Mode.{Mode}
@@ -24,7 +24,7 @@ pub record AreNewSenders {B : Type 0} (period : ℕ) (mode : Mode) (logs : List 
   pub each : (hart : ℕ) (log : ProgramLog) → slice_get logs hart ≡ Some log
       → slice_get senders hart ≡ Some (sender_at period mode log 0)
 
--- The funnel and the harts with these logs stand where the funnel machine does in this state.
+-- The funnel and the harts with these logs are in this state of the funnel machine.
 pub record AreSending {B : Type 0} (period : ℕ) (mode : Mode) (capacity : ℕ) (logs : List ProgramLog) (state : Funnel)
     (core : Held) (senders : List (Sender B)) : Type 0 where
   pub funnel : core ≡ record { harts = length logs; capacity = capacity; queue = state.queue }

@@ -39,7 +39,7 @@ LacksSome taken collected =
     (hart : ℕ) (log : ProgramLog) (at : Taken) → slice_get collected.logs hart ≡ Some log
     → slice_get collected.harts hart ≡ Some at → IsTrue at.refused → at.taken < length (of_hart hart taken)
 
--- The message is of a hart with a log, and the next of it behind those that were taken.
+-- The message is of a hart with a log, and the next one of it after those that were taken.
 pub record IsNext (period : ℕ) (mode : Mode) (logs : List ProgramLog) (taken : List Message) (message : Message)
     : Type 0 where
   pub log : ProgramLog
@@ -61,8 +61,8 @@ pub record IsReady (waiting : List Message) (collected : Collected) : Type 0 whe
   pub came : CameUnlessRefused period mode logs taken collected
   pub next : IsFrontNext period mode logs taken waiting
 
--- There is no stop exactly where memory was refused for no hart. Otherwise the stop is of the kind `Memory` and names a
--- hart for which memory was refused.
+-- There is no stop if and only if memory was refused for no hart. Otherwise the stop is of the kind `Memory` and names
+-- a hart for which memory was refused.
 abbrev pub NamesRefusedHart : Option Stop → Collected → Type 0
 NamesRefusedHart None collected = (hart : ℕ) → hart < length collected.logs → ¬ IsRefusedHart hart collected
 NamesRefusedHart (Some (stop.Memory hart)) collected = (hart < length collected.logs) × IsRefusedHart hart collected
