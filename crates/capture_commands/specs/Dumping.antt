@@ -14,8 +14,8 @@ use Rattle.command_inputs.specs.declared.fault.Fault.{Fault}
 use Rattle.command_inputs.specs.declared.status.Status.{Status}
 use Rattle.command_inputs.specs.declared.status.Status.TheVariants.{NotWhole, Whole}
 
--- The fault of the place where no whole message, or no header, stands, if there is one; else the end by whether a
--- payload is bad.
+-- The fault of the place where there is no complete message or no header, if there is such a place; else the end by
+-- whether a payload is bad.
 abbrev pub end_of_dump : Bool → Option (ℕ × MessageFault) → Result Status Fault
 end_of_dump bad (Some stop) = Err (capture_fault stop.0 (capture.Message stop.1))
 end_of_dump true None = Ok NotWhole

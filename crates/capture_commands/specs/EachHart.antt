@@ -2,7 +2,7 @@
 use Rattle.std.specs.Prelude.{ℕ, ◌+◌, ◌++◌, codes, List, [], ◌∷◌}
 use Rattle.std.specs.Fmt.{decimal}
 
--- The line that stands before the text of a hart.
+-- The line before the text of a hart.
 abbrev pub hart_line : ℕ → List ℕ
 hart_line hart = codes "hart " ++ (decimal hart ++ codes "\n")
 

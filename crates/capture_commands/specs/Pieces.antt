@@ -25,7 +25,7 @@ use Rattle.command_inputs.specs.declared.status.Status.TheVariants.{NotWhole}
 use Rattle.capture_commands.specs.Decoding.{end_of_harts}
 use Rattle.capture_commands.specs.EachHart.{each_hart}
 
--- The line of a count of messages, behind what they are.
+-- The line of a count of messages, after the name of what they are.
 abbrev pub messages_line : List ℕ → ℕ → List ℕ
 messages_line name count = name ++ (codes ": " ++ (decimal count ++ codes " messages\n"))
 
@@ -93,7 +93,7 @@ AreCollectedFrom harts program (Ok whole) (Err why) =
     × GivesFault program (harts_counted harts whole.0) (mode_of_header whole.0) whole.1 fault
 
 -- What is left of the logs of a capture's harts is found, or the first fault. All messages are read before any is
--- judged.
+-- checked.
 pub record ArePieces (harts : ℕ) (program : Image) (bytes : List ℕ) (found : Result (List (HartPieces Global)) Fault)
     : Type 0 where
   pub whole : Result (Option Header × List Message) ReadFault

@@ -38,7 +38,7 @@ is_no_stretch other = true
 abbrev pub has_loss : SalvagedHart Global → Bool
 has_loss own = list_any is_no_stretch (parts_in own.parts.items)
 
--- Some hart's messages are not whole, or there is a stranger.
+-- Some number of a hart did not come or is bad or doubtful, or there is a stranger.
 abbrev pub is_damaged : Salvaged Global → Bool
 is_damaged salvaged = list_any has_loss salvaged.harts.items || not (salvaged.strangers == 0)
 
@@ -46,15 +46,15 @@ is_damaged salvaged = list_any has_loss salvaged.harts.items || not (salvaged.st
 abbrev pub closed_harts : List (SalvagedHart Global) → List Bool
 closed_harts harts = map (λ (own : SalvagedHart Global). own.closed) harts
 
--- The fault of the place where no whole message, or no header, stands, where there is one: it is behind so many
--- messages. Else the fault names the first hart that is not closed. Where all are closed, the end is by whether there
+-- The fault of the place where there is no complete message or no header, if there is such a place: it comes after so
+-- many messages. Else the fault names the first hart that is not closed. If all are closed, the end is by whether there
 -- is damage.
 abbrev pub end_of_salvage : ℕ → Option MessageFault → Salvaged Global → Result Status Fault
 end_of_salvage count (Some why) salvaged = Err (capture_fault count (capture.Message why))
 end_of_salvage count None salvaged =
     end_with_gaps (is_damaged salvaged) (end_of_harts 0 (closed_harts salvaged.harts.items))
 
--- The messages of a capture are read up to the first place where none stands, behind so many of them, and this is
+-- The messages of a capture are read up to the first place where there is none, after so many of them, and this is
 -- salvaged of them.
 pub record IsSalvagedCapture (harts : ℕ) (program : Image) (bytes : List ℕ) (count : ℕ) (stop : Option MessageFault)
     (salvaged : Salvaged Global) : Type 0 where

@@ -29,8 +29,8 @@ use subcommands::Decode;
 ///
 /// Where messages may be lost, what is left of each hart's log is written instead: a line for each gap, and for each
 /// stretch a line and its log. All is done then where there is no gap and each hart's closing packet came. A gap alone
-/// is no fault, but the status is then that the capture is not good. Where the capture is not read whole, a message is
-/// refused or its packet is not decoded, nothing is written.
+/// is no fault, but the status is then that the capture is not good. Where the capture is not read to its end, a
+/// message is refused or its packet is not decoded, nothing is written.
 pub fn decode<'a, F: Files, O: Write>(
     alloc: Global,
     files: &mut F,

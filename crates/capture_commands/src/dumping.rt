@@ -11,8 +11,8 @@ use command_inputs::{Fault, Files, Status, content_of};
 use std::io::Write;
 use subcommands::Dump;
 
-/// Writes the line of a capture's header, if it has one, and a line for each message, up to the first place where no
-/// whole message stands. Returns that all is done where every payload is a packet, and else that the capture is not
+/// Writes the line of a capture's header, if it has one, and a line for each message, up to the first place where there
+/// is no complete message. Returns that all is done if every payload is a packet, and else that the capture is not
 /// good.
 pub fn dump<'a, F: Files, O: Write>(
     files: &mut F,
@@ -32,8 +32,8 @@ pub fn dump<'a, F: Files, O: Write>(
     ended(&dumped)
 }
 
-/// How a dump ended: at the place where no whole message, or no header, stands, if there is one, or else by whether a
-/// payload is bad.
+/// How a dump ended: at the place where there is no complete message or no header, if there is such a place, or else by
+/// whether a payload is bad.
 fn ended<'a>(dumped: &Dumped) -> Result<Status, Fault<'a>>
     ensures value { result ≡ end_of_dump dumped.now.bad dumped.now.fault }
     ensures never_refused { final_status result ≢ Status.Refused }

@@ -18,12 +18,12 @@ use std::io::Write;
 use subcommands::Listing;
 use symbols::Symbols;
 
-/// Writes the line of a capture's header, if it has one, and a line for each message: where it stands in the file, what
-/// it says, and what it does, its places named by the symbols, if they are given. Returns that all is done where the
-/// capture is decoded to its end and each hart's closing packet came.
+/// Writes the line of a capture's header, if it has one, and a line for each message: its offset in the file, its
+/// packet, and the events that it settles. Places are named by the symbols, if they are given. Returns that all is done
+/// if the capture is decoded to its end and each hart's closing packet came.
 ///
 /// The listing ends where the decoding of the capture does, at the same fault. A message that is refused has a line
-/// without what it does. Where memory is refused for the events of a message, the lines before stand.
+/// without events. Where memory is refused for the events of a message, the lines before it are still written.
 pub fn list<'a, F: Files, O: Write>(
     alloc: Global,
     files: &mut F,

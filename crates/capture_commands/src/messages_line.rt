@@ -9,7 +9,7 @@ use command_inputs::Fault;
 use output::write_text;
 use std::io::Write;
 
-/// Writes the line of a count of messages, behind what they are.
+/// Writes the line of a count of messages, after the name of what they are.
 pub(crate) fn write_messages<'a, O: Write>(
     name: &str,
     count: u64,

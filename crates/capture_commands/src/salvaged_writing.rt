@@ -17,7 +17,7 @@ use salvaging::{Part, Reason, Salvaged, SalvagedHart};
 use std::io::Write;
 
 /// Writes what is salvaged: of each hart its line and what is left of its log, and then the count of strangers. No
-/// memory is taken, since there is room for the text of a log.
+/// memory is taken, since the buffer `room` is large enough for the text of a log.
 pub(crate) fn write_salvaged<'a, O: Write>(
     room: &mut Vec<u8>,
     salvaged: &Salvaged,

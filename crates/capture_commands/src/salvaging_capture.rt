@@ -24,9 +24,10 @@ use std::alloc::{AllocError, Global};
 use std::io::Write;
 use subcommands::Salvage;
 
-/// Writes what is left of the log of each hart, whatever befell the messages of a capture up to the first place where
-/// no whole message, or no header, stands. Returns that all is done where reading came to the end, each hart is closed,
-/// no number is missing, bad or doubtful, and there is no stranger. Copies and late messages change nothing there.
+/// Writes what is left of the log of each hart, whatever happened to the messages of a capture, up to the first place
+/// where there is no complete message or no header. Returns that all is done if reading came to the end, each hart is
+/// closed, no number is missing, bad or doubtful, and there is no stranger. Copies and late messages do not change this
+/// status.
 ///
 /// All memory is taken before anything is written.
 pub fn salvage<'a, F: Files, O: Write>(
@@ -73,15 +74,15 @@ fn salvage_capture<'a, O: Write>(
 /// What is found of a capture.
 #[derive(Debug, Drop)]
 struct Found {
-    /// How many messages stand in front of the first place where none stands.
+    /// How many messages are before the first place where there is none.
     count: usize,
-    /// Why none stands there, or `None` at the end of the capture.
+    /// Why there is none, or `None` at the end of the capture.
     stop: Option<MessageFault>,
     /// What is salvaged of them.
     salvaged: Salvaged,
 }
 
-/// What is salvaged of the messages of a capture, up to the first place where none stands.
+/// What is salvaged of the messages of a capture, up to the first place where there is none.
 fn find(alloc: Global, program: &Program, harts: u16, bytes: &[u8]) -> Result<Found, AllocError>
     ensures { IfOk result
         (λ found. IsSalvagedCapture harts program.now bytes.now found.count found.stop found.salvaged) }
