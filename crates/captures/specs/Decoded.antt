@@ -35,7 +35,7 @@ pub record BeginsRefused (words : Words) (harts : ℕ) (announced : Option Mode)
   pub begins : bytes ≡ message_bytes message ++ rest
   pub refused : IsNotReceived words harts announced messages message why
 
--- Why decoding stops after these messages, before these bytes: no whole message stands there, or one that is refused.
+-- Why decoding stops after these messages, before these bytes: there is no complete message, or one that is refused.
 abbrev pub StopsDecoding : Words → ℕ → Option Mode → List Message → List ℕ → CaptureFault → Type 0
 StopsDecoding words harts announced messages bytes (fault.Message why) = BeginsNone bytes why
 StopsDecoding words harts announced messages bytes (fault.Demux why) =
@@ -52,8 +52,8 @@ Stops words harts announced messages bytes None = bytes ≡ []
 Stops words harts announced messages bytes (Some stop) =
     (stop.0 ≡ length messages) × StopsDecoding words harts announced messages bytes stop.1
 
--- The bytes are those of messages and some rest. A demultiplexer of so many harts accepts the messages, each in its
--- turn, and none of them opens a trace in another mode than the announced one, if one is announced. Lists and flags are
+-- The bytes are those of messages and some rest. A demultiplexer of so many harts accepts the messages, one after the
+-- other. None of them opens a trace in another mode than the announced one, if one is announced. Lists and flags are
 -- what the messages decode to. Decoding stops before the rest.
 pub record AreMessagesDecoded (words : Words) (harts : ℕ) (announced : Option Mode) (bytes : List ℕ)
     (lists : List (List Event)) (closed : List Bool) (stop : Option (ℕ × CaptureFault)) : Type 0 where

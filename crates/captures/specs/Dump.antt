@@ -24,7 +24,7 @@ use Rattle.captures.specs.PacketText.{reading_text}
 abbrev pub has_bad_payload : Message → Bool
 has_bad_payload message = is_err (reading message.payload)
 
--- A dump ends at the end of the bytes; or, with this fault, after so many messages, where no whole message stands.
+-- A dump ends at the end of the bytes; or, with this fault, after so many messages, where there is no complete message.
 abbrev pub Ends : ℕ → List ℕ → Option (ℕ × MessageFault) → Type 0
 Ends count rest None = rest ≡ []
 Ends count rest (Some fault) = (fault.0 ≡ count) × BeginsNone rest fault.1

@@ -1,4 +1,4 @@
--- What the bytes of a capture hold, up to the first place where no whole message stands.
+-- What the bytes of a capture hold, up to the first place where there is no complete message.
 use Rattle.std.specs.Prelude.{ℕ, ◌≡◌, ◌++◌, All, List, [], Option, Some, None, length}
 use Rattle.message.specs.Capture.{capture}
 use Rattle.message.specs.Cut.{IsMessage}
@@ -9,14 +9,14 @@ use Rattle.captures.specs.Dump.{Ends}
 use Rattle.captures.specs.NoMessage.{BeginsNoHeader}
 use Rattle.captures.specs.Whole.{BeginsWith}
 
--- The bytes hold these messages, behind which they end, or no whole message stands.
+-- The bytes hold these messages. After them the bytes end, or no complete message follows.
 pub record AreHeard (bytes : List ℕ) (messages : List Message) (stop : Option (ℕ × MessageFault)) : Type 0 where
   pub rest : List ℕ
   pub ranges : All IsMessage messages
   pub whole : bytes ≡ capture messages ++ rest
   pub ends : Ends (length messages) rest stop
 
--- A capture holds a header, or none, and these messages, behind which it ends, or no whole message stands. Where its
+-- A capture holds a header, or none, and these messages. After them it ends, or no complete message follows. Where its
 -- header is cut short or bad, it holds nothing.
 pub data IsHeard (bytes : List ℕ) (header : Option Header) (messages : List Message)
     (stop : Option (ℕ × MessageFault)) : Type 0 where

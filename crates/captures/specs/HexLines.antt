@@ -5,7 +5,7 @@ use Rattle.std.specs.List.{flat_map}
 use Rattle.hex.specs.Hex.{encode_lower}
 use Rattle.message.specs.declared.message.Message.{Message}
 
--- The hart, the number and the payload's bytes, two digits a byte, parted by spaces.
+-- The hart, the number and the payload's bytes, two digits a byte, with spaces between them.
 abbrev pub hex_line : Message → List ℕ
 hex_line message =
     decimal message.hart ++

@@ -49,7 +49,7 @@ abbrev pub trap_address_text : Bool → List ℕ
 trap_address_text true = codes "handler"
 trap_address_text false = codes "epc"
 
--- An address, its privilege, and the branch bit, which is 0 where a taken branch stands there.
+-- An address, its privilege, and the branch bit, which is 0 where the instruction there is a taken branch.
 abbrev pub where_text : ℕ → ℕ → Bool → List ℕ
 where_text address privilege taken =
     codes "=" ++ (hex address ++ (codes " priv=" ++ (hex privilege ++ (codes " branch=" ++ branch_text taken))))

@@ -12,7 +12,7 @@ use Rattle.captures.specs.declared.outcome.CaptureFault.{CaptureFault}
 use Rattle.captures.specs.declared.outcome.CaptureFault.TheVariants as fault
 
 -- The logs are legal, and all of this program. The bytes are the capture, in this version, of all their messages at
--- this period and in this mode, one hart after the other. What stands before the messages has numbers within their
+-- this period and in this mode, one hart after the other. What comes before the messages has numbers within their
 -- ranges.
 pub record IsCaptureOf (program : Image) (version : Version) (period : ℕ) (mode : Mode) (logs : List ProgramLog)
     (bytes : List ℕ) : Type 0 where
@@ -26,13 +26,13 @@ abbrev pub AreAskedFor : Version → ℕ → List ProgramLog → Type 0
 AreAskedFor One harts logs = length logs ≡ harts
 AreAskedFor Two harts logs = Unit {0}
 
--- Decoding stopped for want of memory.
+-- Decoding stopped where memory was refused.
 abbrev pub IsMemory : CaptureFault → Type 0
 IsMemory (fault.Decode why) = why ≡ Memory
 IsMemory other = ⊥
 
--- Decoding stopped for want of memory; or it came to the end, the lists are the events of the logs, and every hart is
--- closed.
+-- Decoding stopped where memory was refused; or it came to the end, the lists are the events of the logs, and every
+-- hart is closed.
 abbrev pub AreReturned : List ProgramLog → List (List Event) → List Bool → Option (ℕ × CaptureFault) → Type 0
 AreReturned logs lists closed None =
     (lists ≡ map (λ (log : ProgramLog). log.events) logs) × (closed ≡ replicate (length logs) true)

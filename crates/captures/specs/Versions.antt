@@ -13,12 +13,12 @@ use Rattle.captures.specs.Messages.{messages_of_harts}
 abbrev pub header_of : ℕ → Mode → List ProgramLog → Header
 header_of period mode logs = record { mode = mode; period = period; harts = length logs }
 
--- What stands before the messages: nothing in version 1, and the header in version 2.
+-- What comes before the messages: nothing in version 1, and the header in version 2.
 abbrev pub start_bytes : Version → Header → List ℕ
 start_bytes One header = []
 start_bytes Two header = header_bytes header
 
--- What stands before the messages has numbers within their ranges: in version 2 those of the header.
+-- What comes before the messages has numbers within their ranges: in version 2 those of the header.
 abbrev pub MayStart : Version → Header → Type 0
 MayStart One header = Unit {0}
 MayStart Two header = IsHeader header

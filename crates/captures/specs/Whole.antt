@@ -1,4 +1,4 @@
--- What the bytes of a capture hold, where all messages are read before one is judged.
+-- What the bytes of a capture hold, where all messages are read before one is checked.
 use Rattle.std.specs.Prelude.{ℕ, ◌≡◌, ◌⊎◌, ◌++◌, All, List, [], Option, Some, None, length}
 use Rattle.message.specs.Capture.{capture}
 use Rattle.message.specs.Cut.{IsMessage}
@@ -21,7 +21,7 @@ pub record IsWhole (bytes : List ℕ) (header : Option Header) (messages : List 
   pub ranges : All IsMessage messages
   pub whole : BeginsWith header bytes (capture messages)
 
--- The bytes are a header, or none, and these messages, behind which no whole message stands, for this reason.
+-- The bytes are a header, or none, and these messages, after which there is no complete message, for this reason.
 pub record IsCutBehind (bytes : List ℕ) (header : Option Header) (messages : List Message) (why : MessageFault)
     : Type 0 where
   pub rest : List ℕ
@@ -37,14 +37,14 @@ pub record HasNoFront (bytes : List ℕ) (header : Option Header) (messages : Li
   pub no_messages : messages ≡ []
   pub none : BeginsNoHeader bytes why
 
--- The bytes are a header, or none, and these messages, up to the end or to the first place where no header or no whole
--- message stands, for this reason.
+-- The bytes are a header, or none, and these messages, up to the end or to the first place where there is no header or
+-- no complete message, for this reason.
 abbrev pub IsFront : List ℕ → Option Header → List Message → Option MessageFault → Type 0
 IsFront bytes header messages None = IsWhole bytes header messages
 IsFront bytes header messages (Some why) =
     IsCutBehind bytes header messages why ⊎ HasNoFront bytes header messages why
 
--- The bytes are a header, or none, and so many messages, behind which no whole message stands, for this reason.
+-- The bytes are a header, or none, and so many messages, after which there is no complete message, for this reason.
 pub record IsUnread (bytes : List ℕ) (number : ℕ) (why : MessageFault) : Type 0 where
   pub header : Option Header
   pub messages : List Message
@@ -65,7 +65,7 @@ pub data StopsReading (bytes : List ℕ) (number : ℕ) (why : MessageFault) : T
   AtHeader : IsHeaderless bytes number why → StopsReading bytes number why
   AtMessage : IsUnread bytes number why → StopsReading bytes number why
 
--- The fault is the one for which a capture is not read whole, or memory was refused.
+-- The fault is the one for which a capture is not read to its end, or memory was refused.
 abbrev pub IsReadFault : List ℕ → ReadFault → Type 0
 IsReadFault bytes (fault.Message number why) = StopsReading bytes number why
 IsReadFault bytes fault.Memory = Unit {0}

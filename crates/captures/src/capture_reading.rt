@@ -17,26 +17,26 @@ use std::fmt;
 pub struct WholeCapture<A: Allocator = Global> {
     /// The header. A capture of version 1 has none.
     pub header: Option<Header>,
-    /// The messages of all harts, in the order of the capture. None is judged.
+    /// The messages of all harts, in the order of the capture. They are not checked.
     pub messages: Vec<Message, A>,
 }
 
-/// What a capture holds in front of the first place where no whole message stands.
+/// What a capture holds before the first place where there is no complete message.
 #[derive(Debug, Drop)]
 pub struct CaptureFront<A: Allocator = Global> {
     /// The header. A capture of version 1 has none, nor has one whose header is cut short or bad.
     pub header: Option<Header>,
-    /// The messages of all harts, in the order of the capture. None is judged.
+    /// The messages of all harts, in the order of the capture. They are not checked.
     pub messages: Vec<Message, A>,
-    /// Why no whole message, or no header, stands behind them, or `None` where the capture ends there.
+    /// Why no complete message or no header follows them, or `None` where the capture ends there.
     pub stop: Option<MessageFault>,
 }
 
-/// Why a capture is not read whole.
+/// Why a capture is not read to its end.
 #[derive(Clone, Copy, Debug, PartialEq, Eq)]
 pub enum ReadFault {
-    /// Behind so many messages no whole message stands, for this reason. The number is 0 where the header is cut short
-    /// or bad.
+    /// After so many messages there is no complete message, for this reason. The number is 0 where the header is cut
+    /// short or bad.
     Message(u64, MessageFault),
     /// Memory was refused.
     Memory,
@@ -57,14 +57,14 @@ impl Error for ReadFault {}
 
 /// Reads all messages of a capture, of either version, and the header where it has one.
 ///
-/// No message is judged: a hart may be unknown, a number wrong, a payload no packet. Where the capture ends inside its
-/// header or a message, or the header or a payload's length is bad, that is the fault, and nothing of what was read
+/// Messages are not checked: a hart may be unknown, a number wrong, a payload no packet. Where the capture ends inside
+/// its header or a message, or the header or a payload's length is bad, that is the fault, and nothing of what was read
 /// before is returned. The time and the memory that are taken grow with the capture.
 pub fn read_messages<A: Allocator>(alloc: A, bytes: &[u8]) -> Result<WholeCapture<A>, ReadFault>
     ensures read { IfOk result (λ whole. IsWhole bytes.now whole.header whole.messages.items) }
     ensures fault { IfErr result (IsReadFault bytes.now) }
 
-    // A capture of messages is read whole, unless memory was refused.
+    // A capture of messages is read to its end, unless memory was refused.
     ensures reads_back { (header : Option AnyHeader) (messages : List AnyMessage) → IsWhole bytes.now header messages
         → IfOk result (λ whole. (whole.header ≡ header) × (whole.messages.items ≡ messages)) }
     ensures memory { (header : Option AnyHeader) (messages : List AnyMessage) → IsWhole bytes.now header messages
@@ -82,10 +82,11 @@ pub fn read_messages<A: Allocator>(alloc: A, bytes: &[u8]) -> Result<WholeCaptur
     }
 }
 
-/// Reads the messages of a capture, of either version, up to the first place where no whole message stands, and the
-/// header where it has one. Where the header is cut short or bad, there is neither, and that is why reading stops.
+/// Reads the messages of a capture, of either version, up to the first place where there is no complete message, and
+/// the header where it has one. Where the header is cut short or bad, neither a header nor a message is read, and that
+/// is why reading stops.
 ///
-/// No message is judged. The time and the memory that are taken grow with the capture.
+/// Messages are not checked. The time and the memory that are taken grow with the capture.
 pub fn read_front<A: Allocator>(alloc: A, bytes: &[u8]) -> Result<CaptureFront<A>, AllocError>
     ensures { IfOk result (λ front. IsFront bytes.now front.header front.messages.items front.stop) }
 {
@@ -109,8 +110,8 @@ pub fn read_front<A: Allocator>(alloc: A, bytes: &[u8]) -> Result<CaptureFront<A
     })
 }
 
-/// Appends the messages that these bytes begin with, up to the first place where no whole message stands. Returns why
-/// none stands there, or `None` at the end of the bytes.
+/// Appends the messages that these bytes begin with, up to the first place where there is no complete message. Returns
+/// why there is none, or `None` at the end of the bytes.
 fn read_into<A: Allocator>(
     messages: &mut Vec<Message, A>,
     mut left: Messages<'_>,

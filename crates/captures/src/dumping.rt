@@ -19,8 +19,8 @@ use std::io::Write;
 pub struct Dumped {
     /// Whether the payload of some message is no packet.
     pub bad: bool,
-    /// Where the lines end before the capture does: how many messages come before that place, and why no message stands
-    /// there. At a header that is cut short or bad the number is 0.
+    /// Where the lines end before the capture does: how many messages come before that place, and why there is no
+    /// message. At a header that is cut short or bad the number is 0.
     pub fault: Option<(u64, MessageFault)>,
 }
 
@@ -30,9 +30,9 @@ pub struct Dumped {
 /// the reason where the payload is no packet. An address field is named `addr` where the header's mode is full, and
 /// else `diff`.
 ///
-/// The lines stand in the order of the capture, and go on behind a bad payload. They end at the first place where no
-/// whole message stands. There are none where the header is cut short or bad. The only fault is [`WriteFault::Write`],
-/// where the writer failed; what was written then is a beginning of the text. No memory is taken.
+/// The lines are in the order of the capture, and go on after a bad payload. They end at the first place where there is
+/// no complete message. There are none where the header is cut short or bad. The only fault is [`WriteFault::Write`],
+/// where the writer failed; what was written then is a prefix of the text. No memory is taken.
 pub fn dump_capture<W: Write>(capture: &[u8], sink: &mut W) -> Result<Dumped, WriteFault>
     ensures dumped { IfOk result (λ dumped.
         AppendsDump (IsDump capture.now) dumped.bad dumped.fault (W.contents sink.old) (W.contents sink.new)) }
@@ -56,8 +56,8 @@ pub fn dump_capture<W: Write>(capture: &[u8], sink: &mut W) -> Result<Dumped, Wr
 /// Writes the line of a header, as [`dump_capture`] writes it before all others:
 /// `capture 2 mode=diff period=N harts=N`, or `mode=full`, the numbers decimal.
 ///
-/// The only fault is [`WriteFault::Write`], where the writer failed; what was written then is a beginning of the line.
-/// No memory is taken, and the writer is not flushed.
+/// The only fault is [`WriteFault::Write`], where the writer failed; what was written then is a prefix of the line. No
+/// memory is taken, and the writer is not flushed.
 pub fn write_header_line<W: Write>(sink: &mut W, header: &Header) -> Result<(), WriteFault>
     ensures text { OnOk result (Appends (W.contents sink.old) (W.contents sink.new) (header_line header.now)) }
     ensures begun { AppendsBeginning (header_line header.now) (W.contents sink.old) (W.contents sink.new) }

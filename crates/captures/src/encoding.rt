@@ -23,7 +23,7 @@ use std::io::Write;
 ///
 /// Each packet has its shortest payload. A log's packets synchronise at each retirement whose number, from 0, the
 /// period divides. The mode says what the address fields hold, and each hart's first message announces it. The only
-/// fault is [`MessageFault::Write`], where the writer failed; what was written then is a beginning of the capture. No
+/// fault is [`MessageFault::Write`], where the writer failed; what was written then is a prefix of the capture. No
 /// memory is taken, and the writer is not flushed.
 pub fn encode_capture<W: Write, A: Allocator>(
     logs: &[LegalLog<'_, A>],
@@ -45,10 +45,10 @@ pub fn encode_capture<W: Write, A: Allocator>(
     encode::<CaptureBytes, W, A>(logs, period, mode, sink)
 }
 
-/// Writes what stands before the messages of this many harts: nothing in version 1, and in version 2 the header.
+/// Writes what comes before the messages of this many harts: nothing in version 1, and in version 2 the header.
 ///
-/// The only fault is [`MessageFault::Write`], where the writer failed; what was written then is a beginning of the
-/// header. No memory is taken, and the writer is not flushed.
+/// The only fault is [`MessageFault::Write`], where the writer failed; what was written then is a prefix of the header.
+/// No memory is taken, and the writer is not flushed.
 pub fn write_start<W: Write>(
     sink: &mut W,
     version: Version,
@@ -77,10 +77,10 @@ pub fn write_start<W: Write>(
 }
 
 /// Writes the same messages as [`encode_capture`], a line each. A line has the hart's number and the message's, both
-/// decimal, and the payload's bytes in lower-case hexadecimal. The three are parted by single spaces.
+/// decimal, and the payload's bytes in lower-case hexadecimal. Single spaces separate the three.
 ///
-/// The only fault is [`MessageFault::Write`], where the writer failed; what was written then is a beginning of the
-/// text. No memory is taken, and the writer is not flushed.
+/// The only fault is [`MessageFault::Write`], where the writer failed; what was written then is a prefix of the text.
+/// No memory is taken, and the writer is not flushed.
 pub fn encode_hex<W: Write, A: Allocator>(
     logs: &[LegalLog<'_, A>],
     period: u16,
@@ -119,9 +119,9 @@ fn encode<F: Form, W: Write, A: Allocator>(
     Ok(())
 }
 
-/// Writes the messages of a hart's log in a form. They are numbered from 0 on, and nothing stands before them.
+/// Writes the messages of a hart's log in a form. They are numbered from 0 on, and nothing is written before them.
 ///
-/// The only fault is [`MessageFault::Write`], where the writer failed; what was written then is a beginning of the text.
+/// The only fault is [`MessageFault::Write`], where the writer failed; what was written then is a prefix of the text.
 /// No memory is taken, and the writer is not flushed.
 pub fn encode_hart<F: Form, W: Write, A: Allocator>(
     hart: u16,

@@ -17,7 +17,7 @@ pub trait Form {
     ghost text: { AnyMessage → List ℕ };
 
     /// Writes a message. The only fault is [`MessageFault::Write`], where the writer failed; what was written then is a
-    /// beginning of the text. No memory is taken, and the writer is not flushed.
+    /// prefix of the text. No memory is taken, and the writer is not flushed.
     fn write<W: Write>(sink: &mut W, message: &Message) -> Result<(), MessageFault>
         ensures text { OnOk result (Appends (W.contents sink.old) (W.contents sink.new) (text message.now)) }
         ensures begun { AppendsBeginning (text message.now) (W.contents sink.old) (W.contents sink.new) }

@@ -1,10 +1,10 @@
 //! Whole captures: from the logs of harts to the bytes of a capture, and from such bytes to text and to logs.
 //!
 //! [`encode_capture`] writes the messages of logs as a capture, and [`encode_hex`] as lines of hexadecimal;
-//! [`write_start`] and [`encode_hart`] write the same hart by hart, in a [`Form`]; [`hex_lines`] writes the messages of a
-//! hart's payloads as lines. [`decode_capture`] returns the events of each hart of a capture, [`read_messages`] its
-//! messages as they are, [`read_front`] those up to the first place where none stands. [`dump_capture`] writes a line of
-//! text for each message.
+//! [`write_start`] and [`encode_hart`] write the same hart by hart, in a [`Form`]; [`hex_lines`] writes the messages of
+//! a hart's payloads as lines. [`decode_capture`] returns the events of each hart of a capture, [`read_messages`] its
+//! messages as they are, [`read_front`] those up to the first place where there is none. [`dump_capture`] writes a line
+//! of text for each message.
 #![tactic(auto)]
 
 mod capture_decoding;

@@ -13,11 +13,11 @@ use retire::WriteFault;
 use std::io::Write;
 
 /// Writes the messages of a hart with these payloads, numbered from 0 on, a line each, as [`encode_hex`] does. A line
-/// has the hart's number and the message's, both decimal, and the payload's bytes in lower-case hexadecimal. The three
-/// are parted by single spaces.
+/// has the hart's number and the message's, both decimal, and the payload's bytes in lower-case hexadecimal. Single
+/// spaces separate the three.
 ///
-/// The payloads need not stand for packets. The only fault is [`WriteFault::Write`], where the writer failed; what was
-/// written then is a beginning of the text. No memory is taken, and the writer is not flushed.
+/// The payloads need not be those of packets. The only fault is [`WriteFault::Write`], where the writer failed; what
+/// was written then is a prefix of the text. No memory is taken, and the writer is not flushed.
 ///
 /// [`encode_hex`]: crate::encode_hex
 pub fn hex_lines<W: Write>(hart: u16, payloads: &[Payload], sink: &mut W) -> Result<(), WriteFault>

@@ -15,7 +15,8 @@ use std::fmt;
 /// Why decoding a capture stops before its end.
 #[derive(Clone, Copy, Debug, PartialEq, Eq)]
 pub enum CaptureFault {
-    /// No whole message stands there, or at the beginning no header though the capture begins as one of version 2 does.
+    /// There is no complete message; or, at the start of a capture that begins as one of version 2 does, no valid
+    /// header.
     Message(MessageFault),
     /// The demultiplexer refuses the message.
     Demux(DemuxFault),

@@ -8,7 +8,7 @@ use payload::{Mode, Outcomes, PackFault, Packet, Report, Support};
 use std::fmt;
 
 /// The text of what a payload is: that of its packet, or `bad` and why it is none, as
-/// [`dump_capture`](crate::dump_capture) writes it behind the hart's number and the message's.
+/// [`dump_capture`](crate::dump_capture) writes it after the hart's number and the message's.
 #[derive(Clone, Copy)]
 pub struct ReadingText<'a> {
     /// The mode that names the address field: that of the capture's header, or [`Mode::Differential`] where there is
