@@ -4,8 +4,8 @@
 //! and the channel (`funnel`), in one thread and between threads, their limits and their ends that are dropped; what
 //! the bench (`bench`) makes of messages that are taken in by hand, of replays and of runs, and the reports of it.
 //!
-//! They stand in a crate of their own: the gate proves a crate that has tests once more with them. What draws inputs,
-//! goes through each size, length or call, or is of scale stands in `tools/long-tests/path`.
+//! They are in a crate of their own: the gate proves a crate that has tests once more with them. Tests that draw
+//! inputs, go through each size, length or call, or are of scale are in `tools/long-tests/path`.
 #![tactic(auto)]
 
 #[cfg(test)]

@@ -1,9 +1,9 @@
-//! All ports that wait for room are called where no message waits, and where the outlet is dropped.
+//! All ports that wait while the funnel is full are called where no message waits, and where the outlet is dropped.
 //!
-//! As in `waking`, a port that no one calls looks for room again by itself, 10 ms later, and the rounds are counted in
-//! which every port goes on sooner. Three ports wait in a full funnel. One of them is called at each mark, when half of
-//! the funnel is taken and when all of it is. What these two send does not reach a mark, so the third goes on sooner
-//! only where it is called since no message waits. A dropped outlet calls all three, or none goes on sooner.
+//! As in `waking`, a port that no one calls looks for a free place again by itself, 10 ms later, and the rounds are
+//! counted in which every port goes on sooner. Three ports wait in a full funnel. One of them is called at each mark,
+//! when half of the funnel is taken and when all of it is. What these two send does not reach a mark, so the third goes
+//! on sooner only where it is called since no message waits. A dropped outlet calls all three, or none goes on sooner.
 
 use super::made::{Fate, OPEN, fate_of};
 use super::room::fill;
@@ -27,7 +27,7 @@ struct Counts {
     called: AtomicU64,
 }
 
-/// Sends a payload through a port that finds no room, and ends the test unless this becomes of it.
+/// Sends a payload through a port that finds the funnel full, and ends the test unless this becomes of it.
 fn wait_for_room<R: Abort + Clock + Wait>(rt: &R, mut port: Port, counts: &Counts, wanted: Fate) {
     let start = Instant::now(rt).expect(rt, "a clock");
     counts.begun.fetch_add(1, Ordering::SeqCst);

@@ -10,11 +10,11 @@ use linked_list_allocator::LocalHeap;
 use std::alloc::Allocator;
 use std::process::Abort;
 
-/// How many messages the funnel has room for.
+/// How many messages the funnel may hold.
 const CAPACITY: u32 = 100;
 
-/// A new queue of 64 harts takes as many messages as its capacity, gives one more back, then gives them in turn, and
-/// then none.
+/// A new queue of 64 harts takes as many messages as its capacity, gives one more back, then gives them in their order,
+/// and then none.
 fn fills_and_empties<A: Allocator, R: Abort>(rt: &R, core: &mut Core<A>)
     requires { core.old.harts ≡ 64 }
 {

@@ -10,8 +10,8 @@ use std::process::Abort;
 /// A message that waits: its hart, its number and its payload's byte.
 pub(crate) type Waiting = (u16, u64, u8);
 
-/// A queue of this capacity, in which this many messages wait, takes the message that is offered where it has room, and
-/// gives it back where it has none.
+/// A queue of this capacity, in which this many messages wait, takes the message that is offered where it is not full,
+/// and gives it back where it is.
 pub(crate) fn answers<R: Abort>(
     rt: &R,
     core: &mut Core,

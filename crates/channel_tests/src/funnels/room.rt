@@ -54,7 +54,7 @@ fn let_go<R: Abort + Wait>(rt: &R, mut outlet: Outlet, wanted: Fate) -> Option<O
     Some(outlet)
 }
 
-// The messages behind the first one come, that with the closing payload last.
+// The messages after the first one come, that with the closing payload last.
 fn comes_whole<R: Abort + Wait>(rt: &R, mut outlet: Outlet, capacity: u32) {
     let last = u64::from(capacity);
     for number in 1..last {

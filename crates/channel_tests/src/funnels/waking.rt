@@ -1,9 +1,9 @@
-//! A port that waits for room in a full funnel is called at the low-water mark.
+//! A port that waits while the funnel is full is called at the low-water mark.
 //!
-//! A port that no one calls looks for room again by itself, 10 ms later. So a payload that a sleeping port sends sooner
-//! shows that the port was called. The rounds in which it does are counted. On a loaded machine a port that is called
-//! may go on only after 10 ms in some rounds, and in a few it may find room before it ever sleeps. A port that is never
-//! called sends sooner only in those few.
+//! A port that no one calls looks for a free place again by itself, 10 ms later. So a payload that a sleeping port
+//! sends sooner shows that the port was called. The rounds in which it does are counted. On a loaded machine a port
+//! that is called may go on only after 10 ms in some rounds, and in a few it may find a free place before it ever
+//! sleeps. A port that is never called sends sooner only in those few.
 
 use super::made::{OPEN, comes, sends};
 use super::room::{ends_of, fill};
@@ -35,8 +35,8 @@ pub(crate) const ENOUGH: u64 = 10;
 /// What is raised in place of a round where no more come.
 const DONE: u64 = u64::MAX;
 
-/// Raises the round, and then sends a payload through a port that finds no room. Returns whether it was sent sooner
-/// than by a port that no one calls.
+/// Raises the round, and then sends a payload through a port that finds the funnel full. Returns whether it was sent
+/// sooner than by a port that no one calls.
 fn is_called<R: Abort + Clock + Wait>(
     rt: &R,
     port: &mut Port,

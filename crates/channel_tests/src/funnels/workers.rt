@@ -150,9 +150,9 @@ fn settle_all<R: Abort + Threads>(
     }
 }
 
-// Starts the workers, takes until this many messages are left, settles the receipts, and takes what is left, for which
-// the channel has room. No sending end is left by then, so a lost message shows as the channel's end. Where no messages
-// are left, each receipt has to say that all its hart sent was taken.
+// Starts the workers, takes until this many messages are left, settles the receipts, and takes what is left, which the
+// channel can hold. No sending end is left by then, so a lost message shows as the channel's end. Where no messages are
+// left, each receipt has to say that all its hart sent was taken.
 fn conduct<'s, E, R: Abort + AllocGlobal + Threads + Wait + Sync>(
     scope: &Scope<'s, E>,
     rt: &'s R,

@@ -93,7 +93,7 @@ const AFTER_LOSSES: [Row; 23] = [
     (Accept, 1, FAR, OPEN, Err(AfterClose)),
 ];
 
-/// One call may be made after the other, also behind a loss.
+/// One call may be made after the other, also after a loss.
 const BOTH_CALLS: [Row; 5] = [
     (Accept, 0, 0, OPEN, Ok(0)),
     (AcceptLossy, 0, 2, OPEN, Ok(1)),
@@ -146,7 +146,7 @@ fn closed(demux: &Demux) -> [bool; 4] {
     ]
 }
 
-/// Ends the test unless each row is answered as it says, and just those harts are closed behind it that have to be.
+/// Ends the test unless each row is answered as it says, and just those harts are closed after it that have to be.
 fn answer_as<R: Abort + AllocGlobal>(rt: &R, (name, harts, rows, [first, second]): Run) {
     let mut demux = Demux::new(rt.alloc(), harts).expect(rt, "memory");
     for (place, row) in rows.iter().enumerate() {

@@ -55,7 +55,7 @@ pub(crate) fn are_refused(
     same_at(rt, place, start, Err(fault));
 }
 
-/// Ends the test unless the message and the header are read by readers that fail at one call, and reading behind the
+/// Ends the test unless the message and the header are read by readers that fail at one call, and reading after the
 /// message returns this.
 pub(crate) fn are_read(
     rt: &impl Abort,

@@ -7,7 +7,7 @@ use payload::Mode;
 use std::fmt::Debug;
 use std::process::Abort;
 
-/// A header of differences, a period of 1,024 and one hart, and the first message behind it.
+/// A header of differences, a period of 1,024 and one hart, and the first message after it.
 pub(crate) const WHOLE: [u8; 28] = [
     0xff, 0xff, 0x72, 0x76, 0x74, 0x72, 0x61, 0x63, 0x65, 0x32, 0x00, 0x00, 0x00, 0x04, 0x01, 0x00,
     0x00, 0x00, 0x00, 0x00, 0x00, 0x00, 0x00, 0x00, 0x00, 0x00, 0x01, 0x1f,
@@ -38,7 +38,7 @@ const HEADERS: [(Mode, u16, u16, [u8; 5]); 5] = [
     ),
 ];
 
-/// The header with other settings, and the first message behind it.
+/// The header with other settings, and the first message after it.
 pub(crate) fn with_settings(settings: [u8; 5]) -> [u8; 28] {
     let mut bytes = WHOLE;
     bytes[11..16].copy_from_slice(&settings);
@@ -115,7 +115,7 @@ fn what_bears_no_mark_is_version_1(rt: HostRuntime) {
 }
 
 /// Ends the test unless bytes that begin as a header does are short: as messages where the mark is cut, and as a header
-/// where they are cut behind it.
+/// where they are cut after it.
 pub(crate) fn are_short(rt: &impl Abort, bytes: &[u8]) {
     let length = bytes.len();
     let mut messages = Messages::new(bytes);
@@ -134,7 +134,7 @@ fn cut_headers_are_short(rt: HostRuntime) {
     are_short(&rt, &WHOLE[..5]);
     are_short(&rt, &WHOLE[..10]);
     are_short(&rt, &WHOLE[..15]);
-    // A bad mode that stands there already changes nothing.
+    // A bad mode that is there already changes nothing.
     let bytes = with_settings([2, 0, 0, 0, 0]);
     are_short(&rt, &bytes[..12]);
 }

@@ -14,7 +14,7 @@ fn room_is_refused(rt: HostRuntime) {
     same_at(&rt, "the heap", heap.used(), 0);
 }
 
-/// Ends the test unless a message is accepted from the last of this many harts, and refused from the one behind it.
+/// Ends the test unless a message is accepted from the last of this many harts, and refused from the one after it.
 fn takes_the_last<R: Abort + AllocGlobal>(rt: &R, harts: u16) {
     let open = Packet::Support(Support::Open(Mode::Differential));
     let mut demux = Demux::new(rt.alloc(), harts).expect(rt, "memory");

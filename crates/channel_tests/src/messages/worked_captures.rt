@@ -25,8 +25,8 @@ fn capture_is_written(rt: HostRuntime) {
     same_at(&rt, "the capture", bytes.as_slice(), GAP.as_slice());
 }
 
-/// Ends the test unless this count of messages of the capture is read from its beginning, both ways, and reading ends
-/// so behind them.
+/// Ends the test unless this count of messages of the capture is read from its start, both ways, and reading ends so
+/// after them.
 pub(crate) fn are_read(rt: &impl Abort, bytes: &[u8], count: usize, end: Result<(), MessageFault>) {
     let length = bytes.len();
     let mut rest = bytes;
@@ -68,7 +68,7 @@ fn end_at(rt: &impl Abort, length: usize, read: Read, end: Result<(), MessageFau
 
 const SHORT: Result<(), MessageFault> = Err(MessageFault::Short);
 
-/// Lengths of beginnings of the capture, how many messages each has, and how reading ends behind them.
+/// Lengths of prefixes of the capture, how many messages each has, and how reading ends after them.
 const BEGINNINGS: [(usize, usize, Result<(), MessageFault>); 8] = [
     (0, 0, Ok(())),
     (1, 0, SHORT),

@@ -1,4 +1,4 @@
-//! What came of a hart, against what should have.
+//! The outcome of a hart, against the outcome that it should have.
 
 use crate::same::same_at;
 use bench::{HartOutcome, Outcome};
@@ -7,8 +7,8 @@ use std::alloc::Allocator;
 use std::fmt::Debug;
 use std::process::Abort;
 
-/// What came of a hart, but for its events: how many packets, how many bytes their payloads had, how many packets were
-/// kept, whether it is closed, and whether memory was refused.
+/// The outcome of a hart, but for its events: how many packets, how many bytes their payloads had, how many packets
+/// were kept, whether it is closed, and whether memory was refused.
 #[derive(Clone, Copy, Debug, PartialEq, Eq)]
 pub(crate) struct End {
     pub(crate) taken: u64,
@@ -18,7 +18,7 @@ pub(crate) struct End {
     pub(crate) refused: bool,
 }
 
-/// What came of this hart, but for its events.
+/// The outcome of this hart, but for its events.
 pub(crate) fn end_of<A: Allocator>(came: &HartOutcome<A>) -> End {
     End {
         taken: came.taken,
@@ -29,7 +29,8 @@ pub(crate) fn end_of<A: Allocator>(came: &HartOutcome<A>) -> End {
     }
 }
 
-/// Ends the test unless this came of a hart, whose events are the first of these, and all of them where it is closed.
+/// Ends the test unless this is the outcome of a hart, whose events are the first of these, and all of them where it is
+/// closed.
 pub(crate) fn came_at<P: Copy + Debug + Drop, A: Allocator>(
     rt: &impl Abort,
     place: P,

@@ -51,8 +51,8 @@ pub(crate) fn send<A: Allocator + Copy>(
     sent
 }
 
-/// What comes of all messages of the first log, five packets of nine bytes, and of three messages of the second, of as
-/// many bytes as were sent. These counts of packets are kept.
+/// The outcomes by all messages of the first log, five packets of nine bytes, and by three messages of the second, of
+/// as many bytes as were sent. These counts of packets are kept.
 fn ends(bytes: u64, kept: [usize; 2]) -> [End; 2] {
     let whole = End {
         taken: 5,
@@ -141,7 +141,7 @@ fn each_kind_of_packet_is_taken_in(rt: HostRuntime) {
 /// A message, by its hart, its number and its payload, and the answer to it.
 type Answer<'t> = (u16, u64, &'t [u8], Result<(), CollectFault>);
 
-/// Messages in turn, and the answers to them.
+/// Messages in their order, and the answers to them.
 const ANSWERS: [Answer; 5] = [
     (
         2,

@@ -14,8 +14,8 @@ use std::process::Abort;
 use std::sync::Wait;
 use std::thread::Threads;
 
-/// What comes of a log of each kind over the ends of a new funnel of so many messages. Ends the test unless the channel
-/// is empty then and has ended: the outlet took all that was sent, and no port is left.
+/// The outcomes of a log of each kind over the ends of a new funnel of so many messages. Ends the test unless the
+/// channel is empty then and has ended: the outlet took all that was sent, and no port is left.
 fn run_over<A: Allocator + Copy, R: Abort + AllocGlobal + Threads + Wait + Sync>(
     rt: &R,
     alloc: A,

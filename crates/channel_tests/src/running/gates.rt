@@ -1,5 +1,5 @@
 //! The gate round each send of a run: of 2, 5 and 64 harts, at each period, in each mode, with packets kept and not,
-//! with rooms for the events of no hart, of one and of all, and at two capacities.
+//! with lists for the events of no hart, of one and of all, and at two capacities.
 
 use super::calls::Calls;
 use super::made::{MESSAGES, came_back, kinds, program};
@@ -15,8 +15,8 @@ use std::thread;
 use std::thread::Threads;
 use std::time::Duration;
 
-/// How many harts run, the row of their period, how they do, and how many are handed a room; `None` where the run is
-/// one without rooms.
+/// How many harts run, the row of their period, how they do, and how many are handed a list; `None` where the run is
+/// one without lists.
 #[derive(Clone, Copy, Debug)]
 struct Setting {
     harts: u16,
@@ -26,7 +26,7 @@ struct Setting {
 }
 
 /// How many settings there are: each number of harts with each period, in each mode, with packets kept and not, with
-/// each number of rooms. The capacities come in turn.
+/// each number of lists. The two capacities alternate.
 const SETTINGS: usize = 192;
 
 /// The setting of this number.
@@ -45,10 +45,10 @@ fn setting_at(number: usize) -> Setting {
     }
 }
 
-/// The sizes of rooms that hold the events of every log.
+/// The sizes of lists that hold the events of every log.
 const SIZES: [usize; 64] = [33; 64];
 
-/// What comes of the logs in this setting with this gate.
+/// The outcomes of the logs in this setting with this gate.
 fn run_of<G: Gate, R: Abort + AllocGlobal + Threads + Wait + Sync>(
     rt: &R,
     logs: &[LegalLog<'_>],

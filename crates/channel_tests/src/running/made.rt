@@ -1,4 +1,4 @@
-//! A program of five words, the logs of harts that run it, and the report of what came of them.
+//! A program of five instructions, the logs of harts that run it, and the report of the outcomes.
 
 use crate::same::same_at;
 use bench::{Outcome, Turn, is_whole, report};
@@ -10,10 +10,10 @@ use std::alloc::Allocator;
 use std::fmt::Debug;
 use std::process::Abort;
 
-/// Where the program stands.
+/// The address of the program.
 const BASE: u64 = 0x8000_0000;
 
-/// Two words `nop`, a jump to the address in `ra`, a branch to itself, and a jump to itself.
+/// Two `nop`, a jump to the address in `ra`, a branch to itself, and a jump to itself.
 const WORDS: [u32; 5] = [
     0x0000_0013,
     0x0000_0013,
@@ -84,7 +84,7 @@ pub(crate) const MESSAGES: [(u16, [u64; 4]); 4] = [
     (1024, [5, 4, 5, 5]),
 ];
 
-/// The retirement of a word at an offset, at machine level.
+/// The retirement of an instruction at an offset, at machine level.
 pub(crate) fn retired(offset: u64, itype: u8) -> Event {
     Event::Retire {
         addr: BASE.wrapping_add(offset),
@@ -93,7 +93,7 @@ pub(crate) fn retired(offset: u64, itype: u8) -> Event {
     }
 }
 
-/// A trap at machine level after the first word: an interrupt, or an exception.
+/// A trap at machine level after the first instruction: an interrupt, or an exception.
 fn trapped(interrupt: bool, cause: u8) -> Event {
     Event::Trap {
         epc: BASE.wrapping_add(4),
@@ -119,13 +119,14 @@ pub(crate) fn branches<R: Abort + AllocGlobal>(rt: &R) -> Vec<Event> {
     vec![in rt.alloc(); retired(12, 5); 33].expect(rt, "memory")
 }
 
-/// The events of the hart that goes on at the second word after the jump.
+/// The events of the hart that goes on at the second instruction after the jump.
 pub(crate) fn returns<R: Abort + AllocGlobal>(rt: &R) -> Vec<Event> {
     let events = vec![in rt.alloc(); retired(0, 0), retired(4, 0), retired(8, 6), retired(4, 0)];
     events.expect(rt, "memory")
 }
 
-/// The events of the hart that is trapped by an exception, goes on at the first word, and ends with an interrupt.
+/// The events of the hart that is trapped by an exception, goes on at the first instruction, and ends with an
+/// interrupt.
 fn traps<R: Abort + AllocGlobal>(rt: &R) -> Vec<Event> {
     let exception = trapped(false, 0xb);
     let interrupt = trapped(true, 7);

@@ -18,7 +18,7 @@ pub(crate) const CONFIG: Config = Config {
     keep: false,
 };
 
-/// The report where memory is refused for the first hart: its 33 events want more room than the four of the second.
+/// The report where memory is refused for the first hart: its 33 events want more memory than the four of the second.
 pub(crate) const FIRST_REFUSED: &str =
     "hart 0: 33 events, 1 packets, 1 payload bytes, decoded 0, beginning\n\
     hart 1: 4 events, 4 packets, 9 payload bytes, decoded 4, whole\n\
@@ -37,7 +37,7 @@ fn nothing_is_sent_with_no_memory(rt: HostRuntime) {
     same_at(&rt, "the heap", heap.used(), 0);
 }
 
-/// A heap that has room for the events of the second hart and not for those of the first.
+/// A heap that is large enough for the events of the second hart and not for those of the first.
 const SMALL: usize = 1024;
 
 #[test]

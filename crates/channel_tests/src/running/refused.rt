@@ -13,15 +13,15 @@ use std::alloc::Global;
 use std::process::Abort;
 use std::sync::{OnceLock, Wait};
 
-/// How many requests a replay makes before it sends: for the funnel's queue, the senders, what comes of the harts, and
-/// the receiver's four lists.
+/// How many requests a replay makes before it sends: for the funnel's queue, the senders, the outcomes of the harts,
+/// and the receiver's four lists.
 const BEFORE_REPLAY: usize = 7;
 
-/// How many a run makes: for what comes of the harts, the receiver's four lists, which payloads were handed back, and
+/// How many a run makes: for the outcomes of the harts, the receiver's four lists, which payloads were handed back, and
 /// the workers. The funnel takes `Global` alone, and so do threads.
 pub(crate) const BEFORE_RUN: usize = 7;
 
-/// The reports where one of the requests behind these is refused: for packets of the first hart, for its events, for
+/// The reports where one of the requests after these is refused: for packets of the first hart, for its events, for
 /// more of its packets, for packets of the second hart, and for its events.
 const REFUSED: [&str; 5] = [
     "hart 0: 33 events, 0 packets, 0 payload bytes, decoded 0, beginning\n\
@@ -117,7 +117,7 @@ fn each_request_of_a_run(rt: HostRuntime) {
     }
 }
 
-/// What is written of a report of three lines where the room for one of them is refused.
+/// What is written of a report of three lines where memory for one of them is refused.
 const BEGINNINGS: [&str; 3] = [
     "",
     "hart 0: 33 events, 5 packets, 9 payload bytes, decoded 33, whole\n",

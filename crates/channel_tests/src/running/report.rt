@@ -8,7 +8,7 @@ use refusing::FailingWriter;
 use retire::{Event, WriteFault};
 use std::process::Abort;
 
-/// What came of a hart with these events, this many packets and this many payload bytes.
+/// The outcome of a hart with these events, this many packets and this many payload bytes.
 fn hart<R: AllocGlobal>(
     rt: &R,
     decoded: Vec<Event>,
@@ -26,7 +26,7 @@ fn hart<R: AllocGlobal>(
     }
 }
 
-/// What came of these two harts, whose run ended so.
+/// The outcome of these two harts, whose run ended so.
 fn outcome_of<R: Abort + AllocGlobal>(
     rt: &R,
     first: HartOutcome,
@@ -39,7 +39,7 @@ fn outcome_of<R: Abort + AllocGlobal>(
     }
 }
 
-/// What came of both harts where all of their events came back, and their run ended so.
+/// The outcome of both harts where all of their events came back, and their run ended so.
 pub(crate) fn whole_with<R: Abort + AllocGlobal>(rt: &R, stop: Stop) -> Outcome {
     let first = hart(rt, branches(rt), 5, 9, true);
     let second = hart(rt, returns(rt), 4, 9, true);

@@ -1,4 +1,4 @@
-//! Runs that are handed rooms for the events.
+//! Runs that are handed lists for the events.
 
 use super::made::{WHOLE, logs, program, reports_at, retired};
 use super::runs::CONFIG;
@@ -26,7 +26,7 @@ pub(crate) fn rooms_of<R: Abort, A: Allocator + Copy>(
     rooms
 }
 
-/// The sizes of rooms for two harts, of 33 and 4 events: for none, for one alone, just enough, too small, with none for
+/// The sizes of lists for two harts, of 33 and 4 events: for none, for one alone, just enough, too small, with none for
 /// the first, and for more harts than there are.
 const SIZES: [&[usize]; 6] = [&[], &[40], &[33, 4], &[1, 1], &[0, 4], &[33, 4, 7, 2]];
 
@@ -45,7 +45,7 @@ fn what_comes_is_the_same_in_any_rooms(rt: HostRuntime) {
     }
 }
 
-/// How many requests a run makes without rooms.
+/// How many requests a run makes without lists.
 fn requests_of<R: Abort + AllocGlobal + Threads + Wait + Sync>(
     rt: &R,
     logs: &[LegalLog<'_>],
@@ -57,7 +57,7 @@ fn requests_of<R: Abort + AllocGlobal + Threads + Wait + Sync>(
     heap.requests()
 }
 
-/// How many requests a run makes in rooms of these sizes.
+/// How many requests a run makes with lists of these sizes.
 fn requests_in<R: Abort + AllocGlobal + Threads + Wait + Sync>(
     rt: &R,
     logs: &[LegalLog<'_>],
@@ -72,10 +72,11 @@ fn requests_in<R: Abort + AllocGlobal + Threads + Wait + Sync>(
     heap.requests().saturating_sub(before)
 }
 
-/// How many requests fewer a run makes in rooms of each of the sizes.
+/// How many requests fewer a run makes with lists of each of the sizes.
 const SAVED: [u64; 6] = [0, 1, 2, 0, 1, 2];
 
-// A run makes a request for the list of each of two harts, and none where the hart's room holds all its events.
+// A run makes a request for the list of each of two harts, and none where the list that is handed in for the hart holds
+// all its events.
 #[test]
 fn a_room_is_what_a_run_would_take(rt: HostRuntime) {
     let program = program(&rt);

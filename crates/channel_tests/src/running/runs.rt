@@ -18,15 +18,15 @@ pub(crate) const CONFIG: Config = Config {
     keep: true,
 };
 
-/// Ends the test unless the same came of a hart.
+/// Ends the test unless the outcomes of a hart are the same.
 fn same_hart(rt: &impl Abort, place: (Config, usize), one: &HartOutcome, other: &HartOutcome) {
     same_at(rt, place, end_of(one), end_of(other));
     same_at(rt, place, one.packets.as_slice(), other.packets.as_slice());
     same_at(rt, place, one.decoded.as_slice(), other.decoded.as_slice());
 }
 
-/// Ends the test unless the same comes of a run of a log of each kind as of turns by which each message is taken at
-/// once, of which each log gives so many. Returns what came.
+/// Ends the test unless a run of a log of each kind has the same outcomes as turns by which each message is taken at
+/// once, of which each log gives so many. Returns the outcomes.
 fn comes_as_by_turns<R: Abort + AllocGlobal + Threads + Wait + Sync>(
     rt: &R,
     logs: &[LegalLog<'_>],
