@@ -1,4 +1,5 @@
-//! What a command line of `tracebench` asks for. `clap` reads it here, by the rules of the crate `arguments`. No other crate uses `clap`, so its part of a check is paid in these two crates alone.
+//! What a command line of `tracebench` asks for. `clap` reads it here, by the rules of the crate `arguments`. No other
+//! crate uses `clap`, so only the checks of these two crates take the time that `clap` adds.
 #![tactic(auto)]
 
 mod asking;
