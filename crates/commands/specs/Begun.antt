@@ -1,4 +1,4 @@
--- What is written where memory is refused or the output fails: a beginning of the text.
+-- What is written where memory is refused or the output fails: a prefix of the text.
 use Rattle.std.specs.Prelude.{ℕ, List, Option}
 use Rattle.subcommands.specs.declared.words.Asked.{Asked}
 use Rattle.command_inputs.specs.Begun.{IsCutOf}
@@ -10,7 +10,7 @@ abbrev pub WritesInParts : Asked → Type 0
 WritesInParts asked = (meaning_of asked).WritesInParts
 
 -- What may have been written where memory is refused: by `check` nothing or the lines of the first logs, by `decode`
--- nothing or a beginning of a text that it may print, by `list` nothing or all lines before the message at which memory
+-- nothing or a prefix of a text that it may print, by `list` nothing or all lines before the message at which memory
 -- was refused, and by the others nothing.
 abbrev pub IsBegun : Content → Asked → Option (List ℕ) → Option (List ℕ) → Type 0
 IsBegun content asked old new = (meaning_of asked).Begins content old new

@@ -30,11 +30,11 @@ pub fn carry_out<'a, F: Files, O: Write, R: Threads + Wait + Sync>(
     out: &mut O,
 ) -> Result<Status, Fault<'a>>
     requires { IsWithinLimits asked.now }
-    // However it ends, also where the output fails, nothing or a beginning of the text was written.
+    // However it ends, also where the output fails, nothing or a prefix of the text was written.
     ensures cut { IsCutOutput (F.content files.old) asked.now (O.contents out.old) (O.contents out.new) }
     ensures early { IfSome (early_fault asked.now) (λ fault. result ≡ Err fault) }
     ensures printed { IsCarriedOut (F.content files.old) asked.now result (O.contents out.old) (O.contents out.new) }
-    // Where memory is refused, nothing or a beginning of the text was written.
+    // Where memory is refused, nothing or a prefix of the text was written.
     ensures begun { result ≡ Err Fault.Memory
         → IsBegun (F.content files.old) asked.now (O.contents out.old) (O.contents out.new) }
     // Where memory is refused, only `check`, `decode` and `list` may have written anything.

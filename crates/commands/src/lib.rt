@@ -1,8 +1,9 @@
-//! The subcommands of `tracebench`, each over a place that files are read from, an output, and what is asked of it.
+//! The subcommands of `tracebench`. Each is a call over a place that files are read from, an output, and a struct with
+//! what is asked of it.
 //!
 //! [`carry_out`] does what is asked, whichever subcommand that is. [`report_error`] writes the line of the fault that
-//! ended it. How words ask for a subcommand is no matter of this crate. The subcommands themselves stand in
-//! `log_commands`, `capture_commands` and `path_commands`, what they share in `command_inputs`.
+//! ended it. How arguments ask for a subcommand is the matter of the crate `cli`. The subcommands themselves are in
+//! `log_commands`, `capture_commands` and `path_commands`, and what they share is in `command_inputs`.
 #![tactic(auto)]
 
 mod dispatch;
