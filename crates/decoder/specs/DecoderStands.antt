@@ -1,4 +1,4 @@
--- What a decoder stands for.
+-- Which packets and which log the state of a decoder stands for.
 use Rattle.std.specs.Prelude.{◌≡◌, Bool, true, false, List, Option, Some, None}
 use Rattle.std.specs.List.{last_or}
 use Rattle.retire.specs.declared.event.Event.{Event}
@@ -30,8 +30,8 @@ abbrev pub waiting_after : Option Packet → Option Waiting
 waiting_after (Some (packet.Address taken delta report.Plain)) = Some (record { outcomes = taken; delta = delta })
 waiting_after other = None
 
--- A decoder stands for packets and a log. The packets describe the log, and what the decoder remembers follows from
--- both, but for the announced mode, which `HasMode` is about.
+-- A decoder stands for packets and a log: its state is that after these packets. The packets describe the log, and what
+-- the decoder remembers follows from both, but for the announced mode, which `HasMode` is about.
 pub record DecoderStands (words : Words) (packets : List Packet) (log : List Event) (decoder : Decoder) : Type 0 where
   pub described : Describes words packets log
   pub phase : decoder.phase ≡ phase_after (last_or None packets)

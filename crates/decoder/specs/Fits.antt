@@ -23,7 +23,7 @@ AfterInferable words None = ⊥
 AfterInferable words (Some before) =
     (is_retirement before ≡ true) × (is_discontinuity words before ≡ false)
 
--- The event is a retirement at this address and privilege, and it is a taken branch exactly where `taken` is true.
+-- The event is a retirement at this address and privilege, and it is a taken branch if and only if `taken` is true.
 abbrev pub IsReported : Bool → ℕ → ℕ → Event → Type 0
 IsReported taken priv address event =
     (itype : ℕ) × (event ≡ Retire address itype priv) × (is_taken event ≡ taken)

@@ -1,4 +1,4 @@
--- What the state of a decoder stands for.
+-- Which packets and which log a decoder's state stands for, as a caller may keep it.
 use Rattle.std.specs.Prelude.{List}
 use Rattle.retire.specs.declared.event.Event.{Event}
 use Rattle.rvclass.specs.Words.{Words}
@@ -18,6 +18,6 @@ decoder_of state = record {
   reported = state.reported;
 }
 
--- The state stands for packets and a log: the decoder that remembers it does.
+-- The state stands for packets and a log: the decoder with this state does.
 abbrev pub StateStands : Words → List Packet → List Event → DecoderState → Type 0
 StateStands words packets log state = DecoderStands words packets log (decoder_of state)

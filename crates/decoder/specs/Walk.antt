@@ -16,9 +16,9 @@ pub data End : Type 0 where
   AtAddress : ℕ → End
   AtTarget : ℕ → End
 
--- The retirements `front` and then `last`, after the event `before`, end so: `last` is a branch, or stands at the
--- address. No event ahead of `last` is an uninferable discontinuity, but where they end at a target the one right
--- before it is.
+-- The retirements `front` and then `last`, after the event `before`, end so: `last` is a branch, or is at the address.
+-- No event ahead of `last` is an uninferable discontinuity. But where they end at a target, the event right before
+-- `last` is one.
 abbrev pub EndsAt : Words → End → Event → List Event → Event → Type 0
 EndsAt words AtBranch before front last =
     NoneOf (is_discontinuity words) (before ∷ front) × (is_branch last ≡ true)

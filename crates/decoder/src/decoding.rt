@@ -40,9 +40,8 @@ use std::alloc::Allocator;
 /// follows it. The events of all other packets come at once. The packet that opens the trace announces the mode, and so
 /// what address fields hold.
 ///
-/// Where packets were lost, [`Decoder::resume`] lets the decoder go on with a stretch by itself. It passes over packets
-/// until a synchronisation comes. From there on it stands for the packets of a trace that would begin with this
-/// synchronisation.
+/// Where packets were lost, [`Decoder::resume`] lets the decoder begin a new stretch. It passes over packets until a
+/// synchronisation comes. From there on it decodes as if the trace began with this synchronisation.
 #[derive(Clone, Copy, Debug)]
 pub struct Decoder {
     phase: Phase,
@@ -143,8 +142,9 @@ impl Decoder {
     /// Takes the next packet, and adds the events that it settles to the log. Hand in the same program at each call,
     /// and the log with the events of the packets before, or any other list: it grows by the same events.
     ///
-    /// A fault leaves the decoder and the log as they were: the packet may be fed again where memory was refused. What
-    /// was written by then is cut off again, and the log grows only where it lacks the room.
+    /// A fault leaves the decoder and the log as they were: the packet may be fed again where memory was refused.
+    /// Events that were written before the fault are removed again. The log's capacity grows only where it is too
+    /// small.
     pub fn feed<A: Allocator>(
         &mut self,
         program: &Program,
@@ -180,7 +180,7 @@ impl Decoder {
         ensures mode_kept { (mode : Option AnyMode) → HasMode mode self.old → ¬ IsOpen packet.now
             → HasMode mode self.new }
 
-        // Any list: the events come behind those that it has.
+        // Any list: the events are appended to those that it has.
         ensures adds { (packets : List Packet) (before added : List Event)
             → DecoderStands (words_of program.now) packets before self.old → log.new.items ≡ log.old.items ++ added
             → OnOk result (DecoderStands (words_of program.now) (packets ++ packet.now ∷ []) (before ++ added)
@@ -196,7 +196,8 @@ impl Decoder {
             → DecoderStands (words_of program.now) packets before self.old
             → (result ≡ Err NotOpened) ↔ ((packets ≡ []) × ¬ IsOpen packet.now) }
 
-        // A decoder that passes over packets. The events of the synchronisation come behind those that the list has.
+        // A decoder that passes over packets. The events of the synchronisation are appended to those that the list
+        // has.
         ensures passed_over { (mode : AnyMode) → PassesOver mode self.old → ¬ IsSync packet.now
             → is_closing_packet packet.now ≡ false
             → (result ≡ Ok tt) × (self.new ≡ self.old) × (log.new.items ≡ log.old.items) }
@@ -246,8 +247,8 @@ impl Decoder {
     }
 
     /// Finds what the next packet adds to a log: first the events of the packet that waits, if one does, then those of
-    /// the packet itself. Walks are written as they are found, as far as there is room, and are not taken back at a
-    /// fault.
+    /// the packet itself. Walks are written as they are found, as far as the list's capacity goes, and are not taken
+    /// back at a fault.
     #[inline]
     fn plan<A: Allocator>(
         &self,

@@ -14,14 +14,14 @@ use std::fmt;
 pub enum DecodeFault {
     /// Another packet than Open comes first.
     NotOpened,
-    /// No whole word that retires stands at an address that is to be retired.
+    /// At an address that is to be retired there is no complete instruction that retires.
     OffProgram,
     /// A walk would go on after a backward jump that no packet reported.
     MissedNotify,
     /// One of these:
     /// - A branch has no outcome left.
     /// - Outcomes are left over at an uninferable discontinuity.
-    /// - A packet reports a taken branch where no branch stands.
+    /// - A packet reports a taken branch where there is no branch.
     /// - A trap packet without a handler reports a taken branch.
     Branches,
     /// One of these:
@@ -30,13 +30,13 @@ pub enum DecodeFault {
     /// - A trap with its handler follows no retirement that leads to one address.
     /// - EndedRep follows no address packet that waits.
     /// - A walk meets an uninferable discontinuity, and does not end at its target.
-    /// - A synchronisation or a trap stands where the event before does not lead.
+    /// - A synchronisation or a trap is reported at a place to which the event before does not lead.
     WrongPlace,
-    /// A word does not retire at the privilege, or the event before does not lead to it.
+    /// An instruction does not retire at the privilege, or the event before does not lead to that privilege.
     WrongPrivilege,
     /// The packet that closes the trace came before.
     AfterClose,
-    /// Room for the events was refused.
+    /// Memory for the events was refused.
     Memory,
 }
 

@@ -44,13 +44,13 @@ pub fn walks_are_short()
         length walk ≤ 32 * (count / 2) }
 {}
 
-/// A decoder that stands for packets is closed exactly where the last of them closes the trace.
+/// A decoder whose state stands for packets is closed if and only if the last of them closes the trace.
 pub fn closed_where_last_closes()
     ensures { (words : Words) (packets : List Packet) (log : List Event) (decoder : Decoder) →
         DecoderStands words packets log decoder → IsClosed decoder ↔ (last_is_closing packets ≡ true) }
 {}
 
-/// A decoder that passes over packets is not closed, and stands for nothing.
+/// A decoder that passes over packets is not closed, and its state stands for no packets.
 pub fn passing_over_stands_for_nothing()
     ensures { (mode : Mode) (decoder : Decoder) → PassesOver mode decoder →
         (¬ IsClosed decoder) ×

@@ -144,8 +144,8 @@ impl Cause {
     }
 }
 
-/// The retirement that a packet reports, by the word at its address. The packet reports one outcome, which a branch
-/// uses. Where the outcome is taken, the word has to be a branch.
+/// The retirement that a packet reports, by the instruction at its address. The packet reports one outcome, which a
+/// branch uses. If the outcome is taken, the instruction has to be a branch.
 fn retirement(program: &Program, reported: Reported) -> Result<Event, DecodeFault>
     ensures { result ≡ reporting.retirement_with_type reported.addr reported.privilege
         (reporting.type_at (words_of program.now reported.addr) reported.taken) }
@@ -186,7 +186,7 @@ pub fn reported_retirement(
     Ok(event)
 }
 
-/// Whether an event may stand at a place, after the event before.
+/// Whether an event may be at a place, after the event before.
 fn may_stand(program: &Program, before: Option<Event>, at: u64) -> bool
     ensures { IsTrue result ↔ MayStandAfter (words_of program.now) before at }
 {

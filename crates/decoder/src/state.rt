@@ -25,7 +25,7 @@ pub struct DecoderState {
     pub phase: Phase,
     /// The address packet that waits for the one that follows it, if one waits.
     pub waiting: Option<Waiting>,
-    /// The last event, if there is one since the trace or, behind a loss, its stretch began.
+    /// The last event, if there is one since the trace began or, after a loss, since the stretch began.
     pub last: Option<Event>,
     /// The mode in which address fields are read.
     pub mode: Mode,

@@ -69,7 +69,7 @@ impl Course {
     }
 }
 
-/// What a step of a walk comes to.
+/// The result of a step of a walk.
 #[derive(Clone, Copy)]
 pub enum Step {
     /// It goes on from the retirement that was reached.
@@ -134,7 +134,7 @@ fn step_on(program: &Program, addr: u64, here: &mut Here, used: &mut usize, cour
     }
 }
 
-/// The step to a plain word, which most words are.
+/// The step to a plain instruction. Most instructions are plain.
 #[inline(always)]
 fn step_plain(addr: u64, length: u8, here: &mut Here, used: usize, course: &Course) -> Step
     requires course { steps.IsCourse course.now }
@@ -246,7 +246,7 @@ fn ends(addr: u64, itype: u8, used: usize, course: &Course) -> bool
     }
 }
 
-/// Whether a word of a class at this address is a backward jump.
+/// Whether an instruction of a class at this address is a backward jump.
 #[inline]
 fn jumps_back(addr: u64, class: Class) -> bool
     ensures { (length : ℕ) → result ≡ jumps_back addr (Some (class, length)) }

@@ -106,7 +106,7 @@ impl Stretch {
         }
     }
 
-    /// Writes the events that are not in the list yet. The room for them was reserved.
+    /// Writes the events that are not in the list yet. The capacity for them was reserved.
     #[inline]
     pub fn write<A: Allocator>(&self, program: &Program, log: &mut Vec<Event, A>)
         requires program { IsProgram (words_of program.now) }

@@ -1,4 +1,5 @@
-//! Walks: written as they are found, where there is room, or else in two passes: the first measures, the second writes.
+//! Walks. A walk is written as it is found, where the list's capacity is enough, and else in two passes: the first
+//! measures, the second writes.
 
 ghost use Rattle.std.specs.Prelude.{◌≡◌, ◌+◌, ◌*◌, ◌/◌, ◌≤◌, List, ◌++◌, length, vec_len, vec_capacity, IsOk};
 ghost use Rattle.std.specs.Prelude.{IfOk, IfErr};
@@ -42,8 +43,8 @@ pub struct Walked {
 }
 
 /// Writes the walk from a retirement as it is found. Where there is no such walk, the fault is the first on the way,
-/// and what was written up to it stays. Where the room is too small, the call returns no walk, and the list is as it
-/// was.
+/// and the events that were written before it remain. Where the capacity is too small, the call returns no walk, and
+/// the list is as it was.
 #[inline(always)]
 pub fn write_found<A: Allocator>(
     paths: Paths,
@@ -93,7 +94,7 @@ pub fn measure(
     )
 }
 
-/// Writes a walk of `count` retirements, which was measured, into room that was reserved.
+/// Writes a walk of `count` retirements, which was measured, into capacity that was reserved.
 #[inline(never)]
 pub fn write<A: Allocator>(
     program: &Program,
@@ -148,7 +149,7 @@ fn measure_within(
     Err(DecodeFault::WrongPlace)
 }
 
-/// Writes a walk of at most `limit` steps as it is found, as far as there is room.
+/// Writes a walk of at most `limit` steps as it is found, as far as the capacity goes.
 #[inline(always)]
 fn write_found_within<A: Allocator>(
     program: &Program,

@@ -8,7 +8,7 @@ use Rattle.legalpath.specs.Allowed.{greatest_after}
 abbrev pub may_stay : Class → ℕ → Bool
 may_stay class priv = nat_le priv (greatest_after class priv)
 
--- The privilege may stay after a retirement on this word. Where there is no word it may.
+-- The privilege may stay after a retirement of this instruction. Where there is no instruction it may.
 abbrev pub may_stay_on : Option Word → ℕ → Bool
 may_stay_on None priv = true
 may_stay_on (Some word) priv = may_stay word.0 priv

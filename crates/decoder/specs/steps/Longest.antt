@@ -5,7 +5,7 @@ use Rattle.rvclass.specs.Image.{Image}
 use Rattle.rvclass.specs.Words.{IsProgram, LiesIn}
 
 -- A walk has at most this many retirements: 32 for each halfword of the program's image, which has at most 2^24 bytes.
--- All words of the program stand in the image, and a walk meets none twice with the same number of outcomes left.
+-- All instructions of the program are in the image, and a walk meets none twice with the same number of outcomes left.
 pub record IsLongest (program : Image) (longest : ℕ) : Type 0 where
   pub value : longest ≡ 32 * (length program.bytes / 2)
   pub small : length program.bytes ≤ 2 ^ 24

@@ -21,16 +21,16 @@ fault_of why.WrongNext = fault.WrongPlace
 fault_of why.WrongPrivilege = fault.WrongPrivilege
 fault_of why.WrongEpc = fault.WrongPlace
 
--- The type of a retirement, or the fault. Given are the type by its word, and what that leaves of the one outcome that
--- the packet reports. A taken outcome that is left is a fault, since no branch used it.
+-- The type of a retirement, or the fault. Given are the type by its instruction, and what that leaves of the one
+-- outcome that the packet reports. A taken outcome that is left is a fault, since no branch used it.
 abbrev pub type_with : Option (ℕ × List Bool) → Result ℕ DecodeFault
 type_with None = Err fault.OffProgram
 type_with (Some (itype, [])) = Ok itype
 type_with (Some (itype, true ∷ left)) = Err fault.Branches
 type_with (Some (itype, false ∷ left)) = Ok itype
 
--- The type of a retirement on this word, where the packet reports this outcome, or the fault. Without a word the
--- retirement is off the program.
+-- The type of a retirement of this instruction, where the packet reports this outcome, or the fault. Without an
+-- instruction the retirement is off the program.
 abbrev pub type_at : Option Word → Bool → Result ℕ DecodeFault
 type_at None taken = Err fault.OffProgram
 type_at (Some word) taken = type_with (type_on word.0 (taken ∷ []))

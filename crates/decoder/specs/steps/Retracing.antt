@@ -29,7 +29,8 @@ Retraces words taken here used false Stop = Unit {0}
 Retraces words taken here used false (Last event) = ⊥
 Retraces words taken here used false (On event left) = ⊥
 
--- There is a walk of at most this many steps with `count` retirements, and room for it behind `len` events.
+-- There is a walk of at most this many steps with `count` retirements, and the capacity is enough for it after `len`
+-- events.
 abbrev pub HasRoomWithin : Words → ℕ → Event → List Bool → End → ℕ → ℕ → ℕ → Type 0
 HasRoomWithin words steps from taken end count len capacity =
     (walk : List Event) × (walk_within words steps from taken end ≡ Some walk) × (count ≡ length walk) ×
@@ -46,7 +47,7 @@ IsAhead words here left end [] = Unit {0}
 IsAhead words here left end (event ∷ back) =
     Carries words here × (steps : ℕ) × (walk_within words steps (event_of here) left end ≡ Some (event ∷ back))
 
--- The first retirements of the walk were added, `ahead` of them are left, and there is room for those.
+-- The first retirements of the walk were added, `ahead` of them are left, and the capacity is enough for those.
 pub record Adding (words : Words) (steps : ℕ) (from : Event) (taken : List Bool) (end : End) (old : List Event)
     (ahead : ℕ) (here : Here) (left : List Bool) (new : List Event) (len capacity : ℕ) : Type 0 where
   pub whole : List Event

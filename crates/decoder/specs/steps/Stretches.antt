@@ -83,7 +83,7 @@ pub record SuitsNone (words : Words) (before : Option Event) (Fit : List Event �
   pub named : IsOnTheWay fault
   pub none : RightBefore words before → (events : List Event) → Fit events → FollowOn words before events → ⊥
 
--- There is room for the events of the stretch behind `len` events.
+-- The capacity is enough for the events of the stretch after `len` events.
 abbrev pub HasRoomFor : Words → Stretch → ℕ → ℕ → Type 0
 HasRoomFor words stretch len capacity =
     (events : List Event) × Gives words stretch events × (len + length events ≤ capacity)
@@ -99,7 +99,7 @@ AddsSoFar words ahead (Walk walk) old new =
     AddsAs ahead walk.walked.progress (AddsStretch words (Walk walk) old new) (new ≡ old)
 AddsSoFar words ahead other old new = new ≡ old
 
--- Of two stretches, one behind the other, what is written was added.
+-- Of two stretches, one after the other, what is written was added.
 abbrev pub AddsBoth : Words → Stretch → Stretch → List Event → List Event → Type 0
 AddsBoth words first second old new =
     (between : List Event) × AddsSoFar words Written first old between ×

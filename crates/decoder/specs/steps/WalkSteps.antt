@@ -44,8 +44,8 @@ abbrev pub retirement : ℕ → ℕ → Option (ℕ × List Bool) → Option (Ev
 retirement addr priv None = None
 retirement addr priv (Some (itype, taken)) = Some (Retire addr itype priv, taken)
 
--- The retirement at an address and of a privilege on this word, if there is one and it may retire there, with the
--- outcomes that it leaves.
+-- The retirement of this instruction at an address and a privilege, if there is an instruction and it may retire there,
+-- with the outcomes that it leaves.
 abbrev pub retire_on : ℕ → ℕ → Option Word → List Bool → Option (Event × List Bool)
 retire_on addr priv None taken = None
 retire_on addr priv (Some word) taken =
@@ -84,8 +84,8 @@ last_move None = Stop
 last_move (Some (event, [])) = Last event
 last_move (Some (event, outcome ∷ taken)) = Stop
 
--- A step from an uninferable discontinuity on this word, at this privilege. Only a walk to a target takes it, and it is
--- the last.
+-- A step from an uninferable discontinuity at this instruction, at this privilege. Only a walk to a target takes it,
+-- and it is the last.
 abbrev pub target_move : Words → Option Word → ℕ → List Bool → End → Move
 target_move words word priv taken AtBranch = Stop
 target_move words word priv taken (AtAddress addr) = Stop

@@ -50,7 +50,7 @@ pub record Finds (words : Words) (from : Here) (taken : List Bool) (end : End) (
 abbrev pub FindsNone : Words → Here → List Bool → End → Type 0
 FindsNone words from taken end = (walk : List Event) → WalksOn words (event_of from) taken end walk → ⊥
 
--- There is such a walk of `count` retirements, and behind `len` events there is room for it.
+-- There is such a walk of `count` retirements, and the capacity is enough for it after `len` events.
 abbrev pub HasRoom : Words → Here → List Bool → End → ℕ → ℕ → ℕ → Type 0
 HasRoom words from taken end count len capacity =
     (walk : List Event) × WalksOn words (event_of from) taken end walk × (count ≡ length walk) ×

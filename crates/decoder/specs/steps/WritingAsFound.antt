@@ -30,7 +30,7 @@ abbrev pub AddsReturned : Type 0 → Result (Option Walked) DecodeFault → Type
 AddsReturned Added (Ok (Some walked)) = Added × (walked.progress ≡ Written)
 AddsReturned Added other = Unit {0}
 
--- Where the code returns no walk for want of room, the list is as it was.
+-- Where the code returns no walk since the capacity is too small, the list is as it was.
 abbrev pub KeptWithoutRoom : List Event → List Event → Result (Option Walked) DecodeFault → Type 0
 KeptWithoutRoom old new (Ok None) = new ≡ old
 KeptWithoutRoom old new other = Unit {0}
