@@ -1,4 +1,4 @@
--- What an encoder stands for.
+-- Which log the state of an encoder stands for.
 use Rattle.std.specs.Prelude.{ℕ, ◌≡◌, ◌<◌, ◌+◌, ◌*◌, All, List, [], ◌∷◌, ◌++◌, None, if◌then◌else◌}
 use Rattle.std.specs.List.{last_or}
 use Rattle.retire.specs.Events.{outcomes}
@@ -56,7 +56,7 @@ pub record AreLeft (period number left : ℕ) : Type 0 where
   pub rounds : ℕ
   pub whole : number + left ≡ rounds * period
 
--- An encoder stands for a log: its fields are those of the events that were pushed.
+-- An encoder stands for a log: its state is that after the events of the log were pushed.
 pub record EncoderStands (words : Words) (period : ℕ) (mode : Mode) (log : List Event) (encoder : Encoder)
     : Type 0 where
   pub numbers : All Is64Bit log

@@ -16,8 +16,8 @@ abbrev pub is_some_and : (Event → Bool) → Option Event → Bool
 is_some_and test None = false
 is_some_and test (Some event) = test event
 
--- A trap between these events is reported with its handler (`thaddr`): before it stands a retirement
--- that is no uninferable discontinuity, and after it a retirement.
+-- A trap between these events is reported with its handler (`thaddr`): the event before it is a retirement that is no
+-- uninferable discontinuity, and the event after it is a retirement.
 abbrev pub with_handler : Words → Option Event → Option Event → Bool
 with_handler words before after =
     is_some_and is_retirement before && not (is_some_and (is_discontinuity words) before)

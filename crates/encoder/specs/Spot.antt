@@ -1,10 +1,10 @@
--- The events of a log where they stand.
+-- The events of a log at their places.
 use Rattle.std.specs.Prelude.{ℕ, ◌+◌, List, [], ◌∷◌, Option, Some, None}
 use Rattle.retire.specs.declared.event.Event.{Event}
 use Rattle.retire.specs.declared.event.Event.TheVariants.{Retire, Trap}
 
--- An event where it stands in its log: how many retirements come before it, the two events before it, and the event
--- after it.
+-- An event at its place in its log: how many retirements come before it, the two events before it, and the event after
+-- it.
 pub record Spot : Type 0 where
   pub number : ℕ
   pub before_that : Option Event

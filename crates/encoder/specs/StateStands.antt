@@ -1,4 +1,4 @@
--- What the state of an encoder stands for.
+-- Which log an encoder's state stands for, as a caller may keep it.
 use Rattle.std.specs.Prelude.{ℕ, List}
 use Rattle.retire.specs.declared.event.Event.{Event}
 use Rattle.rvclass.specs.Words.{Words}
@@ -31,6 +31,6 @@ state_of encoder = record {
   reported = encoder.reported;
 }
 
--- A state stands for a log: the encoder that has it does.
+-- A state stands for a log: the encoder with this state does.
 abbrev pub StateStands : Words → ℕ → Mode → List Event → EncoderState → Type 0
 StateStands words period mode log state = EncoderStands words period mode log (encoder_of state)

@@ -40,7 +40,7 @@ impl Due {
     }
 }
 
-/// What is due for an event behind the held one, for which `due` is due. `left` retirements come before the next
+/// What is due for an event after the held one, for which `due` is due. `left` retirements come before the next
 /// periodic sync.
 #[inline]
 pub fn due_behind(held: &Option<Event>, due: Due, left: u16, event: &Event) -> Due

@@ -119,7 +119,7 @@ impl Encoder {
             Legal (words_of program.now) (log ++ take result.0 events.now) →
             packets_so_far (words_of program.now) period mode (log ++ take result.0 events.now)
             ≡ packets_so_far (words_of program.now) period mode log ++ option_to_list result.1 }
-        // No event in front of the last one that is taken makes a packet due.
+        // No event before the last one that is taken makes a packet due.
         ensures first { (period count : ℕ) (mode : Mode) (log : List Event) →
             EncoderStands (words_of program.now) period mode log self.old →
             Legal (words_of program.now) (log ++ take count events.now) →

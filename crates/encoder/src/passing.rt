@@ -11,7 +11,7 @@ use payload::{MOST_OUTCOMES, Outcomes};
 use retire::Event;
 use rvclass::Program;
 
-/// Whether the event `next` gives no packet, and nothing is due for it. It comes behind the event `held`, for which
+/// Whether the event `next` gives no packet, and nothing is due for it. It comes after the event `held`, for which
 /// nothing is due. `left` retirements come before the next periodic sync. No packet has reported the outcomes in
 /// `pending`.
 #[inline(always)]

@@ -14,7 +14,7 @@ use rvclass::{Class, Program};
 pub enum Rule {
     /// A trap is reported.
     Trap {
-        /// With the retirement behind it, its handler.
+        /// With the retirement after it, its handler.
         handler: bool,
     },
     /// A retirement is reported with the trap before it.
@@ -72,8 +72,8 @@ pub fn rule_at_end(due: Due) -> Rule
     }
 }
 
-/// Whether an event is a backward jump, where this event comes next. The word is looked at only where the event is a
-/// retirement of type 0 and the next event does not stand above it. Few events are such.
+/// Whether an event is a backward jump, where `next` comes next. The instruction is looked at only where the event is a
+/// retirement of type 0 and the next event is not at a higher address. Few events are such.
 #[inline(always)]
 pub fn jumps_back(program: &Program, event: &Event, next: &Event) -> bool
     ensures { result ≡ jumps_back_to (words_of program.now) event.now next.now }
@@ -86,7 +86,7 @@ pub fn jumps_back(program: &Program, event: &Event, next: &Event) -> bool
     }
 }
 
-/// Whether the word at this address, if there is one, jumps to an address that is not greater.
+/// Whether the instruction at this address, if there is one, jumps to an address that is not greater.
 #[inline(never)]
 fn is_backward(program: &Program, addr: u64) -> bool
     ensures { result ≡ jumps_back addr (words_of program.now addr) }

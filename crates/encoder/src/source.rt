@@ -51,8 +51,8 @@ impl<'l, 'p, A: Allocator> Model for Source<'l, 'p, A> {
 }
 
 impl<'l, 'p, A: Allocator> Source<'l, 'p, A> {
-    /// A source that stands before the first payload of this log, with a sync at each retirement whose number, from 0,
-    /// the period divides, and with addresses reported in this mode.
+    /// A source at the first payload of this log, with a sync at each retirement whose number, from 0, the period
+    /// divides, and with addresses reported in this mode.
     pub fn new(log: &'l LegalLog<'p, A>, period: u16, mode: Mode) -> Source<'l, 'p, A>
         requires { 1 ≤ period }
         ensures { IsAt period mode log.now 0 result }
@@ -65,7 +65,7 @@ impl<'l, 'p, A: Allocator> Source<'l, 'p, A> {
         }
     }
 
-    /// The payload that comes next; `None` behind the closing one, and from then on.
+    /// The payload that comes next; `None` after the closing one, and from then on.
     pub fn next(&mut self) -> Option<Payload>
         ensures given { (period number : ℕ) (mode : Mode) (log : ProgramLog) →
             IsAt period mode log number self.old →
@@ -80,7 +80,7 @@ impl<'l, 'p, A: Allocator> Source<'l, 'p, A> {
         }
     }
 
-    /// The packet that comes next, in place of its payload; `None` behind the closing one, and from then on.
+    /// The packet that comes next, in place of its payload; `None` after the closing one, and from then on.
     pub fn next_packet(&mut self) -> Option<Packet>
         ensures given { (period number : ℕ) (mode : Mode) (log : ProgramLog) →
             IsAt period mode log number self.old →

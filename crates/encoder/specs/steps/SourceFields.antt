@@ -1,4 +1,4 @@
--- What a source's fields stand for.
+-- What a source's fields mean.
 use Rattle.std.specs.Prelude.{ℕ, ◌≡◌, ◌+◌, ◌-◌, ◌≤◌, List, length, take}
 use Rattle.rvclass.specs.Fetch.{words_of}
 use Rattle.legalpath.specs.ProgramLog.{ProgramLog}
@@ -24,7 +24,7 @@ number_at period mode log stage.Running taken =
 number_at period mode log stage.Closing taken = length (packets_of_log period mode log) - 1
 number_at period mode log stage.Ended taken = length (packets_of_log period mode log)
 
--- Where a source of a log stands, by its fields.
+-- The position of a source of a log, by its fields.
 abbrev pub stands_at : ProgramLog → Encoder → Stage → ℕ → SourceAt
 stands_at log encoder stage taken = record {
   log = log;
@@ -41,7 +41,7 @@ AreTakenAtStage stage.Running taken all = taken ≤ all
 AreTakenAtStage stage.Closing taken all = taken ≡ all
 AreTakenAtStage stage.Ended taken all = taken ≡ all
 
--- A source's encoder stands for the events that were taken.
+-- A source's encoder is in the state after the events that were taken.
 pub record IsSource (log : ProgramLog) (encoder : Encoder) (stage : Stage) (taken : ℕ) : Type 0 where
   pub within : AreTakenAtStage stage taken (length log.events)
   pub stands : EncoderStands (words_of log.program) (encoder.between + 1) encoder.mode (take taken log.events) encoder

@@ -27,12 +27,12 @@ use Rattle.encoder.specs.declared.rule.Rule.TheVariants as by
 abbrev pub is_discontinuity_by_type : ℕ → Bool
 is_discontinuity_by_type itype = (itype == types.trap_return) || (itype == types.uninferable)
 
--- What is due for a retirement behind a trap for which this is due.
+-- What is due for a retirement after a trap for which this is due.
 abbrev pub due_behind_trap : Due → Due
 due_behind_trap due_of.TrapOrHandler = due_of.Handler
 due_behind_trap other = due_of.Sync
 
--- What is due for an event behind the held one, for which this is due. This many retirements come before the next
+-- What is due for an event after the held one, for which this is due. This many retirements come before the next
 -- periodic sync.
 abbrev pub next_due : Option Event → Due → ℕ → Event → Due
 next_due None due left (Retire addr itype priv) = due_of.Sync
@@ -53,7 +53,7 @@ cuts_off due_of.Trap = true
 cuts_off due_of.Sync = true
 cuts_off other = false
 
--- The event is a backward jump, by its type, by where the next one stands, and by its word.
+-- The event is a backward jump, by its type, by the place of the next one, and by its instruction.
 abbrev pub jumps_back_to : Words → Event → Event → Bool
 jumps_back_to words (Retire addr itype priv) next =
     (itype == types.other) && nat_le (place next) addr && jumps_back addr (words addr)
@@ -181,7 +181,7 @@ after_with words e event due =
     if is_quiet words e e.held event due then hold e e.pending e.reported event due else
     hold e [] (reported_before words e e.held event due) event due
 
--- The next event gives no packet, and nothing is due for it. It comes behind an event for which nothing is due, with
+-- The next event gives no packet, and nothing is due for it. It comes after an event for which nothing is due, with
 -- this many retirements before the next periodic sync, and with these outcomes.
 abbrev pub passes : Words → Event → ℕ → List Bool → Event → Bool
 passes words (Retire at type level) left pending (Retire addr itype priv) =
