@@ -1,5 +1,5 @@
-//! The laws: functions with empty bodies, whose contracts are theorems about the definitions that the other contracts
-//! cite.
+//! The theorems: functions with empty bodies, whose contracts are theorems about the definitions that the other
+//! contracts cite.
 
 pub use auditing::{harts_are_received_alone, whole_decodes_again, whole_is_untouched};
 pub use bench::turns_let_beginnings_through;
