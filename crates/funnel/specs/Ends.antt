@@ -32,7 +32,7 @@ pub record OutletView : Type 0 where
 abbrev pub has_closing : List Message → Bool
 has_closing messages = list_any (λ message. is_closing message.payload) messages
 
--- Nothing more may be sent behind these messages: one has a closing payload, or they are the most that a hart sends.
+-- Nothing more may be sent after these messages: one has a closing payload, or they are the most that a hart sends.
 abbrev pub is_finished : List Message → Bool
 is_finished sent = has_closing sent || nat_le most_messages (length sent)
 

@@ -1,4 +1,4 @@
--- What holds of each state that the funnel machine comes to.
+-- What holds of each state that the funnel machine reaches.
 use Rattle.std.specs.Prelude.{◌≡◌, ◌++◌, ℕ, List, length, take}
 use Rattle.message.specs.OfHart.{of_hart}
 use Rattle.funnel.specs.Machine.{Funnel, sent_by}

@@ -24,7 +24,7 @@ add message state = record state {
   queue = state.queue ++ message ∷ [];
 }
 
--- A hart sends a message, where fewer wait than there is room for.
+-- A hart sends a message, if fewer wait than the capacity.
 abbrev pub send : ℕ → Message → Funnel → Funnel
 send capacity message state = if nat_lt (length state.queue) capacity then add message state else state
 
@@ -43,7 +43,7 @@ send_next capacity hart None state = state
 send_next capacity hart (Some payload) state =
     send capacity (next_message hart (sent_by hart state) payload) state
 
--- What one turn does, where the harts have these payloads. A turn that cannot act changes nothing.
+-- What one turn of a schedule does, where the harts have these payloads. A turn that cannot act changes nothing.
 abbrev pub after_turn : ℕ → List (List (List ℕ)) → Turn → Funnel → Funnel
 after_turn capacity payloads (turn.Hart hart) state =
     send_next capacity hart (slice_get (payloads_of hart payloads) (length (sent_by hart state))) state

@@ -3,7 +3,7 @@ use Rattle.std.specs.Prelude.{◌≡◌, ℕ, List, length, Some, slice_get}
 use Rattle.message.specs.declared.message.Message.{Message}
 use Rattle.funnel.specs.Payloads.{ClosesOnlyLast, payloads_in}
 
--- The messages are of this hart, numbered from 0 on, and a closing payload stands only last among theirs.
+-- The messages are of this hart, numbered from 0 on, and only the last of them may have a closing payload.
 pub record AreInOrder (hart : ℕ) (messages : List Message) : Type 0 where
   pub numbered : (n : ℕ) (message : Message) → slice_get messages n ≡ Some message
       → (message.hart ≡ hart) × (message.number ≡ n)

@@ -9,7 +9,7 @@ pub enum OpenFault {
     /// There would be no hart.
     #[error("no harts")]
     NoHarts,
-    /// There would be more harts than a funnel has room for.
+    /// There would be more harts than a funnel may have.
     #[error("too many harts")]
     TooManyHarts,
     /// The capacity is not 1 to 65,536 messages.

@@ -13,9 +13,9 @@ ghost use Rattle.funnel.specs.declared.rule.View.{View};
 ghost use Rattle.funnel.specs.declared.rule.View.TheVariants as V;
 ghost use Rattle.funnel.specs.declared.turn.Turn.{Turn};
 
-/// Does nothing. Its contract says what holds of each state that turns lead to from the opening.
+/// Does nothing. Its contract says what holds of each state that a list of turns leads to from the opening.
 pub fn every_state_is_lawful()
-    // The state is lawful, where of each hart's payloads only the last may be closing.
+    // The state is lawful, if of each hart's payloads only the last may be closing.
     ensures lawful { (capacity : ℕ) (payloads : List (List (List ℕ))) (turns : List Turn) →
         All ClosesOnlyLast payloads → Lawful (after_turns capacity payloads turns (opening payloads)) }
 
@@ -23,7 +23,7 @@ pub fn every_state_is_lawful()
     ensures carried { (capacity : ℕ) (payloads : List (List (List ℕ))) (turns : List Turn) (hart : ℕ) →
         HasFirstTaken hart payloads (after_turns capacity payloads turns (opening payloads)) }
 
-    // No more messages wait than there is room for.
+    // No more messages wait than the capacity.
     ensures bounded { (capacity : ℕ) (payloads : List (List (List ℕ))) (turns : List Turn) →
         length (after_turns capacity payloads turns (opening payloads)).queue ≤ capacity }
 {}
@@ -45,7 +45,7 @@ pub fn live_channel_is_the_machine()
         get_elem? views pass ≡ some before →
         AreLive queue (slice_set views pass (handed_out before) ++ next_port before ∷ []) (with_new_hart state) }
 
-    // Where a port sends a message, and there is room, the machine sends it.
+    // Where a port sends a message, and the funnel is not full, the machine sends it.
     ensures sends { (queue : List Message) (views : List View) (state : Funnel) (capacity pass : ℕ) (message : Message)
         (before after : View) →
         Kept queue views → AreLive queue views state → length queue < capacity →

@@ -2,7 +2,8 @@
 //!
 //! [`Core`] is that queue in one thread: [`Core::offer`] puts a hart's message at its back, [`Core::take`] takes the
 //! front one. A list of [`Turn`]s says in which order harts send and messages are taken. The contract of
-//! [`every_state_is_lawful`] says what holds of each hart's messages, whatever the turns are.
+//! [`every_state_is_lawful`] says what holds of each hart's messages, in whatever order harts send and messages are
+//! taken.
 //!
 //! [`open`] makes a channel with a [`Port`] for each hart, which sends, and an [`Outlet`], which takes; each may be in
 //! a thread of its own. A finished port leaves a [`Receipt`], which the outlet settles.

@@ -12,8 +12,8 @@ pub const MOST_PORTS: u16 = 64;
 /// The most messages that a hart sends.
 pub(crate) const MOST_MESSAGES: u64 = 1 << 32;
 
-/// Why a funnel is refused for this many harts, of which there may be `most`, and this capacity: the first fault of
-/// these numbers, or `None` where there is none. No memory is taken.
+/// Why a funnel with this many harts and this capacity is refused, where up to `most` harts are allowed: the first
+/// fault of these numbers, or `None` where there is none. No memory is taken.
 pub fn opening_fault(most: u16, harts: usize, capacity: u32) -> Option<OpenFault>
     ensures { result ≡ limit_fault most harts capacity }
 {

@@ -1,14 +1,15 @@
-//! How ports wait for room in a full funnel, and when they are woken.
+//! How ports wait while the funnel is full, and when they are woken.
 //!
-//! The channel by itself wakes a port for each message that is taken, at the cost of a call of the kernel in the
-//! outlet's thread. Here a port that found no room waits until the outlet drained the funnel to its low-water mark,
-//! half of what it holds, and then sends many messages before it waits again. One of the waiting ports stays awake for
-//! a while and looks for the outlet's call, which then costs the outlet no call of the kernel. The others sleep.
+//! The channel by itself wakes a port for each message that is taken, at the cost of a system call in the outlet's
+//! thread. Here a port that finds the funnel full waits until the outlet has drained it to its low-water mark, half of
+//! its capacity. Then the port sends many messages before it waits again. One of the waiting ports stays awake for a
+//! while and looks for the outlet's call, which then costs the outlet no system call. The others sleep.
 //!
-//! No contract speaks of this. Tests in `channel_tests` show that ports are woken, that one is called at the mark, and
-//! that all are called where no message waits and where the outlet is dropped. No test shows the rest: that no port is
-//! called before the mark; that none is called where no message waits and one was called since the last message; which
-//! port stays awake, and when. All of this changes when a port goes on, and not what is sent: it is a matter of speed.
+//! No contract says anything about this. Tests in `channel_tests` show that ports are woken, that one is called at the
+//! mark, and that all are called where no message waits and where the outlet is dropped. No test shows the rest: that
+//! no port is called before the mark; that none is called where no message waits and one was called since the last
+//! message; which port stays awake, and when. All of this changes when a port goes on, and not what is sent: it is a
+//! matter of speed.
 
 use std::alloc::Allocator;
 use std::hint;
@@ -16,12 +17,12 @@ use std::sync::atomic::{AtomicU64, AtomicUsize, Ordering};
 use std::sync::{Arc, Wait};
 use std::time::Duration;
 
-/// How many milliseconds a port sleeps at most. Before that one is called at a mark where none is awake, and all of them
+/// The most milliseconds that a port sleeps. Before that one is called at a mark where none is awake, and all of them
 /// where no message waits. `funnels/waking.rt` and `funnels/calling.rt` of `channel_tests` count on so many.
 const LONGEST: u64 = 10;
 
-/// How often a port looks for room before it waits, in a funnel so small that each message that is taken reaches the
-/// mark. It rests longer after each look. Room comes sooner there than a thread is woken.
+/// How often a port looks for a free place before it waits, in a funnel so small that each message that is taken
+/// reaches the mark. It rests longer after each look. A place is free sooner there than a thread is woken.
 const MANY_LOOKS: u32 = 7;
 
 /// How often the port that stays awake looks for a call before it sleeps. That takes about as long as a thread is
@@ -41,14 +42,14 @@ pub(crate) fn rest(look: u32) {
     }
 }
 
-/// What the ports and the outlet of a funnel share, for ports that wait for room.
+/// What the ports and the outlet of a funnel share, for ports that wait while the funnel is full.
 #[derive(Drop)]
 pub(crate) struct LowWater {
-    /// How often a port looks for room before it waits.
+    /// How often a port looks for a free place before it waits.
     pub(crate) looks: u32,
-    /// How often ports were called to look for room again.
+    /// How often ports were called to look for a free place again.
     calls: AtomicU64,
-    /// How many ports wait for room.
+    /// How many ports wait for a free place.
     waiting: AtomicUsize,
     /// How many of them are awake and look for a call.
     awake: AtomicUsize,
@@ -57,7 +58,7 @@ pub(crate) struct LowWater {
 }
 
 impl LowWater {
-    /// What they share at first, where the funnel holds this many messages: no port waits for room.
+    /// What they share at first, where the funnel's capacity is this many messages: no port waits.
     pub(crate) fn new(capacity: usize) -> LowWater {
         LowWater {
             looks: if capacity < 4 { MANY_LOOKS } else { 1 },
@@ -69,7 +70,7 @@ impl LowWater {
     }
 
     /// Counts one more port that waits, and returns the lowest 32 bits of how many calls there were. The port has to
-    /// look for room once more before it sleeps, so that it misses no call.
+    /// look for a free place once more before it sleeps, so that it misses no call.
     pub(crate) fn enter(&self) -> u32 {
         self.waiting.fetch_add(1, Ordering::SeqCst);
         self.made()

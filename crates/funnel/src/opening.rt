@@ -69,7 +69,7 @@ fn opened<A: Allocator + Clone>(
     Ok((ports, outlet))
 }
 
-/// Hands out a port for each hart of a new channel. All ports send by this end and wait for room there.
+/// Hands out a port for each hart of a new channel. All ports send by this end and wait there while the funnel is full.
 fn ports_of<A: Allocator>(
     alloc: A,
     sender: &Sender<A>,
@@ -92,7 +92,7 @@ fn ports_of<A: Allocator>(
     Ok(ports)
 }
 
-/// Hands out the next port, which sends by this end and waits for room there.
+/// Hands out the next port, which sends by this end and waits there while the funnel is full.
 fn port_of<A: Allocator>(
     sender: Sender<A>,
     low: Arc<LowWater, A>,

@@ -81,7 +81,7 @@ impl<A: Allocator> Outlet<A> {
         ensures hart { result.hart ≡ receipt.hart }
         ensures sent { result.sent ≡ length receipt.sent }
         ensures taken { result.taken ≡ length (of_hart receipt.hart self.old.taken) }
-        // What was taken is a beginning of what was sent, and all of it where its last payload is closing.
+        // What was taken is a prefix of what was sent, and all of it where its last payload is closing.
         ensures beginning { IsBeginning (of_hart receipt.hart self.old.taken) receipt.sent }
         ensures whole { EndsClosing (of_hart receipt.hart self.old.taken)
             → of_hart receipt.hart self.old.taken ≡ receipt.sent }
@@ -101,7 +101,7 @@ impl<A: Allocator> Outlet<A> {
     }
 }
 
-/// Takes the oldest message. Where there is none it calls the ports that wait for room, and waits.
+/// Takes the oldest message. Where there is none it calls the ports that wait while the funnel is full, and waits.
 fn next_message<A: Allocator, R: Wait>(
     rt: &R,
     receiver: &Receiver<A>,

@@ -167,7 +167,7 @@ fn wait_and_pass_on<A: Allocator, R: Wait>(
     unreachable!()
 }
 
-/// Sends a message where there is room.
+/// Sends a message where the funnel is not full.
 fn try_pass_on<A: Allocator, R: Wait>(
     rt: &R,
     sender: &Sender<A>,

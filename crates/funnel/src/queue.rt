@@ -36,8 +36,8 @@ impl<A: Allocator> Model for Core<A> {
 }
 
 impl<A: Allocator> Core<A> {
-    /// An empty queue of messages of the harts below `harts`, which is 1 to 1,024, with room for `capacity` messages, 1
-    /// to 65,536. A fault leaves no memory taken.
+    /// An empty queue of messages of the harts below `harts`, which is 1 to 1,024. It holds at most `capacity`
+    /// messages, 1 to 65,536. A fault leaves no memory taken.
     pub fn new(alloc: A, harts: u16, capacity: u32) -> Result<Core<A>, OpenFault>
         ensures made { IfOk result (λ core. core ≡ record { harts = harts; capacity = capacity; queue = [] }) }
         ensures refused { (fault : AnyFault) → limit_fault (most_harts Two) harts capacity ≡ Some fault
@@ -58,7 +58,7 @@ impl<A: Allocator> Core<A> {
         }
     }
 
-    /// Whether there is no room for one message more.
+    /// Whether the queue is full.
     pub fn is_full(&self) -> bool
         ensures { result ≡ not (nat_lt (length self.now.queue) self.now.capacity) }
     {

@@ -1,6 +1,6 @@
 //! The order in which harts send and messages are taken.
 
-/// One turn of a schedule.
+/// One turn of a schedule: a hart sends, or a message is taken.
 #[derive(Clone, Copy, Debug, PartialEq, Eq)]
 pub enum Turn {
     /// The hart sends its next message.
