@@ -6,7 +6,7 @@ use Rattle.rvclass.specs.Words.{Word, Words}
 use Rattle.rvclass.specs.declared.class.Class.TheVariants.{Jump}
 use Rattle.legalpath.specs.WordOf.{word_of}
 
--- The word at this address, if there is one, jumps to an address that is not greater.
+-- The instruction at this address, if there is one, jumps to an address that is not greater.
 abbrev pub jumps_back : ℕ → Option Word → Bool
 jumps_back addr (Some (Jump to, length)) = nat_le to addr
 jumps_back addr _ = false

@@ -5,7 +5,7 @@ use Rattle.rvclass.specs.Words.{Word, Words}
 use Rattle.rvclass.specs.declared.class.Class.TheVariants.{Uninferable, TrapReturn}
 use Rattle.legalpath.specs.WordOf.{word_of}
 
--- There is a word, and it jumps to an address that a register holds, or returns from a trap.
+-- There is an instruction, and it jumps to an address that a register holds, or returns from a trap.
 abbrev pub hides_its_target : Option Word → Bool
 hides_its_target (Some (Uninferable, length)) = true
 hides_its_target (Some (TrapReturn ret, length)) = true

@@ -5,7 +5,7 @@ use Rattle.retire.specs.declared.event.Event.{Event}
 use Rattle.rvclass.specs.Words.{Words}
 use Rattle.legalpath.specs.Legal.{FollowOn}
 
--- Two stretches joined follow on an event exactly where the first follows on that event, and the second on the last
+-- Two joined stretches follow on an event if and only if the first follows on that event, and the second on the last
 -- event of the first. Where the first is empty, the second follows on the event itself.
 abbrev pub SplitsAndJoins : Type 0
 SplitsAndJoins =

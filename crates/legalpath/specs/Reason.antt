@@ -12,23 +12,23 @@ use Rattle.legalpath.specs.declared.fault.Why.{Why}
 use Rattle.legalpath.specs.declared.fault.Why.TheVariants.{OffProgram, NotRetirable, WrongType, WrongNext}
 use Rattle.legalpath.specs.declared.fault.Why.TheVariants.{WrongPrivilege, WrongEpc}
 
--- There is a word, and it does not retire.
+-- There is an instruction, and it does not retire.
 abbrev pub IsNotRetirable : Option Word → Type 0
 IsNotRetirable (Some (NeverRetires, length)) = Unit {0}
 IsNotRetirable _ = ⊥
 
--- There is a word, and its retirements have this type.
+-- There is an instruction, and its retirements have this type.
 abbrev pub HasType : Option Word → ℕ → Type 0
 HasType None itype = ⊥
 HasType (Some word) itype = IsTypeOf word.0 itype
 
--- There is a word, and it may retire at this privilege.
+-- There is an instruction, and it may retire at this privilege.
 abbrev pub MayRetireOn : Option Word → ℕ → Type 0
 MayRetireOn None priv = ⊥
 MayRetireOn (Some word) priv = MayRetireAt word.0 priv
 
--- A reason applies to a retirement at this address, of this type and privilege. The word at the address and the event
--- before are given, if there are such.
+-- A reason applies to a retirement at this address, of this type and privilege. The instruction at the address and the
+-- event before are given, if there are such.
 abbrev pub AppliesToRetirement : Words → Option Event → Option Word → ℕ → ℕ → ℕ → Why → Type 0
 AppliesToRetirement words before word addr itype priv OffProgram = word ≡ None
 AppliesToRetirement words before word addr itype priv NotRetirable = IsNotRetirable word

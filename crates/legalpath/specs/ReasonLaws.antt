@@ -9,7 +9,7 @@ use Rattle.legalpath.specs.Step.{StepFrom}
 use Rattle.legalpath.specs.declared.fault.PathFault.{PathFault}
 use Rattle.legalpath.specs.declared.fault.Why.{Why}
 
--- No reason applies to an event exactly where it is right by itself and may follow the one before.
+-- No reason applies to an event if and only if it is right by itself and may follow the one before.
 abbrev pub RefusesTheIllegal : Type 0
 RefusesTheIllegal =
     (words : Words) (before : Option Event) (event : Event) →

@@ -19,14 +19,14 @@ IsTypeOf Uninferable itype = itype ≡ types.uninferable
 IsTypeOf (TrapReturn ret) itype = itype ≡ types.trap_return
 IsTypeOf NotRetirable itype = ⊥
 
--- A word of this class may retire at this privilege: MRET in M-mode alone, SRET not in U-mode (the
--- Privileged Architecture, "Trap-Return Instructions").
+-- An instruction of this class may retire at this privilege: MRET in M-mode alone, SRET not in U-mode (the Privileged
+-- Architecture, "Trap-Return Instructions").
 abbrev pub MayRetireAt : Class → ℕ → Type 0
 MayRetireAt (TrapReturn Mret) priv = priv ≡ 3
 MayRetireAt (TrapReturn Sret) priv = 1 ≤ priv
 MayRetireAt _ priv = Unit {0}
 
--- There is a word, and it may retire as this type at this privilege.
+-- There is an instruction, and it may retire as this type at this privilege.
 abbrev pub RetiresOn : Option Word → ℕ → ℕ → Type 0
 RetiresOn None itype priv = ⊥
 RetiresOn (Some word) itype priv = IsTypeOf word.0 itype × MayRetireAt word.0 priv

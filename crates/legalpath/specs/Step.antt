@@ -11,14 +11,14 @@ use Rattle.legalpath.specs.Successor.{successor}
 use Rattle.legalpath.specs.declared.next.Next.{Next}
 use Rattle.legalpath.specs.declared.next.Next.TheVariants.{One, Any, NoneInside}
 
--- The column of places: an event may stand at this place, by where the event before leads.
+-- The column of places: an event may be at this place, by where the event before leads.
 abbrev pub MayStandAt : Next → ℕ → Type 0
 MayStandAt (One to) at = at ≡ to
 MayStandAt Any at = Unit {0}
 MayStandAt NoneInside at = ⊥
 
--- The column of privileges, after a retirement of this word, if there is one: it leads from the first privilege to the
--- second. SRET leads to U-mode or S-mode, MRET to any mode; no other word changes the mode.
+-- The column of privileges, after a retirement of this instruction, if there is one: it leads from the first privilege
+-- to the second. SRET leads to U-mode or S-mode, MRET to any mode; no other instruction changes the mode.
 abbrev pub LeadsToPrivilege : Option Word → ℕ → ℕ → Type 0
 LeadsToPrivilege (Some (TrapReturn Mret, length)) priv after = Unit {0}
 LeadsToPrivilege (Some (TrapReturn Sret, length)) priv after = after ≤ 1
@@ -36,7 +36,7 @@ Step words before event =
     MayStandAt (successor words before) (place event)
     × MayHavePrivilegeBehind words before (privilege event)
 
--- An event may stand at this place after the event before. Where there is none, it may stand anywhere.
+-- An event may be at this place after the event before. Where there is no event before, it may be anywhere.
 abbrev pub MayStandAfter : Words → Option Event → ℕ → Type 0
 MayStandAfter words None at = Unit {0}
 MayStandAfter words (Some before) at = MayStandAt (successor words before) at

@@ -19,7 +19,7 @@ LeadsToOne =
     Right words event →
     (to : ℕ) × (successor words event ≡ One to)
 
--- Events that may follow a retirement that is no discontinuity stand at one place.
+-- Events that may follow a retirement that is no discontinuity are at one place.
 abbrev pub FollowersStandTogether : Type 0
 FollowersStandTogether =
     (words : Words) (event follower other : Event) →
@@ -29,7 +29,7 @@ FollowersStandTogether =
     Step words event other →
     place follower ≡ place other
 
--- What follows a right retirement stands above it, unless the retirement is a branch, a backward jump or a
+-- What follows a right retirement is at a higher address, unless the retirement is a branch, a backward jump or a
 -- discontinuity.
 abbrev pub FollowersStandAbove : Type 0
 FollowersStandAbove =

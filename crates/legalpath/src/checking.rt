@@ -30,8 +30,8 @@ pub fn check(program: &Program, log: &[Event]) -> Result<(), PathFault>
     }
 }
 
-/// Judges events in turn, by what the event before left to the first of them, up to the first fault. So many rows stand
-/// before theirs. Returns what the last event leaves.
+/// Checks events one after the other, up to the first fault. `left` is what the event before the first of them allows,
+/// and `rows` how many rows come before theirs. Returns what the last event allows to follow it.
 #[inline(never)]
 pub(crate) fn judge_all(
     program: &Program,

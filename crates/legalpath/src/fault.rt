@@ -9,18 +9,18 @@ use std::fmt;
 /// Why a row of a log is illegal. Where several of these apply, a fault names the first in this order.
 #[derive(Clone, Copy, Debug, PartialEq, Eq)]
 pub enum Why {
-    /// No whole word of the program stands at a retirement's address.
+    /// At a retirement's address there is no complete instruction of the program.
     OffProgram,
-    /// The word at a retirement's address does not retire.
+    /// The instruction at a retirement's address does not retire.
     NotRetirable,
-    /// A retirement's type is not that of its word; or a trap's cause is above 63, or an interrupt
-    /// has a value.
+    /// A retirement's type is not that of its instruction; or a trap's cause is above 63, or an interrupt has a value.
     WrongType,
-    /// A retirement does not stand where the event before leads.
+    /// A retirement is not at an address to which the event before leads.
     WrongNext,
-    /// The privilege is none of 0, 1 and 3, or the word may not retire at it, or the event before does not lead to it.
+    /// The privilege is none of 0, 1 and 3, or the instruction may not retire at it, or the event before does not lead
+    /// to it.
     WrongPrivilege,
-    /// A trap's exception program counter is odd, or not where the event before leads.
+    /// A trap's exception program counter is odd, or not an address to which the event before leads.
     WrongEpc,
 }
 

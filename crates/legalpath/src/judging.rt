@@ -1,4 +1,4 @@
-//! Judging one event, by what the event before left to it.
+//! Checking one event, by what the event before allows.
 
 ghost use Rattle.std.specs.Prelude.{◌≡◌, ◌↔◌, ◌+◌, ◌^◌, ◌<◌, ◌≤◌, IfOk, IsTrue};
 ghost use Rattle.retire.specs.Is64Bit.{Is64Bit};
@@ -15,10 +15,10 @@ use retire::{
 };
 use rvclass::{Class, Program, Return};
 
-/// What an event leaves to the one that follows it.
+/// What an event allows to follow it.
 #[derive(Clone, Copy)]
 pub struct Left {
-    /// Where that may stand.
+    /// Where that may be.
     pub next: Next,
     /// The least privilege that it may have.
     pub least: u8,
@@ -26,7 +26,7 @@ pub struct Left {
     pub greatest: u8,
 }
 
-/// What is left to the first event of a log.
+/// What is allowed to be the first event of a log.
 #[inline]
 pub fn left_at_start() -> Left
     ensures { result ≡ judging.left_at_start }
@@ -38,8 +38,8 @@ pub fn left_at_start() -> Left
     }
 }
 
-/// Judges an event by `left`, which the event before left to it. Returns what it leaves to the next one, or the first
-/// reason why it is illegal.
+/// Checks an event by `left`: what the event before allows to follow it. Returns what this event allows to follow it,
+/// or the first reason why it is illegal.
 #[inline]
 pub fn judge(program: &Program, left: Left, event: &Event) -> Result<Left, Why>
     requires { left.greatest ≤ 3 }
@@ -63,7 +63,7 @@ pub fn judge(program: &Program, left: Left, event: &Event) -> Result<Left, Why>
     }
 }
 
-/// Judges a retirement.
+/// Checks a retirement.
 #[inline]
 fn judge_retirement(
     program: &Program,
@@ -80,7 +80,7 @@ fn judge_retirement(
     let Some((class, length)) = program.at(addr) else {
         return Err(Why::OffProgram);
     };
-    // This stands before the tests, so that the class is looked at only once.
+    // This comes before the tests, so that the class is looked at only once.
     let leaves = Left {
         next: leads(addr, itype, class, length),
         least: least_after(class, privilege),
@@ -101,7 +101,7 @@ fn judge_retirement(
     Ok(leaves)
 }
 
-/// Judges a trap.
+/// Checks a trap.
 #[inline]
 fn judge_trap(
     left: Left,
@@ -145,7 +145,7 @@ fn is_type_of(class: Class, itype: u8) -> bool
     }
 }
 
-/// Whether an event may stand at this place, by where the event before leads. A trap stands at its exception program
+/// Whether an event may be at this place, by where the event before leads. The place of a trap is its exception program
 /// counter.
 #[inline]
 pub fn may_stand_at(next: Next, at: u64) -> bool
@@ -159,8 +159,8 @@ pub fn may_stand_at(next: Next, at: u64) -> bool
     }
 }
 
-/// Whether a word of this class may retire at this privilege: MRET at machine level alone, SRET not at user level, and
-/// any other at each.
+/// Whether an instruction of this class may retire at this privilege: MRET at machine level alone, SRET not at user
+/// level, and any other at each.
 #[inline]
 pub fn may_retire_at(class: Class, privilege: u8) -> bool
     ensures value { result ≡ may_retire_at class privilege }
@@ -182,7 +182,7 @@ fn was_left(left: Left, privilege: u8) -> bool
     left.least <= privilege && privilege <= left.greatest && privilege != 2
 }
 
-/// The least privilege that may follow a retirement of a word of this class at this privilege.
+/// The least privilege that may follow a retirement of an instruction of this class at this privilege.
 #[inline]
 fn least_after(class: Class, privilege: u8) -> u8
     ensures { result ≡ judging.least_after class privilege }
@@ -193,8 +193,8 @@ fn least_after(class: Class, privilege: u8) -> u8
     }
 }
 
-/// The greatest privilege that may follow a retirement of a word of this class at this privilege: machine level after
-/// MRET, supervisor level after SRET, and the same privilege after any other word.
+/// The greatest privilege that may follow a retirement of an instruction of this class at this privilege: machine level
+/// after MRET, supervisor level after SRET, and the same privilege after any other instruction.
 #[inline]
 pub fn greatest_after(class: Class, privilege: u8) -> u8
     ensures { result ≡ greatest_after class privilege }

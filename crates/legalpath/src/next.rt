@@ -7,20 +7,20 @@ ghost use Rattle.legalpath.specs.Successor as path;
 use retire::{Event, ITYPE_TAKEN};
 use rvclass::{Class, Program};
 
-/// Where the event after another may stand.
+/// Where the event after another may be.
 #[derive(Clone, Copy, Debug, PartialEq, Eq)]
 pub enum Next {
     /// At this address alone.
     One(u64),
-    /// Anywhere: at any word of the program, and at any even exception program counter.
+    /// Anywhere: at any instruction of the program, and at any even exception program counter.
     Any,
     /// Nowhere, since the event itself is off the program or does not retire.
     NoneInside,
 }
 
-/// Where an event leads: to one address after a plain word, a jump, or a branch, which was taken
-/// exactly where the type is 5; anywhere after an uninferable discontinuity or a trap; and nowhere
-/// where the event itself is off the program or does not retire.
+/// Where an event leads: to one address after a plain instruction, a jump, or a branch, which was taken if and only if
+/// the type is 5; anywhere after an uninferable discontinuity or a trap; and nowhere where the event itself is off the
+/// program or does not retire.
 #[inline]
 pub fn successor(program: &Program, event: &Event) -> Next
     ensures { result ≡ path.successor (words_of program.now) event.now }
@@ -34,8 +34,7 @@ pub fn successor(program: &Program, event: &Event) -> Next
     }
 }
 
-/// Where a retirement of a type leads from an address, by the class and the length of the word
-/// there.
+/// Where a retirement of a type leads from an address, by the class and the length of the instruction there.
 #[inline]
 pub fn leads(addr: u64, itype: u8, class: Class, length: u8) -> Next
     requires { addr + length < 2 ^ 64 }

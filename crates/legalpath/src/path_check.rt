@@ -17,7 +17,7 @@ use rvclass::Program;
 use std::marker::Model;
 
 /// Checks a log whose events come piece by piece, and says of all of them what [`check`](crate::check) says of a list.
-/// It keeps what the last event leaves to the next one, and how many there were; no event.
+/// It keeps what the last event allows to follow it, and how many events there were. It keeps no event.
 #[derive(Drop)]
 pub struct PathCheck {
     left: Left,

@@ -1,5 +1,5 @@
--- How this crate's code judges a log, event by event: what each event leaves to the next, and how the next is tested by
--- that. The files on legal logs and on first faults say what the result for a log means.
+-- How this crate's code checks a log, event by event: what each event allows to follow it, and how the next is tested
+-- by that. The files on legal logs and on first faults say what the result for a log means.
 use Rattle.std.specs.Prelude.{ℕ, ◌+◌, ◌%◌, ◌==◌, ◌&&◌, ◌||◌, nat_le, nat_lt, not, max, if◌then◌else◌, Bool, true, false}
 use Rattle.std.specs.Prelude.{List, [], ◌∷◌, Option, Some, None, Result, Ok, Err}
 use Rattle.isa.specs.Privilege.{is_privilege}
@@ -28,20 +28,20 @@ is_type_of Uninferable itype = itype == types.uninferable
 is_type_of (TrapReturn ret) itype = itype == types.trap_return
 is_type_of NeverRetires itype = false
 
--- The number is a privilege level, within the bounds that were left.
+-- The number is a privilege level, within the bounds that the event before allows.
 abbrev pub was_left : Left → ℕ → Bool
 was_left left priv = is_privilege priv && (nat_le left.least priv && nat_le priv left.greatest)
 
--- What is left to the first event.
+-- What is allowed to be the first event.
 abbrev pub left_at_start : Left
 left_at_start = record { next = Any; least = 0; greatest = 3 }
 
--- The least privilege that may follow a retirement of a word of this class at this privilege.
+-- The least privilege that may follow a retirement of an instruction of this class at this privilege.
 abbrev pub least_after : Class → ℕ → ℕ
 least_after (TrapReturn ret) priv = 0
 least_after _ priv = priv
 
--- What a retirement leaves.
+-- What a retirement allows to follow it.
 abbrev pub left_by_retirement : ℕ → ℕ → ℕ → Word → Left
 left_by_retirement addr itype priv word = record {
   next = leads addr itype word.0 word.1;
@@ -49,17 +49,17 @@ left_by_retirement addr itype priv word = record {
   greatest = greatest_after word.0 priv;
 }
 
--- What a trap leaves.
+-- What a trap allows to follow it.
 abbrev pub left_by_trap : ℕ → Left
 left_by_trap priv = record { next = Any; least = max priv 1; greatest = 3 }
 
--- A word of this class never retires.
+-- An instruction of this class never retires.
 abbrev pub is_never : Class → Bool
 is_never NeverRetires = true
 is_never _ = false
 
--- What a retirement on this word, if there is one, leaves to the next event, or the first reason why it is illegal. The
--- event before left `left` to it.
+-- What a retirement of this instruction, if there is one, allows to follow it, or the first reason why it is illegal.
+-- `left` is what the event before allows.
 abbrev pub judge_retirement : Left → ℕ → ℕ → ℕ → Option Word → Result Left Why
 judge_retirement left addr itype priv None = Err OffProgram
 judge_retirement left addr itype priv (Some word) =
@@ -69,7 +69,7 @@ judge_retirement left addr itype priv (Some word) =
     if not (may_retire_at word.0 priv && was_left left priv) then Err WrongPrivilege else
     Ok (left_by_retirement addr itype priv word)
 
--- What a trap leaves to the next event, or the first reason why it is illegal. The event before left `left` to it.
+-- What a trap allows to follow it, or the first reason why it is illegal. `left` is what the event before allows.
 abbrev pub judge_trap : Left → ℕ → ℕ → Bool → ℕ → ℕ → Result Left Why
 judge_trap left epc priv interrupt cause tval =
     if not (nat_lt cause 64 && (not interrupt || (tval == 0))) then Err WrongType else
@@ -77,28 +77,28 @@ judge_trap left epc priv interrupt cause tval =
     if not ((epc % 2 == 0) && may_stand_at left.next epc) then Err WrongEpc else
     Ok (left_by_trap priv)
 
--- What an event leaves to the next one, or the first reason why it is illegal. The event before left `left` to it.
+-- What an event allows to follow it, or the first reason why it is illegal. `left` is what the event before allows.
 abbrev pub judge : Words → Left → Event → Result Left Why
 judge words left (Retire addr itype priv) = judge_retirement left addr itype priv (words addr)
 judge words left (Trap priv interrupt cause epc tval) =
     judge_trap left epc priv interrupt cause tval
 
--- What a retirement on this word leaves; nothing where there is none.
+-- What a retirement of this instruction allows to follow it; nothing where there is no instruction.
 abbrev pub left_on : ℕ → ℕ → ℕ → Option Word → Left
 left_on addr itype priv None = record { next = NoneInside; least = priv; greatest = priv }
 left_on addr itype priv (Some word) = left_by_retirement addr itype priv word
 
--- What an event leaves, or what is left to the first.
+-- What an event allows to follow it, or what is allowed to be the first.
 abbrev pub left_after : Words → Option Event → Left
 left_after words None = left_at_start
 left_after words (Some (Retire addr itype priv)) = left_on addr itype priv (words addr)
 left_after words (Some (Trap priv interrupt cause epc tval)) = left_by_trap priv
 
--- The result for events: what the last of them leaves, or their first fault.
+-- The result for events: what the last of them allows to follow it, or their first fault.
 abbrev pub Answer : Type 0
 Answer = Result Left PathFault
 
--- The result for events whose first, at this row, was judged so; `follows` is the result for the others.
+-- The result for events whose first, at this row, was checked so; `follows` is the result for the others.
 abbrev pub answer_after : ℕ → Result Left Why → (Left → Answer) → Answer
 answer_after row (Err why) follows = Err (record { row = row; why = why })
 answer_after row (Ok left) follows = follows left
