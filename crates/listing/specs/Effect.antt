@@ -26,7 +26,7 @@ does_wait (Some packet) = waits packet
 abbrev pub last_is_waiting : List Packet → Bool
 last_is_waiting packets = does_wait (last_or None packets)
 
--- A message, behind these messages, has this effect by the program: what its hart's messages up to it decode to is what
+-- A message, after these messages, has this effect by the program: what its hart's messages up to it decode to is what
 -- those before it do, and then the events that it adds. It waits, and it closes its hart, as the last packet of its
 -- hart up to it does.
 pub record HasEffect (words : Words) (before : List Message) (message : Message) (effect : Effect) : Type 0 where
@@ -36,7 +36,7 @@ pub record HasEffect (words : Words) (before : List Message) (message : Message)
   pub waiting : effect.waits ≡ last_is_waiting (packets_of message.hart (before ++ message ∷ []))
   pub closing : effect.closes ≡ last_is_closing (packets_of message.hart (before ++ message ∷ []))
 
--- Messages, behind these messages, have these effects, in order.
+-- Messages, after these messages, have these effects, in order.
 abbrev pub HaveEffects : Words → List Message → List Message → List Effect → Type 0
 HaveEffects words before [] [] = Unit {0}
 HaveEffects words before [] (effect ∷ effects) = ⊥

@@ -8,7 +8,7 @@ use Rattle.legalpath.specs.LastPlace.{last_place}
 use Rattle.symbols.specs.SymbolText.{symbol_text}
 use Rattle.listing.specs.Effect.{Effect}
 
--- What stands behind a place, by the symbols of a file, if there is one.
+-- What follows a place, by the symbols of a file, if there is one.
 abbrev pub name_text : Option (List ℕ) → ℕ → List ℕ
 name_text None at = []
 name_text (Some file) at = symbol_text file at
@@ -27,12 +27,12 @@ added_text symbols (event ∷ next ∷ rest) =
     (place_text symbols (place event) ++
     (codes " to " ++ place_text symbols (last_place (place next) rest))))
 
--- What stands there where a packet waits.
+-- What the text says where a packet waits.
 abbrev pub waits_text : Bool → List ℕ
 waits_text true = codes ", waits"
 waits_text false = []
 
--- What stands there where a packet closes its hart.
+-- What the text says where a packet closes its hart.
 abbrev pub closes_text : Bool → List ℕ
 closes_text true = codes ", closed"
 closes_text false = []

@@ -31,23 +31,23 @@ const HEADER_SIZE: u64 = 16;
 /// Writes what each message of a capture says and settles. Of a capture of version 2 the first line is that of its
 /// header, as [`dump_capture`](captures::dump_capture) writes it. Then comes a line for each message, in the capture's
 /// order: the offset of its first byte in the capture, in 8 hexadecimal digits at least; the line that `dump_capture`
-/// writes for it; ` => `; and what it does.
+/// writes for it; ` => `; and its effect.
 ///
-/// That is `nothing`, or `1 event, A`, or `N events, A to Z`: the events that it adds to its hart's list, those of a
-/// waiting packet that it settles among them, with the places of the first and of the last. A place is an address or a
-/// trap's exception program counter, in hexadecimal, and what the symbols name it, where symbols are handed in. Then
-/// comes `, waits` where the message's packet waits for the next one of its hart, and `, closed` where it closes its
-/// hart.
+/// The effect is `nothing`, or `1 event, A`, or `N events, A to Z`: the events that the message adds to its hart's
+/// list, with the places of the first and of the last. The events of a waiting packet that it settles are among them. A
+/// place is an address or a trap's exception program counter, in hexadecimal, and its name by the symbols, where
+/// symbols are handed in. Where the message's packet waits for the next one of its hart, `, waits` follows. Where it
+/// closes its hart, `, closed` follows.
 ///
 /// The harts are those below the count in the header of a capture of version 2, and else those below `harts`. The lines
 /// end where [`decode_capture`](captures::decode_capture) stops. A message that is refused there has its line too,
-/// without ` => ` and what stands behind it. Where no whole message stands, there is a line of the offset alone. Where
-/// memory was refused for the events of a packet, its message has no line. Where the header is cut short or bad, there
-/// is no line at all.
+/// without ` => ` and its effect. Where there is no complete message, there is a line of the offset alone. Where memory
+/// was refused for the events of a packet, its message has no line. Where the header is cut short or bad, there is no
+/// line at all.
 ///
 /// [`WriteFault::Memory`] comes where memory was refused before anything was written, and [`WriteFault::Write`] where
-/// the writer failed: what was written then is a beginning of the text. The writer is not flushed. Memory is taken for
-/// the events of all harts.
+/// the writer failed: what was written then is a prefix of the text. The writer is not flushed. Memory is taken for the
+/// events of all harts.
 pub fn list_capture<A: Allocator + Copy, S: Allocator, W: Write>(
     alloc: A,
     program: &Program,
@@ -87,7 +87,7 @@ fn list_nothing<A: Allocator>(
     })
 }
 
-/// Lists the messages behind a header, or those of a capture that has none, and before them the header's line.
+/// Lists the messages after a header, or those of a capture that has none, and before them the header's line.
 fn list_behind<A: Allocator + Copy, S: Allocator, W: Write>(
     alloc: A,
     program: &Program,
@@ -153,7 +153,7 @@ fn write_start<W: Write>(header: Option<Header>, sink: &mut W) -> Result<(), Wri
     }
 }
 
-/// Lists the messages behind a header with a receiver that received none, and before them the header's line.
+/// Lists the messages after a header with a receiver that received none, and before them the header's line.
 fn list_started<A: Allocator + Copy, S: Allocator, W: Write>(
     receiver: &mut Receiver<A>,
     program: &Program,

@@ -1,7 +1,7 @@
-//! What each message of a capture says and settles, in a line of text.
+//! What packet each message of a capture has and which events it settles, in a line of text.
 //!
-//! [`list_capture`] writes a line for each message: where it stands in the file, its packet, and the events that it
-//! adds to its hart's list. Places are named by symbols where there are some.
+//! [`list_capture`] writes a line for each message: its offset in the file, its packet, and the events that it adds to
+//! its hart's list. Places are named by symbols where there are some.
 #![tactic(auto)]
 
 mod capture_listing;

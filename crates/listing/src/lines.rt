@@ -82,21 +82,21 @@ fn read_closes(read: &Result<Packet, PackFault>) -> bool
     }
 }
 
-/// What stands in a line where a packet waits.
+/// What a line says where a packet waits.
 fn waits_text(waits: bool) -> &'static str
     ensures { result.now ≡ waits_text waits }
 {
     if waits { ", waits" } else { "" }
 }
 
-/// What stands in a line where a packet closes its hart.
+/// What a line says where a packet closes its hart.
 fn closes_text(closes: bool) -> &'static str
     ensures { result.now ≡ closes_text closes }
 {
     if closes { ", closed" } else { "" }
 }
 
-/// Whether a message is not received since memory was refused.
+/// Whether a message is not received because memory was refused.
 fn denies_memory(why: ReceiveFault) -> bool
     ensures { result ≡ denies_memory why }
 {
@@ -162,7 +162,7 @@ pub(crate) fn write_fault_line<W: Write>(
     Ok(())
 }
 
-/// Writes the line of a place where no whole message stands.
+/// Writes the line of a place where there is no complete message.
 pub(crate) fn write_offset_line<W: Write>(offset: u64, sink: &mut W) -> Result<(), WriteFault>
     ensures text { OnOk result (Appends (W.contents sink.old) (W.contents sink.new) (offset_line offset)) }
     ensures begun { AppendsBeginning (offset_line offset) (W.contents sink.old) (W.contents sink.new) }

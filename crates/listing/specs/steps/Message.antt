@@ -34,7 +34,7 @@ read_closes (Err why) = false
 abbrev pub effect_of : List Event → Result Packet PackFault → Effect
 effect_of added read = record { added = added; waits = read_waits read; closes = read_closes read }
 
--- A message is not received since memory was refused.
+-- A message is not received because memory was refused.
 abbrev pub denies_memory : ReceiveFault → Bool
 denies_memory (fault.Decode Memory) = true
 denies_memory other = false
@@ -49,7 +49,7 @@ pub record ReceivedSome (words : Words) (received : Received) : Type 0 where
   pub messages : List Message
   pub has : HasReceived (λ hart. words) harts messages received
 
--- A message was received behind others, with this effect, and its line is this.
+-- A message was received after others, with this effect, and its line is this.
 pub record IsTaken (words : Words) (harts : ℕ) (announced : Option Mode) (symbols : Option (List ℕ)) (offset : ℕ)
     (messages : List Message) (message : Message) (received : Received) (line : List ℕ) : Type 0 where
   pub effect : Effect
@@ -58,14 +58,14 @@ pub record IsTaken (words : Words) (harts : ℕ) (announced : Option Mode) (symb
   pub agrees : Agrees announced message
   pub text : line ≡ effect_line symbols (naming_mode announced) offset message effect
 
--- A message was not received behind others, for this reason, and its line is this.
+-- A message was not received after others, for this reason, and its line is this.
 pub record IsRefused (words : Words) (harts : ℕ) (announced : Option Mode) (offset : ℕ) (messages : List Message)
     (message : Message) (received : Received) (why : ReceiveFault) (line : List ℕ) : Type 0 where
   pub holds : Holds (λ hart. words) harts messages received
   pub refused : IsNotReceived words harts announced messages message why
   pub text : line ≡ fault_line (naming_mode announced) offset message why
 
--- A message was received behind others, or was not for this reason, and its line is this.
+-- A message was received after others, or was not for this reason, and its line is this.
 abbrev pub IsJudged : Words → ℕ → Option Mode → Option (List ℕ) → ℕ → List Message → Message → Received
     → Option ReceiveFault → List ℕ → Type 0
 IsJudged words harts announced symbols offset messages message received None line =

@@ -29,7 +29,7 @@ abbrev pub start_text : Option Header → List ℕ
 start_text None = []
 start_text (Some header) = header_line header
 
--- The text is the header's line, if there is a header, and then the listing of the messages behind it.
+-- The text is the header's line, if there is a header, and then the listing of the messages after it.
 pub record IsListedBehind (words : Words) (harts : ℕ) (header : Option Header) (symbols : Option (List ℕ))
     (bytes : List ℕ) (closed : List Bool) (stop : Option (ℕ × CaptureFault)) (text : List ℕ) : Type 0 where
   pub lines : List ℕ
