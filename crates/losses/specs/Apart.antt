@@ -8,7 +8,7 @@ abbrev pub AreRising : ℕ → List ℕ → Type 0
 AreRising from [] = Unit {0}
 AreRising from (number ∷ numbers) = (from ≤ number) × AreRising (number + 1) numbers
 
--- The stretches among the parts stand one behind the other in the log, and no event is in two of them.
+-- The stretches among the parts come one after the other in the log, and no event is in two of them.
 abbrev pub StandApart : List LogPart → List Event → Type 0
 StandApart [] log = Unit {0}
 StandApart (Missing count ∷ parts) log = StandApart parts log

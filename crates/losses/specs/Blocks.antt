@@ -7,14 +7,14 @@ pub record Block : Type 0 where
   pub first : ℕ
   pub count : ℕ
 
--- A block in front of the next one and those behind it. The first argument is how many numbers are missing between the
--- two; where none is, they are one block.
+-- A block, the next one, and those after it. The first argument is how many numbers are missing between the first two;
+-- where none is, they are one block.
 abbrev pub joined_or_apart : ℕ → Block → Block → List Block → List Block
 joined_or_apart zero block next blocks =
     record { missing = block.missing; first = block.first; count = block.count + next.count } ∷ blocks
 joined_or_apart (suc missing) block next blocks = block ∷ next ∷ blocks
 
--- A block in front of these. It and the first of them are one block where no number is missing between them.
+-- A block before these. It and the first of them are one block where no number is missing between them.
 abbrev pub block_before : Block → List Block → List Block
 block_before block [] = block ∷ []
 block_before block (next ∷ blocks) = joined_or_apart next.missing block next blocks

@@ -13,7 +13,7 @@ use Rattle.losses.specs.PartsIn.{parts_in}
 use Rattle.losses.specs.declared.part.HartPieces.{HartPieces}
 
 -- The parts of each hart are those of its log, where the packets with the numbers of its messages came. A hart is
--- marked as closed exactly where the last of its packets closes the trace.
+-- marked as closed if and only if the last of its packets closes the trace.
 pub record AreCollected {A : Type 0} (program : Image) (period : ℕ) (own : ℕ → Mode) (logs : List ProgramLog)
     (messages : List Message) (harts : List (HartPieces A)) : Type 0 where
   pub count : length harts ≡ length logs

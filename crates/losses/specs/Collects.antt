@@ -15,8 +15,8 @@ use Rattle.losses.specs.declared.fault.LossyFault.TheVariants.{Memory}
 use Rattle.losses.specs.declared.part.HartPieces.{HartPieces}
 
 -- Collecting the messages of so many harts returns these pieces, where this mode is handed in. A demultiplexer accepts
--- the messages, each in its turn, and the pieces are what they describe. Where the messages are some of those of legal
--- logs of the program, the pieces are those of the logs.
+-- the messages, one after the other, and the pieces are what they describe. Where the messages are some of those of
+-- legal logs of the program, the pieces are those of the logs.
 pub record GivesPieces {A : Type 0} (program : Image) (harts : ℕ) (mode : Mode) (messages : List Message)
     (pieces : List (HartPieces A)) : Type 0 where
   pub count : length pieces ≡ harts

@@ -28,8 +28,8 @@ abbrev pub EachHartDescribes : Words → Mode → ℕ → List Message → Type 
 EachHartDescribes words mode harts messages =
     (hart : ℕ) → hart < harts → (parts : List LogPart) × MessagesDescribe words mode (of_hart hart messages) parts
 
--- The parts of each hart are those that its messages describe. A hart is marked as closed exactly where the last of its
--- packets closes the trace.
+-- The parts of each hart are those that its messages describe. A hart is marked as closed if and only if the last of
+-- its packets closes the trace.
 pub record AreDescribed {A : Type 0} (words : Words) (mode : Mode) (messages : List Message)
     (harts : List (HartPieces A))
     : Type 0 where

@@ -84,13 +84,13 @@ from_sync [] = []
 from_sync (packet.Sync taken priv address ∷ packets) = packet.Sync taken priv address ∷ packets
 from_sync (other ∷ packets) = from_sync packets
 
--- These packets behind one that opens a trace in this mode; none where there are none.
+-- These packets after one that opens a trace in this mode; none where there are none.
 abbrev pub opened : Mode → List Packet → List Packet
 opened mode [] = []
 opened mode (packet ∷ packets) = open_packet mode ∷ packet ∷ packets
 
 -- The trace that a run's packets make up, before which so many numbers are missing. Where none is, it is the packets
--- themselves. Else it is those from the first synchronisation packet on, behind a packet that opens a trace in this
+-- themselves. Else it is those from the first synchronisation packet on, after a packet that opens a trace in this
 -- mode.
 abbrev pub trace_after : ℕ → Mode → List Packet → List Packet
 trace_after zero mode packets = packets

@@ -20,12 +20,12 @@ use Rattle.losses.specs.DescribedParts.{EachHartDescribes}
 use Rattle.losses.specs.declared.fault.LossyFault.{LossyFault}
 use Rattle.losses.specs.declared.fault.LossyFault.TheVariants as fault
 
--- What is expected of each hart after messages, each taken in its turn, where messages may be lost.
+-- What is expected of each hart after messages, taken one after the other, where messages may be lost.
 abbrev pub expected_lossy : Harts → List Message → Harts
 expected_lossy expected [] = expected
 expected_lossy expected (message ∷ messages) = expected_lossy (harts_after_lossy expected message) messages
 
--- Each of the messages is accepted in its turn, where messages may be lost.
+-- Each of the messages is accepted, one after the other, where messages may be lost.
 abbrev pub AreAcceptedLossy : Harts → List Message → Type 0
 AreAcceptedLossy expected [] = Unit {0}
 AreAcceptedLossy expected (message ∷ messages) =
@@ -45,7 +45,7 @@ pub record IsRefusedAt (words : Words) (mode : Mode) (harts : ℕ) (messages : L
   pub refused : accepting_lossy (expected_lossy (newcomers harts) front) message ≡ Err why
 
 -- The packet of a message is not decoded after these messages, for this reason: no log is described by the trace whose
--- last packet it would be. The reason is NotOpened exactly where the message is its hart's number 0 and its packet
+-- last packet it would be. The reason is NotOpened if and only if the message is its hart's number 0 and its packet
 -- opens no trace. It is never AfterClose.
 pub record IsNotDecodedLossy (words : Words) (mode : Mode) (messages : List Message) (message : Message)
     (why : DecodeFault)

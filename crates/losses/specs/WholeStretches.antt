@@ -18,8 +18,8 @@ abbrev pub NumberCame : ℕ → List ℕ → Type 0
 NumberCame number [] = ⊥
 NumberCame number (first ∷ numbers) = (number ≡ first) ⊎ NumberCame number numbers
 
--- Events of a log, behind those before them, begin at this packet. Either it opens the trace, and no event stands
--- before them; or it is a synchronisation packet, and reports the first of them.
+-- Events of a log, which follow those before them, begin at this packet. Either it opens the trace, and there is no
+-- event before them; or it is a synchronisation packet, and reports the first of them.
 abbrev pub BeginsAt : Packet → List Event → List Event → Type 0
 BeginsAt (packet.Sync taken priv address) before events =
     (event : Event) × (later : List Event) × (events ≡ event ∷ later) × IsReported taken priv address event
@@ -47,7 +47,7 @@ NoSyncCame packets numbers from below =
     (number : ℕ) (packet : Packet) → from ≤ number → number < below → NumberCame number numbers
     → slice_get packets number ≡ Some packet → ¬ IsSync packet
 
--- From the packet with this number on, each stretch among the parts is whole and behind the one before it, and no
+-- From the packet with this number on, each stretch among the parts is whole and comes after the one before it, and no
 -- synchronisation packet that came is left out.
 abbrev pub AreWholeStretches : Words → ℕ → Mode → List Event → List ℕ → ℕ → List LogPart → Type 0
 AreWholeStretches words period mode log numbers from [] =

@@ -111,7 +111,7 @@ impl<A: Allocator + Copy> Collection<A> {
         })
     }
 
-    /// Takes the message that stands at this place.
+    /// Takes the message at this place.
     fn take(
         &mut self,
         alloc: A,
@@ -147,8 +147,8 @@ impl<A: Allocator + Copy> Collection<A> {
     }
 }
 
-/// Collects the messages of the harts below `harts` in turn, up to the first fault. The stretches under way are not
-/// ended.
+/// Collects the messages of the harts below `harts` one after the other, up to the first fault. The stretches under way
+/// are not ended.
 fn take_all<A: Allocator + Copy>(
     alloc: A,
     program: &Program,
@@ -204,8 +204,8 @@ pub fn collect_lossy<A: Allocator + Copy>(
     mode: Mode,
     messages: &[Message],
 ) -> Result<Vec<HartPieces<A>, A>, LossyFault>
-    // Of messages of legal logs, some of them lost: each hart's parts are those of its log, and the only fault is that
-    // memory was refused.
+    // Of the messages of legal logs, of which some are lost: each hart's parts are those of its log, and the only fault
+    // is that memory was refused.
     ensures parts { (period : ℕ) (own : ℕ → AnyMode) (logs : List ProgramLog) → AreOfLogs program.now period mode own
         logs messages.now
         → length logs ≡ harts

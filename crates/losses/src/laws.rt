@@ -26,8 +26,8 @@ pub fn stretches_stand_apart()
         StandApart (parts words period mode log numbers) log }
 {}
 
-/// What is promised of the stretches that are collected of messages of legal logs. Each begins at event 0, and then the
-/// message came that opens the trace; or it begins at the event that a synchronisation packet reports, and then that
+/// What is promised of the stretches that are collected of messages of legal logs. Each begins at event 0, and the
+/// message that opens the trace came; or it begins at the event that a synchronisation packet reports, and that
 /// packet's message came. Each has all events from there on that the messages up to the next loss settle. No
 /// synchronisation packet that came is left out. The stretches of a hart are disjoint stretches of its log, in its
 /// order.

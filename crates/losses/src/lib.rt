@@ -5,8 +5,9 @@
 //!
 //! A part is a stretch or a gap. A stretch is events that follow one another in the log. It begins at the packet that
 //! opens the trace or at a synchronisation packet, and has all events from there on that the packets up to the next
-//! loss settle. A gap is how many numbers are missing before a run of messages with consecutive numbers. That stretches
-//! are so, and that those of a hart are disjoint and in the order of its log, is the law [`stretches_are_whole`].
+//! loss settle. A gap is how many numbers are missing before a run of messages with consecutive numbers. The theorem
+//! [`stretches_are_whole`] says that stretches are so, and that those of a hart are disjoint and in the order of its
+//! log.
 #![tactic(auto)]
 
 mod collecting;

@@ -75,8 +75,8 @@ pub record FollowsAll {A : Type 0} (program : Image) (period : ℕ) (handed : Mo
       → FollowsHart program period handed (own hart) log hart messages left expects trace.decoder trace.stretch.items
       (parts_in collected.parts.items) collected.closed
 
--- The fault for a packet that is not taken, whose message stands at this place: it names the place, or says that memory
--- was refused.
+-- The fault for a packet that is not taken, whose message is at this place: it names the place, or says that memory was
+-- refused.
 abbrev pub IsNotTaken : ℕ → LossyFault → Type 0
 IsNotTaken place (fault.Demux at why) = ⊥
 IsNotTaken place (fault.Decode at why) = (at ≡ place) × (why ≢ Memory)

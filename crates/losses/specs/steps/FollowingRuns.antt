@@ -30,20 +30,20 @@ use Rattle.losses.specs.declared.fault.LossyFault.TheVariants as fault
 use Rattle.losses.specs.declared.hart_trace.HartTrace.{HartTrace}
 use Rattle.losses.specs.declared.part.HartPieces.{HartPieces}
 
--- What a decoder stands for after a loss, by the packets of a run from the first synchronisation packet on. Before one
+-- The state of a decoder after a loss, by the packets of a run from the first synchronisation packet on. Before one
 -- comes, it passes over packets, and there is no event.
 abbrev pub StandsAfter : Words → Mode → List Packet → List Event → Decoder → Type 0
 StandsAfter words mode [] events decoder = PassesOver mode decoder × (events ≡ [])
 StandsAfter words mode (packet ∷ packets) events decoder =
     DecoderStands words (open_packet mode ∷ packet ∷ packets) events decoder
 
--- What a decoder stands for by the packets of a run, before which so many numbers are missing.
+-- The state of a decoder by the packets of a run, before which so many numbers are missing.
 abbrev pub StandsRun : Words → Mode → ℕ → List Packet → List Event → Decoder → Type 0
 StandsRun words mode zero packets events decoder = DecoderStands words packets events decoder
 StandsRun words mode (suc missing) packets events decoder = StandsAfter words mode (from_sync packets) events decoder
 
--- A decoder follows a run, whose trace describes these events. Until a packet closes the trace, the decoder stands for
--- the packets and is open. It reads in the mode that was announced, or in the one handed in where none was.
+-- A decoder follows a run, whose trace describes these events. Until a packet closes the trace, the decoder is in the
+-- state after the packets and is open. It reads in the mode that was announced, or in the one handed in where none was.
 pub record FollowsRun (words : Words) (mode reads : Mode) (missing : ℕ) (packets : List Packet) (closed : Bool)
     (events : List Event) (decoder : Decoder) : Type 0 where
   pub described : Describes words (trace_after missing reads packets) events
@@ -85,7 +85,7 @@ pub record Refuses (words : Words) (p : Packet) (old : Decoder) (before : List E
   pub never_unopened : (mode : Mode) → PassesOver mode old → ¬ (result ≡ Err NotOpened)
 
 -- Why a packet is not decoded after these packets of a run: memory was refused, or no log is described by the trace of
--- the run with it. The reason is NotOpened exactly where the packet has number 0 and opens no trace. It is never
+-- the run with it. The reason is NotOpened if and only if the packet has number 0 and opens no trace. It is never
 -- AfterClose.
 pub record IsNotDecodedInRun (words : Words) (reads : Mode) (missing : ℕ) (before : List Packet) (packet : Packet)
     (why : DecodeFault) : Type 0 where
@@ -94,7 +94,7 @@ pub record IsNotDecodedInRun (words : Words) (reads : Mode) (missing : ℕ) (bef
   pub reason : (why ≡ Memory)
       ⊎ ((log : List Event) → ¬ Describes words (trace_after missing reads (before ++ packet ∷ [])) log)
 
--- A packet was fed behind these packets of the run under way. It is collected; or memory was refused, or the fault says
+-- A packet was fed after these packets of the run under way. It is collected; or memory was refused, or the fault says
 -- why it is not decoded.
 pub record FedRuns (words : Words) (mode : Mode) (done : List Run) (missing : ℕ) (packets : List Packet) (next : ℕ)
     (packet : Packet) (new : Decoder) (seen : List LogPart) (after : List Event) (result : Result ⊤ DecodeFault)

@@ -1,4 +1,4 @@
--- What a decoder stands for by the packets of a block.
+-- The state of a decoder by the packets of a block.
 use Rattle.std.specs.Prelude.{◌≡◌, ◌⊎◌, ℕ, zero, suc, List, [], ◌∷◌, None, Option}
 use Rattle.std.specs.Option.{unwrap_or}
 use Rattle.retire.specs.declared.event.Event.{Event}
@@ -18,7 +18,7 @@ abbrev pub from_start : List Packet → List Packet
 from_start [] = []
 from_start (packet ∷ packets) = here_or_later (begins_stretch packet) (packet ∷ packets) (from_start packets)
 
--- The trace that packets make up, the first of which begins a stretch: a synchronisation packet stands behind one that
+-- The trace that packets make up, the first of which begins a stretch: a synchronisation packet comes after one that
 -- opens the trace in this mode.
 abbrev pub trace_of : Mode → List Packet → List Packet
 trace_of mode (packet.Sync taken priv address ∷ packets) =
@@ -30,9 +30,9 @@ abbrev pub DescribesFrom : Words → Mode → List Packet → List Event → Typ
 DescribesFrom words mode [] events = events ≡ []
 DescribesFrom words mode (packet ∷ packets) events = Describes words (trace_of mode (packet ∷ packets)) events
 
--- What a decoder stands for within a block with this first number, by the packets that came from the start of its
--- stretch on. Until a stretch begins, it stands for no packet in the block with number 0, and passes over packets in
--- each other block.
+-- The state of a decoder within a block with this first number, by the packets that came from the start of its stretch
+-- on. Until a stretch begins, it is in the state before any packet in the block with number 0, and passes over packets
+-- in each other block.
 abbrev pub StandsFrom : Words → Mode → List Packet → ℕ → List Event → Decoder → Type 0
 StandsFrom words mode [] zero events decoder = DecoderStands words [] [] decoder × (events ≡ [])
 StandsFrom words mode [] (suc first) events decoder = PassesOver mode decoder × (events ≡ [])
