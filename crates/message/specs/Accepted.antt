@@ -1,4 +1,4 @@
--- Messages that a demultiplexer accepts, each in its turn.
+-- Messages that a demultiplexer accepts, one after the other.
 use Rattle.std.specs.Prelude.{ℕ, List, [], ◌∷◌, IsOk, replicate}
 use Rattle.message.specs.Accepting.{accepting, harts_after}
 use Rattle.message.specs.Harts.{Harts, newcomer}
@@ -8,12 +8,12 @@ use Rattle.message.specs.declared.message.Message.{Message}
 abbrev pub newcomers : ℕ → Harts
 newcomers harts = replicate harts newcomer
 
--- What is expected after messages, each taken in its turn.
+-- What is expected after messages, taken one after the other.
 abbrev pub expected_after : Harts → List Message → Harts
 expected_after expected [] = expected
 expected_after expected (message ∷ messages) = expected_after (harts_after expected message) messages
 
--- Each of the messages is accepted in its turn.
+-- Each of the messages is accepted, one after the other.
 abbrev pub AreAccepted : Harts → List Message → Type 0
 AreAccepted expected [] = Unit {0}
 AreAccepted expected (message ∷ messages) =

@@ -3,7 +3,7 @@ use Rattle.std.specs.Prelude.{ℕ, ◌++◌, List, [], ◌∷◌, length}
 use Rattle.byteorder.specs.Endian.{little_bytes}
 use Rattle.message.specs.declared.message.Message.{Message}
 
--- What stands before a payload: the hart in 2 bytes, the number in 8, both little endian, and the payload's length in
+-- What comes before a payload: the hart in 2 bytes, the number in 8, both little endian, and the payload's length in
 -- one.
 abbrev pub head_bytes : Message → List ℕ
 head_bytes m = little_bytes 2 m.hart ++ (little_bytes 8 m.number ++ (length m.payload ∷ []))

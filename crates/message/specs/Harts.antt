@@ -3,7 +3,7 @@ use Rattle.std.specs.Prelude.{◌^◌, ℕ, nat_lt, not, ◌||◌, Bool, false, 
 use Rattle.std.specs.Prelude.{IsFalse, slice_get}
 use Rattle.message.specs.declared.hart.Hart.{Hart}
 
--- What is expected of hart h stands at place h.
+-- What is expected of hart h is at place h.
 abbrev pub Harts : Type 0
 Harts = List Hart
 

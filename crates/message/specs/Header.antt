@@ -17,7 +17,7 @@ abbrev pub mode_byte : Mode → ℕ
 mode_byte Differential = 0
 mode_byte Full = 1
 
--- What stands behind the mark: the mode in one byte, the period and the count of harts in 2 each, little endian.
+-- What follows the mark: the mode in one byte, the period and the count of harts in 2 each, little endian.
 abbrev pub setting_bytes : Header → List ℕ
 setting_bytes header = mode_byte header.mode ∷ (little_bytes 2 header.period ++ little_bytes 2 header.harts)
 

@@ -14,7 +14,7 @@ use payload::Packet;
 use std::alloc::{AllocError, Allocator, Global};
 use std::marker::Model;
 
-/// Parts the messages of several harts, and accepts just those that come in each hart's order.
+/// Splits the messages of several harts by hart, and accepts only those that come in each hart's order.
 #[derive(Debug, Drop)]
 pub struct Demux<A: Allocator = Global> {
     harts: Vec<Hart, A>,

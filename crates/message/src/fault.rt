@@ -40,7 +40,7 @@ impl fmt::Display for MessageFault {
 impl Error for MessageFault {}
 
 /// Why a demultiplexer does not accept a message. It tests `Stranger`, `AfterClose`, `Repeat`, `Gap` and `Packet` in
-/// turn, and returns the first that applies.
+/// this order, and returns the first that applies.
 #[derive(Clone, Copy, Debug, PartialEq, Eq)]
 pub enum DemuxFault {
     /// The demultiplexer does not know the hart.

@@ -1,4 +1,4 @@
-//! What stands before a payload.
+//! The bytes of a message before its payload.
 
 ghost use Rattle.std.specs.Prelude.{◌≡◌, ◌≤◌, length, slice_index, IfOk, IfErr};
 ghost use Rattle.payload.specs.Limits.{most_bytes};
@@ -9,7 +9,7 @@ use crate::{Message, MessageFault};
 use byteorder::{ByteOrder, LittleEndian};
 use payload::{MOST_BYTES, Payload};
 
-/// How many bytes of a message stand before its payload: the hart, the number and the payload's length.
+/// How many bytes of a message come before its payload: the hart, the number and the payload's length.
 pub(crate) const HEAD: usize = 11;
 
 /// The payload's length in a head.

@@ -58,7 +58,7 @@ pub enum Start {
 /// The bytes with which a capture of version 2 begins.
 pub(crate) const MARK: [u8; 11] = *b"\xff\xffrvtrace2\0";
 
-/// How many bytes of a header stand behind the mark.
+/// How many bytes of a header follow the mark.
 pub(crate) const SETTINGS: usize = 5;
 
 /// The header whose settings these bytes are, if they are those of one.
@@ -84,7 +84,7 @@ pub(crate) fn header_of(settings: &[u8]) -> Option<Header>
     })
 }
 
-/// The bytes of a header behind the mark.
+/// The bytes of a header after the mark.
 pub(crate) fn settings_of(header: &Header) -> [u8; SETTINGS]
     ensures { result ≡ setting_bytes header.now }
 {

@@ -51,7 +51,7 @@ impl<'a> Messages<'a> {
         ensures stays { result ≡ Ok None → self.new ≡ self.old }
         ensures stays_at_fault { IfErr result (λ fault. self.new ≡ self.old) }
 
-        // A header that stands there is read.
+        // If the bytes begin with a header, it is read.
         ensures reads_back { (header : AnyHeader) (rest : List ℕ) → IsHeader header
             → self.old ≡ header_bytes header ++ rest
             → (result ≡ Ok (Some header)) × (self.new ≡ rest) }
@@ -87,7 +87,7 @@ impl<'a> Messages<'a> {
         ensures ended { result ≡ Ok None → self.new ≡ [] }
         ensures stays { IfErr result (λ fault. self.new ≡ self.old) }
 
-        // A message that stands there is read.
+        // If the bytes begin with a message, it is read.
         ensures reads_back { (message : AnyMessage) (rest : List ℕ) → IsMessage message
             → self.old ≡ message_bytes message ++ rest
             → (result ≡ Ok (Some message)) × (self.new ≡ rest) }

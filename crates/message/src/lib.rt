@@ -1,9 +1,9 @@
-//! The messages of a capture, and the demultiplexer that parts them by hart.
+//! The messages of a capture, and the demultiplexer that splits them by hart.
 //!
 //! A [`Message`] is one payload of one hart with its number, and a capture is messages in a row. [`write_message`]
-//! writes one, and [`read_message`] reads one. In version 2 a [`Header`] stands before them, which [`write_header`]
+//! writes one, and [`read_message`] reads one. In version 2 a [`Header`] comes before them, which [`write_header`]
 //! writes and [`read_start`] reads. [`Messages`] reads both from bytes in memory. [`Demux`] takes the messages of
-//! several harts, and accepts just those that come in each hart's order, or, where some may be lost, those with rising
+//! several harts. It accepts only those that come in each hart's order, or, where some may be lost, those with rising
 //! numbers. Only [`Demux::new`] takes memory.
 #![tactic(auto)]
 

@@ -83,7 +83,7 @@ fn first_part<R: Read>(r: &mut R) -> Result<Start, MessageFault>
     }
 }
 
-/// Reads the settings of a header, behind its mark.
+/// Reads the settings of a header, after its mark.
 fn read_settings<R: Read>(r: &mut R) -> Result<Header, MessageFault>
     ensures header { IfOk result
         (λ header. IsHeader header × Consumes (R.remaining r.old) (R.remaining r.new) (setting_bytes header)) }
@@ -140,7 +140,7 @@ fn read_payload<R: Read>(r: &mut R, head: &[u8]) -> Result<Message, MessageFault
     Ok(message_of(head, &bytes[..length]))
 }
 
-/// Reads until the room is full or the input ends, and returns how many bytes came.
+/// Reads until the buffer `room` is full or the input ends, and returns how many bytes came.
 fn fill<R: Read>(r: &mut R, room: &mut [u8]) -> Result<usize, MessageFault>
     ensures filled { IfOk result (λ count. Fills (R.remaining r.old) (R.remaining r.new) room.new count) }
     ensures fault { IfErr result (λ fault. fault ≡ MessageFault.Read) }

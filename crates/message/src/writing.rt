@@ -13,7 +13,7 @@ use output::write_bytes;
 use std::io::Write;
 
 /// Writes a message: the hart in 2 bytes and the number in 8, both little endian, the payload's length in one, and the
-/// payload. Where the writer fails, what was written is a beginning of that. The writer is not flushed.
+/// payload. Where the writer fails, what was written is a prefix of that. The writer is not flushed.
 pub fn write_message<W: Write>(w: &mut W, message: &Message) -> Result<(), MessageFault>
     ensures written { OnOk result (Appends (W.contents w.old) (W.contents w.new) (message_bytes message.now)) }
     ensures begun { AppendsBeginning (message_bytes message.now) (W.contents w.old) (W.contents w.new) }
@@ -25,7 +25,7 @@ pub fn write_message<W: Write>(w: &mut W, message: &Message) -> Result<(), Messa
 
 /// Writes a header: the mark, and then the mode, the period and the count of harts. The mark is `ff ff`, the letters
 /// `rvtrace2` and `00`. The mode has one byte, 0 or 1. The period and the count have 2 bytes each, little endian. Where
-/// the writer fails, what was written is a beginning of that. The writer is not flushed.
+/// the writer fails, what was written is a prefix of that. The writer is not flushed.
 pub fn write_header<W: Write>(w: &mut W, header: &Header) -> Result<(), MessageFault>
     ensures written { OnOk result (Appends (W.contents w.old) (W.contents w.new) (header_bytes header.now)) }
     ensures begun { AppendsBeginning (header_bytes header.now) (W.contents w.old) (W.contents w.new) }
@@ -35,7 +35,7 @@ pub fn write_header<W: Write>(w: &mut W, header: &Header) -> Result<(), MessageF
     put(w, &settings_of(header))
 }
 
-/// The bytes of a message that stand before its payload.
+/// The bytes of a message before its payload.
 fn head_of(message: &Message) -> [u8; HEAD]
     ensures { result ≡ head_bytes message.now }
 {

@@ -12,7 +12,7 @@ abbrev pub message_of : List ℕ → List ℕ → Message
 message_of head payload =
     record { hart = little_number 2 head; number = little_number 8 (drop 2 head); payload = payload }
 
--- The message of a head and of this many bytes behind it; or why there is none: the count is no payload's length, or
+-- The message of a head and of this many bytes after it; or why there is none: the count is no payload's length, or
 -- there are fewer bytes.
 abbrev pub with_payload : List ℕ → List ℕ → ℕ → Result (Option Message) MessageFault
 with_payload head rest count =

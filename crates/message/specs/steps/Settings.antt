@@ -1,4 +1,4 @@
--- What stands behind the mark of a header.
+-- What follows the mark of a header.
 use Rattle.std.specs.Prelude.{ℕ, ◌≢◌, ◌≤◌, ◌++◌, List, length}
 use Rattle.message.specs.Header.{IsHeader, setting_bytes}
 use Rattle.message.specs.declared.header.Header.{Header}
