@@ -1,4 +1,4 @@
-//! Bytes and text for an output that may fail: what was appended then is a beginning of what was to be written.
+//! Bytes and text for an output that may fail: what was appended then is a prefix of what was to be written.
 //!
 //! std's `write_all` and `writeln!` promise nothing of an output that failed; [`write_bytes`] and [`write_text`] do.
 #![tactic(auto)]

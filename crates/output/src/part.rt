@@ -6,7 +6,7 @@ use arrayvec::ArrayVec;
 use std::cmp::min;
 use std::fmt;
 
-/// What comes of a text behind its first bytes, as far as there is room.
+/// A part of a text: what follows its first bytes, as far as there is capacity.
 #[derive(Drop)]
 pub(crate) struct Part<const ROOM: usize> {
     /// How many more bytes of the text are passed over.
@@ -16,7 +16,7 @@ pub(crate) struct Part<const ROOM: usize> {
 }
 
 impl<const ROOM: usize> Part<ROOM> {
-    /// Passes over bytes and takes those behind them, as far as there is room.
+    /// Passes over bytes and takes those after them, as far as there is capacity.
     #[inline(never)]
     fn take_some(&mut self, bytes: &[u8])
         ensures { Takes ROOM self.old.passing self.old.bytes.items bytes.now
@@ -33,7 +33,7 @@ impl<const ROOM: usize> Part<ROOM> {
     }
 }
 
-/// Bytes for which there is no room are let go, so no write fails.
+/// Bytes for which there is no capacity are dropped, so no write fails.
 impl<const ROOM: usize> fmt::Write for Part<ROOM> {
     ghost write_str_gives = { λ old bytes new.
         Takes ROOM old.passing old.bytes.items bytes new.passing new.bytes.items };
