@@ -24,7 +24,7 @@ fate_line place one =
 abbrev pub line_or_none : ℕ → Judged → List ℕ
 line_or_none place one = if is_fate InOrder one.fate then [] else fate_line place one
 
--- The lines of messages that are not in order. The first message stands at this place.
+-- The lines of messages that are not in order. The first message is at this place.
 abbrev pub fate_lines : ℕ → List Judged → List ℕ
 fate_lines place [] = []
 fate_lines place (one ∷ more) = line_or_none place one ++ fate_lines (place + 1) more
@@ -80,7 +80,7 @@ headers_line false = []
 abbrev pub result_line : Bool → List ℕ
 result_line whole = codes "result: " ++ (verdict_text whole ++ codes "\n")
 
--- What stands behind the lines of the harts: how many strangers came, whether headers differ, and the result.
+-- What follows the lines of the harts: how many strangers came, whether headers differ, and the result.
 abbrev pub ending_text : ℕ → Bool → Bool → List ℕ
 ending_text strangers unlike whole = strangers_line strangers ++ (headers_line unlike ++ result_line whole)
 

@@ -37,7 +37,7 @@ is_whole_result sent header received stop =
     are_whole sent.messages received (harts_of sent.header sent.messages)
     && (strangers_in sent.messages received == 0) && not (headers_differ sent.header header) && is_none stop
 
--- What stands behind the lines of the messages.
+-- What follows the lines of the messages.
 abbrev pub behind_fates : Sent → Option Header → List Message → Option (ℕ × MessageFault) → List ℕ
 behind_fates sent header received stop =
     all_lost_lines sent.messages received (harts_of sent.header sent.messages)
@@ -66,7 +66,7 @@ pub record WritesAudit (sent : Sent) (bytes : List ℕ) (printed : Printed) : Ty
   pub text : printed.text ≡ audit_text sent header received stop
   pub ended : printed.ended ≡ end_of_audit stop (is_whole_result sent header received stop)
 
--- SENT is read and judged, and then RECEIVED is read. Where there is no fault, what became of the messages is written.
+-- SENT is read and checked, and then RECEIVED is read. Where there is no fault, what became of the messages is written.
 abbrev pub Audits : Content → Audit → Printed → Type 0
 Audits content asked =
     First (IsRead content asked.sent) (λ bytes.

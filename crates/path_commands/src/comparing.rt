@@ -32,10 +32,10 @@ use subcommands::Audit as Asked;
 
 /// Writes what became of the messages of SENT in RECEIVED: a line for each message of RECEIVED that is not in order,
 /// one for each longest run of numbers of a hart that were lost, one for each hart, and the result. Returns that all is
-/// done where the result is whole.
+/// done if the result is `whole`.
 ///
-/// SENT is judged to its end before RECEIVED is read. Where it is refused, nothing is written. Where RECEIVED ends in a
-/// fault of its own, what stands before that place is audited and written, and then the fault is returned.
+/// SENT is checked to its end before RECEIVED is read. Where it is refused, nothing is written. Where RECEIVED ends in
+/// a fault of its own, what comes before that place is audited and written, and then the fault is returned.
 pub fn audit<'a, F: Files, O: Write>(
     alloc: Global,
     files: &mut F,
@@ -133,8 +133,8 @@ fn write_fate<O: Write>(place: u64, message: &Message, fate: Fate, out: &mut O) 
     )
 }
 
-/// Writes what stands behind the lines of the messages, and returns how the run ends, where RECEIVED has this header,
-/// or none, and stops there.
+/// Writes what follows the lines of the messages, and returns how the run ends. RECEIVED has this header or none, and
+/// reading it stopped for this reason or none.
 fn write_rest<'a, O: Write>(
     path: &Audit<'_>,
     header: Option<Header>,

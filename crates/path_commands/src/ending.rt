@@ -1,4 +1,4 @@
-//! What stands behind the lines of the harts.
+//! What follows the lines of the harts.
 
 ghost use Rattle.std.specs.Prelude.{◌≡◌, ◌++◌, Some};
 ghost use Rattle.path_commands.specs.AuditText.{ending_text, headers_line, result_line, verdict_text};
@@ -34,7 +34,7 @@ impl fmt::Display for Ending {
     }
 }
 
-/// What stands behind the line of the strangers.
+/// What follows the line of the strangers.
 #[derive(Clone, Copy)]
 struct Closing {
     unlike: bool,

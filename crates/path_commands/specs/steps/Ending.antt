@@ -9,7 +9,7 @@ use Rattle.command_inputs.specs.declared.fault.Fault.TheVariants as fault
 use Rattle.command_inputs.specs.declared.status.Status.{Status}
 use Rattle.path_commands.specs.Audited.{Sent, behind_fates, end_of_audit, is_whole_result}
 
--- What stands behind the lines of the messages is written, and the run ends as it should; or the output failed.
+-- What follows the lines of the messages is written, and the run ends as it should; or the output failed.
 abbrev pub EndsRest : Sent → Option Header → List Message → Option (ℕ × MessageFault) → Result Status Fault
     → Option (List ℕ) → Option (List ℕ) → Type 0
 EndsRest sent header received stop ended old new =
