@@ -81,23 +81,23 @@ is_supported n =
 abbrev pub is_bad_privilege : ℕ → Bool
 is_bad_privilege n = (is_sync n || is_trap n) && (field_at n layout.privilege_at == 2)
 
--- The address field's top bit, `notify`, `updiscon` and `irreport` stand for no report: `irreport` differs from
--- `updiscon`, or `notify` differs from the top bit and `updiscon` from `notify`.
+-- The address field's top bit, `notify`, `updiscon` and `irreport` have values that no report has: `irreport` differs
+-- from `updiscon`, or `notify` differs from the top bit and `updiscon` from `notify`.
 abbrev pub is_bad_tail : ℕ → ℕ → ℕ → ℕ → Bool
 is_bad_tail top notify updiscon irreport =
     not (irreport == updiscon) || (not (notify == top) && not (updiscon == notify))
 
--- The bits behind an address field that begins at this bit stand for no report.
+-- The bits after an address field that begins at this bit are those of no report.
 abbrev pub is_bad_report_at : ℕ → ℕ → Bool
 is_bad_report_at n from =
     is_bad_tail (part n (from + layout.top_bit) 1) (part n (from + layout.notify_bit) 1)
     (part n (from + layout.updiscon_bit) 1) (part n (from + layout.irreport_bit) 1)
 
--- Where the address field begins behind `branches` and `branch_map`.
+-- Where the address field begins after `branches` and `branch_map`.
 abbrev pub address_behind_map : ℕ → ℕ
 address_behind_map n = layout.map_from + map_width (field_at n layout.branches_at)
 
--- The packet has an address field, and the bits behind it stand for no report.
+-- The packet has an address field, and the bits after it are those of no report.
 abbrev pub is_bad_report : ℕ → Bool
 is_bad_report n =
     if is_address_alone n then is_bad_report_at n layout.address_from else

@@ -12,7 +12,7 @@ pub record Place : Type 0 where
 abbrev pub place_from : ℕ → ℕ → Place
 place_from from width = record { from = from; width = width }
 
--- The bit behind a field.
+-- The bit after a field.
 abbrev pub bit_behind : Place → ℕ
 bit_behind at = at.from + at.width
 
@@ -113,7 +113,7 @@ address_from = 2
 abbrev pub address_width : ℕ
 address_width = 63
 
--- The distances from the first bit of this `address` to its top bit, and to `notify`, `updiscon` and `irreport` behind
+-- The distances from the first bit of this `address` to its top bit, and to `notify`, `updiscon` and `irreport` after
 -- it.
 abbrev pub top_bit : ℕ
 top_bit = 62

@@ -30,8 +30,8 @@ abbrev pub value_fields : Bool → ℕ → List Field
 value_fields true tval = []
 value_fields false tval = at layout.tval_at tval ∷ []
 
--- `notify`, `updiscon` and `irreport` behind an address field with this top bit: each repeats the bit before it,
--- but `notify` differs for a notification, and `updiscon` for an uninferable discontinuity.
+-- `notify`, `updiscon` and `irreport` after an address field with this top bit: each repeats the bit before it, but
+-- `notify` differs for a notification, and `updiscon` for an uninferable discontinuity.
 abbrev pub report_fields : ℕ → Report → List Field
 report_fields top report.Plain = field 1 top ∷ field 1 top ∷ field 1 top ∷ []
 report_fields top report.Updiscon = field 1 top ∷ field 1 (1 - top) ∷ field 1 (1 - top) ∷ []
@@ -41,7 +41,7 @@ report_fields top report.Notify = field 1 (1 - top) ∷ field 1 (1 - top) ∷ fi
 abbrev pub address_fields : ℕ → Report → List Field
 address_fields delta report = field layout.address_width (delta / 2) ∷ report_fields (delta / 2 ^ 63) report
 
--- `format`, `subformat`, `branch`, `privilege`, `ecause`, `interrupt`, `thaddr` and `address`, and the fields behind
+-- `format`, `subformat`, `branch`, `privilege`, `ecause`, `interrupt`, `thaddr` and `address`, and the fields after
 -- them.
 abbrev pub trap_fields : Bool → ℕ → ℕ → Bool → Bool → ℕ → List Field → List Field
 trap_fields taken privilege cause interrupt handler address behind =
@@ -66,7 +66,7 @@ branches_fields spare taken delta report =
     at layout.format_at 1 ∷ at layout.branches_at (length taken)
     ∷ field (map_width (length taken)) (map_of taken + 2 ^ length taken * spare) ∷ address_fields delta report
 
--- How many bits of a packet's branch map stand for no outcome.
+-- How many bits of a packet's branch map are unused, since they give no outcome.
 abbrev pub unused_bits : Packet → ℕ
 unused_bits (packet.Address (oldest ∷ outcomes) delta report) =
     map_width (length (oldest ∷ outcomes)) - length (oldest ∷ outcomes)

@@ -50,7 +50,7 @@ address_packet_from n taken from =
     (report_from (part n (from + layout.top_bit) 1) (part n (from + layout.notify_bit) 1)
     (part n (from + layout.updiscon_bit) 1))
 
--- The first outcomes of the branch map behind `branches`, as many as this count.
+-- The first outcomes of the branch map after `branches`, as many as this count.
 abbrev pub outcomes_from : ℕ → ℕ → List Bool
 outcomes_from n count = outcomes_in_map count (part n layout.map_from count)
 

@@ -1,4 +1,4 @@
--- Which bytes stand for a packet.
+-- Which bytes are a payload of a packet.
 use Rattle.std.specs.Prelude.{ℕ, ◌≡◌, ◌*◌, ◌^◌, ◌<◌, ◌≤◌, List, length}
 use Rattle.payload.specs.Bytes.{IsBytes, number, low_bytes}
 use Rattle.payload.specs.Extension.{extended_bit, extended, magnitude, fewest_bytes}
@@ -19,7 +19,7 @@ pub record IsShortest (bytes : List ℕ) (fs : List Field) : Type 0 where
   pub extends : Extends bytes fs
   pub shortest : (others : List ℕ) → Extends others fs → length bytes ≤ length others
 
--- Bytes stand for a packet: they extend its fields, whatever the unused bits of its branch map are.
+-- Bytes are a payload of a packet: they extend its fields, whatever the unused bits of its branch map are.
 pub record Spelt (bytes : List ℕ) (p : Packet) : Type 0 where
   pub spare : ℕ
   pub unused : spare < 2 ^ unused_bits p

@@ -133,8 +133,8 @@ impl Bits {
     }
 }
 
-/// The number that up to 15 bytes spell. At most two words of them are read; they overlap where the count is no power
-/// of 2.
+/// The number that up to 15 bytes spell. At most two machine words are read of them; they overlap where the count is no
+/// power of 2.
 #[inline(always)]
 fn number_below_16(bytes: &[u8]) -> u128
     requires some { 1 ≤ length bytes.now }

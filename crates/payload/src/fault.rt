@@ -21,7 +21,7 @@ pub enum PackFault {
     Unsupported,
     /// The privilege is 2, the reserved level.
     BadPrivilege,
-    /// The bits notify, updiscon and irreport stand for no report.
+    /// The bits notify, updiscon and irreport have values that no report has.
     BadReport,
 }
 

@@ -13,7 +13,7 @@ pub(crate) struct Place {
 /// `format`, with which every packet begins.
 pub(crate) const FORMAT: Place = Place { from: 0, width: 2 };
 
-/// `subformat`, behind format 3.
+/// `subformat`, after format 3.
 pub(crate) const SUBFORMAT: Place = Place { from: 2, width: 2 };
 
 /// The `subformat` of a sync packet.
@@ -112,7 +112,7 @@ pub(crate) const REPORTED_WIDTH: u32 = 66;
 /// How many bits a sync packet has.
 pub(crate) const SYNC_WIDTH: u32 = SYNC_ADDRESS.from + SYNC_ADDRESS.width;
 
-/// How many bits the trap packet of an interrupt has; that of an exception has `tval` behind them.
+/// How many bits the trap packet of an interrupt has; that of an exception has `tval` after them.
 pub(crate) const INTERRUPT_WIDTH: u32 = TRAP_ADDRESS.from + TRAP_ADDRESS.width;
 
 /// How many bits a support packet has.

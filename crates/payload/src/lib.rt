@@ -1,6 +1,6 @@
 //! The packets of an instruction trace, and the payloads that carry them.
 //!
-//! [`pack`] gives the shortest payload of a packet, and [`unpack`] the packet that bytes stand for. The fields of each
+//! [`pack`] gives the shortest payload of a packet, and [`unpack`] the packet of a payload's bytes. The fields of each
 //! packet are those of the E-Trace specification's packet formats, with the widths of this project's profile. No call
 //! takes memory.
 #![tactic(auto)]

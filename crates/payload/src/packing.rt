@@ -14,8 +14,8 @@ use crate::{Mode, Outcomes, Packet, Payload, Report, Support};
 
 /// The payload of a packet: the shortest bytes of its fields.
 ///
-/// The unused bits of a branch map are written 0. [`unpack`](crate::unpack) ignores them, so fewer bytes can stand for
-/// the packet too where all bits behind them are ones.
+/// The unused bits of a branch map are written 0. [`unpack`](crate::unpack) ignores them. So fewer bytes can unpack to
+/// the packet too, where all bits after the unused ones are 1.
 pub fn pack(packet: &Packet) -> Payload
     requires { InProfile packet.now }
     ensures value { result ≡ payload_of packet.now }

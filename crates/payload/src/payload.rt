@@ -30,7 +30,7 @@ impl Model for Payload {
 impl Payload {
     ghost use Rattle.payload.specs.Closing.{is_closing};
 
-    /// A payload of these bytes, whether or not they stand for a packet.
+    /// A payload of these bytes, whether or not they are those of a packet.
     pub fn new(bytes: &[u8]) -> Result<Payload, PackFault>
         ensures same { IfOk result (λ payload. payload ≡ bytes.now) }
         ensures fits { IsOk result ↔ ((1 ≤ length bytes.now) × (length bytes.now ≤ most_bytes)) }
@@ -98,7 +98,7 @@ impl Payload {
     }
 }
 
-/// The 18 bytes of `low + 2^128 * high`, in words that a machine stores at once.
+/// The 18 bytes of `low + 2^128 * high`, in parts that a machine stores at once.
 #[inline(always)]
 fn bytes_of(low: u128, high: u16) -> [u8; MOST_BYTES]
     ensures { result ≡ low_bytes most_bytes (low + 2 ^ 128 * high) }

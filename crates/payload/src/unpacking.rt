@@ -16,7 +16,7 @@ use crate::layout::*;
 use crate::outcomes::map_width;
 use crate::{MOST_BYTES, Mode, Outcomes, PackFault, Packet, Report, Support};
 
-/// The packet that bytes stand for, whether they are its shortest payload or longer; or else the first fault.
+/// The packet that bytes represent, whether they are its shortest payload or longer; or else the first fault.
 #[inline(always)]
 pub fn unpack(bytes: &[u8]) -> Result<Packet, PackFault>
     ensures found { IfOk result (λ packet. InProfile packet × Spelt bytes.now packet) }
@@ -187,7 +187,7 @@ fn first_outcomes(bits: &Bits, count: u32) -> Outcomes
     Outcomes::of_map(count, bits.part(MAP_FROM, count) as u32)
 }
 
-/// The report of notify, updiscon and irreport behind an address field with this top bit.
+/// The report of notify, updiscon and irreport after an address field with this top bit.
 #[tactic(auto, unfolding(crate::specs::steps::ReadingByKind::report_in))]
 fn report_of(top: u64, tail: u64) -> Option<Report>
     requires bit { top < 2 }

@@ -55,7 +55,7 @@ support_reading n =
     padded layout.support_width n (packet.Support support.EndedNtr) else
     Err Unsupported
 
--- The report for which `notify`, `updiscon` and `irreport` stand behind an address field with this top bit, if they do.
+-- The report that `notify`, `updiscon` and `irreport` give after an address field with this top bit, if they give one.
 unfoldable pub report_in : ℕ → ℕ → Option Report
 report_in top tail =
     if tail == 7 * top then Some report.Plain else
@@ -63,8 +63,8 @@ report_in top tail =
     if tail == 7 - 7 * top then Some report.Notify else
     None
 
--- The address packet with these outcomes, whose address field begins at this bit, where the bits behind the field stand
--- for this report; BadReport where they stand for none.
+-- The address packet with these outcomes, whose address field begins at this bit, where the bits after the field give
+-- this report; BadReport where they give none.
 abbrev pub reported : ℕ → List Bool → ℕ → Option Report → Result Packet PackFault
 reported n taken from None = Err BadReport
 reported n taken from (Some report) =
