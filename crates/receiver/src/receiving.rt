@@ -132,7 +132,8 @@ impl<A: Allocator + Copy> Receiver<A> {
         Ok(())
     }
 
-    /// Makes room in the hart's list for `total` events. What is held stays, also where memory is refused.
+    /// Reserves capacity in the hart's list for `total` events in all. The events in it stay, also where memory is
+    /// refused.
     pub fn reserve(&mut self, hart: u16, total: usize) -> Result<(), AllocError>
         requires known { hart < length self.old.lists }
         ensures { self.new ≡ self.old }
@@ -141,8 +142,8 @@ impl<A: Allocator + Copy> Receiver<A> {
         list.reserve(total.saturating_sub(list.len()))
     }
 
-    /// Gives the hart the memory of this list for its events, where the hart holds none yet. What the list holds is
-    /// dropped.
+    /// Gives the hart the memory of this list for its events, where the hart holds no event yet. The content of the
+    /// list is dropped.
     pub fn take_room(&mut self, hart: u16, room: Vec<Event, A>)
         requires known { hart < length self.old.lists }
         ensures { self.new ≡ self.old }
@@ -174,15 +175,15 @@ impl<A: Allocator + Copy> Receiver<A> {
         ensures received_held { (programs : ℕ → Words) (harts : ℕ) (messages : List AnyMessage)
             → programs message.now.hart ≡ words_of program.now → Holds programs harts messages self.old
             → OnOk result (Holds programs harts (messages ++ message.now ∷ []) self.new) }
-        // The fault is Demux exactly where the demultiplexer refuses the message, and for its reason.
+        // The fault is Demux if and only if the demultiplexer refuses the message, and has its reason.
         ensures demux { (why : AnyDemuxFault) → (result ≡ Err (ReceiveFault.Demux why))
             ↔ (accepting self.old.expected message.now ≡ Err why) }
         ensures not_accepted { (why : AnyDemuxFault) → result ≡ Err (ReceiveFault.Demux why) → self.new ≡ self.old }
         ensures not_received { (programs : ℕ → Words) (harts : ℕ) (messages : List AnyMessage)
             → programs message.now.hart ≡ words_of program.now → HasReceived programs harts messages self.old
             → IfErr result (λ fault. IsNotReceived (words_of program.now) harts announced messages message.now fault) }
-        // The fault is Mode exactly where the message is accepted and its packet opens a trace in another mode than the
-        // one that was announced.
+        // The fault is Mode if and only if the message is accepted and its packet opens a trace in another mode than
+        // the one that was announced.
         ensures mode { (result ≡ Err ReceiveFault.Mode)
             ↔ ((packet : AnyPacket) × (accepting self.old.expected message.now ≡ Ok packet)
             × (opens_another announced packet ≡ true)) }
