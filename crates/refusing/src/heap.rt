@@ -5,8 +5,8 @@ use std::alloc::{AllocError, Allocator};
 
 /// An allocator that refuses one request for memory and hands all others on to another allocator.
 ///
-/// Collections hold a `&` to it. A list makes a request for its first room and at each growth. The contract is that of
-/// any allocator. No contract says which request is refused, since a cell holds the count.
+/// Collections hold a `&` to it. A list makes a request for its first capacity and at each growth. The contract is that
+/// of any allocator. No contract says which request is refused, since a cell holds the count.
 #[derive(Drop)]
 pub struct Refusing<B: Allocator> {
     inner: B,
