@@ -1,4 +1,4 @@
-//! What the packets of a log promise of what is decoded.
+//! What is decoded of the packets of a log.
 
 ghost use Rattle.std.specs.Prelude.{ℕ, List, take};
 ghost use Rattle.retire.specs.declared.event.Event.{Event};
