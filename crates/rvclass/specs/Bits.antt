@@ -1,7 +1,7 @@
--- The bits of a word, and addresses moved by an offset.
+-- The bits of an instruction, and addresses moved by an offset.
 use Rattle.std.specs.Prelude.{ℕ, ◌+◌, ◌-◌, ◌/◌, ◌%◌, ◌^◌, nat_lt, if◌then◌else◌}
 
--- The number that the bits from high down to low of a word spell.
+-- The number that the bits from high down to low of an instruction spell.
 abbrev pub bits : ℕ → ℕ → ℕ → ℕ
 bits word high low = word / 2 ^ low % 2 ^ (high + 1 - low)
 

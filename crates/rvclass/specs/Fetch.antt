@@ -1,4 +1,4 @@
--- The words of an image, by the RISC-V Unprivileged ISA's "Base Instruction-Length Encoding".
+-- The instructions of an image, by the RISC-V Unprivileged ISA's "Base Instruction-Length Encoding".
 use Rattle.std.specs.Prelude.{ℕ, ◌+◌, ◌-◌, ◌*◌, ◌%◌, ◌^◌, nat_le, ◌==◌, ◌&&◌, not, if◌then◌else◌, Bool, length}
 use Rattle.std.specs.Prelude.{slice_index, Some, None}
 use Rattle.rvclass.specs.Bits.{bits}
@@ -24,16 +24,16 @@ half_at p addr = byte_at p addr + 2 ^ 8 * byte_at p (addr + 1)
 abbrev pub word_at : Image → ℕ → ℕ
 word_at p addr = half_at p addr + 2 ^ 16 * half_at p (addr + 2)
 
--- The 16 bits are a word of their own.
+-- The 16 bits are an instruction of their own.
 abbrev pub is_compressed : ℕ → Bool
 is_compressed half = not (bits half 1 0 == 0b11)
 
--- The 16 bits begin a word of more than 32 bits.
+-- The 16 bits begin an instruction of more than 32 bits.
 abbrev pub is_longer : ℕ → Bool
 is_longer half = bits half 4 0 == 0b11111
 
--- The class and the length of the word at an address, if a whole word stands there. This project's profile: a word of
--- more than 32 bits does not retire, and counts as a word of 2 bytes, its first 16 bits.
+-- The class and the length of the instruction at an address, if there is a complete one. This project's profile: an
+-- instruction of more than 32 bits does not retire, and counts as an instruction of 2 bytes, its first 16 bits.
 unfoldable pub words_of : Image → Words
 words_of p addr =
     if not (addr % 2 == 0) then None else

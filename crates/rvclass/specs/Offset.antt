@@ -1,5 +1,5 @@
--- The offsets of jumps and branches, by the immediate formats of the RISC-V Unprivileged ISA: which
--- bits of the word stand at which bits of the offset. Bit 0 of each offset is 0.
+-- The offsets of jumps and branches, by the immediate formats of the RISC-V Unprivileged ISA: which bits of the
+-- instruction are which bits of the offset. Bit 0 of each offset is 0.
 use Rattle.std.specs.Prelude.{ℕ, ◌+◌, ◌*◌, ◌^◌}
 use Rattle.rvclass.specs.Bits.{bits}
 

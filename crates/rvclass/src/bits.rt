@@ -1,9 +1,9 @@
-//! Bits of a word.
+//! Bits of an instruction.
 
 ghost use Rattle.std.specs.Prelude.{◌≡◌, ◌+◌, ◌-◌, ◌^◌, ◌<◌, ◌≤◌};
 ghost use Rattle.rvclass.specs.Bits.{bits, moved};
 
-/// The bits from `high` down to `low` of a word.
+/// The bits from `high` down to `low` of an instruction.
 #[inline]
 pub(crate) fn bits_of(word: u32, high: u32, low: u32) -> u32
     requires order { low ≤ high }

@@ -1,19 +1,20 @@
-//! The classes of words.
+//! The classes of instructions.
 
-/// How control goes on from a word, by the word alone. Targets are absolute addresses, modulo 2^64.
+/// How control goes on from an instruction, by its bits and its address alone. Targets are absolute addresses, modulo
+/// 2^64.
 #[derive(Clone, Copy, Debug, PartialEq, Eq)]
 pub enum Class {
-    /// On to the next word.
+    /// On to the next instruction.
     Plain,
     /// Always to this address.
     Jump(u64),
-    /// To this address where the branch is taken, else on to the next word.
+    /// To this address if the branch is taken, else on to the next instruction.
     Branch(u64),
     /// To an address that a register holds.
     Uninferable,
     /// Back from a trap, to an address and a privilege that registers hold.
     TrapReturn(Return),
-    /// Nowhere: the word raises an exception each time.
+    /// Nowhere: the instruction raises an exception each time.
     NotRetirable,
 }
 

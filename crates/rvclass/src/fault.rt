@@ -9,11 +9,11 @@ use std::fmt;
 /// Why bytes make no program. Where several of these apply, the fault is the first in this order.
 #[derive(Clone, Copy, Debug, PartialEq, Eq)]
 pub enum ProgramFault {
-    /// The base is odd; a word stands at an even address.
+    /// The base is odd; an instruction has an even address.
     OddBase,
     /// There are more than 2^24 bytes.
     TooLarge,
-    /// The address behind the last byte is 2^64 or more.
+    /// The address after the last byte is 2^64 or more.
     PastEnd,
 }
 

@@ -1,8 +1,8 @@
-//! Words with their bits.
+//! Instructions with their bits.
 
 use crate::class::Class;
 
-/// A word of a program: its bits, and how control goes on from it.
+/// An instruction of a program: its bits, and how control goes on from it.
 #[derive(Clone, Copy, Debug, PartialEq, Eq)]
 pub struct Instruction {
     /// The bits, as a number below 2^16 or 2^32 by the length.

@@ -1,6 +1,6 @@
-//! The class of each word of a program: whether it goes on to the next word, jumps, branches, jumps to an address that
-//! a register holds, returns from a trap or does not retire. Words are those of RV64IMAC, by the RISC-V Unprivileged
-//! ISA and the Privileged Architecture.
+//! The class of each instruction of a program: whether it goes on to the next instruction, jumps, branches, jumps to an
+//! address that a register holds, returns from a trap or does not retire. Instructions are those of RV64IMAC, by the
+//! RISC-V Unprivileged ISA and the Privileged Architecture.
 #![tactic(auto)]
 
 mod bits;

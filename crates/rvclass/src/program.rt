@@ -1,4 +1,4 @@
-//! A program, and the word at each of its addresses.
+//! A program, and the instruction at each of its addresses.
 
 ghost use Rattle.std.specs.Prelude.{◌≡◌, ◌↔◌, ◌+◌, ◌-◌, ◌*◌, ◌%◌, ◌^◌, ◌<◌, ◌≤◌, length, vec_len, IsOk, IfOk, Err};
 ghost use Rattle.rvclass.specs.Fetch.{half_at, word_at, words_of};
@@ -23,7 +23,7 @@ const MAX_BYTES: usize = 1 << 24;
 pub struct Program {
     base: u64,
     bytes: Vec<u8>,
-    /// The number of places from which four bytes stand: the length less 3, or 0.
+    /// The number of places from which there are four bytes: the length less 3, or 0.
     windows: u64,
 }
 
@@ -82,9 +82,9 @@ impl Program {
         self.bytes.len()
     }
 
-    /// The class of the word at an address, and its length in bytes, 2 or 4. There is none where the address is odd or
-    /// outside the image, or where the image ends before the word does. A word of more than 32 bits does not retire and
-    /// has length 2, by its first 16 bits alone.
+    /// The class of the instruction at an address, and its length in bytes, 2 or 4. There is none where the address is
+    /// odd or outside the image, or where the image ends before the instruction does. An instruction of more than 32
+    /// bits does not retire and has length 2, by its first 16 bits alone.
     #[inline(always)]
     pub fn at(&self, addr: u64) -> Option<(Class, u8)>
         ensures word { result ≡ words_of self.now addr }
@@ -94,8 +94,8 @@ impl Program {
         word_of(self.base, &self.bytes, self.windows, addr)
     }
 
-    /// The word at an address with its bits. There is one where [`at`](Program::at) finds a word, with the same class
-    /// and length.
+    /// The instruction at an address with its bits. There is one where [`at`](Program::at) finds one, with the same
+    /// class and length.
     pub fn instruction(&self, addr: u64) -> Option<Instruction>
         ensures { result ≡ instruction_of self.now addr }
     {
@@ -114,8 +114,8 @@ impl Program {
     }
 }
 
-/// The word at an address of the image that has these bytes from `base` on. `windows` is the number of places from
-/// which four bytes stand.
+/// The instruction at an address of the image that has these bytes from `base` on. `windows` is the number of places
+/// from which there are four bytes.
 #[inline(always)]
 #[tactic(auto, unfolding(crate::specs::Fetch::words_of))]
 fn word_of(base: u64, bytes: &[u8], windows: u64, addr: u64) -> Option<(Class, u8)>
@@ -126,7 +126,7 @@ fn word_of(base: u64, bytes: &[u8], windows: u64, addr: u64) -> Option<(Class, u
     if !addr.is_multiple_of(2) {
         return None;
     }
-    // An address below the base wraps around to a place far behind the image.
+    // An address below the base wraps around to a place far after the image.
     let place = addr.wrapping_sub(base);
     let word = if place < windows {
         word_at(bytes, place as usize)

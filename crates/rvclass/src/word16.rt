@@ -1,4 +1,4 @@
-//! The classes of 16-bit words.
+//! The classes of 16-bit instructions.
 
 ghost use Rattle.std.specs.Prelude.{◌≡◌, ◌^◌, ◌<◌};
 ghost use Rattle.rvclass.specs.Word16.{class16};
@@ -7,10 +7,10 @@ use crate::bits::{bits_of, target};
 use crate::class::Class;
 use crate::offset::{cb_offset_of, cj_offset_of};
 
-/// The word C.EBREAK.
+/// The instruction C.EBREAK.
 const C_EBREAK: u32 = 0x9002;
 
-/// The class of a 16-bit word at an address.
+/// The class of a 16-bit instruction at an address.
 #[inline]
 #[tactic(auto, unfolding(crate::specs::Word16::class16))]
 pub(crate) fn class_of_word16(addr: u64, word: u32) -> Class

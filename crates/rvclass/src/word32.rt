@@ -1,4 +1,4 @@
-//! The classes of 32-bit words.
+//! The classes of 32-bit instructions.
 
 ghost use Rattle.std.specs.Prelude.{◌≡◌};
 ghost use Rattle.rvclass.specs.Word32.{class32};
@@ -19,19 +19,19 @@ const BRANCH: u32 = 0b110_0011;
 /// The opcode of ECALL, EBREAK and returns from traps.
 const SYSTEM: u32 = 0b111_0011;
 
-/// The word ECALL.
+/// The instruction ECALL.
 const ECALL: u32 = 0x0000_0073;
 
-/// The word EBREAK.
+/// The instruction EBREAK.
 const EBREAK: u32 = 0x0010_0073;
 
-/// The word SRET.
+/// The instruction SRET.
 const SRET: u32 = 0x1020_0073;
 
-/// The word MRET.
+/// The instruction MRET.
 const MRET: u32 = 0x3020_0073;
 
-/// The class of a 32-bit word at an address.
+/// The class of a 32-bit instruction at an address.
 #[inline]
 #[tactic(auto, unfolding(crate::specs::Word32::class32))]
 pub(crate) fn class_of_word32(addr: u64, word: u32) -> Class
