@@ -54,7 +54,7 @@ next_used [] = None
 next_used (Used number place payload ∷ entries) = Some number
 next_used (Doubtful number ∷ entries) = next_used entries
 
--- Whether a hart is closed behind further entries, where this says whether it is before them: the last of them that is
+-- Whether a hart is closed after further entries, where this says whether it is before them: the last of them that is
 -- used decides.
 abbrev pub closed_behind : Bool → List Entry → Bool
 closed_behind closed [] = closed

@@ -1,4 +1,4 @@
--- Late messages: used ones that came behind one with a greater number.
+-- Late messages: used ones that came after one with a greater number.
 use Rattle.std.specs.Prelude.{ℕ, suc, Bool, true, false, ◌||◌, nat_lt, List, [], ◌∷◌}
 use Rattle.salvaging.specs.Entries.{Entry, Used, Doubtful}
 

@@ -28,14 +28,14 @@ RunLeaves words mode run next parts =
     × (parts ≡ stretch next (length (kept run.missing run.packets)) events)
 
 -- Before a used number so many numbers were lost, which did not come or are doubtful. Where there are any, the run
--- under way is over, and a gap stands behind its stretch.
+-- under way is over, and a gap follows its stretch.
 abbrev pub LeavesBefore : Words → Mode → Run → ℕ → ℕ → List LeftPart → Type 0
 LeavesBefore words mode run next zero parts = parts ≡ []
 LeavesBefore words mode run next (suc lost) parts =
     (before : List LeftPart) × RunLeaves words mode run next before × (parts ≡ before ++ Missing (suc lost) ∷ [])
 
 -- The used message with this number is good or bad, as this says. A good one goes on with the run under way. A bad one
--- ends it, and a new run begins behind it, before which numbers are lost: its stretch begins at a synchronisation. What
+-- ends it, and a new run begins after it, before which numbers are lost: its stretch begins at a synchronisation. What
 -- follows leaves the further parts.
 abbrev pub UsedLeaves : Words → Mode → Run → ℕ → List ℕ → Option ℕ → Bool → (Run → List LeftPart → Type 0)
     → List LeftPart → Type 0
@@ -48,10 +48,10 @@ UsedLeaves words mode run number payload following false FollowingLeaves parts =
     × (rest : List LeftPart) × (parts ≡ before ++ BadNumbers number number why ∷ rest)
     × FollowingLeaves (run_of 1 []) rest
 
--- The entries still to come leave these parts, where a run is under way and `next` is the number behind its last one.
--- Of each entry `goods` says whether it is used and not bad. Each bad number is a part of its own.
+-- The entries still to come leave these parts, where a run is under way and `next` is the number after its last one. Of
+-- each entry `goods` says whether it is used and not bad. Each bad number is a part of its own.
 --
--- A doubtful number ends the run under way. It is lost itself, and is counted by the gap behind it.
+-- A doubtful number ends the run under way. It is lost itself, and is counted by the gap after the run.
 abbrev pub EntriesLeave : Words → Mode → Run → ℕ → List Entry → List Bool → List LeftPart → Type 0
 EntriesLeave words mode run next [] [] parts = RunLeaves words mode run next parts
 EntriesLeave words mode run next [] (good ∷ goods) parts = ⊥

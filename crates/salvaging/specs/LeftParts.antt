@@ -1,4 +1,4 @@
--- Parts of what is left of a hart's log, whatever befell its messages.
+-- Parts of what is left of a hart's log, whatever happened to its messages.
 use Rattle.std.specs.Prelude.{ℕ, zero, suc, ◌≡◌, ◌≢◌, ◌≤◌, ◌+◌, ◌-◌, ◌++◌, List, [], ◌∷◌}
 use Rattle.retire.specs.declared.event.Event.{Event}
 use Rattle.salvaging.specs.declared.reason.Reason.{Reason}
@@ -33,7 +33,7 @@ one_by_one [] = []
 one_by_one (BadNumbers first last why ∷ parts) = each_bad first (last + 1 - first) why ++ one_by_one parts
 one_by_one (other ∷ parts) = other ∷ one_by_one parts
 
--- The bad number `next` does not go on with a part of bad numbers whose last one is `last`: it is not the number behind
+-- The bad number `next` does not go on with a part of bad numbers whose last one is `last`: it is not the number after
 -- that, or it is bad for another reason.
 abbrev pub StandsApart : ℕ → Reason → List LeftPart → Type 0
 StandsApart last why (BadNumbers next end other ∷ parts) = next ≡ last + 1 → other ≢ why

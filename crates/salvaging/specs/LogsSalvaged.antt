@@ -36,8 +36,8 @@ abbrev pub closing_number : Words → ℕ → Mode → List Event → ℕ
 closing_number words period mode log = length (packets words period mode log) - 1
 
 -- This is salvaged of a legal log, of which messages with these numbers came. The parts are those of the log by the
--- numbers in rising order. The copies are the messages less those numbers. The hart is closed exactly where the message
--- of the log's closing packet came.
+-- numbers in rising order. The number of copies is that of the messages less that of those numbers. The hart is closed
+-- if and only if the message of the log's closing packet came.
 pub record IsLogSalvaged {A : Type 0} (words : Words) (period : ℕ) (mode : Mode) (log : List Event) (came : List ℕ)
     (hart : SalvagedHart A) : Type 0 where
   pub numbers : List ℕ

@@ -26,7 +26,7 @@ fn rise(came: &[Came<'_>]) -> bool
     true
 }
 
-/// How two messages stand to one another: by number, then by payload, then by place.
+/// The order of two messages: by number, then by payload, then by place.
 fn order_of(one: &Came<'_>, other: &Came<'_>) -> Ordering
     ensures { result ≡ arrival_cmp (arrival_of one.now) (arrival_of other.now) }
 {

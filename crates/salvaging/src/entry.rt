@@ -26,7 +26,7 @@ pub(crate) fn entry_by<'a>(one: &Came<'a>) -> Entry<'a>
     }
 }
 
-/// The entry of a number with one more message behind the others: where its payload is another, the number is doubtful.
+/// The entry of a number with one more message after the others. If its payload differs, the number is doubtful.
 pub(crate) fn entry_with<'a>(entry: Entry<'a>, more: &Came<'a>) -> Entry<'a>
     ensures { entry_of result ≡ entry_with (entry_of entry.entry) more.now.message.now.payload }
 {

@@ -31,8 +31,8 @@ pub(crate) fn first_entry<'a>(came: &[Came<'a>]) -> Option<(Entry<'a>, usize)>
     Some((entry, came.len()))
 }
 
-/// The entry of the last of these messages' numbers, and how many messages stand in front of those with the number;
-/// `None` where there is no message.
+/// The entry of the last of these messages' numbers, and how many messages come before those with the number; `None`
+/// where there is no message.
 pub(crate) fn last_entry<'a>(came: &[Came<'a>]) -> Option<(Entry<'a>, usize)>
     ensures last { IfSome result (λ found. entries_by (arrivals_in came.now)
         ≡ entries_by (arrivals_in (take found.1 came.now)) ++ entry_of found.0 ∷ []) }

@@ -46,8 +46,8 @@ fn earliest_with(entry: Entry<'_>, good: bool, first: Option<usize>) -> Option<u
     }
 }
 
-/// How many used messages came behind a good one with a greater number, by which of the entries are good. The messages
-/// are in the order of their numbers.
+/// How many used messages came after a good one with a greater number. `goods` says which of the entries are good. The
+/// messages are in the order of their numbers.
 pub(crate) fn late(came: &[Came<'_>], goods: &[bool]) -> usize
     requires { length goods.now ≡ length (entries_by (arrivals_in came.now)) }
     ensures { result ≡ late (entries_by (arrivals_in came.now)) goods.now }

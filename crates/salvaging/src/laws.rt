@@ -21,10 +21,10 @@ ghost use Rattle.salvaging.specs.declared.salvaged.Salvaged.{Salvaged as AnySalv
 
 use std::alloc::Allocator;
 
-/// What is salvaged of messages of legal logs of a program, in whatever order they came, how often, and which of them
-/// did not come at all: of each hart the parts of its log by the numbers that came, so that its stretches are disjoint
-/// stretches of the log, in its order. Nothing is bad or doubtful, and there is no stranger. The copies are the
-/// messages less the distinct ones, and a hart is closed exactly where its closing packet came.
+/// What is salvaged of messages of legal logs of a program, in whatever order they came, how often, and whichever of
+/// them did not come: of each hart the parts of its log by the numbers that came. So its stretches are disjoint
+/// stretches of the log, in its order. Nothing is bad or doubtful, and there is no stranger. The number of copies is
+/// that of the messages less that of the distinct ones. A hart is closed if and only if its closing packet came.
 pub fn logs_are_salvaged<A: Allocator>()
     ensures { (program : Image) (period : ℕ) (handed : Mode) (own : ℕ → Mode) (logs : List ProgramLog)
         (messages : List Message) (salvaged : AnySalvaged A) → AreFromLogs program period handed own logs messages

@@ -3,7 +3,7 @@
 //! [`salvage`] takes any messages of several harts: messages may be lost, repeated, out of order, damaged, or of no
 //! hart. For each hart it returns a [`SalvagedHart`]: the parts of its log that its messages still settle, what is bad
 //! or doubtful, how many messages are copies or late, and whether the hart is closed. Numbers give the order of a
-//! hart's messages, so what came may have come in any order and any number of times.
+//! hart's messages, so each message may have come at any place and any number of times.
 //!
 //! Of messages of legal logs the parts are those of the logs by the numbers that came ([`logs_are_salvaged`]). Where
 //! messages are collected without a fault, the same is salvaged of them ([`what_is_collected_is_salvaged`]).

@@ -58,7 +58,7 @@ fn extend<A: Allocator>(part: &mut Part<A>, number: u64, why: Reason) -> bool
     }
 }
 
-/// Adds a number that is bad for this reason behind the parts.
+/// Adds a number that is bad for this reason after the parts.
 pub(crate) fn push_bad<A: Allocator>(
     parts: &mut Vec<Part<A>, A>,
     number: u64,
@@ -80,7 +80,7 @@ pub(crate) fn push_bad<A: Allocator>(
     Ok(())
 }
 
-/// Adds a gap of this many numbers behind the parts, where there is one.
+/// Adds a gap of this many numbers after the parts, where there is one.
 pub(crate) fn push_gap<A: Allocator>(
     parts: &mut Vec<Part<A>, A>,
     lost: u64,

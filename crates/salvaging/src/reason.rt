@@ -14,7 +14,7 @@ use std::fmt;
 pub enum Reason {
     /// Its payload does not unpack.
     Packet(PackFault),
-    /// Its packet is not decoded where it stands. The decoder's fault is neither Memory nor AfterClose.
+    /// Its packet is not decoded at its place. The decoder's fault is neither Memory nor AfterClose.
     Decode(DecodeFault),
     /// Its packet closes the trace, but a greater number of its hart is used.
     Closing {

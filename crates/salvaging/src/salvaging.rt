@@ -42,19 +42,19 @@ fn salvage_each<A: Allocator + Copy>(
     Ok(harts)
 }
 
-/// Salvages what any messages leave of the logs of several harts, whatever befell them: messages that are lost,
-/// repeated, out of order, damaged, or of no hart. The logs are of this program.
+/// Salvages what any messages leave of the logs of several harts. Messages may be lost, repeated, out of order,
+/// damaged, or of no hart. The logs are of this program.
 ///
 /// The harts are those below `harts`. `mode` is the mode of a hart whose packet that opens the trace is not used. What
-/// is salvaged of a hart depends on its own messages and on `mode` alone, but for which of several faults a decoder
-/// names.
+/// is salvaged of a hart depends only on its own messages and on `mode`, but for which of several faults a decoder
+/// returns.
 ///
-/// A stretch without an event is left out. A gap says how many numbers did not come or are doubtful; behind the last
-/// number that came there is none. Neighbouring numbers that are bad for one reason are one part.
+/// A stretch without an event is left out. A gap says how many numbers did not come or are doubtful; after the last
+/// number that came there is no gap. Neighbouring numbers that are bad for the same reason are one part.
 ///
-/// Only where memory is refused an error is returned, and then nothing is kept. The time grows with the messages and
-/// their events, and where messages did not come in the order of their numbers, with the logarithm of how many a hart
-/// has.
+/// An error is returned only where memory is refused, and then nothing is kept. The time grows with the messages and
+/// their events. Where messages did not come in the order of their numbers, it also grows with the logarithm of how
+/// many a hart has.
 pub fn salvage<A: Allocator + Copy>(
     alloc: A,
     program: &Program,

@@ -37,11 +37,11 @@ pub(crate) struct Trail<A: Allocator> {
     decoder: Decoder,
     /// The events so far of the stretch that is under way.
     events: Vec<Event, A>,
-    /// Whether a run behind lost numbers is under way, whose stretch begins at a synchronisation.
+    /// Whether a run after lost numbers is under way, whose stretch begins at a synchronisation.
     looking: bool,
     /// The number of the packet that begins the stretch, once it came.
     begun: Option<u64>,
-    /// The number behind the last one of the run under way.
+    /// The number after the last one of the run under way.
     next: u64,
     /// What is left of the log so far.
     pub(crate) parts: Vec<Part<A>, A>,
@@ -66,8 +66,8 @@ fn reason_of(fault: DecodeFault) -> Result<Option<Reason>, AllocError>
     }
 }
 
-/// The number that is used behind a packet which closes the trace, by the messages behind it; `None` where none is, and
-/// for any other packet.
+/// The next number that is used after a packet that closes the trace; `behind` are the messages after it. `None` where
+/// none is used, and for any other packet.
 fn early(packet: &Packet, behind: &[Came<'_>]) -> Option<u64>
     ensures { result ≡ early (is_closing_packet packet.now) (next_used (entries_by (arrivals_in behind.now))) }
 {
@@ -154,7 +154,7 @@ impl<A: Allocator + Copy> Trail<A> {
         Ok(())
     }
 
-    /// Goes on to a used number. Where numbers are lost before it, the run under way is over, and a gap comes behind
+    /// Goes on to a used number. Where numbers are lost before it, the run under way is over, and a gap is added after
     /// it.
     fn go_on(&mut self, alloc: A, mode: Mode, number: u64) -> Result<(), AllocError>
         requires { self.old.next ≤ number }
@@ -300,7 +300,8 @@ impl<A: Allocator + Copy> Trail<A> {
     }
 }
 
-/// Takes the entries of a hart in turn, whose messages are in the order of their numbers. The last run is not ended.
+/// Takes the entries of a hart one after the other. Its messages are in the order of their numbers. The last run is not
+/// ended.
 pub(crate) fn take_all<A: Allocator + Copy>(
     alloc: A,
     program: &Program,

@@ -13,7 +13,7 @@ pub record Arrival : Type 0 where
   pub place : ℕ
   pub message : Message
 
--- The one that the code's stands for.
+-- The arrival that the code's value represents.
 abbrev pub arrival_of : Came → Arrival
 arrival_of came = record { place = came.place; message = came.message.now }
 
@@ -25,7 +25,7 @@ abbrev pub placed_from : ℕ → List Message → List Arrival
 placed_from place [] = []
 placed_from place (message ∷ messages) = record { place = place; message = message } ∷ placed_from (place + 1) messages
 
--- How two messages stand to one another: by number, then by payload, then by place.
+-- The order of two messages: by number, then by payload, then by place.
 abbrev pub arrival_cmp : Arrival → Arrival → Ordering
 arrival_cmp one other =
     ordering_then (nat_cmp one.message.number other.message.number)
@@ -44,12 +44,12 @@ IsUpTo first other =
     (first.message.number < other.message.number)
     ⊎ ((first.message.number ≡ other.message.number) × IsUpToByPayload first other)
 
--- Each stands before those behind it by number, payload and place.
+-- Each comes before those after it by number, payload and place.
 abbrev pub AreOrdered : List Arrival → Type 0
 AreOrdered [] = Unit {0}
 AreOrdered (first ∷ arrivals) = All (IsUpTo first) arrivals × AreOrdered arrivals
 
--- The numbers rise: each is below those behind it.
+-- The numbers rise: each is below those after it.
 abbrev pub Rise : List Arrival → Type 0
 Rise [] = Unit {0}
 Rise (first ∷ arrivals) =

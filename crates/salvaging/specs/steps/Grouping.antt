@@ -7,7 +7,7 @@ use Rattle.salvaging.specs.declared.entry.Entry.{Entry as Held}
 use Rattle.salvaging.specs.declared.entry.Entry.TheVariants as held
 use Rattle.salvaging.specs.steps.Arrivals.{Arrival}
 
--- The entry that one of the code's stands for.
+-- The entry that an entry of the code represents.
 abbrev pub entry_of : Held → Entry
 entry_of (held.Used place message) = Used message.now.number place message.now.payload
 entry_of (held.Doubtful number) = Doubtful number
@@ -35,7 +35,7 @@ abbrev pub entry_before : Arrival → Entry → Entry
 entry_before first (Used number place bytes) = kept_or_doubtful (bytes_eq first.message.payload bytes) (entry_by first)
 entry_before first (Doubtful number) = Doubtful number
 
--- The entries of messages behind those of one number, by whether the next one has that number: it joins them, or begins
+-- The entries of messages after those of one number, by whether the next one has that number: it joins them, or begins
 -- the next entry.
 abbrev pub join_or_begin : Bool → Entry → Arrival → (Entry → List Entry) → List Entry
 join_or_begin true entry next Later = Later (entry_with entry next.message.payload)

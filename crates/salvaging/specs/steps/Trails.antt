@@ -11,8 +11,8 @@ use Rattle.salvaging.specs.PartsIn.{parts_in}
 use Rattle.salvaging.specs.steps.UnderWay.{IsUnderWay}
 use Rattle.salvaging.specs.declared.trail.Trail.{Trail}
 
--- Of all entries of a hart these are taken, and the rest is still to come. What the rest leaves behind the run under
--- way, all leave behind the parts so far.
+-- Of all entries of a hart these are taken, and the rest is still to come. What the rest leaves after the run under
+-- way, all leave after the parts so far.
 pub record TakesEntries {A : Type 0} (words : Words) (mode : Mode) (all done rest : List Entry) (trail : Trail A)
     : Type 0 where
   pub whole : all ≡ done ++ rest

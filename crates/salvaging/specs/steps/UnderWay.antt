@@ -46,8 +46,8 @@ abbrev pub early : Bool → Option ℕ → Option ℕ
 early true following = following
 early false following = None
 
--- A run is under way, `next` is the number behind its last one, and the decoder follows it and reads it in this mode.
--- In the run from number 0 on that is the mode which its first packet announces, or the one handed in.
+-- A run is under way, `next` is the number after its last one, and the decoder follows it and reads it in this mode. In
+-- the run from number 0 on that is the mode which its first packet announces, or the one handed in.
 pub record IsUnderWay {A : Type 0} (words : Words) (mode reads : Mode) (run : Run) (next : ℕ) (closed : Bool)
     (trail : Trail A) : Type 0 where
   pub follows : FollowsRun words mode reads run.missing run.packets closed trail.events.items trail.decoder
@@ -56,7 +56,7 @@ pub record IsUnderWay {A : Type 0} (words : Words) (mode reads : Mode) (run : Ru
   pub looking : trail.looking ≡ are_lost run.missing
   pub begins : BeginsWith trail.begun next (kept run.missing run.packets)
 
--- Parts were added behind those that were there, each bad number as a part of its own. Neighbouring bad numbers are
+-- Parts were added after those that were there, each bad number as a part of its own. Neighbouring bad numbers are
 -- still joined.
 abbrev pub AddsParts : {A : Type 0} → List LeftPart → List (Part A) → List (Part A) → Type 0
 AddsParts added old new =
@@ -68,7 +68,7 @@ pub record EndsStretch {A : Type 0} (next : ℕ) (packets : List Packet) (old ne
   pub added : AddsParts (stretch next (length packets) old.events.items) old.parts.items new.parts.items
   pub none_left : new.events.items ≡ []
 
--- The run under way was ended: what it leaves was added, and a run behind lost numbers is under way.
+-- The run under way was ended: what it leaves was added, and a run after lost numbers is under way.
 pub record EndsRun {A : Type 0} (words : Words) (mode reads : Mode) (run : Run) (next : ℕ) (closed : Bool)
     (old new : Trail A) : Type 0 where
   pub left : List LeftPart
@@ -91,7 +91,7 @@ abbrev pub reads_behind : Mode → Mode → ℕ → List Packet → Packet → M
 reads_behind mode reads zero [] packet = mode_or mode packet
 reads_behind mode reads missing packets packet = reads
 
--- A used message was judged: it is good, and the run under way has its packet more; or it is bad for this reason, and
+-- A used message was checked: it is good, and the run under way has its packet more; or it is bad for this reason, and
 -- the run is as it was.
 abbrev pub Judged : {A : Type 0} → Words → Mode → Mode → Run → ℕ → List ℕ → Option ℕ → Option Reason → Trail A
     → Type 0
@@ -112,7 +112,7 @@ pub record TakesBad {A : Type 0} (words : Words) (mode reads : Mode) (run : Run)
   pub under_way : IsUnderWay words mode reads (run_of 1 []) (number + 1) false new
   pub goods : new.goods.items ≡ old.goods.items ++ false ∷ []
 
--- A used message was taken behind the run under way, good or bad, and these parts were added.
+-- A used message was taken after the run under way, good or bad, and these parts were added.
 abbrev pub Took : {A : Type 0} → Words → Mode → Mode → Run → ℕ → List ℕ → Option ℕ → Bool → List LeftPart → Trail A
     → Type 0
 Took words mode reads run number payload following true added new =
