@@ -14,7 +14,7 @@ use Rattle.schedule.specs.declared.fault.ScheduleFault.TheVariants as fault
 abbrev pub most_turns : ℕ
 most_turns = 16777216
 
--- A byte that parts words: a space, a line feed or a carriage return.
+-- A byte that separates words: a space, a line feed or a carriage return.
 abbrev pub is_blank : ℕ → Bool
 is_blank byte = byte == 32 || (byte == 10 || byte == 13)
 
@@ -43,13 +43,13 @@ turn_of harts word =
     if is_number word then hart_turn harts (digits_value 10 word) else
     None
 
--- A turn, and then those of the words behind it, or the fault of these.
+-- A turn, and then those of the words after it, or the fault of these.
 abbrev pub before : Turn → Result (List Turn) ScheduleFault → Result (List Turn) ScheduleFault
 before turn (Ok turns) = Ok (turn ∷ turns)
 before turn (Err why) = Err why
 
--- The turn of the word with this number, and then those of the words behind it, or the fault of these. Where the word
--- has no turn, the fault names its number.
+-- The turn of the word with this number, and then those of the words after it, or the fault of these. Where the word
+-- has no turn, the fault has its number.
 abbrev pub with_turn : ℕ → Option Turn → Result (List Turn) ScheduleFault → Result (List Turn) ScheduleFault
 with_turn number None rest = Err (fault.Word number)
 with_turn number (Some turn) rest = before turn rest

@@ -9,7 +9,7 @@ use std::fmt;
 /// Why a text is no schedule. Of several faults in a text, the first one is returned.
 #[derive(Clone, Copy, Debug, PartialEq, Eq)]
 pub enum ScheduleFault {
-    /// The word with this number, counted from 1, is no turn.
+    /// The word with this number, counted from 1, is not a turn.
     Word(u32),
     /// There are more words than a schedule may have.
     TooLong,

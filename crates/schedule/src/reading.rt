@@ -9,12 +9,12 @@ use crate::word::Word;
 use funnel::Turn;
 use std::alloc::Allocator;
 
-/// The turns that a text has, for the harts below `harts`.
+/// The turns of a schedule's text, for the harts below `harts`.
 ///
-/// Words are parted by spaces, line feeds or carriage returns. A word is `c`, by which the front message is taken, or
-/// the decimal number of a hart, by which that hart sends. Leading zeros are allowed. The fault names the first word
-/// that is neither. Where the first 16,777,216 words are turns and another word follows, the fault is that there are
-/// too many. Memory is taken for the turns alone.
+/// Spaces, line feeds and carriage returns separate words. A word is `c`, by which the front message is taken, or the
+/// decimal number of a hart, by which that hart sends. Leading zeros are allowed. The fault has the number of the first
+/// word that is neither. Where the first 16,777,216 words are turns and another word follows, the fault is that there
+/// are too many. Memory is taken only for the turns.
 pub fn read_schedule<A: Allocator>(
     alloc: A,
     harts: u16,
@@ -37,14 +37,14 @@ pub fn read_schedule<A: Allocator>(
     Ok(turns)
 }
 
-/// Whether a byte parts words.
+/// Whether a byte separates words.
 fn is_blank(byte: u8) -> bool
     ensures { result ≡ is_blank byte }
 {
     byte == b' ' || byte == b'\n' || byte == b'\r'
 }
 
-/// Adds the turn of the word behind these turns. An empty word has none.
+/// Adds the turn of the word after these turns. An empty word has none.
 fn add<A: Allocator>(turns: &mut Vec<Turn, A>, word: Word) -> Result<(), ScheduleFault>
     ensures added { OnOk result (IsAdded (turn_at (vec_len turns.old + 1) word) turns.old.items turns.new.items) }
     ensures faults { IfErr result (λ why.

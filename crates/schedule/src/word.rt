@@ -18,7 +18,7 @@ pub(crate) enum Word {
     Collect,
     /// It is this number: the hart with this number sends.
     Hart(u16),
-    /// No turn begins so.
+    /// No turn's word begins so.
     Wrong,
 }
 
@@ -61,7 +61,7 @@ impl Word {
     }
 }
 
-/// What a word of digits that make this number is with one byte more behind them.
+/// What a word of digits that make this number is with one byte more after them.
 fn with_digit(harts: u16, byte: u8, number: u16) -> Word
     ensures { result ≡ with_digit harts byte number }
 {

@@ -15,7 +15,7 @@ use Rattle.schedule.specs.declared.word.Word.TheVariants as word
 abbrev pub at_number : ℕ → ℕ → Word
 at_number harts number = if nat_lt number harts then word.Hart number else word.Wrong
 
--- A word of digits that make this number, with one byte more behind them. It is wrong where the byte is no digit.
+-- A word of digits that make this number, with one byte more after them. It is wrong where the byte is no digit.
 abbrev pub with_digit : ℕ → ℕ → ℕ → Word
 with_digit harts byte number =
     if is_digit byte 10 then at_number harts (number * 10 + digit_value byte) else word.Wrong
@@ -44,7 +44,7 @@ abbrev pub turn_at : ℕ → Word → Result (Option Turn) ScheduleFault
 turn_at number word.Empty = Ok None
 turn_at number so_far = if nat_lt most_turns number then Err fault.TooLong else right_at number (turn_by so_far)
 
--- The turn of a word, where it has one, and then the turns of the words behind it, or the first fault.
+-- The turn of a word, where it has one, and then the turns of the words after it, or the first fault.
 abbrev pub past : Result (Option Turn) ScheduleFault → Result (List Turn) ScheduleFault
     → Result (List Turn) ScheduleFault
 past (Err why) rest = Err why
@@ -58,7 +58,7 @@ number_past (Err why) number = number
 number_past (Ok None) number = number
 number_past (Ok (Some turn)) number = number + 1
 
--- The turns of the rest of a text, behind the bytes that were read of the word with this number, or the first fault.
+-- The turns of the rest of a text, after the bytes that were read of the word with this number, or the first fault.
 abbrev pub turns_behind : ℕ → ℕ → Word → List ℕ → Result (List Turn) ScheduleFault
 turns_behind harts number so_far [] = past (turn_at number so_far) (Ok [])
 turns_behind harts number so_far (byte ∷ text) =
@@ -71,7 +71,7 @@ abbrev pub turns_then : List Turn → Result (List Turn) ScheduleFault → Resul
 turns_then turns (Err why) = Err why
 turns_then turns (Ok rest) = Ok (turns ++ rest)
 
--- The word has no fault, and its turn, where it has one, stands behind these turns.
+-- The word has no fault, and its turn, where it has one, is added after these turns.
 abbrev pub IsAdded : Result (Option Turn) ScheduleFault → List Turn → List Turn → Type 0
 IsAdded (Err why) old new = ⊥
 IsAdded (Ok turn) old new = new ≡ old ++ option_to_list turn
