@@ -29,22 +29,22 @@ pub trait Jobs<J> {
         ensures same { name self.new ≡ name self.old };
 }
 
-/// Jobs, and what was found of each, in order.
+/// Jobs, and the result of each, in order.
 #[derive(Drop)]
 pub struct Found<J, X> {
     /// The jobs.
     pub jobs: Vec<J>,
-    /// What was found of each.
+    /// The result of each.
     pub found: Vec<X>,
 }
 
 /// Takes all jobs as they come, and does each as soon as it has come, in a thread of its own where one can be started.
-/// One behind which none can be left is done in the caller's thread, and one whose thread is refused too, after those
-/// behind it. All threads have ended when this returns.
+/// A job after which none can be left is done in the caller's thread. So is a job whose thread is refused, after the
+/// jobs that follow it. All threads have ended when this returns.
 ///
-/// Each job may have a thread at the same time, and each lies one call deeper in the caller's stack. So a source has at
+/// Each job may have a thread at the same time, and each takes one more call on the caller's stack. So a source has at
 /// most as many jobs left as [`processors`](crate::processors) returns. All jobs are held until this returns. The task
-/// is told 0 as the place of each: a job whose place matters holds it, as it comes.
+/// gets 0 as the place of each job: a job whose place matters holds it itself.
 ///
 /// Returns `None` where memory for the lists is refused. No job was taken then.
 pub fn found_of<
@@ -71,7 +71,7 @@ pub fn found_of<
     Some(found_behind(rt, task, source, none))
 }
 
-/// The same, in lists with no job that have room for all.
+/// The same, in lists with no job whose capacity is enough for all.
 fn found_behind<
     R: Threads + Sync,
     J: Sync + Drop,
@@ -125,7 +125,7 @@ fn found_behind<
     in_front(job, one, behind)
 }
 
-/// A job, and what was found of it, in front of those behind it.
+/// A job and its result, before those that follow it.
 fn in_front<J: Drop, X: Drop>(job: J, one: X, behind: Found<J, X>) -> Found<J, X>
     requires room_jobs { vec_len behind.jobs < vec_capacity behind.jobs }
     requires room_found { vec_len behind.found < vec_capacity behind.found }

@@ -8,7 +8,7 @@ use std::thread::Threads;
 pub const LARGE: usize = 1 << 20;
 
 /// Drops things that take this many bytes together: large ones side by side, as many at once as the machine has
-/// processors. To take a page back takes the machine about as long as to hand it out.
+/// processors. The machine takes about as long to take a page back as to hand it out.
 pub fn drop_side_by_side<R: Threads + Sync, X: Send + Drop>(
     rt: &R,
     mut things: Vec<X>,

@@ -1,9 +1,9 @@
 //! Work on several jobs side by side, over the processors that there are.
 //!
-//! [`results`] returns what comes of each job, in order, as one thread would that does them in turn. It may start a
-//! thread for each job, so it is called with at most as many as [`processors`] returns. [`found_of`] takes
-//! [`Jobs`] that come one after another, begins with each as soon as it has come, and returns the jobs too. It is called
-//! with as few. [`drop_side_by_side`] drops several things that take much memory.
+//! [`results`] returns the result of each job, in order, as one thread would that does one job after the other. It may
+//! start a thread for each job, so it is called with at most as many as [`processors`] returns. [`found_of`] takes
+//! [`Jobs`] that come one after another, begins with each as soon as it has come, and returns the jobs too. It is
+//! called with at most as many. [`drop_side_by_side`] drops several values that take much memory.
 #![tactic(auto)]
 
 mod coming;

@@ -9,11 +9,11 @@ use std::thread::Threads;
 
 /// How a job is done.
 pub trait Task<J, X> {
-    /// This may come of the job at this place.
+    /// This may be the result of the job at this place.
     ghost Gives: { Self → ℕ → J → X → Type 0 };
 
-    /// Does the job, which stands at this place among the jobs; the first stands at 0. [`found_of`](crate::found_of)
-    /// says 0 of each job.
+    /// Does the job at this place among the jobs, counted from 0. [`found_of`](crate::found_of) gives 0 as the place of
+    /// each job.
     fn call(&self, place: usize, job: &J) -> X
         ensures { Gives self.now place job.now result };
 }
@@ -28,7 +28,7 @@ pub fn processors<R: Threads>(rt: &R) -> usize
     }
 }
 
-/// What comes of each job, in order. Each job but one is done in a thread of its own, where one can be started, and
+/// The result of each job, in order. Each job but one is done in a thread of its own, where one can be started, and
 /// else in the caller's. All threads have ended when this returns.
 ///
 /// Where memory for the threads or for the list of a part of the results is refused, all jobs are done again, one after
@@ -52,7 +52,7 @@ pub fn results<R: Threads + Sync, J: Sync, X: Send + Drop, T: Task<J, X> + Sync>
     }
 }
 
-/// What comes of each job, in order. They are done one after the other.
+/// The result of each job, in order. The jobs are done one after the other.
 fn results_in_turn<J, X: Drop, T: Task<J, X>>(
     alloc: Global,
     task: &T,
