@@ -1,4 +1,4 @@
--- Which numbers words may ask for.
+-- Which numbers arguments may ask for.
 use Rattle.std.specs.Prelude.{ℕ, ◌≤◌}
 use Rattle.message.specs.Capacity.{most_capacity}
 use Rattle.message.specs.Version.{most_harts}

@@ -1,5 +1,5 @@
-//! What a command line of `tracebench` may ask for: one struct for each subcommand, and the limits of its numbers.
-//! Both `cli`, which reads words, and `commands`, which does what they ask, use this crate. Neither uses the other.
+//! What a command line of `tracebench` may ask for: one struct for each subcommand, and the limits of its numbers. Both
+//! `cli`, which reads arguments, and `commands`, which does what they ask for, use this crate. Neither uses the other.
 #![tactic(auto)]
 
 mod limits;

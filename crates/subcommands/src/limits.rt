@@ -1,4 +1,4 @@
-//! The limits of the numbers that words may ask for.
+//! The limits of the numbers that arguments may ask for.
 
 /// The fewest retirements from one periodic synchronisation to the next.
 pub const SHORTEST_PERIOD: u16 = 1;

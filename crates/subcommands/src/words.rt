@@ -12,7 +12,7 @@ pub struct Check<'a> {
     pub explain: bool,
     /// The path of the image.
     pub image: &'a str,
-    /// The paths of the logs, at least one, in the order of the words.
+    /// The paths of the logs, at least one, in the order of the arguments.
     pub logs: Vec<&'a str>,
 }
 
@@ -31,7 +31,7 @@ pub struct Encode<'a> {
     pub hex: bool,
     /// The path of the image.
     pub image: &'a str,
-    /// The paths of the logs, at least one, in the order of the words.
+    /// The paths of the logs, at least one, in the order of the arguments.
     pub logs: Vec<&'a str>,
 }
 
@@ -57,8 +57,8 @@ pub struct Decode<'a> {
     pub capture: &'a str,
 }
 
-/// `replay --base B [--period N] [--full] [--capacity N] IMAGE SCHEDULE LOG...`: what comes of the log of each hart
-/// that is sent through the funnel.
+/// `replay --base B [--period N] [--full] [--capacity N] IMAGE SCHEDULE LOG...`: what is decoded of the log of each
+/// hart that is sent through the funnel.
 #[derive(Debug, Drop)]
 pub struct Replay<'a> {
     /// The address of the image's first byte, not yet read as a number.
@@ -73,12 +73,12 @@ pub struct Replay<'a> {
     pub image: &'a str,
     /// The path of the schedule.
     pub schedule: &'a str,
-    /// The paths of the logs, at least one, in the order of the words.
+    /// The paths of the logs, at least one, in the order of the arguments.
     pub logs: Vec<&'a str>,
 }
 
-/// `bench --base B [--period N] [--full] [--capacity N] IMAGE LOG...`: what comes of the log of each hart that is sent
-/// through the funnel from a thread of its own.
+/// `bench --base B [--period N] [--full] [--capacity N] IMAGE LOG...`: what is decoded of the log of each hart that is
+/// sent through the funnel from a thread of its own.
 #[derive(Debug, Drop)]
 pub struct Bench<'a> {
     /// The address of the image's first byte, not yet read as a number.
@@ -91,11 +91,11 @@ pub struct Bench<'a> {
     pub capacity: u32,
     /// The path of the image.
     pub image: &'a str,
-    /// The paths of the logs, at least one, in the order of the words.
+    /// The paths of the logs, at least one, in the order of the arguments.
     pub logs: Vec<&'a str>,
 }
 
-/// `audit SENT RECEIVED`: what became of the messages of one capture, by another that came of them.
+/// `audit SENT RECEIVED`: what became of the messages of one capture, by another capture of what arrived.
 #[derive(Debug, Drop)]
 pub struct Audit<'a> {
     /// The path of the capture that was sent.
@@ -115,7 +115,7 @@ pub struct Measure<'a> {
     pub mode: Mode,
     /// The path of the image.
     pub image: &'a str,
-    /// The paths of the logs, at least one, in the order of the words.
+    /// The paths of the logs, at least one, in the order of the arguments.
     pub logs: Vec<&'a str>,
 }
 
@@ -147,7 +147,7 @@ pub struct Salvage<'a> {
     pub capture: &'a str,
 }
 
-/// A subcommand with its files and options, as texts of the words.
+/// A subcommand with its files and options, as texts of the arguments.
 #[derive(Debug, Drop)]
 pub enum Asked<'a> {
     /// A run of `check`.
