@@ -1,5 +1,5 @@
--- The symbols of a file, which has them in lines as `nm` prints them: an address, a type and a name, parted by single
--- blanks.
+-- The symbols of a file, which has them in lines as `nm` prints them: an address, a type and a name, with single blanks
+-- between them.
 use Rattle.std.specs.Prelude.{ℕ, ◌==◌, ◌&&◌, ◌||◌, if◌then◌else◌, Bool, List, [], ◌∷◌, Option, Some, None}
 use Rattle.std.specs.List.{after_first, before_first, filter_map, slice_split}
 use Rattle.retire.specs.Number.{digits_number}
@@ -31,7 +31,7 @@ is_blank byte = byte == 32
 abbrev pub is_code_type : ℕ → Bool
 is_code_type byte = (byte == 116) || (byte == 84) || (byte == 119) || (byte == 87)
 
--- The name behind a type of code and a blank. It has a byte at least.
+-- The name after a type of code and a blank. It has at least one byte.
 abbrev pub name_behind : List ℕ → Option (List ℕ)
 name_behind (kind ∷ blank ∷ byte ∷ rest) = if is_code_type kind && is_blank blank then Some (byte ∷ rest) else None
 name_behind _ = None

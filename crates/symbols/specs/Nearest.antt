@@ -1,9 +1,9 @@
--- The symbol that a place stands behind.
+-- The nearest symbol at or below a place.
 use Rattle.std.specs.Prelude.{ℕ, ◌-◌, ◌&&◌, nat_le, nat_lt, if◌then◌else◌, List, []}
 use Rattle.std.specs.Prelude.{◌∷◌, Option, Some, None, option_map}
 use Rattle.symbols.specs.File.{Symbol, symbols_of}
 
--- The nearer to a place of an item and the nearest of those behind it, if there is one: the item, where it stands at or
+-- The nearer to a place of an item and the nearest of those after it, if there is one: the item, where it is at or
 -- below the place, and above the other.
 abbrev pub nearer : {X : Type 0} → (X → ℕ) → ℕ → X → Option X → Option X
 nearer address place item None = if nat_le (address item) place then Some item else None
@@ -15,7 +15,7 @@ abbrev pub nearest : {X : Type 0} → (X → ℕ) → ℕ → List X → Option 
 nearest address place [] = None
 nearest address place (item ∷ items) = nearer address place item (nearest address place items)
 
--- A symbol's name, and how far behind its address a place stands.
+-- A symbol's name, and how far above its address a place is.
 pub record Naming : Type 0 where
   pub name : List ℕ
   pub distance : ℕ

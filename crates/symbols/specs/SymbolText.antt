@@ -3,7 +3,7 @@ use Rattle.std.specs.Prelude.{ℕ, ◌++◌, List, [], Option, Some, None, codes
 use Rattle.retire.specs.LogText.{hex}
 use Rattle.symbols.specs.Nearest.{Naming, symbol_at}
 
--- A distance behind a name: a plus, the number in hexadecimal, and the bracket that closes.
+-- A distance after a name: a plus, the number in hexadecimal, and the bracket that closes.
 abbrev pub distance_text : ℕ → List ℕ
 distance_text distance = codes "+" ++ (hex distance ++ codes ">")
 
@@ -12,6 +12,6 @@ abbrev pub named_text : Option Naming → List ℕ
 named_text None = []
 named_text (Some symbol) = codes " <" ++ (symbol.name ++ distance_text symbol.distance)
 
--- What stands behind a place, by the symbols of a file.
+-- What follows a place, by the symbols of a file.
 abbrev pub symbol_text : List ℕ → ℕ → List ℕ
 symbol_text file place = named_text (symbol_at file place)

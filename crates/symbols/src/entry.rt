@@ -1,6 +1,6 @@
 //! A symbol, by the place of its name.
 
-/// Where the name of a symbol stands in the bytes of its file.
+/// Where the name of a symbol is in the bytes of its file.
 #[derive(Clone, Copy, Debug)]
 pub(crate) struct Entry {
     /// The symbol's address.

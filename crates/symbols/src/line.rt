@@ -56,7 +56,7 @@ fn digits(text: &[u8]) -> Option<u64>
     }
 }
 
-/// The name behind a type of code and a blank. It has a byte at least.
+/// The name after a type of code and a blank. It has at least one byte.
 fn name_behind(text: &[u8]) -> Option<&[u8]>
     ensures { option_map (λ name. name.now) result ≡ name_behind text.now }
 {

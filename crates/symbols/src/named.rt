@@ -3,8 +3,8 @@
 /// What a place is named by a symbol.
 #[derive(Clone, Copy, Debug)]
 pub struct Named<'a> {
-    /// The symbol's name, as it stands in the file.
+    /// The symbol's name, as in the file.
     pub name: &'a [u8],
-    /// How many bytes the place lies behind the symbol's address.
+    /// How many bytes the place is above the symbol's address.
     pub distance: u64,
 }

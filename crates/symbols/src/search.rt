@@ -1,4 +1,4 @@
-//! The search among entries in order, and the names that they stand for.
+//! The search among entries in order, and the names of entries.
 
 ghost use Rattle.std.specs.Prelude.{◌≡◌, ◌≤◌, ◌+◌, length, take, drop};
 ghost use Rattle.symbols.specs.steps.Entries.{IsInOrder};

@@ -14,7 +14,7 @@ use std::alloc::Allocator;
 use std::fmt;
 use std::io::Write;
 
-/// How far a place lies behind a symbol's address, as it stands behind the name.
+/// How far a place is above a symbol's address, as written after the name.
 #[derive(Clone, Copy)]
 struct Distance(u64);
 
@@ -26,7 +26,7 @@ impl fmt::Display for Distance {
     }
 }
 
-/// Writes a name in angle brackets, behind a blank and with its distance.
+/// Writes a name in angle brackets, after a blank and with its distance.
 fn write_named<W: Write>(named: &Named<'_>, sink: &mut W) -> Result<(), WriteFault>
     ensures text { OnOk result
         (Appends (W.contents sink.old) (W.contents sink.new) (named_text (Some (naming named.now)))) }
@@ -40,11 +40,11 @@ fn write_named<W: Write>(named: &Named<'_>, sink: &mut W) -> Result<(), WriteFau
     Ok(())
 }
 
-/// Writes what stands behind a place: a blank, and in angle brackets the name of its symbol, a plus, and how far the
-/// place lies behind the symbol's address, in hexadecimal. Nothing is written where the place has no name.
+/// Writes what follows a place: a blank, and in angle brackets the name of its symbol, a plus, and how far the place is
+/// above the symbol's address, in hexadecimal. Nothing is written where the place has no name.
 ///
-/// The only fault is [`WriteFault::Write`], where the writer failed; what was written then is a beginning of the text.
-/// No memory is taken, and the writer is not flushed.
+/// The only fault is [`WriteFault::Write`], where the writer failed; what was written then is a prefix of the text. No
+/// memory is taken, and the writer is not flushed.
 pub fn write_symbol<W: Write, A: Allocator>(
     symbols: &Symbols<A>,
     place: u64,

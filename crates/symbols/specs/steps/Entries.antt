@@ -1,4 +1,4 @@
--- Where the names of a file's symbols stand in its bytes.
+-- Where the names of a file's symbols are in its bytes.
 use Rattle.std.specs.Prelude.{ℕ, ◌≡◌, ◌<◌, ◌≤◌, ◌+◌, ◌⊎◌, List, [], ◌∷◌, Option}
 use Rattle.std.specs.Prelude.{Some, None, length, slice_index_or, take, drop}
 use Rattle.std.specs.List.{after_first, before_first, cons_option, position_or_len}
@@ -36,7 +36,7 @@ entries_of file = entries_from 0 (lines_of file)
 abbrev pub symbol_in : List ℕ → Entry → Symbol
 symbol_in file entry = record { address = entry.address; name = take entry.length (drop entry.start file) }
 
--- An entry stands before another, by the address, and of equal addresses by the file; or the two stand in one place.
+-- An entry comes before another, by the address, and of equal addresses by the file; or the two are at one place.
 abbrev pub IsUpTo : Entry → Entry → Type 0
 IsUpTo entry other =
     (entry.address < other.address) ⊎ ((entry.address ≡ other.address) × (entry.start ≤ other.start))
