@@ -8,7 +8,7 @@ use thiserror::Error;
 /// Why nothing is measured.
 #[derive(Debug, Drop, Error)]
 pub(crate) enum Fault {
-    /// The words are not a base, an image and a log at least.
+    /// The arguments are not a base, an image and at least one log.
     #[error("usage: timing BASE IMAGE LOG...")]
     Words,
     /// The image makes no program at the base.

@@ -1,4 +1,4 @@
-//! What is measured: the texts of the logs that the words name.
+//! What is measured: the texts of the logs that the arguments name.
 
 use crate::fault::Fault;
 use retire::number;
@@ -15,13 +15,13 @@ pub(crate) struct Input {
 }
 
 impl Input {
-    /// Reads the files that the words name.
+    /// Reads the files that the arguments name.
     pub(crate) fn read<R: Env + Files + AllocGlobal>(rt: &R) -> Result<Input, Fault> {
         let words: Vec<String> = env::args(rt)?.collect(rt.alloc())?;
         Input::of(rt, words.as_slice())
     }
 
-    /// Reads the files that these words name. The first word is the program's own name.
+    /// Reads the files that these arguments name. The first one is the program's own name.
     fn of<R: Files + AllocGlobal>(rt: &R, words: &[String]) -> Result<Input, Fault> {
         let [_, base, image, logs @ ..] = words else {
             return Err(Fault::Words);

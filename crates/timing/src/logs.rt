@@ -1,4 +1,4 @@
-//! The phases over logs: reading and writing their text, and judging them.
+//! The phases over logs: reading and writing their text, and checking them.
 
 use crate::fault::Fault;
 use crate::least::Phase;

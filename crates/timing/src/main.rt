@@ -2,7 +2,7 @@
 //!
 //! `timing BASE IMAGE LOG...` reads the files whole, runs each phase several times in memory, and writes one line a
 //! phase to standard error: the phase, and its least time an event, or a packet where it packs or unpacks alone.
-//! Nothing goes to standard output. The status is 0, or 1 where the words, a file or a log is refused.
+//! Nothing goes to standard output. The status is 0, or 1 where the arguments, a file or a log is refused.
 #![tactic(auto)]
 
 mod auditing_captures;

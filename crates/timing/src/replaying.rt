@@ -1,4 +1,4 @@
-//! The phases of logs through the funnel: by turns, and over threads.
+//! The phases of logs through the funnel: by a schedule, and over threads.
 
 use crate::fault::Fault;
 use crate::least::{Phase, RUNS, measure, write_time};
@@ -72,7 +72,7 @@ impl Phase for Replaying<'_, '_> {
     }
 }
 
-/// Measures a replay of logs, a hart each, by turns that go round the harts.
+/// Measures a replay of logs, a hart each, by a schedule that goes round the harts.
 pub(crate) fn measure_replay<R: Clock + AllocGlobal, E: Write>(
     rt: &R,
     err: &mut E,

@@ -20,7 +20,7 @@ use std::sync::Wait;
 use std::thread::Threads;
 use std::time::Clock;
 
-/// Measures each phase over each log that the words name, then a replay and runs of all of them, and then a funnel.
+/// Measures each phase over each log that the arguments name, then a replay and runs of all of them, and then a funnel.
 pub(crate) fn run<R: Env + Files + Clock + AllocGlobal + Threads + Wait + Sync, E: Write>(
     rt: &R,
     err: &mut E,
