@@ -93,7 +93,7 @@ fn draw_row(draw: &mut Draw, sent: &[Row], next: Row) -> Row {
     }
 }
 
-/// What came of messages: some are lost, and for others another one came.
+/// What arrived of messages: some are lost, and for others another one came.
 fn draw_received(alloc: Global, draw: &mut Draw, sent: &[Row]) -> Result<Vec<Row>, AllocError> {
     let mut received = Vec::new(alloc);
     for row in sent {

@@ -1,4 +1,4 @@
-//! Why rows are illegal, in a line each, at the first rows and far behind them (`explaining`).
+//! Why rows are illegal, in a line each, at the first rows and far after them (`explaining`).
 
 use crate::fixtures::Step::{self, Retires, Traps};
 use crate::fixtures::{BACK_JUMP, BASE, BEQ, ECALL, MRET, NOP, event_of, program_of, retired};
@@ -9,10 +9,10 @@ use retire::Event;
 use rvclass::Program;
 use std::process::Abort;
 
-/// The words: the first two follow each other again and again.
+/// The instructions: the first two follow each other again and again.
 const WORDS: [u32; 6] = [NOP, BACK_JUMP, ECALL, BEQ, NOP, MRET];
 
-/// An event behind the jump back, why it is illegal, and the line that explains it.
+/// An event after the jump back, why it is illegal, and the line that explains it.
 type Row = (Step, Why, &'static str);
 
 const ROWS: [Row; 10] = [
@@ -68,7 +68,7 @@ const ROWS: [Row; 10] = [
     ),
 ];
 
-/// The log of the word and the jump back to it, in turn, at most 70,000 events.
+/// The log of the instruction and the jump back to it, alternately, at most 70,000 events.
 fn turns<R: Abort + AllocGlobal>(rt: &R, count: u32) -> Vec<Event> {
     let mut log = Vec::new(rt.alloc());
     for number in 0..u64::from(count.min(70_000)) {
@@ -90,7 +90,7 @@ fn is_explained<R: Abort + AllocGlobal>(
     same_at(rt, fault, text.as_slice(), wanted.as_bytes());
 }
 
-/// Ends the test unless each row is refused and explained where it stands behind so many legal ones.
+/// Ends the test unless each row is refused and explained where it comes after so many legal ones.
 fn are_explained<R: Abort + AllocGlobal>(rt: &R, program: &Program, count: u32) {
     for (step, why, wanted) in ROWS {
         let mut log = turns(rt, count);

@@ -35,7 +35,7 @@ pub(crate) const SRET: u32 = 0x1020_0073;
 
 pub(crate) const ECALL: u32 = 0x0000_0073;
 
-/// An ECALL, and its handler 256 bytes behind the base.
+/// An ECALL, and its handler 256 bytes after the base.
 pub(crate) const FAR: [u32; 65] = [
     NOP, ECALL, 0, 0, 0, 0, 0, 0, 0, 0, 0, 0, 0, 0, 0, 0, 0, 0, 0, 0, 0, 0, 0, 0, 0, 0, 0, 0, 0, 0,
     0, 0, 0, 0, 0, 0, 0, 0, 0, 0, 0, 0, 0, 0, 0, 0, 0, 0, 0, 0, 0, 0, 0, 0, 0, 0, 0, 0, 0, 0, 0, 0,
@@ -47,7 +47,7 @@ pub(crate) fn add<R: Abort>(rt: &R, text: &mut Vec<u8>, bytes: &[u8]) {
     text.extend_from_slice(bytes).expect(rt, "memory");
 }
 
-/// The program of these words and of the bytes behind them, from the base on.
+/// The program of these instructions and of the bytes after them, from the base on.
 pub(crate) fn program_with<R: Abort + AllocGlobal>(rt: &R, words: &[u32], bytes: &[u8]) -> Program {
     let mut image = Vec::new(rt.alloc());
     for word in words {
@@ -57,12 +57,12 @@ pub(crate) fn program_with<R: Abort + AllocGlobal>(rt: &R, words: &[u32], bytes:
     Program::new(BASE, image).expect(rt, "a program")
 }
 
-/// The program of these words, from the base on.
+/// The program of these instructions, from the base on.
 pub(crate) fn program_of<R: Abort + AllocGlobal>(rt: &R, words: &[u32]) -> Program {
     program_with(rt, words, &[])
 }
 
-/// The program of this many words C.NOP, from the base on.
+/// The program of this many instructions C.NOP, from the base on.
 pub(crate) fn short_words<R: Abort + AllocGlobal>(rt: &R, count: u32) -> Program {
     let mut image = Vec::new(rt.alloc());
     for _ in 0..count {
@@ -71,7 +71,7 @@ pub(crate) fn short_words<R: Abort + AllocGlobal>(rt: &R, count: u32) -> Program
     Program::new(BASE, image).expect(rt, "a program")
 }
 
-/// The log of a hart that retires each of these words once, at machine level.
+/// The log of a hart that retires each of these instructions once, at machine level.
 pub(crate) fn short_log<R: Abort + AllocGlobal>(rt: &R, count: u32) -> Vec<Event> {
     let mut log = Vec::new(rt.alloc());
     for number in 0..u64::from(count) {

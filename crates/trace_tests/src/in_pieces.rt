@@ -26,13 +26,13 @@ const ROW: &str = "80000000,0,3,,\n";
 /// The row of the jump back.
 const JUMP: &str = "80000004,0,3,,\n";
 
-/// So many turns are the longest piece: 2,184 rows are 32,760 bytes, and a piece has 32,768 at most.
+/// So many rounds are the longest piece: 2,184 rows are 32,760 bytes, and a piece has 32,768 at most.
 const PIECE: usize = 1_092;
 
-/// So many turns have more rows than 65,536.
+/// So many rounds have more rows than 65,536.
 const MANY: usize = 35_000;
 
-/// A header, how often the turn stands behind it, and what stands behind these.
+/// A header, how often the round follows it, and what follows these.
 type Text = (&'static str, usize, &'static str);
 
 /// The bytes of a text.
@@ -77,7 +77,7 @@ fn next_of<R: Abort>(rt: &R, pieces: &mut LegalPieces<'_, '_>) -> Option<Vec<Eve
     pieces.next().ok().expect(rt, "a log in pieces")
 }
 
-/// The events of the pieces of a text, joined. There are so many pieces, and none behind them.
+/// The events of the pieces of a text, joined. There are so many pieces, and none after them.
 fn joined<R: Abort + AllocGlobal>(
     rt: &R,
     program: &Program,
@@ -156,7 +156,7 @@ fn messages_are_those_of_the_whole_log(rt: HostRuntime) {
     }
 }
 
-/// The lines of one turn, which were worked by hand.
+/// The lines of one round, which were worked by hand.
 const LINES: [(Mode, &'static str); 2] = [
     (
         Mode::Differential,

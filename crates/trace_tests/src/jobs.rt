@@ -1,4 +1,4 @@
-//! Jobs that are done side by side (`side_by_side`): what comes of few, and of more than there are processors.
+//! Jobs that are done side by side (`side_by_side`): the results of few, and of more than there are processors.
 
 ghost use Rattle.std.specs.Prelude.{◌≡◌, ◌-◌};
 
@@ -48,7 +48,7 @@ impl Jobs<usize> for Numbers {
     }
 }
 
-/// Ends the test unless of each of so many jobs came what has to come of it, with its place or with 0.
+/// Ends the test unless each of so many jobs has its right result, with its place or with 0.
 fn are_found<R: Abort>(rt: &R, count: usize, found: &[usize], by_place: usize) {
     same_at(rt, count, found.len(), count);
     for (place, one) in found.iter().enumerate() {

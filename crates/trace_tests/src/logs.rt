@@ -1,5 +1,5 @@
-//! What stands below the packets: the words of programs (`rvclass`), logs read and written (`retire`), which logs are
-//! legal (`legalpath`), and schedules (`schedule`).
+//! What is below the packets: the instructions of programs (`rvclass`), logs read and written (`retire`), which logs
+//! are legal (`legalpath`), and schedules (`schedule`).
 
 mod legal_paths;
 mod programs;

@@ -14,7 +14,7 @@ const COLUMNS: &str =
     "hart,events,retirements,traps,branches,packets,support,sync,trap,address,map,notify,\
     updiscon,payload_bytes,longest,bits_per_retirement\n";
 
-/// What stands behind the number of a hart with an even number, and of one with an odd one.
+/// What follows the number of a hart with an even number, and of one with an odd one.
 const DIFFERENTIAL: [&str; 2] = [
     ",10,7,3,1,10,2,2,3,3,0,1,1,50,9,57.142\n",
     ",33,33,0,33,5,2,1,0,1,1,0,0,9,5,2.181\n",

@@ -17,7 +17,7 @@ fn powers<R: Abort + AllocGlobal>(rt: &R) -> Symbols {
     Symbols::new(rt.alloc(), file).expect(rt, "symbols")
 }
 
-/// Ends the test unless this is written behind a place.
+/// Ends the test unless this is written after a place.
 fn is_named<R: Abort + AllocGlobal>(rt: &R, symbols: &Symbols, place: u64, wanted: &[u8]) {
     let mut text = Vec::new(rt.alloc());
     same_at(rt, place, write_symbol(symbols, place, &mut text), Ok(()));
@@ -59,7 +59,7 @@ fn symbols_of<R: Abort + AllocGlobal>(rt: &R, count: u64) -> Symbols {
     Symbols::new(rt.alloc(), file).expect(rt, "symbols")
 }
 
-/// Ends the test unless the first 200 places, the last 200 and the one behind are named as they have to be where there
+/// Ends the test unless the first 200 places, the last 200 and the one after are named as they have to be where there
 /// are so many symbols. Where a symbol is of data, the one before it counts.
 fn are_named<R: Abort + AllocGlobal>(rt: &R, count: u64) {
     let symbols = symbols_of(rt, count);

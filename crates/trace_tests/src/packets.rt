@@ -72,7 +72,7 @@ pub(crate) fn legal_log<'p, R: Abort + AllocGlobal>(
         .expect(rt, "a legal log")
 }
 
-/// The payloads that a source gives. It gives none behind them.
+/// The payloads that a source gives. It gives none after them.
 pub(crate) fn sourced<R: Abort + AllocGlobal>(
     rt: &R,
     log: &LegalLog<'_>,

@@ -21,7 +21,7 @@ const INTERRUPTED: [Step; 5] = [
     Traps(BASE, 3, true, 7, 0),
 ];
 
-/// The capture of both harts: their messages in turn, one in each line.
+/// The capture of both harts: their messages alternately, one in each line.
 const CAPTURE: [u8; 134] = [
     0, 0, 0, 0, 0, 0, 0, 0, 0, 0, 1, 0x1f, // opens
     1, 0, 0, 0, 0, 0, 0, 0, 0, 0, 1, 0x1f, // opens
@@ -53,11 +53,11 @@ const FULL: [u8; 145] = [
 /// harts.
 const BEFORE: usize = 4;
 
-/// Where decoding ends if one of the requests behind these is refused: at which message, and how many events of each
+/// Where decoding ends if one of the requests after these is refused: at which message, and how many events of each
 /// hart were known before it.
 ///
-/// The list of the first hart grows to 4, 32 and 64 events, and that of the second to 4 and 8. There is room for the
-/// three branches that wait and not for the interrupt behind them: all four are left out.
+/// The list of the first hart grows to 4, 32 and 64 events, and that of the second to 4 and 8. There is capacity for
+/// the three branches that wait and not for the interrupt after them: all four are left out.
 const ENDS: [(u64, usize, usize); 5] = [(2, 0, 0), (3, 1, 0), (4, 1, 1), (7, 32, 1), (9, 32, 5)];
 
 /// Why decoding ends there.

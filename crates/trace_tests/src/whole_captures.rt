@@ -85,7 +85,7 @@ fn add_messages<R: Abort + AllocGlobal>(
     }
 }
 
-/// What stands before the messages of these harts in a capture of this version, at the period 1,024 in this mode.
+/// What comes before the messages of these harts in a capture of this version, at the period 1,024 in this mode.
 fn start_of<R: Abort + AllocGlobal>(
     rt: &R,
     (version, mode): (Version, Mode),

@@ -22,7 +22,7 @@ fn is_true(sent: &[Row], row: Row) -> bool {
     sent.iter().any(|other| *other == row)
 }
 
-/// The first fate that applies to a row behind those before it.
+/// The first fate that applies to a row after those before it.
 pub(crate) fn fate_of(sent: &[Row], before: &[Row], row: Row) -> Fate {
     if !has_number(sent, row) {
         return Fate::Stranger;

@@ -21,7 +21,7 @@ use retire::Event;
 use rvclass::Program;
 use std::process::Abort;
 
-/// A program, the packets that are taken, the packet behind them, and the fault that refuses it.
+/// A program, the packets that are taken, the packet after them, and the fault that refuses it.
 type Row = (&'static [u32], Before, Sent, DecodeFault);
 
 /// The packets that are taken before.
@@ -31,12 +31,12 @@ enum Before {
     Nothing,
     /// The one that opens the trace.
     Opened,
-    /// A synchronisation behind that: on the first word, on the second, or on the first in supervisor mode.
+    /// A synchronisation after that: at the first instruction, at the second, or at the first in supervisor mode.
     Started,
     Second,
     Lower,
-    /// Behind the synchronisation on the first word: an address packet that waits, which reports the second word or no
-    /// word, or a trap.
+    /// After the synchronisation at the first instruction: an address packet that waits, which reports the second
+    /// instruction or no instruction, or a trap.
     Waiting,
     Astray,
     Trapped,

@@ -4,7 +4,7 @@ use super::traces::{ENDED_REP, OPEN, START, Sent, fed};
 use crate::fixtures::{short_log, short_words};
 use crate::same::same_at;
 
-/// An address packet at the last of 524,288 words C.NOP, before which no other is reported.
+/// An address packet at the last of 524,288 instructions C.NOP, before which no other is reported.
 #[test]
 fn longest_walk(rt: HostRuntime) {
     let program = short_words(&rt, 524_288);

@@ -10,7 +10,7 @@ use std::process::Abort;
 
 const PLAIN_WORDS: &[Step] = &[Retires(0, 0, 3), Retires(4, 0, 3), Retires(8, 0, 3)];
 
-/// What is shown, the words of a program, and the turns of a new decoder.
+/// What is shown, the instructions of a program, and the steps of a new decoder.
 type Row = (&'static str, &'static [u32], &'static [Turn]);
 
 const ROWS: [Row; 8] = [
@@ -25,7 +25,7 @@ const ROWS: [Row; 8] = [
             (ENDED_NTR, Ok(()), 3),
         ],
     ),
-    // The packets of a log of two plain words, decoded with an image that did not run.
+    // The packets of a log of two plain instructions, decoded with an image that did not run.
     (
         "an image with a jump",
         &[JUMP_LOOP],
@@ -46,8 +46,8 @@ const ROWS: [Row; 8] = [
             (ENDED_REP, Err(OffProgram), 1),
         ],
     ),
-    // Behind the packet that opens the trace a field names the second word, by a packet that does not wait and by one
-    // that does, and a field that holds it in the other mode names no word.
+    // After the packet that opens the trace a field names the second instruction, by a packet that does not wait and by
+    // one that does. A field that holds it in the other mode names no instruction.
     (
         "differences, and addresses in their place",
         &[NOP, NOP],
@@ -107,7 +107,7 @@ const ROWS: [Row; 8] = [
     ),
 ];
 
-/// The turns of a row are as it says.
+/// The steps of a row are as it says.
 fn answers_as<R: Abort + AllocGlobal>(rt: &R, i: usize, (what, words, turns): Row) {
     let program = program_of(rt, words);
     let mut log = Vec::new(rt.alloc());

@@ -16,7 +16,7 @@ use std::process::Abort;
 
 const PLAIN_WORDS: &[Step] = &[Retires(0, 0, 3), Retires(4, 0, 3)];
 
-/// Each of these turns comes to what it says, where the stretch is of the first words.
+/// Each of these steps gives what it says, where the stretch is of the first instructions.
 fn go_on<R: Abort + AllocGlobal>(
     rt: &R,
     place: Place,
@@ -48,8 +48,8 @@ const PASSED_OVER: [Turn; 8] = [
     (Trap(0, true, 1, true), Ok(()), 0),
 ];
 
-/// Four words, and a loss behind the packet that reports the second: it waited, so it adds nothing, and the stretch
-/// begins with the synchronisation on the third.
+/// Four instructions, and a loss after the packet that reports the second: it waited, so it adds nothing, and the
+/// stretch begins with the synchronisation at the third.
 const LOST: [Turn; 3] = [(OPEN, Ok(()), 0), (START, Ok(()), 1), (Plain(4), Ok(()), 1)];
 
 const STRETCH: [Turn; 3] = [
@@ -116,7 +116,7 @@ fn packets_are_passed_over_until_a_synchronisation(rt: HostRuntime) {
     }
 }
 
-/// A packet that closes the trace, and what comes behind it.
+/// A packet that closes the trace, and what comes after it.
 const CLOSED: [[Turn; 5]; 2] = [
     [
         (ENDED_REP, Ok(()), 0),
@@ -146,9 +146,9 @@ fn packets_that_close_a_trace_close_it(rt: HostRuntime) {
     }
 }
 
-/// The packets of a decoder, the modes that it is resumed with, a synchronisation behind each, and what a field then
-/// holds that names the second word. A mode that a packet announced is kept. Where none did, the mode handed in is
-/// taken, the last one of several.
+/// The packets of a decoder, the modes that it is resumed with, a synchronisation after each, and what a field then
+/// holds that names the second instruction. A mode that a packet announced is kept. Where none did, the mode handed in
+/// is taken, the last one of several.
 const MODES: [(&[Sent], &[Mode], u64); 7] = [
     (&[], &[Differential], 4),
     (&[], &[Full], BASE + 4),
@@ -159,7 +159,7 @@ const MODES: [(&[Sent], &[Mode], u64); 7] = [
     (&[], &[Full, Differential], 4),
 ];
 
-/// After the packets of a row, resumed in its modes, a field that holds the row's number names the second word.
+/// After the packets of a row, resumed in its modes, a field that holds the row's number names the second instruction.
 fn is_read<R: Abort + AllocGlobal>(
     rt: &R,
     row: usize,

@@ -22,7 +22,7 @@ const REP: &[u8] = &[0x4f];
 
 const NTR: &[u8] = &[0xcf, 0];
 
-/// The words of a program, the bytes behind them, the payloads of a log, and the log.
+/// The instructions of a program, the bytes after them, the payloads of a log, and the log.
 type Row = (
     &'static [u32],
     &'static [u8],
@@ -198,8 +198,8 @@ const ROWS: [Row; 20] = [
     ),
 ];
 
-/// Behind each payload of a row the list is a beginning of the row's log. The decoder is closed behind the last payload
-/// and not before, and the list is then the whole log.
+/// After each payload of a row the list is a prefix of the row's log. The decoder is closed after the last payload and
+/// not before, and the list is then the complete log.
 fn is_log_of<R: Abort + AllocGlobal>(rt: &R, i: usize, row: &Row) {
     let (words, bytes, payloads, steps) = *row;
     let program = program_with(rt, words, bytes);

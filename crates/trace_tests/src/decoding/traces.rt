@@ -124,14 +124,14 @@ pub(crate) fn copy_of<R: Abort + AllocGlobal>(rt: &R, log: &[Event]) -> Vec<Even
     log.to_vec(rt.alloc()).expect(rt, "memory")
 }
 
-/// A packet, what it comes to, and how many events the list then has.
+/// A packet, its result, and how many events the list then has.
 pub(crate) type Turn = (Sent, Result<(), DecodeFault>, usize);
 
 /// What is looked at, and the row of its table or which time it is.
 pub(crate) type Place = (&'static str, usize);
 
-/// Each of these turns comes to what it says: the answer, how many events the list has, and whether the decoder is
-/// closed before it and behind it. The events of the list are the first of these steps.
+/// Each of these steps gives what it says: the answer, how many events the list has, and whether the decoder is closed
+/// before it and after it. The events of the list are the first of these steps.
 pub(crate) fn go<R: Abort>(
     rt: &R,
     (what, row): Place,

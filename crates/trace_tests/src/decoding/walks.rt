@@ -1,4 +1,4 @@
-//! Walks over small programs: how many events the list has behind them, or the fault that is returned.
+//! Walks over small programs: how many events the list has after them, or the fault that is returned.
 
 use super::traces::Sent::{self, Map, Notify, Sync, Updiscon, Walk};
 use super::traces::{OPEN, Place, copy_of, fed, feed, is_log};
@@ -12,11 +12,11 @@ use retire::Event;
 use rvclass::Program;
 use std::process::Abort;
 
-/// The first word's retirement: its type and its privilege.
+/// The first instruction's retirement: its type and its privilege.
 type From = (u8, u8);
 
-/// A program, the retirement of its first word, the packet behind its synchronisation, and how many events the list
-/// then has, or the fault.
+/// A program, the retirement of its first instruction, the packet after its synchronisation, and how many events the
+/// list then has, or the fault.
 type Row = (&'static [u32], From, Sent, Result<usize, DecodeFault>);
 
 const FOUND: [Row; 9] = [
@@ -133,7 +133,7 @@ const PRIVILEGES: [Row; 5] = [
     (&[NOP, SRET], (0, 3), Updiscon(0), Err(WrongPrivilege)),
 ];
 
-/// How many events a list has behind a packet.
+/// How many events a list has after a packet.
 fn count_behind(
     program: &Program,
     decoder: &mut Decoder,
@@ -146,8 +146,9 @@ fn count_behind(
     }
 }
 
-/// The packet of a row comes to what the row says, behind the one event of the first word: in a list without room,
-/// where the walk is measured, and in one with room, where it is written as it is found. A fault leaves the one event.
+/// The packet of a row gives what the row says, after the one event of the first instruction: in a list without
+/// capacity, where the walk is measured, and in one with capacity, where it is written as it is found. A fault leaves
+/// the one event.
 fn answers_as<R: Abort + AllocGlobal>(rt: &R, place: Place, row: &Row) {
     let (words, (itype, privilege), sent, wanted) = *row;
     let program = program_of(rt, words);
@@ -177,7 +178,7 @@ const TABLES: [(&str, &[Row]); 6] = [
     ("privileges that words forbid", &PRIVILEGES),
 ];
 
-/// Each row comes to what it says.
+/// Each row gives what it says.
 fn answer_as<R: Abort + AllocGlobal>(rt: &R, what: &'static str, rows: &[Row]) {
     for (i, row) in rows.iter().enumerate() {
         answers_as(rt, (what, i), row);

@@ -71,7 +71,7 @@ fn messages_are_received(rt: HostRuntime) {
     }
 }
 
-/// Room for more events changes nothing of what a hart has.
+/// Capacity for more events changes nothing of what a hart has.
 #[test]
 fn rooms_of_a_receiver(rt: HostRuntime) {
     let program = program(&rt, Shape::Long);

@@ -58,7 +58,7 @@ pub(crate) fn say_offset<R: Abort>(rt: &R, text: &mut Vec<u8>, offset: usize) {
     }
 }
 
-/// Adds the hart and the number of a message, with a blank behind each.
+/// Adds the hart and the number of a message, with a blank after each.
 fn say_numbers<R: Abort>(rt: &R, text: &mut Vec<u8>, hart: u16, number: u64) {
     say_decimal(rt, text, u64::from(hart));
     say(rt, text, " ");
@@ -91,7 +91,7 @@ fn row_of<R: Abort>(rt: &R, mode: Mode, hart: u16, number: u64) -> Row {
     *row.expect(rt, "a row")
 }
 
-/// The place of the word that the one hart retires with the message of this number.
+/// The place of the instruction that the one hart retires with the message of this number.
 fn place_of(number: u64) -> u64 {
     BASE.wrapping_add(number.saturating_sub(1).saturating_mul(2))
 }

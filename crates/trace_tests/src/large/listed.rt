@@ -32,7 +32,8 @@ fn listing_of<R: Abort + AllocGlobal>(
     text
 }
 
-/// 70,000 symbols, each one byte before the word of the one hart with its number. The last word's stands first.
+/// 70,000 symbols, each one byte before the instruction of the one hart with its number. That of the last instruction
+/// comes first.
 fn symbols_of<R: Abort + AllocGlobal>(rt: &R) -> Symbols {
     let mut file = Vec::new(rt.alloc());
     for left in 0..70_000u64 {

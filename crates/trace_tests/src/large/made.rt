@@ -16,11 +16,11 @@ use std::process::Abort;
 pub(crate) enum Shape {
     /// 1,024 harts, which send 10 or 5 messages, at the period 1,024.
     Wide,
-    /// One hart that retires 70,000 words C.NOP, of which each second one is a synchronisation, at the period 2.
+    /// One hart that retires 70,000 instructions C.NOP, of which each second one is a synchronisation, at the period 2.
     Long,
 }
 
-/// The harts, and how their messages stand in a capture.
+/// The harts, and the order of their messages in a capture.
 pub(crate) type Case = (Shape, Version, Mode);
 
 const ONE: Version = Version::One;
@@ -40,7 +40,7 @@ pub(crate) const CASES: [Case; 6] = [
     (Shape::Long, TWO, D),
 ];
 
-/// How many words the one hart retires.
+/// How many instructions the one hart retires.
 const RETIRED: u32 = 70_000;
 
 /// The number of its last message.
@@ -92,8 +92,8 @@ pub(crate) fn logs<'p, R: Abort + AllocGlobal>(
     logs
 }
 
-/// Adds the message with this number of the one hart: the packet that opens the trace, then in turn a synchronisation
-/// and an address 2 bytes behind it, and the packet that closes the trace.
+/// Adds the message with this number of the one hart: the packet that opens the trace, then alternately a
+/// synchronisation and an address 2 bytes after it, and the packet that closes the trace.
 ///
 /// A synchronisation at machine level is 115, and 128 for each 2 bytes of the address; a full address is 2, and 4 for
 /// each 2 bytes of it.

@@ -4,11 +4,11 @@ use crate::fixtures::Step::{self, Retires, Traps};
 use crate::fixtures::{BACK_JUMP_TWICE, BASE, BRANCH_LOOP, MRET, NOP, RET};
 use payload::Mode;
 
-/// The words of the program.
+/// The instructions of the program.
 pub(crate) const WORDS: [u32; 6] = [NOP, NOP, RET, BRANCH_LOOP, BACK_JUMP_TWICE, MRET];
 
-/// An exception; two words, before an interrupt whose handler returns to a branch at privilege 0, which is not taken; a
-/// jump back, to a return; a word, and an exception behind it.
+/// An exception; two instructions, before an interrupt whose handler returns to a branch at privilege 0, which is not
+/// taken; a jump back, to a return; an instruction, and an exception after it.
 pub(crate) const KINDS: &[Step] = &[
     Traps(BASE, 3, false, 0xb, 0),
     Retires(0, 0, 3),
@@ -25,8 +25,8 @@ pub(crate) const KINDS: &[Step] = &[
 /// A branch to itself that is taken.
 pub(crate) const BRANCHES: &[Step] = &[Retires(12, 5, 3); 33];
 
-/// A message of a hart: its payload; what a dump says of it, for an address packet what stands behind the name of the
-/// field; and what it does.
+/// A message of a hart: its payload; what a dump says of it, for an address packet what follows the name of the field;
+/// and what it does.
 pub(crate) type Row = (&'static [u8], Says, &'static str);
 
 /// What a dump says of a packet.
@@ -34,7 +34,7 @@ pub(crate) type Row = (&'static [u8], Says, &'static str);
 pub(crate) enum Says {
     /// This text.
     Text(&'static str),
-    /// This text behind the name of the address field.
+    /// This text after the name of the address field.
     Address(&'static str),
 }
 

@@ -8,7 +8,7 @@ use crate::same::same_at;
 use rvclass::{Class, Program};
 use std::process::Abort;
 
-/// A word, or none, stands at an address of an image, which has as many bytes as are given.
+/// An instruction, or none, is at an address of an image, which has as many bytes as are given.
 fn stands<R: Abort + AllocGlobal>(
     rt: &R,
     name: &str,

@@ -50,13 +50,13 @@ const SHORT: Rows = (
     },
 );
 
-/// How a log is read, its first row, the row that follows 32 times, and what comes of each request that is refused: `m`
+/// How a log is read, its first row, the row that follows 32 times, and the result where each request is refused: `m`
 /// is memory, and `e` the events.
 ///
-/// A reader's list grows to 4, 8, 16, 32 and 64 events. The list of a text in memory first asks for room by the text's
-/// length, and grows as a reader's does where that is refused. Where rows are short that room is too little, and the
-/// list asks once more: at a plain row, or at one that `csv` reads because the first row is not plain. `csv` takes its
-/// memory of `Global` alone.
+/// A reader's list grows to 4, 8, 16, 32 and 64 events. The list of a text in memory first asks for capacity by the
+/// text's length, and grows as a reader's does where that is refused. Where rows are short that capacity is too small,
+/// and the list asks once more: at a plain row, or at one that `csv` reads because the first row is not plain. `csv`
+/// takes its memory of `Global` alone.
 const LOGS: [(By, &str, Rows, &str); 6] = [
     (By::Reader, ROW, LONG, "mmmmm"),
     (By::Reader, QUOTED, SHORT, "mmmmm"),
@@ -79,7 +79,7 @@ fn read_by<'h, R: AllocGlobal>(
     }
 }
 
-/// The text of a log whose first row is this and which has these rows behind it, and its events.
+/// The text of a log whose first row is this and which has these rows after it, and its events.
 fn log_of<R: Abort + AllocGlobal>(
     rt: &R,
     first: &str,
@@ -95,7 +95,7 @@ fn log_of<R: Abort + AllocGlobal>(
     (text, events)
 }
 
-/// Ends the test unless this comes of each request that is refused, and the events where none is.
+/// Ends the test unless this is the result where each request is refused, and the events where none is.
 fn each_request<R: Abort + AllocGlobal>(
     rt: &R,
     log: usize,
@@ -125,7 +125,7 @@ fn each_request_of_a_reading(rt: HostRuntime) {
     }
 }
 
-// Room for the text is asked for once, before anything is written.
+// Capacity for the text is asked for once, before anything is written.
 #[test]
 fn each_request_of_a_writing(rt: HostRuntime) {
     let (text, events) = log_of(&rt, ROW, LONG);

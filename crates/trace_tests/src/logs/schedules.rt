@@ -8,7 +8,7 @@ use linked_list_allocator::LocalHeap;
 use schedule::{ScheduleFault, read_schedule};
 use std::process::Abort;
 
-/// A count of harts, a text, and the turns that it holds, with none behind them.
+/// A count of harts, a text, and the turns that it holds, with none after them.
 const TURNS: [(u16, &str, [Option<Turn>; 4]); 8] = [
     (2, "", [None; 4]),
     (2, " \r\n ", [None; 4]),

@@ -50,7 +50,7 @@ fn read_in_pieces<R: Abort + AllocGlobal, S: Source + Drop>(
     Err(LogFault::Memory)
 }
 
-/// Texts behind the header's line, and how many rows are read of them, or the fault.
+/// Texts after the header's line, and how many rows are read of them, or the fault.
 const BEHIND_HEADER: [(&str, Result<usize, LogFault>); 26] = [
     ("", Ok(0)),
     ("2,0,3,,\n4,0,3,,\n6,0,3,,\n", Ok(3)),

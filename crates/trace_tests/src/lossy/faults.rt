@@ -20,7 +20,7 @@ const ADDRESS: &[u8] = b"\x0a";
 
 const THIRD: &[u8] = b"\x73\x02\0\0\x20";
 
-/// The payload of a synchronisation at the address behind the program.
+/// The payload of a synchronisation at the address after the program.
 const OFF_PROGRAM: &[u8] = b"\x73\x03\0\0\x20";
 
 /// The last number of a message.
@@ -104,16 +104,16 @@ fn are_refused<R: Abort + AllocGlobal>(rt: &R, program: &Program, rows: &[Row]) 
     }
 }
 
-/// The fault names the place of the message that is refused or of the packet that is not decoded, behind those of other
-/// harts too. A number that comes twice or is lower is a repeat; one of 2^63 is a gap, and one that would follow
-/// 2^63 - 1 comes after the end. A hart may not be known, as none is where there are no harts.
+/// The fault names the place of the message that is refused or of the packet that is not decoded, after those of other
+/// harts too. A number that comes twice or is lower is a repeat; one of 2^63 is a gap, and one that would follow 2^63 -
+/// 1 comes after the end. A hart may not be known, as none is where there are no harts.
 #[test]
 fn faults_have_places(rt: HostRuntime) {
     let program = program_of(&rt, &NOPS);
     are_refused(&rt, &program, &ROWS);
 }
 
-/// Faults and their texts, in which no place stands.
+/// Faults and their texts, in which there is no place.
 const TEXTS: [(LossyFault, &str); 4] = [
     (LossyFault::Demux(7, DemuxFault::Stranger), "stranger"),
     (

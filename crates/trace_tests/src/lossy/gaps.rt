@@ -11,11 +11,11 @@ use rvclass::Program;
 use salvaging::{Part, salvage};
 use std::process::Abort;
 
-/// The largest gap: behind it stand the numbers 2^63 - 2 and 2^63 - 1, the last ones.
+/// The largest gap: after it come the numbers 2^63 - 2 and 2^63 - 1, the last ones.
 const LARGEST: u64 = (1 << 63) - 4;
 
-/// The packet that opens the trace and the synchronisation at the first word; a gap; the synchronisation at the third
-/// word, and the packet that closes the trace.
+/// The packet that opens the trace and the synchronisation at the first instruction; a gap; the synchronisation at the
+/// third instruction, and the packet that closes the trace.
 fn messages_of<R: Abort + AllocGlobal>(rt: &R, mode: Mode, gap: u64) -> Vec<Message> {
     let mut messages = Vec::new(rt.alloc());
     let open: &[u8] = match mode {
@@ -64,7 +64,7 @@ fn are_stretches(log: &[Event], parts: &[Part], gap: u64) -> bool {
     }
 }
 
-/// A gap of this many messages leaves the event before it and the one behind it.
+/// A gap of this many messages leaves the event before it and the one after it.
 fn is_left<R: Abort + AllocGlobal>(rt: &R, program: &Program, mode: Mode, gap: u64) {
     let log = [retired(0, 0, 3), retired(4, 0, 3), retired(8, 0, 3)];
     let messages = messages_of(rt, mode, gap);

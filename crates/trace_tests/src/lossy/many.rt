@@ -21,7 +21,7 @@ fn messages_of<R: Abort + AllocGlobal>(rt: &R, harts: u16) -> Vec<Message> {
     messages
 }
 
-/// The message that reports the first word is lost in each of 1,024 harts.
+/// The message that reports the first instruction is lost in each of 1,024 harts.
 #[test]
 fn many_harts(rt: HostRuntime) {
     let program = program_of(&rt, &NOPS);

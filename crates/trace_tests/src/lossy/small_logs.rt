@@ -1,4 +1,4 @@
-//! Losses of a log of three words, worked by hand.
+//! Losses of a log of three instructions, worked by hand.
 
 use super::collected::{add, are_wanted, parts_of, pieces_of};
 use crate::fixtures::{NOP, program_of, retired};
@@ -7,11 +7,11 @@ use payload::Mode;
 use rvclass::Program;
 use std::process::Abort;
 
-/// Three words `nop`.
+/// Three `nop`.
 pub(crate) const NOPS: [u32; 3] = [NOP; 3];
 
-/// The payload with this number, where every second retirement is a synchronisation: that of Open, of the first word,
-/// of an address, of the third word, and the closing one.
+/// The payload with this number, where every second retirement is a synchronisation: that of Open, of the first
+/// instruction, of an address, of the third instruction, and the closing one.
 pub(crate) fn payload_of(number: u64) -> &'static [u8] {
     match number {
         0 => b"\x1f",

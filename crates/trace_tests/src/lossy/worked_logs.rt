@@ -12,7 +12,7 @@ use retire::Event;
 use rvclass::Program;
 use std::process::Abort;
 
-/// The words of a program.
+/// The instructions of a program.
 pub(crate) const WORDS: [u32; 6] = [
     0x0000_0013, // 0: nop
     0x0000_0463, // 4: branch two words on

@@ -37,7 +37,7 @@ fn bits_of_support(bytes: &[u8]) -> Result<usize, PackFault> {
     }
 }
 
-/// How many bits an address packet has whose address field begins behind this many. Its last bits are notify, updiscon
+/// How many bits an address packet has whose address field begins after this many. Its last bits are notify, updiscon
 /// and irreport.
 fn bits_of_address(bytes: &[u8], before: usize) -> Result<usize, PackFault> {
     let width = before.saturating_add(66);
@@ -78,7 +78,7 @@ fn bits_of(bytes: &[u8]) -> Result<usize, PackFault> {
     }
 }
 
-/// Whether each bit behind a packet of this width is the same as its last one.
+/// Whether each bit after a packet of this width is the same as its last one.
 fn is_padded(bytes: &[u8], width: usize) -> bool {
     let last = bit(bytes, width.saturating_sub(1));
     let mut same = true;

@@ -28,7 +28,7 @@ pub(crate) enum Form {
     Maps(&'static str),
 }
 
-/// The outcomes that digits stand for, the first 31 of them.
+/// The outcomes that digits mean, the first 31 of them.
 fn outcomes_in(digits: &str) -> Outcomes {
     let mut outcomes = Outcomes::new();
     for digit in digits.bytes() {

@@ -28,7 +28,7 @@ fn are_payloads<R: Abort>(rt: &R, place: (usize, &str), payloads: &[Payload], wa
     }
 }
 
-/// The words of a program, a period, a mode, a log and its payloads.
+/// The instructions of a program, a period, a mode, a log and its payloads.
 pub(super) type Row = (
     &'static [u32],
     u16,
@@ -174,7 +174,7 @@ pub(super) const ROWS: [Row; 20] = [
         &[Retires(0, 5, 3), Retires(8, 0, 3)],
         &[OPEN, TAKEN_SYNC, &[0x12], ENDED_REP],
     ),
-    // In full-address mode: the address itself, with a bit that notifies, and behind an outcome.
+    // In full-address mode: the address itself, with a bit that notifies, and after an outcome.
     (
         &[NOP, NOP],
         1024,
@@ -202,7 +202,7 @@ pub(super) const ROWS: [Row; 20] = [
         &[Retires(0, 0, 3), Retires(4, 4, 3), Retires(8, 0, 3)],
         &[OPEN_FULL, SYNC, &[0x85, 0x04, 0, 0, 0x40], ENDED_REP],
     ),
-    // The worked values end here; a sync at each retirement, and a trap first and right behind a trap.
+    // The worked values end here; a sync at each retirement, and a trap first and right after a trap.
     (
         &[NOP, NOP],
         1,

@@ -93,7 +93,7 @@ fn packets_of_worked_logs(rt: HostRuntime) {
 /// The outcomes of branches, 1 where one is taken: more than a packet reports.
 const OUTCOMES: &[u8] = b"0110100110010110100101100110100110010110";
 
-/// The log of branches with these outcomes, of an interrupt behind them, and of its handler's first instruction.
+/// The log of branches with these outcomes, of an interrupt after them, and of its handler's first instruction.
 fn branches<R: Abort + AllocGlobal>(rt: &R, outcomes: &[u8]) -> Vec<Event> {
     let mut log = Vec::new(rt.alloc());
     let mut offset: u64 = 0;
@@ -115,7 +115,7 @@ fn packets_of_branches_and_a_trap(rt: HostRuntime) {
     are_packets(&rt, log.len(), &program, &log);
 }
 
-/// At the period 1,024 many events go by with no packet, and two synchronise behind the first.
+/// At the period 1,024 many events go by with no packet, and two synchronise after the first.
 #[test]
 fn packets_of_many_events(rt: HostRuntime) {
     let program = short_words(&rt, 3_000);

@@ -10,8 +10,8 @@ use retire::Event;
 use rvclass::Program;
 use std::process::Abort;
 
-/// The messages of each of two harts, by their hart and number: the one that opens the trace, that of the one word, and
-/// the one that closes the trace.
+/// The messages of each of two harts, by their hart and number: the one that opens the trace, that of the one
+/// instruction, and the one that closes the trace.
 const SENT: [(u16, usize); 6] = [(0, 0), (0, 1), (0, 2), (1, 0), (1, 1), (1, 2)];
 
 /// How many orders they have.

@@ -13,8 +13,8 @@ use std::process::Abort;
 /// How many rounds there are.
 const ROUNDS: usize = 300;
 
-/// How many words the program has, and how many events the log of each hart. The count is odd: the last event has a
-/// synchronisation.
+/// How many instructions the program has, and how many events the log of each hart. The count is odd: the last event
+/// has a synchronisation.
 const WORDS: usize = 9;
 
 /// How many messages each log has: one that opens the trace, one for each event, and one that closes the trace.
@@ -81,7 +81,7 @@ fn are_left<R: Abort + AllocGlobal>(
     }
 }
 
-/// In each round other messages come, from none to 59; behind each 60 rounds in the other mode.
+/// In each round other messages come, from none to 59; after each 60 rounds in the other mode.
 #[test]
 fn random_messages(rt: HostRuntime) {
     let program = program_of(&rt, &[NOP; WORDS]);

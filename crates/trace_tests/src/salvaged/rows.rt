@@ -31,7 +31,7 @@ pub(crate) fn mode_of(round: usize) -> Mode {
     }
 }
 
-/// The log of this many words, one after the other.
+/// The log of this many instructions, one after the other.
 pub(crate) fn log_of<R: Abort + AllocGlobal>(rt: &R, count: usize) -> Vec<Event> {
     let mut log = Vec::new(rt.alloc());
     for place in 0..count as u64 {
@@ -49,7 +49,7 @@ pub(crate) enum Wanted {
 }
 
 /// How many of the events of a log are settled once the messages up to this number came: the event of an address packet
-/// waits for the message behind it. The message that closes the trace is behind that of the last event.
+/// waits for the message after it. The message that closes the trace is after that of the last event.
 fn settled(last: usize, events: usize) -> usize {
     if last <= events && last % 2 == 0 {
         last.saturating_sub(1)
@@ -65,7 +65,7 @@ fn begins(first: usize) -> usize {
 }
 
 /// Whether a part is the one that is wanted of a log. A stretch has the events of its messages by their places in the
-/// log: that of the message with number K stands at place K - 1.
+/// log: that of the message with number K is at place K - 1.
 fn is_wanted(log: &[Event], part: &Part, wanted: Wanted) -> bool {
     match (part, wanted) {
         (Part::Gap(lost), Wanted::Gap(count)) => *lost == count as u64,

@@ -11,8 +11,8 @@ use retire::Event;
 use rvclass::Program;
 use std::process::Abort;
 
-/// The words of a program, the capture of a hart that runs it, its log, and for each message where it begins and how
-/// many events are known before it.
+/// The instructions of a program, the capture of a hart that runs it, its log, and for each message where it begins and
+/// how many events are known before it.
 type Row = (
     &'static [u32],
     &'static [u8],
@@ -70,7 +70,7 @@ const EACH_KIND: Row = (
     ],
 );
 
-/// The message in which a byte stands, by its number, and how many events are known before it.
+/// The message in which a byte is, by its number, and how many events are known before it.
 fn message_with(messages: &[(usize, usize)], place: usize) -> (u64, usize) {
     let mut found = (0, 0);
     for (number, (begins, known)) in messages.iter().enumerate() {

@@ -10,7 +10,7 @@ use payload::Mode;
 use refusing::FailingWriter;
 use std::process::Abort;
 
-/// The payloads of two words.
+/// The payloads of two instructions.
 const DIFFERENTIAL: [&[u8]; 4] = [b"\x1f", b"\x73\0\0\0\x20", b"\x0a", b"\x4f"];
 
 const FULL: [&[u8]; 4] = [b"\x1f\x01", b"\x73\0\0\0\x20", b"\x0a\0\0\0\x01", b"\x4f"];

@@ -12,7 +12,7 @@ use refusing::FailingWriter;
 use retire::WriteFault;
 use std::process::Abort;
 
-/// The lines of two harts, each with a log of two words.
+/// The lines of two harts, each with a log of two instructions.
 const DIFFERENTIAL: &[u8] =
     b"0 0 1f\n0 1 7300000020\n0 2 0a\n0 3 4f\n1 0 1f\n1 1 7300000020\n1 2 0a\n1 3 4f\n";
 

@@ -7,9 +7,9 @@ use captures::read_messages;
 use payload::Mode;
 use std::process::Abort;
 
-/// The capture of a log that retires 524,288 words once has 1,026 messages in each mode, and decodes to the log: beside
-/// the packets that open and close the trace, there are 512 synchronisations, an address before each but the first, and
-/// the last address.
+/// The capture of a log that retires 524,288 instructions once has 1,026 messages in each mode, and decodes to the log:
+/// beside the packets that open and close the trace, there are 512 synchronisations, an address before each but the
+/// first, and the last address.
 #[test]
 fn long_logs(rt: HostRuntime) {
     let program = short_words(&rt, 524_288);

@@ -47,7 +47,7 @@ fn prints<R: Abort + AllocGlobal>(rt: &R, program: &Program, log: &[Event], want
     }
 }
 
-/// The words of a program, a log, and what is printed of it.
+/// The instructions of a program, a log, and what is printed of it.
 const LOGS: [(&[u32], &[Step], &str); 10] = [
     (&[], &[], "legal, 0 events"),
     (
@@ -85,7 +85,7 @@ const LOGS: [(&[u32], &[Step], &str); 10] = [
     ),
 ];
 
-/// What `check` returns for a log of the program of these words is this.
+/// What `check` returns for a log of the program of these instructions is this.
 fn prints_of_steps<R: Abort + AllocGlobal>(rt: &R, words: &[u32], steps: &[Step], want: &str) {
     let program = program_of(rt, words);
     let log = log_of(rt, steps);

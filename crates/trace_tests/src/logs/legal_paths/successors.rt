@@ -9,7 +9,7 @@ use std::process::Abort;
 /// C.NOP, in both halves.
 const SHORT_NOPS: u32 = 0x0001_0001;
 
-/// An event of the program of a word leads there.
+/// An event of the program of one instruction leads there.
 fn leads<R: Abort + AllocGlobal>(rt: &R, word: u32, event: Event, want: Next) {
     let program = program_of(rt, &[word]);
     same_at(rt, (word, event), successor(&program, &event), want);

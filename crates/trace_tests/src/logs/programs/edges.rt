@@ -1,4 +1,4 @@
-//! What stands at the edges of images, and of the addresses.
+//! What is at the edges of images, and of the addresses.
 
 use super::stands;
 use crate::fixtures::BASE;
@@ -17,7 +17,7 @@ const JUMP_ON: &[u8] = &[0x6f, 0, 0x80, 0];
 
 const BRANCH_BACK: &[u8] = &[0xe3, 0x0e, 0x00, 0xfe];
 
-/// A name, a base, an image, an address, and what stands there.
+/// A name, a base, an image, an address, and what is there.
 type Edge = (&'static str, u64, &'static [u8], u64, Option<(Class, u8)>);
 
 const EDGES: [Edge; 22] = [

@@ -1,10 +1,10 @@
-//! The class of each kind of word, and of words that differ in one bit of an offset.
+//! The class of each kind of instruction, and of instructions that differ in one bit of an offset.
 
 use super::stands;
 use crate::fixtures::BASE;
 use rvclass::{Class, Return};
 
-/// A name, a word, its length in bytes and its class at the base.
+/// A name, an instruction, its length in bytes and its class at the base.
 type Row = (&'static str, u32, u8, Class);
 
 const WORDS: [Row; 90] = [
@@ -273,7 +273,7 @@ const WORDS: [Row; 90] = [
     ),
 ];
 
-/// Each word of 16 or 32 bits, alone in an image at the base, has the class and the length of its row.
+/// Each instruction of 16 or 32 bits, alone in an image at the base, has the class and the length of its row.
 #[test]
 fn each_word_alone(rt: HostRuntime) {
     for (name, word, length, class) in &WORDS {

@@ -56,7 +56,7 @@ pub(super) fn is_read<R: Abort + AllocGlobal>(rt: &R, place: &str, text: &[u8], 
     );
 }
 
-/// A row behind the header, and how it is read.
+/// A row after the header, and how it is read.
 const ROWS: [(&str, Result<Event, LogFault>); 42] = [
     (ROW, Ok(RETIRED)),
     ("80000000,0,3,,\r", Ok(RETIRED)),
@@ -102,7 +102,7 @@ const ROWS: [(&str, Result<Event, LogFault>); 42] = [
     ("80000000,2,3,7,1", Err(LogFault::InterruptValue(1))),
 ];
 
-/// A row behind the header is read so.
+/// A row after the header is read so.
 fn is_row<R: Abort + AllocGlobal>(rt: &R, row: &str, want: Result<Event, LogFault>) {
     let text = text_of_rows(rt, row, 1);
     let want = match want {
