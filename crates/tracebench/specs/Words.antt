@@ -1,4 +1,4 @@
--- How what the words ask for is carried out.
+-- How what the arguments ask for is carried out.
 use Rattle.std.specs.Prelude.{◌≡◌, ℕ, List, Option, Result, Ok, Err, IfSome}
 use Rattle.cli.specs.Asking.{WordsAsk}
 use Rattle.output.specs.Begun.{AppendsBeginning}
@@ -14,15 +14,15 @@ use Rattle.command_inputs.specs.declared.fault.Fault.TheVariants as fault
 use Rattle.command_inputs.specs.declared.status.Status.{Status}
 use Rattle.subcommands.specs.declared.words.Asked.{Asked}
 
--- Where the run ended at a fault, the fault's line, or a beginning of it, was appended to standard error. Else standard
+-- Where the run ended at a fault, the fault's line, or a prefix of it, was appended to standard error. Else standard
 -- error was left alone.
 abbrev pub ReportsFault : {E : Type 0} → (E → Option (List ℕ)) → Result Status Fault → E → E → Type 0
 ReportsFault contents (Ok status) old new = new ≡ old
 ReportsFault contents (Err why) old new = AppendsBeginning (error_line why) (contents old) (contents new)
 
--- What is asked was carried out, and this is its status. A fault that is found before any file is the end. The text is
--- that of what is asked, or a beginning of it where memory was refused or the output failed. A fault was reported on
--- standard error.
+-- What is asked was carried out, and this is its status. A fault that is found before any file is read ends the run.
+-- The text is that of what is asked, or a prefix of it where memory was refused or the output failed. A fault was
+-- reported on standard error.
 pub record IsDone {E : Type 0} (content : Content) (asked : Asked) (status : Status)
     (out_old out_new : Option (List ℕ)) (contents : E → Option (List ℕ)) (err_old err_new : E) : Type 0 where
   pub ended : Result Status Fault
@@ -33,7 +33,7 @@ pub record IsDone {E : Type 0} (content : Content) (asked : Asked) (status : Sta
   pub cut : IsCutOutput content asked out_old out_new
   pub reported : ReportsFault contents ended err_old err_new
 
--- The words ask for something, and that was carried out, with this exit status.
+-- The arguments ask for something, and that was carried out, with this exit status.
 pub record AreCarriedOut {E : Type 0} (content : Content) (words : List (List ℕ)) (code : ℕ)
     (out_old out_new : Option (List ℕ)) (contents : E → Option (List ℕ)) (err_old err_new : E) : Type 0 where
   pub asked : Asked

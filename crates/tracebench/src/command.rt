@@ -15,15 +15,16 @@ use std::sync::Wait;
 use std::thread::Threads;
 use subcommands::Asked;
 
-/// Does what the words ask for, and returns the exit status. The program's name is the first word. The status is 0
-/// where all is done, 1 where a capture is not good or a log does not come back whole, 2 where the words, the base, the
-/// count of logs, the image, the symbols, a log or the schedule is refused or a log is illegal, and 3 where a file is
-/// not read, the output is not written, memory is refused or there is a stop of `replay` or `bench`.
+/// Does what the arguments ask for, and returns the exit status. The first argument is the program's name. The status
+/// is 0 where all is done; 1 where a capture is not good or a log does not come back complete; 2 where the arguments,
+/// the base, the count of logs, the image, the symbols, a log or the schedule is refused or a log is illegal; and 3
+/// where a file is not read, the output is not written, memory is refused or there is a stop of `replay` or `bench`.
 ///
-/// The first fault is reported on `err`, in the order words, base, count of logs, image, symbols, each log in turn,
-/// schedule, capture. It has one line there, or `clap`'s own text where the words are at fault. Where a write to `err`
-/// fails, the status stays the same. Illegal logs are no fault of `check`, which has a line for each log on `out`. What
-/// reads several logs judges them in threads, `bench` sends each log from a thread, and both wait for them.
+/// The first fault is reported on `err`, in the order arguments, base, count of logs, image, symbols, each log in turn,
+/// schedule, capture. It has one line there, or `clap`'s own text where the arguments are at fault. Where a write to
+/// `err` fails, the status stays the same. Illegal logs are no fault of `check`, which has a line for each log on
+/// `out`. A subcommand that reads several logs checks them in threads. `bench` sends each log from a thread. Both wait
+/// for their threads.
 pub fn command<F: Files, O: Write, E: Write, R: Threads + Wait + Sync>(
     alloc: Global,
     rt: &R,
@@ -33,15 +34,16 @@ pub fn command<F: Files, O: Write, E: Write, R: Threads + Wait + Sync>(
     err: &mut E,
 ) -> u8
     ensures statuses { result ≤ 3 }
-    // Where `clap` refuses the words, nothing is written, and the status is 2, or 3 for want of memory.
+    // Where `clap` refuses the arguments, nothing is written to `out`, and the status is 2, or 3 where memory is
+    // refused.
     ensures words { AreRefused (map string_bytes words.now) → (out.new ≡ out.old) × ((result ≡ 2)
         ⊎ ((result ≡ 3) × ReportsFault E.contents (Err Fault.Memory) err.old err.new)) }
     // Where the input is refused, nothing is written, but for the lines of `check`.
     ensures refused { AskNoCheck (map string_bytes words.now) → result ≡ 2 → out.new ≡ out.old }
     // Where all is done, nothing is written to `err`.
     ensures quiet { result ≡ 0 → err.new ≡ err.old }
-    // Where `clap` does not refuse the words, what they ask for is carried out on what is known of the files, unless
-    // memory for the words themselves is refused.
+    // Where `clap` does not refuse the arguments, what they ask for is carried out on what is known of the files,
+    // unless memory for the arguments themselves is refused.
     ensures printed { AreRefused (map string_bytes words.now)
         ⊎ (((result ≡ 3) × (out.new ≡ out.old) × ReportsFault E.contents (Err Fault.Memory) err.old err.new)
         ⊎ AreCarriedOut (F.content files.old) (map string_bytes words.now) result (O.contents out.old)

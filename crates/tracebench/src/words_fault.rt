@@ -1,4 +1,4 @@
-//! The error of words that ask for nothing.
+//! The error of arguments that ask for nothing.
 
 ghost use Rattle.std.specs.Prelude.{◌≡◌, ◌≢◌, Err};
 ghost use Rattle.cli.specs.Errors.{kind_of};
@@ -8,8 +8,8 @@ use cli::{Error, ErrorKind};
 use commands::{Fault, Status, report_error};
 use std::io::Write;
 
-/// Reports why words ask for nothing, by `clap`'s own text, and returns how the command ends. Where memory was refused,
-/// the line of that fault is written instead.
+/// Reports why arguments ask for nothing, by `clap`'s own text, and returns how the command ends. Where memory was
+/// refused, the line of that fault is written instead.
 pub(crate) fn report_words_error<E: Write>(err: &mut E, error: &Error) -> Status
     ensures memory { kind_of error.now ≡ ErrorKind.OutOfMemory → result ≡ Status.Machine }
     ensures line { kind_of error.now ≡ ErrorKind.OutOfMemory

@@ -9,7 +9,7 @@ use std::process::Abort;
 use std::sync::Wait;
 use std::thread::Threads;
 
-/// A line of words for each subcommand. The first file of each is `image.bin`.
+/// A line of arguments for each subcommand. The first file of each is `image.bin`.
 pub(crate) const LINES: [&str; 8] = [
     "tracebench check --base 80000000 image.bin log.csv",
     "tracebench encode --base 80000000 image.bin log.csv",
@@ -21,7 +21,7 @@ pub(crate) const LINES: [&str; 8] = [
     "tracebench salvage --base 80000000 image.bin log.capture",
 ];
 
-/// Runs the program of these words where there is no file: whatever they ask for, it is not done.
+/// Runs the program with these arguments where there is no file: whatever they ask for, it is not done.
 fn run_over_none<R: AllocGlobal + Threads + Wait + Sync>(
     rt: &R,
     words: &[String],
@@ -37,7 +37,7 @@ fn run_over_none<R: AllocGlobal + Threads + Wait + Sync>(
 /// What is reported where `image.bin` is not there.
 const REPORTED: &[u8] = b"tracebench: image.bin: cannot be read\n";
 
-/// Where there is no file, the run of a line of words ends at `image.bin`.
+/// Where there is no file, the run of a line of arguments ends at `image.bin`.
 pub(crate) fn ends_without_files<R: Abort + AllocGlobal + Threads + Wait + Sync>(
     rt: &R,
     line: &str,

@@ -1,6 +1,6 @@
 //! Captures to logs.
 
-/// Captures without a header and behind one, refused messages, many harts.
+/// Captures without a header and with one, refused messages, many harts.
 pub(crate) const TEXT: &str = r"
 # Small captures, each without a header and behind one. The header's count of harts holds, and not the one that is asked
 # for.

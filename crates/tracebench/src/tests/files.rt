@@ -62,7 +62,7 @@ impl Shelf {
         self.append(rt, copy.as_slice());
     }
 
-    /// The bytes that a path `NAME:COUNT` stands for.
+    /// The bytes that a path `NAME:COUNT` means.
     fn beginning(&self, path: &str) -> Option<&[u8]> {
         let (name, count) = path.split_once(':')?;
         let count = count.parse().ok()?;

@@ -35,8 +35,8 @@ const LINES: [(&str, usize); 5] = [
 /// What is reported of the first log.
 const REPORTED: &[u8] = b"tracebench: bad.csv: wrong header\n";
 
-/// Where the first log ends the run, as many logs were read as the machine has processors: so many are held at once. Of
-/// those behind them none was read.
+/// Where the first log ends the run, as many logs were read as the machine has processors: so many are held at once.
+/// None of those after them was read.
 pub(super) fn are_small<R: Abort + AllocGlobal + Threads + Wait + Sync>(rt: &R) {
     let many = processors(rt);
     let mut shelf = Shelf::new(rt.alloc());

@@ -96,7 +96,7 @@ $ tracebench check --base 80000000 --explain tail.bin type.csv next.csv privileg
 ? 2
 "#;
 
-/// Captures of more than 65,536 messages, and of fewer messages that stand for more than 65,536 events.
+/// Captures of more than 65,536 messages, and of fewer messages that report more than 65,536 events.
 pub(crate) const CAPTURES: &str = r"
 # A branch to itself that is taken 70,000 times, where each retirement gives a synchronisation.
 file branch.bin

@@ -1,6 +1,6 @@
 //! Captures to listings: what each message says and does.
 
-/// Captures with every kind of packet, of several harts, refused and cut, without a header and behind one.
+/// Captures with every kind of packet, of several harts, refused and cut, without a header and with one.
 pub(crate) const TEXT: &str = r"
 # A small capture, without a header and behind one. The address packet waits for the closing one.
 file image.bin

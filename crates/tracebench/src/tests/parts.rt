@@ -14,7 +14,7 @@ pub(crate) fn number_of(rt: &impl Abort, text: &str) -> u64 {
     text.parse().expect(rt, "a number")
 }
 
-/// Appends the bytes that pairs of hexadecimal digits are; spaces part them as one likes.
+/// Appends the bytes that pairs of hexadecimal digits are; spaces may be anywhere between them.
 fn add_bytes(rt: &impl Abort, content: &mut Vec<u8>, digits: &str) {
     for word in digits.split_whitespace() {
         for pair in word.as_bytes().chunks(2) {
@@ -25,7 +25,7 @@ fn add_bytes(rt: &impl Abort, content: &mut Vec<u8>, digits: &str) {
     }
 }
 
-/// Appends a message: its hart, its number, and the bytes of its payload behind their count.
+/// Appends a message: its hart, its number, and the bytes of its payload after their count.
 fn add_message(rt: &impl Abort, content: &mut Vec<u8>, text: &str) {
     let mut words = text.split_whitespace();
     let hart = number_of(rt, words.next().expect(rt, "a hart"));
@@ -38,8 +38,7 @@ fn add_message(rt: &impl Abort, content: &mut Vec<u8>, text: &str) {
     add_bytes(rt, content, payload);
 }
 
-/// Appends what a text stands for, by its form: `=` bytes, `~` a message, `<` a file, `+` the text itself, and else a
-/// line.
+/// Appends what a text means, by its form: `=` bytes, `~` a message, `<` a file, `+` the text itself, and else a line.
 fn add_form(rt: &impl Abort, shelf: &Shelf, content: &mut Vec<u8>, form: char, text: &str) {
     match form {
         '=' => add_bytes(rt, content, text),
@@ -53,8 +52,8 @@ fn add_form(rt: &impl Abort, shelf: &Shelf, content: &mut Vec<u8>, form: char, t
     }
 }
 
-/// The text with a number for each `@`; `@{A+S}` stands for the hexadecimal number A, and S more for each number from 0
-/// on, with eight digits at least.
+/// The text with a number for each `@`; `@{A+S}` is the hexadecimal number A, and S more for each number from 0 on,
+/// with eight digits at least.
 fn numbered<R: Abort + AllocGlobal>(rt: &R, text: &str, number: u64) -> String {
     let mut whole = String::new(rt.alloc());
     for (i, part) in text.split('@').enumerate() {
@@ -67,7 +66,7 @@ fn numbered<R: Abort + AllocGlobal>(rt: &R, text: &str, number: u64) -> String {
     whole
 }
 
-/// Appends the number that stands before a part of a text, and the part without its step.
+/// Appends the number before a part of a text, and the part without its step.
 fn push_numbered(rt: &impl Abort, whole: &mut String, part: &str, number: u64) {
     match part.strip_prefix('{') {
         Some(rest) => {
@@ -91,7 +90,7 @@ pub(crate) fn push<D: Display + Drop>(rt: &impl Abort, text: &mut String, value:
     write!(text, "{value}").expect(rt, "memory");
 }
 
-/// Appends what a text stands for at each of the times from the first to before the end, in lines that `\n` parts.
+/// Appends what a text means at each of the times from the first to before the end, in lines that `\n` separates.
 fn add_times<R: Abort + AllocGlobal>(
     rt: &R,
     shelf: &Shelf,
@@ -107,14 +106,14 @@ fn add_times<R: Abort + AllocGlobal>(
     }
 }
 
-/// The first and last number of a range such as `1..11}`, and the text behind it.
+/// The first and last number of a range such as `1..11}`, and the text after it.
 pub(crate) fn range_at<'a>(rt: &impl Abort, text: &'a str) -> (u64, u64, &'a str) {
     let (first, rest) = text.split_once("..").expect(rt, "a range");
     let (last, rest) = rest.split_once('}').expect(rt, "a range");
     (number_of(rt, first), number_of(rt, last), rest)
 }
 
-/// The times that a text begins with, as a count or a range: the first, the end behind the last, and the text behind
+/// The times that a text begins with, as a count or a range: the first, the number after the last, and the text after
 /// them.
 fn times_at<'a>(rt: &impl Abort, text: &'a str) -> (u64, u64, &'a str) {
     if let Some(range) = text.strip_prefix('{') {
@@ -128,14 +127,14 @@ fn times_at<'a>(rt: &impl Abort, text: &'a str) -> (u64, u64, &'a str) {
     (0, number_of(rt, count), rest)
 }
 
-/// The form of a line, and the text behind it, which a space may part from it.
+/// The form of a line, and the text after it, which a space may separate from it.
 fn form_at(line: &str) -> (char, &str) {
     let form = line.chars().next().unwrap_or(' ');
     let text = line.strip_prefix(['=', '~', '<', '+']).unwrap_or(line);
     (form, text.strip_prefix(' ').unwrap_or(text))
 }
 
-/// Appends what a line stands for: a form and a text, or `*`, the times that they are meant, and both.
+/// Appends what a line means: a form and a text, or `*`, the times that they are meant, and both.
 pub(crate) fn add_line<R: Abort + AllocGlobal>(
     rt: &R,
     shelf: &Shelf,

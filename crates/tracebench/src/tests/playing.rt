@@ -1,4 +1,4 @@
-//! Runs of a transcript, and what has to come of them.
+//! Runs of a transcript, and the results that they must have.
 
 use super::files::Shelf;
 use super::parts::{number_of, push, range_at};
@@ -23,7 +23,7 @@ pub(crate) enum Way {
 /// A run, and what it has to print and report.
 #[derive(Drop)]
 pub(crate) struct Run {
-    /// `$` or `%`, and words; nothing where no run is meant.
+    /// `$` or `%`, and arguments; nothing where no run is meant.
     line: &'static str,
     pub(crate) status: u64,
     pub(crate) written: Vec<u8>,
@@ -94,7 +94,7 @@ impl Write for FailsAt {
     }
 }
 
-/// Ends the test where this did not come of a run: a status, what is printed and what is reported.
+/// Ends the test where this is not the result of a run: a status, what is printed and what is reported.
 pub(crate) fn ends(
     rt: &impl Abort,
     (line, call): (&str, usize),
@@ -110,7 +110,7 @@ pub(crate) fn ends(
     );
 }
 
-/// Adds a word, with this number for a range in braces.
+/// Adds an argument, with this number for a range in braces.
 fn add_word<R: Abort + AllocGlobal>(rt: &R, words: &mut Vec<String>, word: &str, number: u64) {
     let mut text = String::new(rt.alloc());
     match word.split_once('{') {
@@ -123,7 +123,7 @@ fn add_word<R: Abort + AllocGlobal>(rt: &R, words: &mut Vec<String>, word: &str,
     words.push(text).expect(rt, "memory");
 }
 
-/// The words of a line, with this number for a range in braces; `COUNT*WORD` repeats a word.
+/// The arguments of a line, with this number for a range in braces; `COUNT*WORD` repeats an argument.
 pub(crate) fn words_of<R: Abort + AllocGlobal>(rt: &R, line: &str, number: u64) -> Vec<String> {
     let mut words = Vec::new(rt.alloc());
     for word in line.split_whitespace() {
@@ -149,14 +149,14 @@ fn range_of(rt: &impl Abort, line: &str) -> (u64, u64) {
     }
 }
 
-/// Adds to the shelf the beginnings of files that words ask for.
+/// Adds to the shelf the prefixes of files that arguments ask for.
 fn cut_files(rt: &impl Abort, shelf: &mut Shelf, words: &[String]) {
     for word in words {
         shelf.cut(rt, word.as_str());
     }
 }
 
-/// The run comes to what has to come of it.
+/// The run has the result that it must have.
 pub(crate) fn is_played<R: Abort + AllocGlobal + Threads + Wait + Sync>(
     rt: &R,
     shelf: &mut Shelf,
@@ -179,7 +179,7 @@ pub(crate) fn is_played<R: Abort + AllocGlobal + Threads + Wait + Sync>(
     }
 }
 
-/// The words ask for what is printed, or they are refused with what is reported.
+/// The arguments ask for what is printed, or they are refused with what is reported.
 fn is_asked<R: Abort + AllocGlobal>(rt: &R, words: &[String], run: &Run) {
     let mut out = String::new(rt.alloc());
     let mut err = String::new(rt.alloc());
@@ -203,7 +203,7 @@ fn times(path: &str, paths: &[String]) -> usize {
     times
 }
 
-/// No path was read more often than the words name it.
+/// No path was read more often than the arguments name it.
 fn none_is_read_again(rt: &impl Abort, shelf: &Shelf, words: &[String], line: &str) {
     let read = shelf.read.as_slice();
     let mut last = "";
@@ -219,7 +219,7 @@ fn none_is_read_again(rt: &impl Abort, shelf: &Shelf, words: &[String], line: &s
     }
 }
 
-/// Each file was read as often as the words name it.
+/// Each file was read as often as the arguments name it.
 fn all_are_read(rt: &impl Abort, shelf: &Shelf, words: &[String], line: &str) {
     let read = shelf.read.as_slice();
     let mut last = "";
@@ -235,7 +235,7 @@ fn all_are_read(rt: &impl Abort, shelf: &Shelf, words: &[String], line: &str) {
     }
 }
 
-/// The run comes to what has to come of it, and to the same where what it reports is not taken.
+/// The run has the result that it must have, also where what it reports is not taken.
 fn is_run<R: Abort + AllocGlobal + Threads + Wait + Sync>(
     rt: &R,
     shelf: &mut Shelf,
@@ -291,8 +291,8 @@ fn line_fails_at<R: Abort + AllocGlobal + Threads + Wait + Sync>(
 /// What is reported where the output fails.
 const FAILED: &[u8] = b"tracebench: output cannot be written\n";
 
-/// The output fails at each of its calls in turn, at each byte's and at that of the flush behind them: what was printed
-/// is the beginning of the text. The standard error fails at each of its calls; an interrupted write is made again.
+/// The output fails at each of its calls in turn, at each byte's and at that of the flush after them: what was printed
+/// is a prefix of the text. The standard error fails at each of its calls; an interrupted write is made again.
 fn fails_at_each_call<R: Abort + AllocGlobal + Threads + Wait + Sync>(
     rt: &R,
     shelf: &mut Shelf,

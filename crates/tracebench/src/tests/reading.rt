@@ -4,19 +4,20 @@
 //!
 //! - `#`: a remark; so is a line with nothing in it;
 //! - `file NAME`: a file, which holds what the lines that begin with `|` add to it;
-//! - `$`: a run of the program with these words, or `%`: the request that they are, as it is displayed for debugging;
+//! - `$`: a run of the program with these arguments, or `%`: the request that they are, as it is displayed for
+//!   debugging;
 //! - `>`: what is printed, `!`: what is reported, and `?`: the exit status where it is not 0.
 //!
-//! Behind `|`, `>` and `!` stands a text; or `=` and bytes in hexadecimal; or `~` and a message, as its hart, its
-//! number and its payload; or `<` and a file's name, for what that file holds; or `+` and a text without an end of
-//! line. `*` and a count before these repeat them that often, in lines that `\n` parts; each `@` then stands for the
-//! number of the repetition, from 0 on. `*{A..B}` numbers them from A to B instead. `@{A+S}` stands for the hexadecimal
-//! number A at number 0, and for S more at each further number, with eight digits at least.
+//! After `|`, `>` and `!` comes a text; or `=` and bytes in hexadecimal; or `~` and a message, as its hart, its number
+//! and its payload; or `<` and a file's name, for what that file holds; or `+` and a text without an end of line. `*`
+//! and a count before these repeat them that often, in lines that `\n` separates; each `@` is then the number of the
+//! repetition, from 0 on. `*{A..B}` numbers them from A to B instead. `@{A+S}` is the hexadecimal number A at number 0,
+//! and S more at each further number, with eight digits at least.
 //!
-//! Among the words of a run, `COUNT*WORD` repeats a word, `{A..B}` stands for a run with each number from A to B,
+//! Among the arguments of a run, `COUNT*WORD` repeats an argument, `{A..B}` means a run with each number from A to B,
 //! `NAME:COUNT` names a file's first bytes, and `full` names a file that memory is refused for. A file takes the place
 //! of one that had its name before. Each run is played once more with a standard error that fails. No run reads a file
-//! more often than its words name it, and one of status 0 or 1 reads each as often. A request has no status.
+//! more often than its arguments name it, and one of status 0 or 1 reads each as often. A request has no status.
 
 use super::files::Shelf;
 use super::parts::{add_line, number_of};

@@ -23,9 +23,9 @@ const TIMES: usize = 35_000;
 struct Large {
     alloc: Global,
     log: Vec<u8>,
-    /// Memory is refused for so many of the next that are read into rooms.
+    /// Memory is refused for so many of the next logs that are read into buffers.
     refused: usize,
-    /// The logs that were read as they come, and those that were read into rooms.
+    /// The logs that were read as they come, and those that were read into buffers.
     read: (usize, usize),
 }
 
@@ -77,7 +77,7 @@ impl Files for Large {
     }
 }
 
-/// Three logs are legal, and so many of them were read as they come and into rooms.
+/// Three logs are legal, and so many of them were read as they come and into buffers.
 fn are_read<R: Abort + AllocGlobal + Threads + Wait + Sync>(
     rt: &R,
     refused: usize,
@@ -110,8 +110,8 @@ pub(super) fn processors<R: Threads>(rt: &R) -> usize {
     }
 }
 
-/// Rooms are taken for the logs behind the first of those that are judged together, but where memory is refused for one
-/// that is read into its room, or where a size is not known.
+/// Buffers are taken for the logs after the first of those that are checked together, but where memory is refused for
+/// one that is read into its buffer, or where a size is not known.
 pub(super) fn are_taken<R: Abort + AllocGlobal + Threads + Wait + Sync>(rt: &R) {
     let taken = match processors(rt) {
         1 => (3, 0),

@@ -1,6 +1,6 @@
 //! What the period, the order and the count of logs, the version and the mode change.
 
-/// Runs of the subcommands that take logs, over a few words `nop`.
+/// Runs of the subcommands that take logs, over a few instructions `nop`.
 pub(crate) const TEXT: &str = r"
 # Every second retirement gives a synchronisation, or each does, or only the first.
 file image.bin

@@ -1,6 +1,6 @@
-//! What words ask for, and what is reported of words that ask for nothing.
+//! What arguments ask for, and what is reported of arguments that ask for nothing.
 
-/// Each line of words with the request, or with `clap`'s text.
+/// Each line of arguments with the request, or with `clap`'s text.
 pub(crate) const TEXT: &str = r#"
 # No subcommand, and one that does not exist.
 % tracebench
