@@ -65,7 +65,7 @@ pub record HasNoSender (sent : List ℕ) (hart : ℕ) : Type 0 where
   pub is_sent : IsSent sent header was_sent
   pub past : harts_of header was_sent ≤ hart
 
--- What comes of an audit of a hart: what became of its messages; or SENT is refused, for this reason, or has no such
+-- The result of an audit of a hart: what became of its messages; or SENT is refused, for this reason, or has no such
 -- hart; or memory was refused.
 abbrev pub IsHartAudited : List ℕ → List ℕ → ℕ → Result HartAudited AuditFault → Type 0
 IsHartAudited sent received hart (Ok found) = IsAudited sent received hart found.tally found.end

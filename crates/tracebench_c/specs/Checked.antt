@@ -23,7 +23,7 @@ abbrev pub IsNoLog : ℕ → List ℕ → List ℕ → LogFault → Type 0
 IsNoLog base image text why =
     (program : Image) × (program_of base image ≡ Ok program) × (log_of_records (records_of text) ≡ Err why)
 
--- What comes of an image and the text of a log: a legal log of so many events, or the first fault; or memory was
+-- The result for an image and the text of a log: a legal log of so many events, or the first fault; or memory was
 -- refused.
 abbrev pub IsChecked : ℕ → List ℕ → List ℕ → Result ℕ Fault → Type 0
 IsChecked base image text (Ok count) =
@@ -44,7 +44,7 @@ abbrev pub IsReported : Result ℕ Fault → ℕ → ℕ → Type 0
 IsReported (Ok count) status row = (status ≡ DONE) × (row ≡ count)
 IsReported (Err fault) status row = (status ≡ fault_status fault) × (row ≡ fault_row fault)
 
--- A log was checked, and it was reported what came of it.
+-- A log was checked, and the result was reported.
 abbrev pub ReportsCheck : ℕ → List ℕ → List ℕ → ℕ → ℕ → Type 0
 ReportsCheck base image text status row =
     (checked : Result ℕ Fault) × IsChecked base image text checked × IsReported checked status row

@@ -71,8 +71,8 @@ pub record HasNoHart (base : ℕ) (image : List ℕ) (harts : ℕ) (capture : Li
   pub decodes : Decodes base image harts capture lists closed stop
   pub past : length lists ≤ hart
 
--- What comes of a capture and a hart: the text of its log and how decoding ends; or there is no such hart, or the image
--- makes no program; or memory was refused.
+-- The result for a capture and a hart: the text of its log and how decoding ends; or there is no such hart, or the
+-- image makes no program; or memory was refused.
 abbrev pub IsHartDecoded : ℕ → List ℕ → ℕ → List ℕ → ℕ → Result HartText Fault → Type 0
 IsHartDecoded base image harts capture hart (Ok found) =
     HasHart base image harts capture hart found.text.items found.end

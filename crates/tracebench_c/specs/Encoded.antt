@@ -129,7 +129,7 @@ IsOutOfRange ends period mode version =
     (mode_of mode ≡ None) ⊎ (version_of version ≡ None) ⊎ (period ≡ 0) ⊎ (length ends ≡ 0)
     ⊎ HasTooManyLogs ends version
 
--- What comes of an image and the texts of logs, in a named mode and version: a capture, or why there is none.
+-- The result for an image and the texts of logs, in a named mode and version: a capture, or why there is none.
 abbrev pub IsMade : ℕ → List ℕ → List ℕ → List ℕ → ℕ → Mode → Version → Result (Vec ℕ Global) (ℕ × Fault) → Type 0
 IsMade base image bytes ends period mode version (Ok capture) =
     IsCaptureOfTexts base image bytes ends period mode version capture.items
@@ -155,7 +155,7 @@ pub data ReportsMade (made : Result (Vec ℕ Global) (ℕ × Fault)) (status wan
       → place ≡ record { log = log; row = fault_row fault } → wanted ≡ wanted_before → new ≡ old
       → ReportsMade made status wanted_before wanted place_before place old new
 
--- The texts of logs were encoded, and it was reported what came of them.
+-- The texts of logs were encoded, and the result was reported.
 abbrev pub ReportsEncode : ℕ → List ℕ → List ℕ → List ℕ → ℕ → ℕ → ℕ → ℕ → ℕ → ℕ → LogPlace → LogPlace → List ℕ → List ℕ
     → Type 0
 ReportsEncode base image bytes ends period mode version status wanted_before wanted place_before place old new =

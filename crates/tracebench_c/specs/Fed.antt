@@ -28,8 +28,8 @@ use Rattle.tracebench_c.specs.declared.feeding.FeedFault.{FeedFault}
 use Rattle.tracebench_c.specs.declared.feeding.FeedFault.TheVariants.{State, Payload, Image as NoImage, Decode}
 use Rattle.tracebench_c.specs.declared.status.TheConstants.{BAD_STATE, DONE}
 
--- Where the numbers before stand for packets and a log, those after stand for one packet more, and for the log with
--- these events behind it.
+-- If the numbers before stand for packets and a log, those after stand for one packet more, and for the log with these
+-- events added.
 abbrev pub GoesOn : Words → Packet → DecoderNumbers → DecoderNumbers → List Event → Type 0
 GoesOn words packet before after events =
     (packets : List Packet) (log : List Event) → NumbersStand words packets log before
@@ -56,8 +56,8 @@ pub record PassesOn (words : Words) (packet : Packet) (before after : DecoderNum
     pub begins : (mode : Mode) → PassOver mode before → IsSync packet
         → NumbersStand words (open_packet mode ∷ packet ∷ []) events after
 
--- The payload is that of a packet, which the decoder with these numbers took: behind it it has those numbers, and these
--- events were added, of which there are no more than so many.
+-- The payload is that of a packet, which the decoder with these numbers took: after it the decoder has those numbers,
+-- and these events were added, at most 64 for each two bytes of the image and two more.
 pub record TakesPayload (base : ℕ) (image payload : List ℕ) (before after : DecoderNumbers) (events : List Event)
     : Type 0 where
   pub program : Image
@@ -70,9 +70,9 @@ pub record TakesPayload (base : ℕ) (image payload : List ℕ) (before after : 
   pub passes : PassesOn (words_of program) packet before after events
   pub short : length events ≤ 64 * (length image / 2) + 2
 
--- Where the numbers stand for packets, those and this packet describe no log, unless memory was refused. The fault is
--- AfterClose exactly where the last of the packets closed the trace. It is NotOpened exactly where there are no packets
--- and this one opens no trace.
+-- If the numbers stand for packets, those and this packet describe no log, unless memory was refused. The fault is
+-- AfterClose if and only if the last of the packets closed the trace. It is NotOpened if and only if there are no
+-- packets and this one opens no trace.
 pub record Refuses (words : Words) (packet : Packet) (numbers : DecoderNumbers) (why : DecodeFault) : Type 0 where
   pub none : (packets : List Packet) (log : List Event) → NumbersStand words packets log numbers
       → (why ≡ decode.Memory) ⊎ ((other : List Event) → ¬ Describes words (packets ++ packet ∷ []) other)
@@ -81,7 +81,7 @@ pub record Refuses (words : Words) (packet : Packet) (numbers : DecoderNumbers) 
   pub not_opened : (packets : List Packet) (log : List Event) → NumbersStand words packets log numbers
       → (why ≡ decode.NotOpened) ↔ ((packets ≡ []) × ¬ IsOpen packet)
 
--- The fault is AfterClose exactly where the numbers say that the trace was closed. A decoder that passes over packets
+-- The fault is AfterClose if and only if the numbers say that the trace was closed. A decoder that passes over packets
 -- refuses only a synchronisation. The packet that opens a trace and this one describe no log then, unless memory was
 -- refused, and where it was they describe one. The fault is not NotOpened.
 pub record RefusesByPhase (words : Words) (packet : Packet) (numbers : DecoderNumbers) (why : DecodeFault) : Type 0 where
@@ -104,8 +104,9 @@ pub record RefusesPayload (base : ℕ) (image payload : List ℕ) (numbers : Dec
     pub refuses : Refuses (words_of program) packet numbers why
     pub by_phase : RefusesByPhase (words_of program) packet numbers why
 
--- What comes of a payload that a decoder with these numbers is fed: it took it; or no decoder has these numbers, the
--- payload stands for no packet, the image makes no program or memory was refused, or the decoder refused the packet.
+-- The result of feeding a payload to a decoder with these numbers: it took the payload; or no decoder has these
+-- numbers, the payload is that of no packet, the image makes no program or memory was refused, or the decoder refused
+-- the packet.
 abbrev pub IsFed : ℕ → List ℕ → List ℕ → DecoderNumbers → Result FedPayload FeedFault → Type 0
 IsFed base image payload numbers (Ok fed) = TakesPayload base image payload numbers fed.numbers fed.events.items
 IsFed base image payload numbers (Err State) = ¬ AreOfDecoder numbers

@@ -7,7 +7,8 @@ use Rattle.tracebench_c.specs.Statuses.{pack_status}
 use Rattle.tracebench_c.specs.declared.numbers.PacketNumbers.{PacketNumbers}
 use Rattle.tracebench_c.specs.declared.status.TheConstants.{DONE}
 
--- Bytes stand for this packet, whose numbers are written; or they do not, for this reason, and nothing is written.
+-- Bytes are a payload of this packet, whose numbers are written; or they are no payload, for this reason, and nothing
+-- is written.
 abbrev pub IsUnpacked : Result Packet PackFault → ℕ → PacketNumbers → PacketNumbers → Type 0
 IsUnpacked (Ok packet) status old new = (status ≡ DONE) × (new ≡ numbers_of packet)
 IsUnpacked (Err why) status old new = (status ≡ pack_status why) × (new ≡ old)

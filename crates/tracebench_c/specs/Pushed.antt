@@ -26,22 +26,22 @@ use Rattle.tracebench_c.specs.declared.status.TheConstants.{DONE, TOO_SMALL, OUT
 abbrev pub new_status : ℕ → ℕ → ℕ
 new_status period mode = if (period == 0) || is_none (mode_of mode) then OUT_OF_RANGE else DONE
 
--- The image makes no program, or memory was refused, and the status says so; or the image makes a program, and there
--- was room, or there was too little.
+-- The image makes no program, or memory was refused, and the status says so; or the image makes a program, and the
+-- buffer was large enough, or it was too small.
 abbrev pub EndsByProgram : ℕ → List ℕ → ℕ → Type 0
 EndsByProgram base image status =
     ((fault : Fault) × IsNoProgram base image fault × (status ≡ fault_status fault))
     ⊎ ((program : Image) × (program_of base image ≡ Ok program) × ((status ≡ DONE) ⊎ (status ≡ TOO_SMALL)))
 
--- How a push ends: the state is no encoder's; or it is one's, and the event is none; or all is decided by the image and
--- by the room.
+-- How a push ends: the state is no encoder's; or it is one's, and the event is none; or the image and the size of the
+-- buffer decide.
 abbrev pub EndsPush : ℕ → List ℕ → EncoderNumbers → EventNumbers → ℕ → Type 0
 EndsPush base image state event status =
     ((AreOfEncoder state → ⊥) × (status ≡ BAD_STATE))
     ⊎ (AreOfEncoder state × (AreOfEvent event → ⊥) × (status ≡ NO_EVENT))
     ⊎ (AreOfEncoder state × AreOfEvent event × EndsByProgram base image status)
 
--- How the end of a log ends: the state is no encoder's; or all is decided by the image and by the room.
+-- How a call for the end of a log ends: the state is no encoder's; or the image and the size of the buffer decide.
 abbrev pub EndsFinish : ℕ → List ℕ → EncoderNumbers → ℕ → Type 0
 EndsFinish base image state status =
     ((AreOfEncoder state → ⊥) × (status ≡ BAD_STATE)) ⊎ (AreOfEncoder state × EndsByProgram base image status)
@@ -69,8 +69,8 @@ pub record AreMore (earlier later : List Packet) (status count : ℕ) (old new :
   pub profile : All InProfile more
   pub handed : IsHandedOut (map numbers_of more) status count old new
 
--- Whatever was pushed, the packets that are wanted are two at most. Where all is done they are no more than the buffer
--- has room for, and where it is too small they are more. What is behind them in the buffer stays.
+-- Whatever was pushed, the packets that are wanted are two at most. Where all is done, they fit into the buffer, and
+-- where it is too small, they do not. What is after them in the buffer stays.
 pub record AreFew (status count : ℕ) (old new : List PacketNumbers) : Type 0 where
   pub two : count ≤ 2
   pub fit : status ≡ DONE → count ≤ length old

@@ -20,7 +20,7 @@ pub const PASSING_OVER: u32 = 2;
 /// The trace was closed.
 pub const CLOSED: u32 = 3;
 
-/// All that a decoder remembers, as numbers. A flag is 0 or 1. What a flag says is not there is 0.
+/// All that a decoder remembers, as numbers. A flag is 0 or 1. What a flag says is absent is 0.
 #[repr(C)]
 #[derive(Clone, Copy, PartialEq, Eq)]
 pub struct DecoderNumbers {

@@ -15,10 +15,10 @@ use std::alloc::Global;
 #[repr(C)]
 #[derive(Clone, Copy)]
 pub struct DumpEnd {
-    /// Behind how many messages the text ends before the capture does. It is 0 where `fault` is 0, and at a header that
+    /// After how many messages the text ends before the capture does. It is 0 where `fault` is 0, and at a header that
     /// is cut short or bad.
     pub place: u64,
-    /// Why no message stands there, as a status; 0 where the text ends with the capture.
+    /// Why there is no message, as a status; 0 where the text ends with the capture.
     pub fault: u32,
     /// 1 where the payload of some message is no packet, and else 0.
     pub bad: u32,
@@ -67,7 +67,7 @@ fn end_of(dumped: &Dumped) -> DumpEnd
     }
 }
 
-/// Why no message or header stands there.
+/// Why there is no message or header.
 pub(crate) fn message_status(why: MessageFault) -> u32
     ensures { result ≡ message_status why }
 {

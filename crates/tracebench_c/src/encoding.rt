@@ -33,16 +33,16 @@ pub struct LogPlace {
     pub row: u64,
 }
 
-/// Writes the capture of harts' logs to a buffer, hart 0 first. `logs` holds the texts of the logs, one behind the
-/// other, and `ends` where each ends; what is behind the last end is not looked at. There are 1 to 1,024 logs, in version
-/// 1 at most 64, the period is 1 or more, the mode is [`DIFFERENTIAL`] or [`FULL`], and the version [`VERSION_ONE`] or
-/// [`VERSION_TWO`].
+/// Writes the capture of harts' logs to a buffer, hart 0 first. `logs` holds the texts of the logs, one after the
+/// other, and `ends` where each ends; what is after the last end is not looked at. There are 1 to 1,024 logs, in
+/// version 1 at most 64, the period is 1 or more, the mode is [`DIFFERENTIAL`] or [`FULL`], and the version
+/// [`VERSION_ONE`] or [`VERSION_TWO`].
 ///
 /// The status is [`DONE`](crate::status::DONE), [`TOO_SMALL`](crate::status::TOO_SMALL),
 /// [`OUT_OF_RANGE`](crate::status::OUT_OF_RANGE) where one of these numbers is out of its range,
 /// [`MEMORY`](crate::status::MEMORY), or says what is wrong with the image or with the first log that is no legal log.
-/// [`BAD_ENDS`](crate::status::BAD_ENDS) says that the log's end is before its beginning or past the texts. Where there
-/// is no capture, `place` names the log and its row; both are 0 where no log is at fault.
+/// [`BAD_ENDS`](crate::status::BAD_ENDS) says that the log's end is before its start or past the texts. Where there is
+/// no capture, `place` names the log and its row; both are 0 where no log is at fault.
 #[unsafe(no_mangle)]
 pub extern "C" fn tracebench_encode(
     alloc: Global,

@@ -32,7 +32,7 @@ pub struct FedPayload {
 pub enum FeedFault {
     /// No decoder has these numbers.
     State,
-    /// The payload stands for no packet.
+    /// The payload is that of no packet.
     Payload(PackFault),
     /// The image makes no program, or memory was refused.
     Image(Fault),
@@ -57,9 +57,10 @@ pub extern "C" fn tracebench_decoder(state: &mut DecoderNumbers)
 ///
 /// The status is [`DONE`], or one of these, which leave the numbers and the events as they were:
 ///
-/// - [`TOO_SMALL`](crate::status::TOO_SMALL): the events have no room, and `count` is how many there are.
+/// - [`TOO_SMALL`](crate::status::TOO_SMALL): the buffer is too small for the events, and `count` is how many there
+///   are.
 /// - [`BAD_STATE`]: no decoder has these numbers.
-/// - [`EMPTY`](crate::status::EMPTY) to [`BAD_REPORT`](crate::status::BAD_REPORT): the payload stands for no packet.
+/// - [`EMPTY`](crate::status::EMPTY) to [`BAD_REPORT`](crate::status::BAD_REPORT): the payload is that of no packet.
 /// - [`ODD_BASE`](crate::status::ODD_BASE) to [`PAST_END`](crate::status::PAST_END): the image makes no program.
 /// - [`NOT_OPENED`](crate::status::NOT_OPENED) to
 ///   [`AFTER_CLOSING_PACKET`](crate::status::AFTER_CLOSING_PACKET): the packet does not follow those before.
@@ -96,7 +97,7 @@ fn go_on_if_done(status: u32, state: &mut DecoderNumbers, next: DecoderNumbers)
     }
 }
 
-/// The numbers of the decoder behind a payload, and the events that are added.
+/// The numbers of the decoder after a payload, and the events that are added.
 fn feed_payload(
     alloc: Global,
     base: u64,

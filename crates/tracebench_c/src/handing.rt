@@ -13,8 +13,7 @@ use crate::status::{DONE, TOO_SMALL};
 use payload::Packet;
 use retire::Event;
 
-/// Writes bytes to the beginning of a buffer, and how many they are. Where the buffer is too small, none is written to
-/// it.
+/// Writes bytes to the start of a buffer, and how many they are. Where the buffer is too small, none is written to it.
 pub(crate) fn hand_out(bytes: &[u8], buffer: &mut [u8], wanted: &mut u64) -> u32
     ensures { IsHandedOut bytes.now result wanted.new buffer.old buffer.new }
 {
@@ -26,7 +25,7 @@ pub(crate) fn hand_out(bytes: &[u8], buffer: &mut [u8], wanted: &mut u64) -> u32
     DONE
 }
 
-/// Writes the numbers of packets to the beginning of a buffer, and how many packets there are. Where the buffer is too
+/// Writes the numbers of packets to the start of a buffer, and how many packets there are. Where the buffer is too
 /// small, nothing is written to it.
 pub(crate) fn hand_out_packets(
     given: &[Packet],
@@ -48,8 +47,8 @@ pub(crate) fn hand_out_packets(
     DONE
 }
 
-/// Writes the numbers of events to the beginning of a buffer, and how many events there are. Where the buffer is too
-/// small, nothing is written to it.
+/// Writes the numbers of events to the start of a buffer, and how many events there are. Where the buffer is too small,
+/// nothing is written to it.
 pub(crate) fn hand_out_events(given: &[Event], events: &mut [EventNumbers], count: &mut u64) -> u32
     ensures { IsHandedOut (map numbers_of_event given.now) result count.new events.old events.new }
 {

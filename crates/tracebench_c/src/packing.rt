@@ -38,7 +38,7 @@ pub extern "C" fn tracebench_pack(
     }
 }
 
-/// Writes the numbers of the packet that a payload stands for, whether it is the packet's shortest payload or longer.
+/// Writes the numbers of a payload's packet, whether it is the packet's shortest payload or longer.
 ///
 /// The status is [`DONE`], or else [`EMPTY`], [`TOO_LONG`], [`UNSUPPORTED`], [`BAD_PRIVILEGE`], [`BAD_REPORT`] or
 /// [`BAD_PAD`], which are tested in this order; these write nothing. No memory is taken.

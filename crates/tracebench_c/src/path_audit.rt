@@ -42,10 +42,10 @@ pub struct AuditEnd {
     pub harts: u64,
     /// How many strangers came, of whatever hart.
     pub strangers: u64,
-    /// Behind how many messages RECEIVED stops before its end. It is 0 where `fault` is 0, and at a header that is cut
+    /// After how many messages RECEIVED stops before its end. It is 0 where `fault` is 0, and at a header that is cut
     /// short or bad.
     pub place: u64,
-    /// Why no message stands there, as a status; 0 where RECEIVED comes to its end.
+    /// Why there is no message, as a status; 0 where RECEIVED comes to its end.
     pub fault: u32,
 }
 
@@ -68,8 +68,8 @@ pub enum AuditFault {
 }
 
 /// Audits RECEIVED against SENT, captures in either version, and says what became of the messages of one hart of SENT.
-/// SENT is judged to its end first. Where RECEIVED stops before its end, what stands before that place is
-/// audited. Headers are not compared.
+/// SENT is checked to its end first. Where RECEIVED stops before its end, what comes before that place is audited.
+/// Headers are not compared.
 ///
 /// The status is [`DONE`], [`NO_HART`] where SENT has no hart of this number, [`MEMORY`], or says why SENT is refused:
 /// [`SHORT`], [`BAD_LENGTH`], [`BAD_HEADER`], [`STRANGER`], [`REPEAT`] or [`GAP`].

@@ -57,11 +57,11 @@ pub extern "C" fn tracebench_encoder(
 }
 
 /// Takes the next event of a log, and writes the packets that it makes due, 0 to 2, and how many they are. `state`
-/// stands for the events before, and then for this one too. Whether the log is legal is not looked at:
-/// [`tracebench_check`](crate::tracebench_check) does that, and the packets are those of the log where it is.
+/// holds what the encoder keeps of the events before, and then of this one too. Whether the log is legal is not checked
+/// here, but by [`tracebench_check`](crate::tracebench_check). If it is legal, the packets are those of the log.
 ///
-/// The status is [`DONE`]; or [`TOO_SMALL`](crate::status::TOO_SMALL) where there is too little room for the packets;
-/// or [`BAD_STATE`] where no encoder has this state, [`NO_EVENT`] where no event has these numbers,
+/// The status is [`DONE`]; or [`TOO_SMALL`](crate::status::TOO_SMALL) where the buffer is too small for the packets; or
+/// [`BAD_STATE`] where no encoder has this state, [`NO_EVENT`] where no event has these numbers,
 /// [`MEMORY`](crate::status::MEMORY), or what is wrong with the image; these write nothing. Only the first changes the
 /// state. The image is copied at each call.
 #[unsafe(no_mangle)]
@@ -108,11 +108,11 @@ pub extern "C" fn tracebench_push(
 }
 
 /// Takes the end of a log, and writes the packets that are left, 1 or 2, and how many they are. The last of them closes
-/// the trace. `state` stands for all events of the log, and stays.
+/// the trace. `state` is that after all events of the log, and does not change.
 ///
-/// The status is [`DONE`]; or [`TOO_SMALL`](crate::status::TOO_SMALL) where there is too little room for the packets;
-/// or [`BAD_STATE`] where no encoder has this state, [`MEMORY`](crate::status::MEMORY), or what is wrong with the
-/// image; these write nothing. The image is copied.
+/// The status is [`DONE`]; or [`TOO_SMALL`](crate::status::TOO_SMALL) where the buffer is too small for the packets; or
+/// [`BAD_STATE`] where no encoder has this state, [`MEMORY`](crate::status::MEMORY), or what is wrong with the image;
+/// these write nothing. The image is copied.
 #[unsafe(no_mangle)]
 pub extern "C" fn tracebench_finish(
     alloc: Global,

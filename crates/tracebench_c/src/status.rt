@@ -15,7 +15,7 @@ pub const NO_HART: u32 = 3;
 /// A number is out of its range.
 pub const OUT_OF_RANGE: u32 = 4;
 
-/// A log ends before its beginning, or past the texts.
+/// A log ends before its start, or past the texts.
 pub const BAD_ENDS: u32 = 5;
 
 /// The capture ends inside a message, or inside its header.
@@ -48,7 +48,7 @@ pub const UNSUPPORTED: u32 = 35;
 /// The privilege is 2, the reserved level.
 pub const BAD_PRIVILEGE: u32 = 36;
 
-/// The bits notify, updiscon and irreport stand for no report.
+/// The bits notify, updiscon and irreport have values that no report has.
 pub const BAD_REPORT: u32 = 37;
 
 /// No packet of the profile has these numbers.
@@ -60,7 +60,7 @@ pub const ODD_BASE: u32 = 48;
 /// An image has more than 2^24 bytes.
 pub const TOO_LARGE: u32 = 49;
 
-/// The address behind an image's last byte is 2^64 or more.
+/// The address after an image's last byte is 2^64 or more.
 pub const PAST_END: u32 = 50;
 
 /// The first record of a log is not `addr,itype,priv,cause,tval`, or there is none.
@@ -93,22 +93,22 @@ pub const VALUED_INTERRUPT: u32 = 72;
 /// A log has more than 2^24 rows.
 pub const TOO_MANY_ROWS: u32 = 73;
 
-/// No whole word of the program stands at a retirement's address.
+/// At a retirement's address there is no complete instruction of the program.
 pub const OFF_PROGRAM: u32 = 80;
 
-/// The word at a retirement's address does not retire.
+/// The instruction at a retirement's address does not retire.
 pub const NOT_RETIRABLE: u32 = 81;
 
-/// A retirement's type is not that of its word, or a trap's cause or value is out of range.
+/// A retirement's type is not that of its instruction, or a trap's cause or value is out of range.
 pub const WRONG_TYPE: u32 = 82;
 
-/// A retirement does not stand where the event before leads.
+/// A retirement is not at an address to which the event before leads.
 pub const WRONG_NEXT: u32 = 83;
 
-/// A row's privilege is not one at which its word may retire, or to which the event before leads.
+/// A row's privilege is not one at which its instruction may retire, or to which the event before leads.
 pub const WRONG_PRIVILEGE: u32 = 84;
 
-/// A trap's exception program counter is odd, or not where the event before leads.
+/// A trap's exception program counter is odd, or not an address to which the event before leads.
 pub const WRONG_EPC: u32 = 85;
 
 /// A message is of a hart that is not known.
@@ -120,7 +120,7 @@ pub const REPEAT: u32 = 97;
 /// A message's number is above the one that is expected.
 pub const GAP: u32 = 98;
 
-/// A message stands behind its hart's closing packet.
+/// A message comes after its hart's closing packet.
 pub const AFTER_CLOSE: u32 = 99;
 
 /// A packet opens a trace in another mode than the header's.
@@ -129,25 +129,25 @@ pub const OTHER_MODE: u32 = 100;
 /// Another packet than the one that opens the trace comes first.
 pub const NOT_OPENED: u32 = 112;
 
-/// No whole word that retires stands at an address that is to be retired.
+/// At an address that is to be retired there is no complete instruction that retires.
 pub const WALKS_OFF_PROGRAM: u32 = 113;
 
-/// A walk would go on behind a backward jump that no packet reported.
+/// A walk would go on after a backward jump that no packet reported.
 pub const MISSED_NOTIFY: u32 = 114;
 
-/// Outcomes of branches are missing or left over, or a branch is said to be taken where none stands that is.
+/// Outcomes of branches are missing or left over, or a branch is reported as taken where there is no such branch.
 pub const WRONG_BRANCHES: u32 = 115;
 
-/// A packet does not stand where it may.
+/// A packet comes at a place in the trace where it may not come.
 pub const WRONG_PLACE: u32 = 116;
 
-/// A word does not retire at the privilege, or the event before does not lead to it.
+/// An instruction does not retire at the privilege, or the event before does not lead to that privilege.
 pub const WALKS_AT_WRONG_PRIVILEGE: u32 = 117;
 
-/// A packet stands behind the one that closes the trace.
+/// A packet comes after the one that closes the trace.
 pub const AFTER_CLOSING_PACKET: u32 = 118;
 
-/// The state is none that a call for it gives.
+/// No encoder or decoder has this state.
 pub const BAD_STATE: u32 = 128;
 
 /// No event has these numbers.

@@ -80,7 +80,7 @@ const CAME: [Sent; 17] = [
     (0, 4, b"e"),
 ];
 
-/// Messages behind these bytes.
+/// Messages after these bytes.
 fn capture_of<R: Abort + AllocGlobal>(rt: &R, first: &[u8], messages: &[Sent]) -> Vec<u8> {
     let mut capture = Vec::new(rt.alloc());
     add(rt, &mut capture, first);
@@ -125,7 +125,7 @@ fn paths_are_audited(rt: HostRuntime) {
     }
 }
 
-/// What SENT begins with, its messages, what is behind them, and the status that refuses it.
+/// What SENT begins with, its messages, what is after them, and the status that refuses it.
 type Row = (&'static [u8], &'static [Sent], &'static [u8], u32);
 
 /// The header of a capture of one hart.

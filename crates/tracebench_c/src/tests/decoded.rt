@@ -8,8 +8,8 @@ use super::images::{
 use crate::{DecodeEnd, DumpEnd, tracebench_decode, tracebench_dump};
 use std::process::Abort;
 
-/// What a call for a dump says where there is room for so many bytes: the status, how many are wanted, the buffer, and
-/// how the dump ends: place, fault and bad.
+/// What a call for a dump says with a buffer of so many bytes: the status, how many are wanted, the buffer, and how the
+/// dump ends: place, fault and bad.
 fn dumped<R: Abort + AllocGlobal>(
     rt: &R,
     capture: &[u8],
@@ -44,8 +44,8 @@ fn is_dumped<R: Abort + AllocGlobal>(rt: &R, capture: &[u8], text: &[u8], end: (
     }
 }
 
-/// Messages behind a header of two harts in full-address mode at period 7: their payloads and texts, and what is left
-/// of the capture behind them.
+/// Messages after a header of two harts in full-address mode at period 7: their payloads and texts, and what is left of
+/// the capture after them.
 type Dump = (
     &'static [&'static [u8]],
     &'static [u8],
@@ -118,8 +118,8 @@ fn captures_are_dumped(rt: HostRuntime) {
 /// How decoding ends: harts, place, fault and closed.
 type End = (u64, u64, u32, u32);
 
-/// What a call for a log says where there is room for so many bytes: the status, how many are wanted, the buffer, and
-/// how decoding ends.
+/// What a call for a log says with a buffer of so many bytes: the status, how many are wanted, the buffer, and how
+/// decoding ends.
 fn decoded<R: Abort + AllocGlobal>(
     rt: &R,
     (base, image): (u64, &[u8]),
@@ -192,7 +192,7 @@ fn is_refused<R: Abort + AllocGlobal>(
     );
 }
 
-/// Two words, and two words with a return to the second of them.
+/// Two instructions, and two instructions with a return to the second of them.
 const PLAIN: &[&[u8]] = &[b"\x1f", b"\x73\0\0\0\x20", b"\x0a", b"\x4f"];
 
 const RETURNS: &[&[u8]] = &[b"\x1f", b"\x73\0\0\0\x20", b"\x0a", b"\xcf\0"];
@@ -236,7 +236,7 @@ fn captures_are_decoded(rt: HostRuntime) {
     is_refused(&rt, (u64::MAX - 1, &[1, 0]), &two, (2, 1), 50);
 }
 
-/// The words of a program, what stands behind the first two of the messages of a plain log, the rows that are decoded,
+/// The instructions of a program, what follows the first two of the messages of a plain log, the rows that are decoded,
 /// and where and why decoding stops.
 type Stop = (&'static [u32], &'static [Sent], &'static [u8], u64, u32);
 

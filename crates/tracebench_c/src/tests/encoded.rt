@@ -8,10 +8,10 @@ use crate::{LogPlace, tracebench_check, tracebench_encode};
 use std::alloc::Global;
 use std::process::Abort;
 
-/// The words of a program, the rows of a log, the status, and the row that is named or the count.
+/// The instructions of a program, the rows of a log, the status, and the row that is named or the count.
 type Row = (&'static [u32], &'static [u8], u32, u64);
 
-/// Two words, a return to the second of them.
+/// Two instructions, a return to the second of them.
 const RETURNS: &[u8] = b"80000000,0,3,,\n80000004,0,3,,\n80000008,6,3,,\n80000004,0,3,,\n";
 
 const CHECKED: [Row; 20] = [
@@ -98,8 +98,8 @@ fn logs_are_checked(rt: HostRuntime) {
 /// What is asked for besides the logs: the period, the mode and the version.
 type Asked = (u16, u32, u32);
 
-/// What a call for a capture says where there is room for so many bytes: the status, how many are wanted, the log and
-/// the row that are named, and the buffer.
+/// What a call for a capture says with a buffer of so many bytes: the status, how many are wanted, the log and the row
+/// that are named, and the buffer.
 fn encoded<R: Abort + AllocGlobal>(
     rt: &R,
     (base, image): (u64, &[u8]),
@@ -129,7 +129,7 @@ fn encoded<R: Abort + AllocGlobal>(
 /// What is asked for, and the payloads of each of two logs.
 type Coded = (Asked, &'static [&'static [u8]], &'static [&'static [u8]]);
 
-/// Two words, and a branch to itself that is taken three times.
+/// Two instructions, and a branch to itself that is taken three times.
 const TWO_LOGS: (&[u8], &[u8]) = (
     b"80000000,0,3,,\n80000004,0,3,,\n",
     b"8000000c,5,3,,\n8000000c,5,3,,\n8000000c,5,3,,\n",
@@ -204,7 +204,7 @@ fn capture_of<R: Abort + AllocGlobal>(rt: &R, (asked, first, second): Coded) -> 
     capture
 }
 
-/// The texts of two logs, one behind the other, and where each ends.
+/// The texts of two logs, one after the other, and where each ends.
 fn texts_of<R: Abort + AllocGlobal>(rt: &R, first: &[u8], second: &[u8]) -> (Vec<u8>, [u64; 2]) {
     let mut logs = text_of(rt, first);
     let end = logs.len() as u64;

@@ -17,7 +17,7 @@ pub(super) const FIRST: EventRow = (0, [0, 3, 0, 0], BASE, 0);
 /// An event, how many packets it makes due and the one, or what was there before, and the state then.
 pub(super) type Push = (EventRow, u64, PacketRow, EncoderRow);
 
-/// A log: the words of its program, the period, the mode, its events, and the packets that are left at its end.
+/// A log: the instructions of its program, the period, the mode, its events, and the packets that are left at its end.
 pub(super) type Log = (
     &'static [u32],
     u16,
@@ -26,7 +26,7 @@ pub(super) type Log = (
     (u64, [PacketRow; 2]),
 );
 
-/// Two words, a return to the second of them.
+/// Two instructions, a return to the second of them.
 pub(super) const RETURNS: Log = (
     &WORDS,
     1024,
@@ -131,7 +131,7 @@ pub(super) const HANDLED: Log = (
     (1, [ENDED_NTR, BEFORE]),
 );
 
-/// An exception behind a jump to where no program is, and an interrupt at another privilege.
+/// An exception after a jump to where no program is, and an interrupt at another privilege.
 pub(super) const TRAPS: Log = (
     &[RET, NOP],
     1024,

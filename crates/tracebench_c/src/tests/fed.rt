@@ -20,7 +20,7 @@ fn decoders_begin(rt: HostRuntime) {
     agree(&rt, "new", row_of_decoder(&state), NO_DECODER);
 }
 
-/// What a call says where there is room for so many events: the status, the count, the buffer and the state.
+/// What a call says with a buffer of so many events: the status, the count, the buffer and the state.
 fn fed(
     alloc: Global,
     (base, image): (u64, &[u8]),
@@ -50,8 +50,8 @@ fn fed(
     (status, count, rows, row_of_decoder(&state))
 }
 
-/// Each payload of a trace is taken as its row says, also where there is just room for its events, and is not where
-/// there is less.
+/// Each payload of a trace is taken as its row says, also where the buffer is just large enough for its events, and is
+/// not where it is smaller.
 fn are_fed<R: Abort + AllocGlobal>(rt: &R, image: &[u8], first: DecoderRow, feeds: &[Feed]) {
     let mut state = first;
     let of = (BASE, image);
@@ -111,7 +111,7 @@ const BAD_STATES: [DecoderRow; 14] = [
     ([0, 0, 0, 0, 1, 0, 0, 0], [0, 0], (1, [0, 3, 7, 2], BASE, 0)),
 ];
 
-/// The words of a program, a state, a payload, and the status that refuses it.
+/// The instructions of a program, a state, a payload, and the status that refuses it.
 type Row = (&'static [u32], DecoderRow, &'static [u8], u32);
 
 const REFUSED: [Row; 14] = [
@@ -138,7 +138,7 @@ const REFUSED: [Row; 14] = [
         b"\x1f",
         118,
     ),
-    // A sync where packets are passed over, and no word stands.
+    // A sync where packets are passed over, and there is no instruction.
     (
         &[NOP],
         ([2, 0, 0, 0, 0, 0, 0, 0], [0, 0], NO_EVENT),

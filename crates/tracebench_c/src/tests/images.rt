@@ -35,7 +35,7 @@ pub(super) fn filled<R: Abort + AllocGlobal>(rt: &R, byte: u8, count: usize) -> 
     Vec::from_elem(rt.alloc(), byte, count).expect(rt, "memory")
 }
 
-/// The image of these words.
+/// The image of these instructions.
 pub(super) fn image_of<R: Abort + AllocGlobal>(rt: &R, words: &[u32]) -> Vec<u8> {
     let mut image = Vec::new(rt.alloc());
     for word in words {

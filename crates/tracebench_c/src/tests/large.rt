@@ -173,7 +173,7 @@ fn logs_of<R: Abort + AllocGlobal>(rt: &R) -> (Vec<u8>, Vec<u64>) {
     (logs, ends)
 }
 
-/// The messages of such a log in each of so many harts, behind these bytes.
+/// The messages of such a log in each of so many harts, after these bytes.
 fn many_of<R: Abort + AllocGlobal>(rt: &R, first: &[u8], open: &[u8], harts: u16) -> Vec<u8> {
     let mut capture = Vec::new(rt.alloc());
     add(rt, &mut capture, first);

@@ -120,7 +120,7 @@ fn settles<R: Abort + AllocGlobal>(
     agree(rt, payload, (status, count), (0, settled));
 }
 
-/// The largest image, of words C.NOP.
+/// The largest image, of instructions C.NOP.
 fn largest_image<R: Abort + AllocGlobal>(rt: &R) -> Vec<u8> {
     let mut words = Vec::new(rt.alloc());
     for _ in 0..4_096 {
@@ -133,7 +133,7 @@ fn largest_image<R: Abort + AllocGlobal>(rt: &R) -> Vec<u8> {
     image
 }
 
-/// The events of 70,000 words are settled at once, and each call takes a step in the largest image.
+/// The events of 70,000 instructions are settled at once, and each call takes a step in the largest image.
 #[test]
 fn many_events_at_once(rt: HostRuntime) {
     let image = largest_image(&rt);

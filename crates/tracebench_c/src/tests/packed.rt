@@ -96,7 +96,7 @@ const UNPACKED: [PacketRow; 35] = [
     ([6, 0, 0, 0, 0, 0, 0, 0, 31, 0], 2, 0),
 ];
 
-/// Bytes that stand for no packet, and the status.
+/// Bytes that are a payload of no packet, and the status.
 const UNREAD: [(&[u8], u32); 6] = [
     (b"", 32),
     (&[0x1f; 19], 33),
@@ -106,8 +106,7 @@ const UNREAD: [(&[u8], u32); 6] = [
     (b"\x02\0\0\0\0\0\0\0\xf8", 37),
 ];
 
-/// What a call for a payload says where there is room for this many bytes: the status, how many are wanted, and the
-/// buffer.
+/// What a call for a payload says with a buffer of this many bytes: the status, how many are wanted, and the buffer.
 fn packed(row: PacketRow, room: usize) -> (u32, u64, [u8; 20]) {
     let mut buffer = [0xa5; 20];
     let mut wanted = 77;
@@ -131,7 +130,8 @@ fn unpacked(payload: &[u8]) -> (u32, PacketRow) {
     (status, row_of_packet(&packet))
 }
 
-/// A packet has this payload and is read of it, also where there is just room for it, and not where there is less.
+/// A packet has this payload and is read of it, also where the buffer is just large enough for it, and not where it is
+/// smaller.
 fn is_packed<R: Abort>(rt: &R, row: PacketRow, bytes: &[u8]) {
     let count = bytes.len();
     let handed = (0, count as u64, beginning_with(bytes));

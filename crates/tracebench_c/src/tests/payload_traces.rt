@@ -6,10 +6,10 @@ use super::rows::{DecoderRow, EventRow, NO_DECODER, NO_EVENT};
 /// What is in a buffer before a call.
 pub(super) const BEFORE: EventRow = (9, [9; 4], 9, 9);
 
-/// A retirement on the first word, at machine level.
+/// A retirement of the first instruction, at machine level.
 pub(super) const FIRST: EventRow = (0, [0, 3, 0, 0], BASE, 0);
 
-/// What a decoder keeps behind the packet that opens a trace, and behind a sync on the first word.
+/// What a decoder keeps after the packet that opens a trace, and after a sync at the first instruction.
 pub(super) const OPENED: DecoderRow = ([1, 0, 1, 0, 0, 0, 0, 0], [0, 0], NO_EVENT);
 
 pub(super) const STARTED: DecoderRow = ([1, 0, 1, 0, 1, 0, 0, 0], [0, BASE], FIRST);
@@ -20,7 +20,7 @@ pub(super) type Feed = (&'static [u8], u64, [EventRow; 4], DecoderRow);
 /// No event was written.
 pub(super) const NONE: [EventRow; 4] = [BEFORE; 4];
 
-/// The packet that opens a trace, and a sync on the first word.
+/// The packet that opens a trace, and a sync at the first instruction.
 pub(super) const OPENS: Feed = (b"\x1f", 0, NONE, OPENED);
 
 pub(super) const STARTS: Feed = (
@@ -30,10 +30,10 @@ pub(super) const STARTS: Feed = (
     STARTED,
 );
 
-/// A trace: the words of its program, and its payloads.
+/// A trace: the instructions of its program, and its payloads.
 pub(super) type Trace = (&'static [u32], DecoderRow, &'static [Feed]);
 
-/// Two words, a return to the second of them.
+/// Two instructions, a return to the second of them.
 pub(super) const RETURNS: Trace = (
     &WORDS,
     NO_DECODER,
@@ -64,7 +64,7 @@ pub(super) const RETURNS: Trace = (
     ],
 );
 
-/// Two words in full-address mode.
+/// Two instructions in full-address mode.
 pub(super) const FULL: Trace = (
     &[NOP, NOP],
     NO_DECODER,

@@ -50,8 +50,8 @@ fn encoders_begin(rt: HostRuntime) {
     }
 }
 
-/// What a call for the next event says where there is room for so many packets: the status, the count, the first packet
-/// in the buffer, and the state.
+/// What a call for the next event says with a buffer of so many packets: the status, the count, the first packet in the
+/// buffer, and the state.
 fn pushed(
     alloc: Global,
     base: u64,
@@ -102,8 +102,8 @@ fn finished(
     (status, count, rows)
 }
 
-/// Each event of a log is taken as its row says, also where there is just room for its packets, and is not where there
-/// is less. Returns the state behind them.
+/// Each event of a log is taken as its row says, also where the buffer is just large enough for its packets, and is not
+/// where it is smaller. Returns the state after them.
 fn are_pushed<R: Abort + AllocGlobal>(
     rt: &R,
     image: &[u8],
