@@ -2,9 +2,9 @@
  * The bench for C and C++: which logs are legal, which capture they give, what a capture holds and decodes to, and
  * packets and their payloads. Each call is a few lines over one whose promises are proved.
  *
- * A call keeps nothing from one call to the next, and writes only where it is given room to write. What stands for the
- * events or the packets so far, step by step, is a struct of the caller's. A slice is a pointer and the number of
- * elements behind it. What every caller owes:
+ * A call keeps nothing from one call to the next, and writes only into what it is given to write. Where events or
+ * packets are handed in step by step, what is kept of them is a struct of the caller's. A slice is a pointer and the
+ * number of elements from there on. What every caller owes:
  *
  * - No pointer is null, also where the slice has no element.
  * - What a call is given to write overlaps nothing else that it is given.
@@ -46,7 +46,7 @@ extern "C" {
 /* A number is out of its range. */
 #define TRACEBENCH_OUT_OF_RANGE 4u
 
-/* A log ends before its beginning, or past the texts. */
+/* A log ends before its start, or past the texts. */
 #define TRACEBENCH_BAD_ENDS 5u
 
 /* The capture ends inside a message, or inside its header. */
@@ -79,7 +79,7 @@ extern "C" {
 /* The privilege is 2, the reserved level. */
 #define TRACEBENCH_BAD_PRIVILEGE 36u
 
-/* The bits notify, updiscon and irreport stand for no report. */
+/* The bits notify, updiscon and irreport have values that no report has. */
 #define TRACEBENCH_BAD_REPORT 37u
 
 /* No packet of the profile has these numbers. */
@@ -91,7 +91,7 @@ extern "C" {
 /* An image has more than 2^24 bytes. */
 #define TRACEBENCH_TOO_LARGE 49u
 
-/* The address behind an image's last byte is 2^64 or more. */
+/* The address after an image's last byte is 2^64 or more. */
 #define TRACEBENCH_PAST_END 50u
 
 /* The first record of a log is not addr,itype,priv,cause,tval, or there is none. */
@@ -124,22 +124,22 @@ extern "C" {
 /* A log has more than 2^24 rows. */
 #define TRACEBENCH_TOO_MANY_ROWS 73u
 
-/* No whole word of the program stands at a retirement's address. */
+/* At a retirement's address there is no complete instruction of the program. */
 #define TRACEBENCH_OFF_PROGRAM 80u
 
-/* The word at a retirement's address does not retire. */
+/* The instruction at a retirement's address does not retire. */
 #define TRACEBENCH_NOT_RETIRABLE 81u
 
-/* A retirement's type is not that of its word, or a trap's cause or value is out of range. */
+/* A retirement's type is not that of its instruction, or a trap's cause or value is out of range. */
 #define TRACEBENCH_WRONG_TYPE 82u
 
-/* A retirement does not stand where the event before leads. */
+/* A retirement is not at an address to which the event before leads. */
 #define TRACEBENCH_WRONG_NEXT 83u
 
-/* A row's privilege is not one at which its word may retire, or to which the event before leads. */
+/* A row's privilege is not one at which its instruction may retire, or to which the event before leads. */
 #define TRACEBENCH_WRONG_PRIVILEGE 84u
 
-/* A trap's exception program counter is odd, or not where the event before leads. */
+/* A trap's exception program counter is odd, or not an address to which the event before leads. */
 #define TRACEBENCH_WRONG_EPC 85u
 
 /* A message is of a hart that is not known. */
@@ -151,7 +151,7 @@ extern "C" {
 /* A message's number is above the one that is expected. */
 #define TRACEBENCH_GAP 98u
 
-/* A message stands behind its hart's closing packet. */
+/* A message comes after its hart's closing packet. */
 #define TRACEBENCH_AFTER_CLOSE 99u
 
 /* A packet opens a trace in another mode than the header's. */
@@ -160,25 +160,25 @@ extern "C" {
 /* Another packet than the one that opens the trace comes first. */
 #define TRACEBENCH_NOT_OPENED 112u
 
-/* No whole word that retires stands at an address that is to be retired. */
+/* At an address that is to be retired there is no complete instruction that retires. */
 #define TRACEBENCH_WALKS_OFF_PROGRAM 113u
 
-/* A walk would go on behind a backward jump that no packet reported. */
+/* A walk would go on after a backward jump that no packet reported. */
 #define TRACEBENCH_MISSED_NOTIFY 114u
 
-/* Outcomes of branches are missing or left over, or a branch is said to be taken where none stands that is. */
+/* Outcomes of branches are missing or left over, or a branch is reported as taken where there is no such branch. */
 #define TRACEBENCH_WRONG_BRANCHES 115u
 
-/* A packet does not stand where it may. */
+/* A packet comes at a place in the trace where it may not come. */
 #define TRACEBENCH_WRONG_PLACE 116u
 
-/* A word does not retire at the privilege, or the event before does not lead to it. */
+/* An instruction does not retire at the privilege, or the event before does not lead to that privilege. */
 #define TRACEBENCH_WALKS_AT_WRONG_PRIVILEGE 117u
 
-/* A packet stands behind the one that closes the trace. */
+/* A packet comes after the one that closes the trace. */
 #define TRACEBENCH_AFTER_CLOSING_PACKET 118u
 
-/* The state is none that a call for it gives. */
+/* No encoder or decoder has this state. */
 #define TRACEBENCH_BAD_STATE 128u
 
 /* No event has these numbers. */
@@ -236,7 +236,7 @@ uint32_t tracebench_pack(const struct tracebench_packet *packet, uint8_t *buffer
                          uint64_t *wanted);
 
 /*
- * Writes the packet that a payload stands for. The status is TRACEBENCH_DONE, or says why the bytes stand for none:
+ * Writes the packet of a payload. The status is TRACEBENCH_DONE, or says why the bytes are a payload of no packet:
  * TRACEBENCH_EMPTY to TRACEBENCH_BAD_REPORT.
  *
  *     struct tracebench_packet packet;
@@ -297,11 +297,11 @@ uint32_t tracebench_encoder(uint16_t period, uint32_t mode, struct tracebench_en
 
 /*
  * Takes the next event of a log of the program whose image begins at `base`, and writes the packets that it makes due:
- * 0 to 2, so room for two is always enough. `*state` stands for the events before, and then for this one too. Only with
- * TRACEBENCH_DONE it changes. Where there is too little room, `*count` says how many packets there are, and the status
- * is TRACEBENCH_TOO_SMALL: the event was not taken. Else the status is TRACEBENCH_BAD_STATE where no encoder has this
- * state, TRACEBENCH_NO_EVENT where no event has these numbers, TRACEBENCH_MEMORY, or says what is wrong with the image
- * (TRACEBENCH_ODD_BASE to TRACEBENCH_PAST_END).
+ * 0 to 2, so a buffer for two is always large enough. `*state` is the state after the events before, and then the one
+ * after this event too. Only with TRACEBENCH_DONE it changes. Where the buffer is too small, `*count` says how many
+ * packets there are, and the status is TRACEBENCH_TOO_SMALL: the event was not taken. Else the status is
+ * TRACEBENCH_BAD_STATE where no encoder has this state, TRACEBENCH_NO_EVENT where no event has these numbers,
+ * TRACEBENCH_MEMORY, or says what is wrong with the image (TRACEBENCH_ODD_BASE to TRACEBENCH_PAST_END).
  *
  * The packets are those of the log where it is legal. This call does not look at that, nor at whether the event's type,
  * privilege, cause, address and trap value are in their ranges; tracebench_check does. The image is copied each time,
@@ -317,8 +317,8 @@ uint32_t tracebench_push(uint64_t base, const uint8_t *image, size_t image_lengt
                          struct tracebench_packet *packets, size_t packets_length, uint64_t *count);
 
 /*
- * Takes the end of a log, and writes the packets that are left, 1 or 2. The last of them closes the trace. `*state`
- * stands for all events of the log, and stays. The status is TRACEBENCH_DONE, TRACEBENCH_TOO_SMALL,
+ * Takes the end of a log, and writes the packets that are left, 1 or 2. The last of them closes the trace. `*state` is
+ * the state after all events of the log, and does not change. The status is TRACEBENCH_DONE, TRACEBENCH_TOO_SMALL,
  * TRACEBENCH_BAD_STATE, TRACEBENCH_MEMORY, or says what is wrong with the image.
  *
  *     uint32_t status = tracebench_finish(base, image, image_length, &state, packets, 2, &count);
@@ -366,15 +366,15 @@ void tracebench_decoder(struct tracebench_decoder_state *state);
 
 /*
  * Takes the next payload of a trace of the program whose image begins at `base`, and writes the events that it settles,
- * the oldest first. `*state` stands for the packets before, and then for this one too. An address packet with plain
- * bits is settled by the packet that follows it, so its events come with that packet's. All other events come at once.
- * `*count` is how many there are: up to 64 for each two bytes of the image, and two.
+ * the oldest first. `*state` is the state after the packets before, and then the one after this packet too. An address
+ * packet with plain bits is settled by the packet that follows it, so its events come with that packet's. All other
+ * events come at once. `*count` is how many there are: up to 64 for each two bytes of the image, and two.
  *
- * Only with TRACEBENCH_DONE `*state` and the events change. Where the events have too little room, `*count` says how
- * many there are, and the status is TRACEBENCH_TOO_SMALL: the payload was not taken. Else the status is
+ * Only with TRACEBENCH_DONE `*state` and the events change. Where the buffer is too small for the events, `*count` says
+ * how many there are, and the status is TRACEBENCH_TOO_SMALL: the payload was not taken. Else the status is
  *
  * - TRACEBENCH_BAD_STATE where no decoder has this state,
- * - TRACEBENCH_EMPTY to TRACEBENCH_BAD_REPORT where the bytes stand for no packet,
+ * - TRACEBENCH_EMPTY to TRACEBENCH_BAD_REPORT where the bytes are a payload of no packet,
  * - TRACEBENCH_ODD_BASE to TRACEBENCH_PAST_END where the image makes no program,
  * - TRACEBENCH_NOT_OPENED to TRACEBENCH_AFTER_CLOSING_PACKET where no log has these packets,
  * - TRACEBENCH_MEMORY, and the payload may be handed in again.
@@ -412,12 +412,12 @@ struct tracebench_log_place {
 };
 
 /*
- * Writes the capture of harts' logs, hart 0 first. `logs` holds the texts of the logs one behind the other, and `ends`
- * where each ends; what is behind the last end is not looked at. There are 1 to 1,024 logs, in version 1 at most 64,
+ * Writes the capture of harts' logs, hart 0 first. `logs` holds the texts of the logs one after the other, and `ends`
+ * where each ends; what is after the last end is not looked at. There are 1 to 1,024 logs, in version 1 at most 64,
  * and the period is 1 or more. The status is TRACEBENCH_DONE, TRACEBENCH_TOO_SMALL, TRACEBENCH_OUT_OF_RANGE where one
  * of these numbers is out of its range, one of those of tracebench_check for the image, or TRACEBENCH_MEMORY. Else it
  * is of the first log that is no legal log: one of those of tracebench_check, or TRACEBENCH_BAD_ENDS where the log's
- * end is before its beginning or past the texts. `*place` is written where there is no capture; it is 0 and 0 where no
+ * end is before its start or past the texts. `*place` is written where there is no capture; it is 0 and 0 where no
  * log is at fault.
  *
  *     uint64_t ends[] = {first_length, first_length + second_length};
@@ -432,7 +432,7 @@ uint32_t tracebench_encode(uint64_t base, const uint8_t *image, size_t image_len
 
 /* How a dump ends. */
 struct tracebench_dump_end {
-    uint64_t place; /* behind how many messages it ends before the capture does; 0 where `fault` is 0 */
+    uint64_t place; /* after how many messages it ends before the capture does; 0 where `fault` is 0 */
     uint32_t fault; /* why: TRACEBENCH_SHORT, TRACEBENCH_BAD_LENGTH or TRACEBENCH_BAD_HEADER; 0 at the end */
     uint32_t bad;   /* 1 where the payload of some message is no packet */
 };
@@ -490,14 +490,14 @@ struct tracebench_tally {
 struct tracebench_audit_end {
     uint64_t harts;     /* how many harts SENT has */
     uint64_t strangers; /* how many strangers came, of whatever hart */
-    uint64_t place;     /* behind how many messages RECEIVED stops before its end; 0 where `fault` is 0 */
+    uint64_t place;     /* after how many messages RECEIVED stops before its end; 0 where `fault` is 0 */
     uint32_t fault;     /* why: TRACEBENCH_SHORT, TRACEBENCH_BAD_LENGTH or TRACEBENCH_BAD_HEADER; 0 at the end */
 };
 
 /*
- * Audits RECEIVED against SENT, both captures, and says what became of the messages of one hart of SENT. SENT is judged
- * to its end first. Where RECEIVED stops before its end, what stands before that place is audited. Headers are not
- * compared. The status is TRACEBENCH_DONE, TRACEBENCH_NO_HART, TRACEBENCH_MEMORY, or says why SENT is refused:
+ * Audits RECEIVED against SENT, both captures, and says what became of the messages of one hart of SENT. SENT is
+ * checked to its end first. Where RECEIVED stops before its end, what comes before that place is audited. Headers are
+ * not compared. The status is TRACEBENCH_DONE, TRACEBENCH_NO_HART, TRACEBENCH_MEMORY, or says why SENT is refused:
  * TRACEBENCH_SHORT, TRACEBENCH_BAD_LENGTH, TRACEBENCH_BAD_HEADER, TRACEBENCH_STRANGER, TRACEBENCH_REPEAT or
  * TRACEBENCH_GAP. `*tally` and `*ended` are written with the first.
  *
