@@ -1,14 +1,13 @@
 -- The rows of a plain log, one at a time, and that a log is written plain.
 use Rattle.std.proofs.Common.{◌≡◌, ◌≤◌, ◌<◌, ◌||◌, ◌==◌, ◌++◌, ◌∙◌, ◌+◌, Bool, ℕ, List, [], ◌∷◌, Option, Some}
 use Rattle.std.proofs.Common.{None, Ok, map, nat_eq, nat_lt, Bor, IfSome, take, drop, length, true, false, arith}
-use Rattle.std.proofs.Common.{refl, sym, ap, inl, inr, rules, append_assoc}
-use Rattle.std.specs.Cmp.Lexicographic.{pointwise}
+use Rattle.std.proofs.Common.{refl, sym, ap, inl, inr, rules, append_assoc, append-nil}
 use Rattle.std.specs.List.{flat_map, join_with_byte, list_all, list_any}
 use Rattle.std.proofs.lemmas.Bool.{cases_Bool, and_parts, eqb-true, or_parts}
 use Rattle.csv.specs.Quoting.{needs_byte}
 use Rattle.csv.specs.Writing.{default_writer}
 use Rattle.retire.specs.Log.{events_up_to, header, log_of_records, most_rows, records_of}
-use Rattle.retire.specs.steps.ReadsRows.{ReadsRows}
+use Rattle.retire.specs.steps.ReadsRows.{ReadsFront}
 use Rattle.retire.specs.steps.RowsLeft.{records_left, with_events}
 use Rattle.csv.specs.declared.parser.State.TheVariants.{StartRecord}
 use Rattle.retire.specs.LogText.{event_fields, event_line}
@@ -16,9 +15,10 @@ use Rattle.retire.specs.Number.{is_hex_digit, is_numeral, is_prefix, number_of, 
 use Rattle.retire.specs.PlainLog.{ArePlainRows, AreLines, EndsLine, IsLine, WrittenIsPlain}
 use Rattle.retire.specs.Row.{is_garbled, known_event, row_event}
 use Rattle.retire.specs.declared.event.Event.{Event}
-use Rattle.retire.specs.steps.PlainRow.{IsPlainRow, Spells}
+use Rattle.retire.specs.steps.Header.{HasHeader, IsHeaderBefore}
+use Rattle.retire.specs.steps.PlainRow.{EndsLineIn, IsPlainRow, Spells}
 use Rattle.retire.proofs.HexLemmas.{all-AllDigits, list_any-AllDigits}
-use Rattle.retire.proofs.PlainRowLemmas.{header-is, header-log, needs_prefix, no_garbled, records_left-empty}
+use Rattle.retire.proofs.PlainRowLemmas.{header-log, needs_prefix, no_garbled, records_left-empty}
 use Rattle.retire.proofs.EventsLemmas.{with_event-ok, with_events-end}
 use Rattle.retire.proofs.RoundTrip.{events-fields}
 
@@ -168,20 +168,18 @@ plain-all most row (c ∷ text) past plain =
     let next = plain-next most row (c ∷ text) plain (omega arith) in
     absurd (let within = next.0 in omega (arith, within, past))
 
-pub header-ended : (found : Option (Bor (List ℕ))) (text line end : List ℕ)
-    → pointwise nat_eq (take (length line) text) line ≡ true → end ≡ drop (length line) text
-    → line ≡ join_with_byte 44 header → IfSome found (λ r. EndsLine end r.now)
-    → IfSome found (λ r. IsLine header text r.now)
-header-ended None text line end e r l ends = tt
-header-ended (Some rest) text line end e r l ends = header-is text line end rest.now e r l ends
+pub header-ended : (found : Option (Bor (List ℕ))) (ended : Bool) (text end : List ℕ) → IsHeaderBefore text end
+    → IfSome found (λ r. EndsLineIn ended end r.now) → IfSome found (λ r. HasHeader ended text r.now)
+header-ended None ended text end names ends = tt
+header-ended (Some rest) ended text end names ends = (end, names, ends)
 
 -- A plain log is the header's line and its rows.
 pub log-plain : (text rows rest : List ℕ) (before after : List Event) (count : ℕ) (empty : Bool)
-    → IsLine header text rows
-    → ReadsRows most_rows 0 (records_left StartRecord rows) before after count (records_left StartRecord rest)
+    → HasHeader true text rows → ReadsFront most_rows 0 true rows before after count rest
     → before ≡ [] → empty ≡ (length rest == 0) → empty ≡ true → log_of_records (records_of text) ≡ Ok after
 log-plain text rows rest before after count empty line r none e all =
-    let ended : length rest ≡ 0 = eqb-true (length rest) 0 (sym e ∙ all) in
-    header-log most_rows text rows line ∙ r.read
-    ∙ ap (λ t. with_events r.piece (events_up_to most_rows (count + 1) t)) (records_left-empty rest ended)
+    let ended : length (rest ++ []) ≡ 0 = ap length (append-nil rest) ∙ eqb-true (length rest) 0 (sym e ∙ all) in
+    header-log most_rows text rows line
+    ∙ ap (λ t. events_up_to most_rows 1 (records_left StartRecord t)) (sym (append-nil rows)) ∙ r.read [] (λ x. refl)
+    ∙ ap (λ t. with_events r.piece (events_up_to most_rows (count + 1) t)) (records_left-empty (rest ++ []) ended)
     ∙ with_events-end r.piece most_rows (count + 1) ∙ ap Ok (sym (r.appended ∙ ap (λ t. t ++ r.piece) none))

@@ -1,8 +1,8 @@
 -- A row at the front of a text.
 use Rattle.std.proofs.Common.{◌≡◌, ◌≤◌, ◌<◌, ◌==◌, ◌||◌, ◌++◌, ◌∙◌, ◌-◌, get_or, ℕ, List, [], ◌∷◌}
 use Rattle.std.proofs.Common.{Option, Some, None, Ok, Err, nat_eq, take, drop, length, true, false, codes}
-use Rattle.std.proofs.Common.{arith, refl, subst, sym, ap, inl, inr, rules}
-use Rattle.std.specs.List.{join_with_byte, list_any}
+use Rattle.std.proofs.Common.{arith, refl, subst, sym, ap, inl, inr, rules, append_assoc, append-nil, Bool}
+use Rattle.std.specs.List.{list_any}
 use Rattle.std.specs.Str.Parse.{digits_value}
 use Rattle.std.proofs.lemmas.Bool.{cases_Bool, eqb-true, false≢true, and_parts, or_parts}
 use Rattle.std.proofs.lemmas.List.{length-drop, length-take, take-append-drop, take_all}
@@ -11,13 +11,15 @@ use Rattle.csv.specs.Quoting.{needs_byte}
 use Rattle.csv.specs.Reading.{default_config, strip_bom}
 use Rattle.csv.specs.Writing.{default_writer}
 use Rattle.csv.specs.declared.parser.State.TheVariants as st
-use Rattle.csv.proofs.RoundTrip.{plain-run, record-same, start-same}
+use Rattle.csv.proofs.RoundTrip.{after-quote-same, plain-run, record-same, start-same}
 use Rattle.retire.specs.Number.{hex_value, is_prefix, number_of, digits_number}
-use Rattle.retire.specs.PlainLog.{EndsLine, IsLine}
-use Rattle.retire.specs.steps.PlainRow.{EndsField, HasCell, HasDigits, HasField, HasRow, Spells}
+use Rattle.retire.specs.PlainLog.{EndsLine}
+use Rattle.retire.specs.steps.Header.{AreNames, HasHeader, IsHeaderBefore}
+use Rattle.retire.specs.steps.PlainRow.{EndsField, EndsLineIn, HasCell, HasDigits, HasField, HasRecord, HasRow}
+use Rattle.retire.specs.steps.PlainRow.{HasWritten, IsWritten, Spells}
 use Rattle.retire.specs.Row.{is_garbled, numbers_event, row_event}
 use Rattle.retire.specs.Log.{events_up_to, header, log_up_to, records_of}
-use Rattle.retire.specs.steps.RowsLeft.{records_left}
+use Rattle.retire.specs.steps.RowsLeft.{MayFollow, records_left}
 use Rattle.retire.specs.declared.event.Event.{Event}
 use Rattle.retire.specs.declared.fault.LogFault.{LogFault}
 use Rattle.std.specs.Cmp.Lexicographic.{pointwise, same_text}
@@ -98,23 +100,57 @@ field-prefixed a b digits rest value count prefix h some e =
       ),
     )
 
--- A field with a comma after it.
-field-comma : (fields : List (List ℕ)) (x tail : List ℕ) → list_any (needs_byte default_writer) x ≡ false
-    → next_record default_config st.StartField fields [] (x ++ 44 ∷ tail) ≡ next_record default_config st.StartField
-    (fields ++ x ∷ []) [] tail
+-- No byte of a field calls for quotes.
+abbrev IsPlainField : List ℕ → Type 0
+IsPlainField field = list_any (needs_byte default_writer) field ≡ false
+
+-- The bytes of a field between its quotes, and the quote that ends it.
+quoted-bytes : (fields : List (List ℕ)) (field x tail : List ℕ) → IsPlainField x
+    → next_record default_config st.InQuoted fields field (x ++ 34 ∷ tail) ≡ next_record default_config st.AfterQuote
+    fields (field ++ x) tail
 unfolding next_record
-field-comma fields [] tail p = refl
-field-comma fields (b ∷ rest) tail p =
+quoted-bytes fields field [] tail p = rw (append-nil field) refl
+quoted-bytes fields field (b ∷ x) tail p =
     let q = plain-byte b (or_parts _ _ p).0 in
-    start-same fields [] b (rest ++ 44 ∷ tail) q.1 ∙ plain-run fields [] (b ∷ rest) (44 ∷ tail) p
+    rw q.1 (quoted-bytes fields (field ++ b ∷ []) x tail (or_parts _ _ p).1
+    ∙ ap (λ f. next_record default_config st.AfterQuote fields f tail) (append_assoc field (b ∷ []) x))
+
+-- A field in quotes, from its start.
+quoted-start : (fields : List (List ℕ)) (x tail : List ℕ) → IsPlainField x
+    → next_record default_config st.StartField fields [] ((34 ∷ (x ++ 34 ∷ [])) ++ tail) ≡ next_record default_config
+    st.AfterQuote fields x tail
+unfolding next_record
+quoted-start fields x tail p =
+    ap (next_record default_config st.InQuoted fields []) (append_assoc x (34 ∷ []) tail)
+    ∙ quoted-bytes fields [] x tail p
+
+-- A field up to the byte after it, which is no quote.
+written-start : (fields : List (List ℕ)) (x written : List ℕ) (c : ℕ) (tail : List ℕ) → (c == 34) ≡ false
+    → IsPlainField x → IsWritten x written
+    → next_record default_config st.StartField fields [] (written ++ c ∷ tail) ≡ next_record default_config st.InField
+    fields x (c ∷ tail)
+written-start fields [] written c tail n p (inl e) = rw e (start-same fields [] c tail n)
+written-start fields (b ∷ x) written c tail n p (inl e) =
+    let q = plain-byte b (or_parts _ _ p).0 in
+    rw e (start-same fields [] b (x ++ c ∷ tail) q.1 ∙ plain-run fields [] (b ∷ x) (c ∷ tail) p)
+written-start fields x written c tail n p (inr e) =
+    rw e (quoted-start fields x (c ∷ tail) p ∙ after-quote-same fields x c tail n)
+
+-- A field with a comma after it.
+field-comma : (fields : List (List ℕ)) (x written tail : List ℕ) → IsPlainField x → IsWritten x written
+    → next_record default_config st.StartField fields [] (written ++ 44 ∷ tail) ≡ next_record default_config
+    st.StartField (fields ++ x ∷ []) [] tail
+unfolding next_record
+field-comma fields x written tail p w = written-start fields x written 44 tail refl p w
 
 -- The first field of a record.
-field-first : (x tail : List ℕ) → list_any (needs_byte default_writer) x ≡ false
-    → next_record default_config st.StartRecord [] [] (x ++ 44 ∷ tail) ≡ next_record default_config st.StartField [] []
-    (x ++ 44 ∷ tail)
-field-first [] tail p = record-same [] [] 44 tail refl refl
-field-first (b ∷ rest) tail p =
-    let q = plain-byte b (or_parts _ _ p).0 in record-same [] [] b (rest ++ 44 ∷ tail) q.2 q.3
+field-first : (x written tail : List ℕ) → IsPlainField x → IsWritten x written
+    → next_record default_config st.StartRecord [] [] (written ++ 44 ∷ tail) ≡ next_record default_config st.StartField
+    [] [] (written ++ 44 ∷ tail)
+field-first [] written tail p (inl e) = rw e (record-same [] [] 44 tail refl refl)
+field-first (b ∷ x) written tail p (inl e) =
+    let q = plain-byte b (or_parts _ _ p).0 in rw e (record-same [] [] b (x ++ 44 ∷ tail) q.2 q.3)
+field-first x written tail p (inr e) = rw e (record-same [] [] 34 ((x ++ 34 ∷ []) ++ 44 ∷ tail) refl refl)
 
 -- A carriage return ends a record, and the line feed behind it belongs to no record.
 left-feed : (rest : List ℕ) → records_left st.AfterCr (10 ∷ rest) ≡ records_left st.StartRecord rest
@@ -127,52 +163,60 @@ abbrev EndsRecord : List (List ℕ) → List ℕ → Option Read → Type 0
 EndsRecord fields rest found =
     (p : Read) × (found ≡ Some p) × (p.0 ≡ fields) × (records_left p.1 p.2 ≡ records_left st.StartRecord rest)
 
-field-last : (fields : List (List ℕ)) (x end rest : List ℕ) → list_any (needs_byte default_writer) x ≡ false
+field-last : (fields : List (List ℕ)) (x written end rest : List ℕ) → IsPlainField x → IsWritten x written
     → EndsLine end rest
-    → EndsRecord (fields ++ x ∷ []) rest (next_record default_config st.StartField fields [] (x ++ end))
+    → EndsRecord (fields ++ x ∷ []) rest (next_record default_config st.StartField fields [] (written ++ end))
 unfolding next_record
-field-last fields [] end rest p (inl e) = ((fields ++ [] ∷ [], st.StartRecord, rest), rw e refl, refl, refl)
-field-last fields [] end rest p (inr (inl e)) =
-    ((fields ++ [] ∷ [], st.AfterCr, 10 ∷ rest), rw e refl, refl, left-feed rest)
-field-last fields [] end rest p (inr (inr e)) =
-    ((fields ++ [] ∷ [], st.StartRecord, []), rw e.0 refl, refl, rw e.1 refl)
-field-last fields (b ∷ more) end rest p (inl e) =
-    let q = plain-byte b (or_parts _ _ p).0 in (
-      (fields ++ (b ∷ more) ∷ [], st.StartRecord, rest),
-      rw e (start-same fields [] b (more ++ 10 ∷ rest) q.1 ∙ plain-run fields [] (b ∷ more) (10 ∷ rest) p),
-      refl,
-      refl,
-    )
-field-last fields (b ∷ more) end rest p (inr (inl e)) =
-    let q = plain-byte b (or_parts _ _ p).0 in (
-      (fields ++ (b ∷ more) ∷ [], st.AfterCr, 10 ∷ rest),
-      rw e (start-same fields [] b (more ++ 13 ∷ 10 ∷ rest) q.1 ∙ plain-run fields [] (b ∷ more) (13 ∷ 10 ∷ rest) p),
-      refl,
-      left-feed rest,
-    )
-field-last fields (b ∷ more) end rest p (inr (inr e)) =
+field-last fields x written end rest p w (inl e) =
+    ((fields ++ x ∷ [], st.StartRecord, rest), rw e (written-start fields x written 10 rest refl p w), refl, refl)
+field-last fields x written end rest p w (inr (inl e)) = (
+  (fields ++ x ∷ [], st.AfterCr, 10 ∷ rest),
+  rw e (written-start fields x written 13 (10 ∷ rest) refl p w),
+  refl,
+  left-feed rest,
+)
+field-last fields [] written end rest p (inl w) (inr (inr e)) =
+    ((fields ++ [] ∷ [], st.StartRecord, []), rw (w, e.0) refl, refl, rw e.1 refl)
+field-last fields (b ∷ more) written end rest p (inl w) (inr (inr e)) =
     let q = plain-byte b (or_parts _ _ p).0 in (
       (fields ++ (b ∷ more) ∷ [], st.StartRecord, []),
-      rw e.0 (start-same fields [] b (more ++ []) q.1 ∙ plain-run fields [] (b ∷ more) [] p),
+      rw (w, e.0) (start-same fields [] b (more ++ []) q.1 ∙ plain-run fields [] (b ∷ more) [] p),
       refl,
       rw e.1 refl,
     )
-
--- No byte of a field calls for quotes.
-abbrev IsPlainField : List ℕ → Type 0
-IsPlainField field = list_any (needs_byte default_writer) field ≡ false
+field-last fields x written end rest p (inr w) (inr (inr e)) =
+    ((fields ++ x ∷ [], st.StartRecord, []), rw (w, e.0) (quoted-start fields x [] p), refl, rw e.1 refl)
 
 -- Five fields and the end of their line are a record, and what follows the line is left.
-line-record : (f1 f2 f3 f4 f5 end rest : List ℕ) → IsPlainField f1 → IsPlainField f2 → IsPlainField f3
-    → IsPlainField f4 → IsPlainField f5 → EndsLine end rest
-    → records_left st.StartRecord (f1 ++ 44 ∷ (f2 ++ 44 ∷ (f3 ++ 44 ∷ (f4 ++ 44 ∷ (f5 ++ end))))) ≡
+line-record : (f1 f2 f3 f4 f5 w1 w2 w3 w4 w5 end rest : List ℕ) → IsPlainField f1 → IsPlainField f2 → IsPlainField f3
+    → IsPlainField f4 → IsPlainField f5 → IsWritten f1 w1 → IsWritten f2 w2 → IsWritten f3 w3 → IsWritten f4 w4
+    → IsWritten f5 w5 → EndsLine end rest
+    → records_left st.StartRecord (w1 ++ 44 ∷ (w2 ++ 44 ∷ (w3 ++ 44 ∷ (w4 ++ 44 ∷ (w5 ++ end))))) ≡
     (f1 ∷ f2 ∷ f3 ∷ f4 ∷ f5 ∷ []) ∷ records_left st.StartRecord rest
-line-record f1 f2 f3 f4 f5 end rest p1 p2 p3 p4 p5 ends =
-    let (p, found, fields, left) = field-last (f1 ∷ f2 ∷ f3 ∷ f4 ∷ []) f5 end rest p5 ends in
-    let read = field-first f1 _ p1 ∙ field-comma [] f1 _ p1 ∙ field-comma (f1 ∷ []) f2 _ p2
-    ∙ field-comma (f1 ∷ f2 ∷ []) f3 _ p3
-    ∙ field-comma (f1 ∷ f2 ∷ f3 ∷ []) f4 _ p4 ∙ found in
+line-record f1 f2 f3 f4 f5 w1 w2 w3 w4 w5 end rest p1 p2 p3 p4 p5 k1 k2 k3 k4 k5 ends =
+    let (p, found, fields, left) = field-last (f1 ∷ f2 ∷ f3 ∷ f4 ∷ []) f5 w5 end rest p5 k5 ends in
+    let read = field-first f1 w1 _ p1 k1 ∙ field-comma [] f1 w1 _ p1 k1 ∙ field-comma (f1 ∷ []) f2 w2 _ p2 k2
+    ∙ field-comma (f1 ∷ f2 ∷ []) f3 w3 _ p3 k3
+    ∙ field-comma (f1 ∷ f2 ∷ f3 ∷ []) f4 w4 _ p4 k4 ∙ found in
     records_left-some st.StartRecord _ p (inl refl) read ∙ rw (fields, left) refl
+
+-- A line ends in a longer text as it does in this one.
+ends-more : (ended : Bool) (end rest more : List ℕ) → EndsLineIn ended end rest → MayFollow ended more
+    → EndsLine (end ++ more) (rest ++ more)
+ends-more ended end rest more (inl e) follows = inl (ap (λ t. t ++ more) e)
+ends-more ended end rest more (inr (inl e)) follows = inr (inl (ap (λ t. t ++ more) e))
+ends-more ended end rest more (inr (inr (over, e, r))) follows =
+    let none = follows over in inr (inr (rw (e, none) refl, rw (r, none) refl))
+
+pub ends-line : (ended : Bool) (end rest : List ℕ) → EndsLineIn ended end rest → EndsLine end rest
+ends-line ended end rest (inl e) = inl e
+ends-line ended end rest (inr (inl e)) = inr (inl e)
+ends-line ended end rest (inr (inr (over, e, r))) = inr (inr (e, r))
+
+-- So does a cell.
+cell-more : (text w t more u : List ℕ) → text ≡ w ++ 44 ∷ t → t ++ more ≡ u → text ++ more ≡ w ++ 44 ∷ u
+cell-more text w t more u e r =
+    ap (λ x. x ++ more) e ∙ append_assoc w (44 ∷ t) more ∙ ap (λ x. w ++ 44 ∷ x) r
 
 -- The event of fields with known numbers.
 row_event-known : (row a b c : ℕ) (f1 f2 f3 f4 f5 : List ℕ) (n4 n5 : Option ℕ) (event : Event) → number_of f1 ≡ Some a
@@ -185,51 +229,85 @@ row_event-known row a b c f1 f2 f3 f4 f5 n4 n5 event e1 e2 e3 s4 s5 known =
     rw (g4, g5, e1, e2, e3, s4.0, s5.0) known
 
 -- Five fields and the end of their line are a row.
-pub row-fields : (row a b c : ℕ) (text t1 t2 t3 t4 t5 rest : List ℕ) (n1 n2 n3 n4 n5 : Option ℕ) (event : Event)
-    → HasCell text n1 t1 → HasCell t1 n2 t2 → HasCell t2 n3 t3 → HasCell t3 n4 t4 → HasField t4 n5 t5
-    → EndsLine t5 rest
-    → n1 ≡ Some a → n2 ≡ Some b → n3 ≡ Some c → numbers_event row a b c n4 n5 ≡ Ok event → HasRow row text event rest
-row-fields row a b c text t1 t2 t3 t4 t5 rest n1 n2 n3 n4 n5 event (f1, e1, s1) (f2, e2, s2) (f3, e3, s3) (f4, e4, s4)
-    (f5, e5, s5) end x1 x2 x3 known = (
+pub row-fields : (ended : Bool) (row a b c : ℕ) (text t1 t2 t3 t4 t5 rest : List ℕ) (n1 n2 n3 n4 n5 : Option ℕ)
+    (event : Event) → HasWritten text n1 (44 ∷ t1) → HasWritten t1 n2 (44 ∷ t2) → HasWritten t2 n3 (44 ∷ t3)
+    → HasWritten t3 n4 (44 ∷ t4) → HasWritten t4 n5 t5
+    → EndsLineIn ended t5 rest
+    → n1 ≡ Some a → n2 ≡ Some b → n3 ≡ Some c → numbers_event row a b c n4 n5 ≡ Ok event
+    → HasRow ended row text event rest
+row-fields ended row a b c text t1 t2 t3 t4 t5 rest n1 n2 n3 n4 n5 event (f1, w1, e1, k1, s1) (f2, w2, e2, k2, s2)
+    (f3, w3, e3, k3, s3) (f4, w4, e4, k4, s4) (f5, w5, e5, k5, s5) end x1 x2 x3 known = (
       f1 ∷ f2 ∷ f3 ∷ f4 ∷ f5 ∷ [],
       row_event-known row a b c f1 f2 f3 f4 f5 n4 n5 event (s1.0 ∙ x1) (s2.0 ∙ x2) (s3.0 ∙ x3) s4 s5 known,
-      rw (e1, e2, e3, e4, e5) (line-record f1 f2 f3 f4 f5 t5 rest s1.2 s2.2 s3.2 s4.2 s5.2 end),
+      λ more follows.
+          let last : t4 ++ more ≡ w5 ++ (t5 ++ more) = ap (λ x. x ++ more) e5 ∙ append_assoc w5 t5 more in
+          ap (records_left st.StartRecord)
+          (cell-more text w1 t1 more _ e1 (cell-more t1 w2 t2 more _ e2 (cell-more t2 w3 t3 more _ e3 (cell-more t3 w4
+          t4 more _ e4 last))))
+          ∙ line-record f1 f2 f3 f4 f5 w1 w2 w3 w4 w5 (t5 ++ more) (rest ++ more) s1.2 s2.2 s3.2 s4.2 s5.2 k1 k2 k3 k4
+          k5 (ends-more ended t5 rest more end follows),
     )
+
+-- A field that is written as it is, and one in quotes.
+pub as-written : {text : List ℕ} {number : Option ℕ} {rest : List ℕ} → HasField text number rest
+    → HasWritten text number rest
+as-written {text} {number} {rest} (field, e, spells) = (field, field, e, inl refl, spells)
+
+pub in-quotes : {text inside : List ℕ} {number : Option ℕ} {after rest : List ℕ} → text ≡ 34 ∷ inside
+    → HasField inside number after → after ≡ 34 ∷ rest → HasWritten text number rest
+in-quotes {text} {inside} {number} {after} {rest} opens (field, e, spells) closes = (
+  field,
+  34 ∷ (field ++ 34 ∷ []),
+  opens ∙ ap (λ t. 34 ∷ t) (e ∙ ap (λ t. field ++ t) closes ∙ sym (append_assoc field (34 ∷ []) rest)),
+  inr refl,
+  spells,
+)
 
 pub records_left-empty : (rest : List ℕ) → length rest ≡ 0 → records_left st.StartRecord rest ≡ []
 unfolding next_record
 records_left-empty [] e = records_left-none st.StartRecord [] refl
 records_left-empty (c ∷ rest) e = absurd (omega (arith, e))
 
+-- The names of the header are its record, as they are or in quotes.
+names-record : (names end rest : List ℕ) → AreNames names → EndsLine end rest
+    → records_left st.StartRecord (names ++ end) ≡ header ∷ records_left st.StartRecord rest
+names-record names end rest (inl e) ends =
+    rw e (line-record (codes "addr") (codes "itype") (codes "priv") (codes "cause") (codes "tval") (codes "addr")
+    (codes "itype") (codes "priv") (codes "cause") (codes "tval") end rest refl refl refl refl refl (inl refl)
+    (inl refl) (inl refl) (inl refl) (inl refl) ends)
+names-record names end rest (inr e) ends =
+    rw e (line-record (codes "addr") (codes "itype") (codes "priv") (codes "cause") (codes "tval") _ _ _ _ _ end rest
+    refl refl refl refl refl (inr refl) (inr refl) (inr refl) (inr refl) (inr refl) ends)
+
 -- A text that begins with the header's line has the header's record, and then those of what follows.
-pub header-records : (text rest : List ℕ) → IsLine header text rest
-    → records_left st.StartRecord text ≡ header ∷ records_left st.StartRecord rest
-header-records text rest (end, whole, ends) =
-    ap (records_left st.StartRecord) whole
-    ∙ line-record (codes "addr") (codes "itype") (codes "priv") (codes "cause") (codes "tval") end rest refl refl refl
-    refl refl ends
+pub header-record : (ended : Bool) (text rest : List ℕ) → HasHeader ended text rest
+    → HasRecord ended text header rest
+header-record ended text rest (end, (names, whole, are), ends) = λ more follows.
+    ap (λ t. records_left st.StartRecord (t ++ more)) whole
+    ∙ ap (records_left st.StartRecord) (append_assoc names end more)
+    ∙ names-record names (end ++ more) (rest ++ more) are (ends-more ended end rest more ends follows)
 
-header-strip : (end : List ℕ) → strip_bom (join_with_byte 44 header ++ end) ≡ join_with_byte 44 header ++ end
+names-strip : (names end : List ℕ) → AreNames names → strip_bom (names ++ end) ≡ names ++ end
 unfolding strip_bom
-header-strip end = refl
+names-strip names end (inl e) = rw e refl
+names-strip names end (inr e) = rw e refl
 
-pub header-log : (most : ℕ) (text rest : List ℕ) → IsLine header text rest
+pub header-log : (most : ℕ) (text rest : List ℕ) → HasHeader true text rest
     → log_up_to most (records_of text) ≡ events_up_to most 1 (records_left st.StartRecord rest)
-header-log most text rest (end, whole, ends) =
+header-log most text rest (end, (names, whole, are), ends) =
     ap (λ t. log_up_to most (records_of t)) whole
-    ∙ ap (λ t. log_up_to most (records_left st.StartRecord t)) (header-strip end)
-    ∙ ap (log_up_to most) (header-records (join_with_byte 44 header ++ end) rest (end, refl, ends))
+    ∙ ap (λ t. log_up_to most (records_left st.StartRecord t)) (names-strip names end are)
+    ∙ ap (log_up_to most) (names-record names end rest are (ends-line true end rest ends))
 
-pub header-is : (text line end rest : List ℕ) → pointwise nat_eq (take (length line) text) line ≡ true
-    → end ≡ drop (length line) text → line ≡ join_with_byte 44 header → EndsLine end rest → IsLine header text rest
-header-is text line end rest e r l ends =
-    let front : take (length line) text ≡ join_with_byte 44 header = same_text (take (length line) text) line (sym e)
-    ∙ l in (
-      end,
-      sym (take-append-drop (length line) text) ∙ ap (λ t. t ++ drop (length line) text) front
-          ∙ ap (λ t. join_with_byte 44 header ++ t) (sym r),
-      ends,
-    )
+pub names-are : (text line rest : List ℕ) → pointwise nat_eq (take (length line) text) line ≡ true
+    → rest ≡ drop (length line) text → AreNames line → IsHeaderBefore text rest
+names-are text line rest e r are = (
+  line,
+  sym (take-append-drop (length line) text)
+      ∙ ap (λ t. t ++ drop (length line) text) (same_text (take (length line) text) line (sym e))
+      ∙ ap (λ t. line ++ t) (sym r),
+  are,
+)
 
 -- One digit is a field.
 pub field-digit : (text : List ℕ) (value digit : ℕ) → 0 < length text → value ≡ digit

@@ -10,7 +10,8 @@ use Rattle.csv.specs.Reading.{strip_bom}
 use Rattle.csv.specs.declared.parser.State.TheVariants.{StartRecord}
 use Rattle.retire.specs.HasRead.{GoesOn, HasFailed, HasRead}
 use Rattle.retire.specs.Log.{events_up_to, log_up_to, records_of}
-use Rattle.retire.specs.steps.ReadsRows.{HasFault, ReadsBeginning, ReadsFirst, ReadsRows}
+use Rattle.retire.specs.steps.Header.{HasHeader}
+use Rattle.retire.specs.steps.ReadsRows.{HasFault, ReadsBeginning, ReadsFirst, ReadsFront, ReadsRows}
 use Rattle.retire.specs.steps.RowsLeft.{records_left}
 use Rattle.retire.specs.steps.Stands.{IsFault, Stands}
 use Rattle.retire.specs.declared.event.Event.{Event}
@@ -20,7 +21,8 @@ use Rattle.retire.specs.declared.log_reader.LogReader.{LogReader}
 use Rattle.retire.specs.declared.log_reader.Stage.{Stage}
 use Rattle.retire.specs.declared.log_reader.Stage.TheVariants as stage
 use Rattle.retire.proofs.StandsLemmas.{Splits, first-failed, header-missing, rows-ended, rows-failed, stands-begun}
-use Rattle.retire.proofs.StandsLemmas.{stands-filled, stands-first, stands-passed, stands-rows}
+use Rattle.retire.proofs.StandsLemmas.{stands-filled, stands-first, stands-front, stands-header, stands-passed}
+use Rattle.retire.proofs.StandsLemmas.{stands-rows}
 
 module _ {S : Type 0} (given : S → List ℕ) (left : S → Option (List ℕ)) (most : ℕ) (seen : List Event)
     (reader : LogReader S) where
@@ -134,6 +136,21 @@ module _ {S : Type 0} (given : S → List ℕ) (left : S → Option (List ℕ)) 
         };
       }
 
+  -- The header's line was read.
+  pub names-read : (rest : List ℕ) (held2 spare2 : Vec ℕ Global) → HasRead given left most seen reader
+      → reader.stage ≡ stage.Header → HasHeader reader.is_ended reader.held.items rest → held2.items ≡ rest
+      → HasRead given left most seen (record reader { held = held2; spare = spare2; stage = stage.Rows })
+  names-read rest held2 spare2 h at header is = record {
+    limit = h.limit;
+    room = h.room;
+    ended = h.ended;
+    few = h.few;
+    stands =
+        subst (Stands most (given reader.source) seen reader.is_ended stage.Rows reader.rows) (sym is)
+        (stands-header most (given reader.source) seen reader.is_ended reader.rows reader.held.items rest
+        (stands-at stage.Header h at) header);
+  }
+
   -- How many rows there are, where they are no more than there may be.
   low-rows : (n : ℕ) → HasRead given left most seen reader → reader.stage ≡ stage.Rows → n ≡ min reader.rows reader.most
       → n ≡ reader.rows
@@ -189,6 +206,36 @@ module _ {S : Type 0} (given : S → List ℕ) (left : S → Option (List ℕ)) 
               (subst
               (λ t. Stands most (given reader.source) (seen ++ read.piece) reader.is_ended stage.Rows count t)
               (sym rest) stands);
+        };
+      }
+
+  -- Rows at the front of what is held were read.
+  pub front-read : (n count : ℕ) (rest : List ℕ) (before after : List Event) (held2 spare2 : Vec ℕ Global)
+      → HasRead given left most seen reader → reader.stage ≡ stage.Rows → n ≡ min reader.rows reader.most
+      → ReadsFront reader.most n reader.is_ended reader.held.items before after count rest → count ≤ reader.most
+      → held2.items ≡ rest
+      → GoesOn given left most seen before after (record reader { held = held2; spare = spare2; rows = count })
+  front-read n count rest before after held2 spare2 h at low r few is =
+      let read : ReadsFront most reader.rows reader.is_ended reader.held.items before after count rest =
+      subst (λ m. ReadsFront m reader.rows reader.is_ended reader.held.items before after count rest) h.limit
+      (subst (λ k. ReadsFront reader.most k reader.is_ended reader.held.items before after count rest)
+      (low-rows n h at low) r) in
+      let within : count ≤ most = subst (λ m. count ≤ m) h.limit few in
+      let stands =
+      stands-front most (given reader.source) seen reader.is_ended reader.rows reader.held.items rest before after count
+      (stands-at stage.Rows h at) read within in
+      record {
+        piece = read.piece;
+        appended = read.appended;
+        read = record {
+          limit = h.limit;
+          room = h.room;
+          ended = h.ended;
+          few = subst (λ n. n ≤ most) stands.0 within;
+          stands = subst
+              (λ s. Stands most (given reader.source) (seen ++ read.piece) reader.is_ended s count held2.items) (sym at)
+              (subst (Stands most (given reader.source) (seen ++ read.piece) reader.is_ended stage.Rows count) (sym is)
+              stands);
         };
       }
 

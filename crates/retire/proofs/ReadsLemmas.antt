@@ -1,16 +1,15 @@
 -- Rows that are read one after the other.
 use Rattle.std.proofs.Common.{◌≡◌, ◌≤◌, ◌<◌, ◌+◌, ◌++◌, ◌∙◌, ◌==◌, Bool, ℕ, List, [], ◌∷◌, Ok, Err, arith}
 use Rattle.std.proofs.Common.{refl, subst, sym, ap, length, append_assoc, append-nil, true, inl}
-use Rattle.std.proofs.lemmas.Bool.{eqb-true}
-use Rattle.std.proofs.lemmas.List.{length-append}
+use Rattle.std.proofs.lemmas.List.{length-append, nil_from_length}
 use Rattle.retire.specs.Log.{events_up_to, is_header, log_up_to, too_many}
 use Rattle.retire.specs.Row.{row_event}
-use Rattle.retire.specs.steps.ReadsRows.{HasFault, ReadsRows}
+use Rattle.retire.specs.steps.PlainRow.{HasRecord}
+use Rattle.retire.specs.steps.ReadsRows.{HasFault, ReadsFront, ReadsRows}
 use Rattle.retire.specs.steps.RowsLeft.{records_left, with_events}
 use Rattle.csv.specs.Reading.{strip_bom}
 use Rattle.csv.specs.declared.parser.State.TheVariants.{StartRecord}
 use Rattle.retire.proofs.PlainLemmas.{left-end, left-within}
-use Rattle.retire.proofs.PlainRowLemmas.{records_left-empty}
 use Rattle.retire.specs.declared.event.Event.{Event}
 use Rattle.retire.specs.declared.fault.LogFault.{LogFault}
 use Rattle.retire.proofs.EventsLemmas.{events-event, events-fault, events-too_many, with_events-end, with_events-err}
@@ -80,14 +79,42 @@ module _ (most rows : ℕ) (records : List (List (List ℕ))) (before : List Eve
       → events_up_to most (rows + 1) records ≡ Ok r.piece
   reads-all after count r = r.read ∙ with_events-end r.piece most (count + 1)
 
--- Nothing is left where the text has ended.
-pub reads-ended : (most rows : ℕ) (records : List (List (List ℕ))) (before after : List Event) (count : ℕ)
-    (rest : List ℕ) (empty : Bool)
-    → ReadsRows most rows records before after count (records_left StartRecord rest) → empty ≡ (length rest == 0)
-    → empty ≡ true → ReadsRows most rows records before after count []
-reads-ended most rows records before after count rest empty r e all =
-    subst (ReadsRows most rows records before after count)
-    (records_left-empty rest (eqb-true (length rest) 0 (sym e ∙ all))) r
+-- Rows that are read from the front of a text, whatever follows it.
+module _ (most rows : ℕ) (ended : Bool) (text : List ℕ) (before : List Event) where
+  pub front-none : ReadsFront most rows ended text before before rows text
+  front-none = record {
+    piece = [];
+    appended = sym (append-nil before);
+    counted = omega arith;
+    read = λ more follows. sym (with_events-none (events_up_to most (rows + 1) (records_left StartRecord
+        (text ++ more))));
+  }
+
+  pub front-more : (after after2 : List Event) (count : ℕ) (fields : List (List ℕ)) (left rest : List ℕ)
+      (event : Event) → ReadsFront most rows ended text before after count left → HasRecord ended left fields rest
+      → count < most → row_event (count + 1) fields ≡ Ok event → after2 ≡ after ++ event ∷ []
+      → ReadsFront most rows ended text before after2 (count + 1) rest
+  front-more after after2 count fields left rest event r is few known more = record {
+    piece = r.piece ++ event ∷ [];
+    appended = more ∙ ap (λ t. t ++ event ∷ []) r.appended ∙ append_assoc before r.piece (event ∷ []);
+    counted =
+        let n : length (r.piece ++ event ∷ []) ≡ length r.piece + 1 = length-append r.piece (event ∷ []) in
+        let c = r.counted in
+        omega (arith, n, c);
+    read = λ bytes follows. r.read bytes follows
+        ∙ ap (λ t. with_events r.piece (events_up_to most (count + 1) t)) (is bytes follows)
+        ∙ ap (with_events r.piece)
+        (events-event most (count + 1) fields (records_left StartRecord (rest ++ bytes)) event (omega arith) known)
+        ∙ with_events-with_events r.piece (event ∷ []) _;
+  }
+
+  -- No row was read.
+  pub front-still : (after : List Event) (count : ℕ) (rest : List ℕ)
+      → ReadsFront most rows ended text before after count rest → count ≡ rows → after ≡ before
+  front-still after count rest r same =
+      let c = r.counted in
+      let none : r.piece ≡ [] = nil_from_length r.piece (omega (arith, c, same)) in
+      r.appended ∙ ap (λ t. before ++ t) none ∙ append-nil before
 
 -- An empty line in front is no record, and no byte order mark stands behind it.
 feed-strip : (text : List ℕ) → strip_bom (10 ∷ text) ≡ 10 ∷ text

@@ -1,5 +1,5 @@
 -- The row of a retirement at an address of eight digits.
-use Rattle.std.proofs.Common.{◌≡◌, ◌≤◌, ◌++◌, ◌∙◌, ℕ, List, [], ◌∷◌, Option, Some, None, Ok, take, drop}
+use Rattle.std.proofs.Common.{◌≡◌, ◌≤◌, ◌++◌, ◌∙◌, Bool, ℕ, List, [], ◌∷◌, Option, Some, None, Ok, take, drop}
 use Rattle.std.proofs.Common.{length, true, false, arith, refl, sym, ap, inl, inr, subst}
 use Rattle.std.specs.List.{list_any}
 use Rattle.std.proofs.lemmas.Bool.{false≢true, or_parts}
@@ -10,8 +10,8 @@ use Rattle.retire.specs.Number.{hex_value}
 use Rattle.retire.specs.PlainLog.{EndsLine}
 use Rattle.retire.specs.Row.{numbers_event}
 use Rattle.retire.specs.declared.event.Event.{Event}
-use Rattle.retire.specs.steps.PlainRow.{HasCell, HasDigits, HasField, HasRow, IsPlainRow, Spells}
-use Rattle.retire.proofs.PlainRowLemmas.{cell-on, field-digit, field-on, field-some, row-fields}
+use Rattle.retire.specs.steps.PlainRow.{EndsLineIn, HasCell, HasDigits, HasField, HasRow, IsPlainRow, Spells}
+use Rattle.retire.proofs.PlainRowLemmas.{as-written, cell-on, field-digit, field-on, field-some, row-fields}
 
 -- A field with no comma ends at the first.
 field-ends : (field other rest more : List ℕ) → list_any (needs_byte default_writer) field ≡ false
@@ -38,17 +38,44 @@ cell-ends : {text : List ℕ} {m n : Option ℕ} {rest more : List ℕ} → HasC
 cell-ends {text} {m} {n} {rest} {more} (field, e, spells) (other, f, spelt) =
     field-ends field other rest more spells.2 spelt.2 (sym e ∙ f)
 
--- An empty field before a line feed ends the line there.
-empty-ends : (rest after more : List ℕ) (n : Option ℕ) → HasField (10 ∷ rest) n after → EndsLine after more
-    → rest ≡ more
-empty-ends rest after more n ([], e, spells) (inl ends) = cc (e ∙ ends)
-empty-ends rest after more n ([], e, spells) (inr (inl ends)) = let h = e ∙ ends in cc h
-empty-ends rest after more n ([], e, spells) (inr (inr ends)) = let h = e ∙ ends.0 in cc h
-empty-ends rest after more n (c ∷ field, e, spells) ends =
-    let feed : c ≡ 10 = cc e in
-    let plain = (or_parts (needs_byte default_writer c) (list_any (needs_byte default_writer) field) spells.2).0 in
-    let mark : needs_byte default_writer c ≡ true = rw feed refl in
-    absurd (false≢true (sym plain ∙ mark))
+-- A field before a byte that ends it is empty.
+mark-ends : (c : ℕ) (rest after : List ℕ) (n : Option ℕ) → needs_byte default_writer c ≡ true
+    → HasField (c ∷ rest) n after → after ≡ c ∷ rest
+mark-ends c rest after n mark ([], e, spells) = sym e
+mark-ends c rest after n mark (d ∷ field, e, spells) =
+    let same : c ≡ d = cc e in
+    let plain = (or_parts (needs_byte default_writer d) (list_any (needs_byte default_writer) field) spells.2).0 in
+    absurd (false≢true (sym plain ∙ ap (needs_byte default_writer) (sym same) ∙ mark))
+
+feed-ends : (rest more : List ℕ) → EndsLine (10 ∷ rest) more → rest ≡ more
+feed-ends rest more (inl e) = cc e
+feed-ends rest more (inr (inl e)) = cc e
+feed-ends rest more (inr (inr e)) = let h = e.0 in cc h
+
+return-ends : (rest more : List ℕ) → EndsLine (13 ∷ 10 ∷ rest) more → rest ≡ more
+return-ends rest more (inl e) = cc e
+return-ends rest more (inr (inl e)) = cc e
+return-ends rest more (inr (inr e)) = let h = e.0 in cc h
+
+none-ends : (more : List ℕ) → EndsLine [] more → [] ≡ more
+none-ends more (inl e) = cc e
+none-ends more (inr (inl e)) = cc e
+none-ends more (inr (inr e)) = sym e.1
+
+none-field : (after : List ℕ) (n : Option ℕ) → HasField [] n after → after ≡ []
+none-field after n ([], e, spells) = sym e
+none-field after n (c ∷ field, e, spells) = cc e
+
+-- An empty field before the end of a line ends the line there.
+empty-ends : (ended : Bool) (end rest after more : List ℕ) (n : Option ℕ) → EndsLineIn ended end rest
+    → HasField end n after → EndsLine after more → rest ≡ more
+empty-ends ended end rest after more n (inl e) h ends =
+    feed-ends rest more (subst (λ t. EndsLine t more) (mark-ends 10 rest after n refl (field-on (sym e) h)) ends)
+empty-ends ended end rest after more n (inr (inl e)) h ends =
+    return-ends rest more
+    (subst (λ t. EndsLine t more) (mark-ends 13 (10 ∷ rest) after n refl (field-on (sym e) h)) ends)
+empty-ends ended end rest after more n (inr (inr (over, e, r))) h ends =
+    r ∙ none-ends more (subst (λ t. EndsLine t more) (none-field after n (field-on (sym e) h)) ends)
 
 -- A text that is a field and nothing else.
 whole-spells : (text : List ℕ) (n : Option ℕ) (rest : List ℕ) → HasField text n rest → rest ≡ [] → Spells text n
@@ -81,23 +108,25 @@ address-cell text digits behind rest addr front back h comma =
     )
 
 -- A row of eight digits, two of one digit, and two empty fields.
-pub short-fields : (row addr second third i p : ℕ) (text digits behind rest : List ℕ) (event : Event)
+pub short-fields : (ended : Bool) (row addr second third i p : ℕ) (text digits behind end rest : List ℕ) (event : Event)
     → digits ≡ take 8 text → behind ≡ drop 8 text → HasDigits digits addr 8
-    → behind ≡ 44 ∷ i ∷ 44 ∷ p ∷ 44 ∷ 44 ∷ 10 ∷ rest → second ≡ hex_value i → (second ≡ 16 → ⊥) → third ≡ hex_value p
-    → (third ≡ 16 → ⊥)
+    → behind ≡ 44 ∷ i ∷ 44 ∷ p ∷ 44 ∷ 44 ∷ end → EndsLineIn ended end rest → second ≡ hex_value i → (second ≡ 16 → ⊥)
+    → third ≡ hex_value p → (third ≡ 16 → ⊥)
     → numbers_event row addr second third None None ≡ Ok event
-    → HasRow row text event rest × ((more : List ℕ) → IsPlainRow row text more → rest ≡ more)
-short-fields row addr second third i p text digits behind rest event front back h tail is_i some_i is_p some_p known =
-    let first = address-cell text digits behind (i ∷ 44 ∷ p ∷ 44 ∷ 44 ∷ 10 ∷ rest) addr front back h tail in
-    let type = digit-cell i second (p ∷ 44 ∷ 44 ∷ 10 ∷ rest) is_i some_i in
-    let level = digit-cell p third (44 ∷ 10 ∷ rest) is_p some_p in
-    let cause = empty-cell (10 ∷ rest) in (
-      row-fields row addr second third text _ _ _ _ (10 ∷ rest) rest _ _ _ None None event first type level cause
-          ([], refl, (refl, refl, refl)) (inl refl) refl refl refl known,
+    → HasRow ended row text event rest × ((more : List ℕ) → IsPlainRow row text more → rest ≡ more)
+short-fields ended row addr second third i p text digits behind end rest event front back h tail ends is_i some_i is_p
+    some_p known =
+    let first = address-cell text digits behind (i ∷ 44 ∷ p ∷ 44 ∷ 44 ∷ end) addr front back h tail in
+    let type = digit-cell i second (p ∷ 44 ∷ 44 ∷ end) is_i some_i in
+    let level = digit-cell p third (44 ∷ end) is_p some_p in
+    let cause = empty-cell end in (
+      row-fields ended row addr second third text _ _ _ _ end rest _ _ _ None None event (as-written first)
+          (as-written type) (as-written level) (as-written cause)
+          ([], [], refl, inl refl, (refl, refl, refl)) ends refl refl refl known,
       λ more plain.
           let e1 = cell-ends first plain.first in
           let e2 = cell-ends type (cell-on e1 plain.second) in
           let e3 = cell-ends level (cell-on e2 plain.third) in
           let e4 = cell-ends cause (cell-on e3 plain.fourth) in
-          empty-ends rest plain.after_tval more plain.tval (field-on e4 plain.fifth) plain.ends,
+          empty-ends ended end rest plain.after_tval more plain.tval ends (field-on e4 plain.fifth) plain.ends,
     )

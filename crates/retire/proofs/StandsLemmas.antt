@@ -10,9 +10,10 @@ use Rattle.csv.specs.declared.parser.State.TheVariants.{StartRecord}
 use Rattle.retire.specs.HasRead.{IsFirstFault}
 use Rattle.retire.specs.Log.{IsReadOrMemory, events_up_to, log_up_to, records_of}
 use Rattle.retire.specs.steps.Place.{place_after}
-use Rattle.retire.specs.steps.ReadsRows.{HasFault, ReadsFirst, ReadsRows}
-use Rattle.retire.specs.steps.RowsLeft.{records_left, with_events}
-use Rattle.retire.specs.steps.Stands.{IsFault, MayFollow, Stands}
+use Rattle.retire.specs.steps.Header.{HasHeader}
+use Rattle.retire.specs.steps.ReadsRows.{HasFault, ReadsFirst, ReadsFront, ReadsRows}
+use Rattle.retire.specs.steps.RowsLeft.{MayFollow, records_left, with_events}
+use Rattle.retire.specs.steps.Stands.{IsFault, Stands}
 use Rattle.retire.specs.declared.boundary.Place.TheVariants as place
 use Rattle.retire.specs.declared.event.Event.{Event}
 use Rattle.retire.specs.declared.fault.LogFault.{LogFault}
@@ -21,7 +22,8 @@ use Rattle.retire.specs.declared.log_reader.Stage.{Stage}
 use Rattle.retire.specs.declared.log_reader.Stage.TheVariants as stage
 use Rattle.retire.proofs.BoundaryLemmas.{left-none, left-split}
 use Rattle.retire.proofs.EventsLemmas.{events-join, events-join_fault, log-join, log-join_fault, with_events-end}
-use Rattle.retire.proofs.EventsLemmas.{with_events-err, with_events-with_events}
+use Rattle.retire.proofs.EventsLemmas.{with_events-err, with_events-none, with_events-with_events}
+use Rattle.retire.proofs.PlainRowLemmas.{header-record}
 use Rattle.retire.proofs.ReadsLemmas.{reads-all}
 
 -- What was given, and bytes behind it.
@@ -172,6 +174,35 @@ pub first-failed : (most : ℕ) (given : List ℕ) (seen : List Event) (ended : 
 first-failed most given seen ended rows held piece rest why (none, zero, log) splits h =
     inr (λ more follows. log more follows ∙ ap (log_up_to most) (splits more follows)
     ∙ fault-join most (records_left StartRecord piece) (records_left StartRecord (rest ++ more)) why h)
+
+-- The header's line.
+pub stands-header : (most : ℕ) (given : List ℕ) (seen : List Event) (ended : Bool) (rows : ℕ) (held rest : List ℕ)
+    → Stands most given seen ended stage.Header rows held → HasHeader ended held rest
+    → Stands most given seen ended stage.Rows rows rest
+stands-header most given seen ended rows held rest (none, zero, log) h = (
+  zero ∙ ap length (sym none),
+  omega (arith, zero),
+  λ more follows.
+      let left = records_left StartRecord (rest ++ more) in
+      log more follows ∙ ap (log_up_to most) (header-record ended held rest h more follows)
+      ∙ sym (with_events-none (events_up_to most 1 left))
+      ∙ ap (λ t. with_events t (events_up_to most 1 left)) (sym none)
+      ∙ ap (λ n. with_events seen (events_up_to most (n + 1) left)) (sym zero),
+)
+
+-- Rows at the front of what is held.
+pub stands-front : (most : ℕ) (given : List ℕ) (seen : List Event) (ended : Bool) (rows : ℕ) (held rest : List ℕ)
+    (before after : List Event) (count : ℕ) → Stands most given seen ended stage.Rows rows held
+    → (r : ReadsFront most rows ended held before after count rest) → count ≤ most
+    → Stands most given (seen ++ r.piece) ended stage.Rows count rest
+stands-front most given seen ended rows held rest before after count (counted, within, log) r few =
+    let n = r.counted in
+    let n2 = length-append seen r.piece in (
+      omega (arith, n, n2, counted),
+      few,
+      λ more follows. log more follows ∙ ap (with_events seen) (r.read more follows)
+          ∙ with_events-with_events seen r.piece _,
+    )
 
 -- A piece of rows.
 pub stands-rows : (most : ℕ) (given : List ℕ) (seen : List Event) (ended : Bool) (rows : ℕ) (held piece rest : List ℕ)

@@ -1,4 +1,5 @@
 pub mod Excess
+pub mod Header
 pub mod RowsLeft
 pub mod PlainRow
 pub mod Place

@@ -103,7 +103,7 @@ fn long_field(text: &[u8]) -> Option<Field<'_>>
 
 /// What follows the comma that a text begins with.
 #[inline(always)]
-fn after_comma(text: &[u8]) -> Option<&[u8]>
+pub(crate) fn after_comma(text: &[u8]) -> Option<&[u8]>
     ensures comma { IfSome result (λ r. text.now ≡ 44 ∷ r.now) }
     ensures reads { (rest : List ℕ) → text.now ≡ 44 ∷ rest → IsSomeAnd result (λ r. r.now ≡ rest) }
 {

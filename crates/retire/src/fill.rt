@@ -8,8 +8,8 @@ use crate::fault::LogFault;
 use crate::source::{Source, fault_of};
 use std::mem;
 
-/// Puts bytes of a source behind those that are held, until they are so many, and returns whether the source has ended.
-/// The bytes of a call come into `room`.
+/// Appends bytes of a source to those that are held, until they are so many, and returns whether the source has ended.
+/// Each call of the source reads into `room`.
 pub(crate) fn fill<S: Source>(
     source: &mut S,
     room: &mut [u8],
@@ -38,7 +38,19 @@ pub(crate) fn fill<S: Source>(
     Ok(false)
 }
 
-/// Drops so many of the bytes that are held. The others are put into `spare`, which then takes their place.
+/// Copies the bytes that are not read yet into `spare`.
+pub(crate) fn keep(spare: &mut Vec<u8>, rest: &[u8]) -> Result<(), LogFault>
+    ensures kept { OnOk result (spare.new.items ≡ rest.now) }
+    ensures denied { IfErr result (λ fault. fault ≡ LogFault.Memory) }
+{
+    spare.clear();
+    if spare.extend_from_slice(rest).is_err() {
+        return Err(LogFault::Memory);
+    }
+    Ok(())
+}
+
+/// Drops so many of the bytes that are held. The others are copied into `spare`, which then takes their place.
 pub(crate) fn drop_front(
     held: &mut Vec<u8>,
     spare: &mut Vec<u8>,
@@ -48,10 +60,11 @@ pub(crate) fn drop_front(
     ensures held { OnOk result (held.new.items ≡ drop count held.old.items) }
     ensures denied { IfErr result (λ fault. fault ≡ LogFault.Memory) }
 {
-    spare.clear();
-    if spare.extend_from_slice(&held[count..]).is_err() {
-        return Err(LogFault::Memory);
+    match keep(spare, &held[count..]) {
+        Ok(()) => {
+            mem::swap(held, spare);
+            Ok(())
+        }
+        Err(fault) => Err(fault),
     }
-    mem::swap(held, spare);
-    Ok(())
 }

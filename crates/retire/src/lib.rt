@@ -5,6 +5,7 @@
 mod boundary;
 mod by_csv;
 mod eight_digits;
+mod ending;
 mod event;
 mod fault;
 mod field;
@@ -21,6 +22,7 @@ mod mark;
 mod piece;
 mod piece_buffer;
 mod plain;
+mod quoted_row;
 mod read;
 mod row;
 mod short_line;

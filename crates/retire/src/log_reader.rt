@@ -7,19 +7,20 @@ ghost use Rattle.std.specs.Io.KnownBytes.{IsAtEnd, Keeps, prepend_known};
 ghost use Rattle.csv.specs.declared.parser.State.TheVariants.{StartRecord};
 ghost use Rattle.retire.specs.HasRead.{GoesOn, HasFailed, HasRead, IsFirstFault, content_of, given_to, left_to};
 ghost use Rattle.retire.specs.Log.{IsReadOrMemory, log_up_to, records_of};
-ghost use Rattle.retire.specs.steps.RowsLeft.{records_left};
-ghost use Rattle.retire.specs.steps.Stands.{MayFollow};
+ghost use Rattle.retire.specs.steps.RowsLeft.{MayFollow, records_left};
 ghost use Rattle.retire.specs.declared.event.Event.{Event as AnyEvent};
 
 use crate::boundary::boundary;
 use crate::event::Event;
 use crate::fault::LogFault;
-use crate::fill::{drop_front, fill};
+use crate::fill::{drop_front, fill, keep};
 use crate::mark::mark_length;
 use crate::piece::{read_first, read_rows};
 use crate::piece_buffer::PieceBuffer;
+use crate::plain::{after_header, plain_rows};
 use crate::source::Source;
 use std::alloc::{Allocator, Global};
+use std::mem;
 
 /// What was read of a log so far.
 #[derive(Clone, Copy)]
@@ -140,6 +141,57 @@ impl<S: Source> LogReader<S> {
         }
     }
 
+    /// Reads the header's line at the front of what is held, and returns whether it is there.
+    fn read_names(&mut self) -> Result<bool, LogFault>
+        requires header { self.old.stage ≡ Stage.Header }
+        ensures goes_on { (most : ℕ) (seen : List AnyEvent) → HasRead S.given S.left most seen self.old
+            → OnOk result (HasRead S.given S.left most seen self.new) }
+        ensures still { result ≡ Ok false → self.new.stage ≡ Stage.Header }
+        ensures faults { (most : ℕ) (seen : List AnyEvent) → HasRead S.given S.left most seen self.old
+            → IfErr result (HasFailed S.given S.left most self.new) }
+        ensures source { self.new.source ≡ self.old.source }
+    {
+        let Some(rest) = after_header(&self.held, self.is_ended) else {
+            return Ok(false);
+        };
+        match keep(&mut self.spare, rest) {
+            Ok(()) => {
+                mem::swap(&mut self.held, &mut self.spare);
+                self.stage = Stage::Rows;
+                Ok(true)
+            }
+            Err(fault) => Err(fault),
+        }
+    }
+
+    /// Reads the rows at the front of what is held, straight from their bytes, and returns whether there was one.
+    fn read_front<E: Allocator>(&mut self, events: &mut Vec<Event, E>) -> Result<bool, LogFault>
+        requires rows { self.old.stage ≡ Stage.Rows }
+        ensures goes_on { (most : ℕ) (seen : List AnyEvent) → HasRead S.given S.left most seen self.old
+            → OnOk result (GoesOn S.given S.left most seen events.old.items events.new.items self.new) }
+        ensures still { result ≡ Ok false → (self.new.stage ≡ Stage.Rows) × (events.new.items ≡ events.old.items) }
+        ensures faults { (most : ℕ) (seen : List AnyEvent) → HasRead S.given S.left most seen self.old
+            → IfErr result (HasFailed S.given S.left most self.new) }
+        ensures source { self.new.source ≡ self.old.source }
+    {
+        let rows = self.rows.min(self.most);
+        let read = match plain_rows(events, self.most, rows, &self.held, self.is_ended) {
+            Ok(read) => read,
+            Err(fault) => return Err(fault),
+        };
+        if read.rows == rows {
+            return Ok(false);
+        }
+        self.rows = read.rows;
+        match keep(&mut self.spare, read.rest) {
+            Ok(()) => {
+                mem::swap(&mut self.held, &mut self.spare);
+                Ok(true)
+            }
+            Err(fault) => Err(fault),
+        }
+    }
+
     /// Reads a piece before which no record was read.
     fn read_header<E: Allocator>(&mut self, events: &mut Vec<Event, E>) -> Result<(), LogFault>
         requires header { self.old.stage ≡ Stage.Header }
@@ -216,8 +268,12 @@ impl<S: Source> LogReader<S> {
                 if self.is_ended && self.held.is_empty() {
                     return Err(LogFault::Header);
                 }
-                match self.read_header(events) {
-                    Ok(()) => Ok(false),
+                match self.read_names() {
+                    Ok(true) => Ok(false),
+                    Ok(false) => match self.read_header(events) {
+                        Ok(()) => Ok(false),
+                        Err(fault) => Err(fault),
+                    },
                     Err(fault) => Err(fault),
                 }
             }
@@ -225,8 +281,12 @@ impl<S: Source> LogReader<S> {
                 if self.is_ended && self.held.is_empty() {
                     return Ok(true);
                 }
-                match self.read_on(events) {
-                    Ok(()) => Ok(false),
+                match self.read_front(events) {
+                    Ok(true) => Ok(false),
+                    Ok(false) => match self.read_on(events) {
+                        Ok(()) => Ok(false),
+                        Err(fault) => Err(fault),
+                    },
                     Err(fault) => Err(fault),
                 }
             }

@@ -1,4 +1,4 @@
-//! The rows of a piece of a log.
+//! The records of a piece of a log, as `csv` reads them.
 
 ghost use Rattle.std.specs.Prelude.{◌≡◌, ◌⊎◌, ◌≤◌, ◌+◌, [], IfOk, IfErr, IfSome};
 ghost use Rattle.csv.specs.declared.parser.State.TheVariants.{StartRecord};
@@ -9,16 +9,14 @@ ghost use Rattle.retire.specs.steps.RowsLeft.{records_left};
 use crate::by_csv::{first_by_csv, rows_by_csv};
 use crate::event::Event;
 use crate::fault::LogFault;
-use crate::plain::{after_header, plain_rows};
 use std::alloc::{Allocator, Global};
 use std::io::Read;
 
-/// What `csv` is given before a text from the middle of a log: an empty line, which is no record, so that no byte order
-/// mark stands at the start of what it reads.
+/// What `csv` reads before a text from the middle of a log: an empty line, which is no record, so that no byte order
+/// mark is at the start of what it reads.
 const EMPTY_LINE: [u8; 1] = [b'\n'];
 
-/// Reads the rows of a piece, which follow on so many, and returns how many there are then. From the first row on that
-/// is not plain or has a fault `csv` reads them.
+/// Reads the rows of a piece, which follow on so many, and returns how many there are then.
 pub(crate) fn read_rows<A: Allocator>(
     events: &mut Vec<Event, A>,
     global: Global,
@@ -33,20 +31,16 @@ pub(crate) fn read_rows<A: Allocator>(
         ⊎ (events_up_to most (rows + 1) (records_left StartRecord piece.now) ≡ Err fault)) }
     ensures short { IfOk result (λ count. count ≤ most) }
 {
-    let read = plain_rows(events, most, rows, piece)?;
-    if read.rest.is_empty() {
-        return Ok(read.rows);
-    }
     rows_by_csv(
         events,
         global,
         most,
-        read.rows,
-        EMPTY_LINE.as_slice().chain(read.rest),
+        rows,
+        EMPTY_LINE.as_slice().chain(piece),
     )
 }
 
-/// Reads the first piece of a log that has a record, the header first, and returns how many rows it has; `None` where
+/// Reads the first piece of a log that has a record, the header first, and returns how many rows it has; `None` if
 /// there is no record in it.
 pub(crate) fn read_first<A: Allocator>(
     events: &mut Vec<Event, A>,
@@ -60,11 +54,5 @@ pub(crate) fn read_first<A: Allocator>(
         ⊎ HasFault most (records_left StartRecord piece.now) fault) }
     ensures short { IfOk result (λ found. IfSome found (λ count. count ≤ most)) }
 {
-    match after_header(piece) {
-        Some(rows) => match read_rows(events, global, most, 0, rows) {
-            Ok(count) => Ok(Some(count)),
-            Err(fault) => Err(fault),
-        },
-        None => first_by_csv(events, global, most, EMPTY_LINE.as_slice().chain(piece)),
-    }
+    first_by_csv(events, global, most, EMPTY_LINE.as_slice().chain(piece))
 }

@@ -1,9 +1,10 @@
 //! The row of a retirement at an address of eight digits, which most are.
 
 ghost use Rattle.std.specs.Prelude.{◌≡◌, ◌∷◌, ℕ, List, IfSome};
-ghost use Rattle.retire.specs.steps.PlainRow.{HasRow, IsPlainRow};
+ghost use Rattle.retire.specs.steps.PlainRow.{EndsLineIn, HasRow, IsPlainRow};
 
 use crate::eight_digits::eight_digits;
+use crate::ending::line_end;
 use crate::event::Event;
 use crate::hex::{NO_DIGIT, value_of};
 use crate::row::event_of_numbers;
@@ -17,7 +18,7 @@ pub struct PlainRow<'a> {
     pub rest: &'a [u8],
 }
 
-/// The digits of a type and of a privilege behind an address, and what follows the line.
+/// The digits of a type and of a privilege after an address, and what follows the line.
 #[derive(Clone, Copy)]
 struct Tail<'a> {
     itype: u8,
@@ -25,30 +26,33 @@ struct Tail<'a> {
     rest: &'a [u8],
 }
 
-/// What stands behind the address of a row whose type and privilege are one byte each and whose other fields are
-/// empty.
+/// What follows the address of a row whose type and privilege are one byte each and whose other fields are empty.
 #[inline(always)]
-fn tail_of(text: &[u8]) -> Option<Tail<'_>>
-    ensures { IfSome result (λ r. text.now ≡ 44 ∷ r.itype ∷ 44 ∷ r.privilege ∷ 44 ∷ 44 ∷ 10 ∷ r.rest.now) }
+fn tail_of(text: &[u8], is_ended: bool) -> Option<Tail<'_>>
+    ensures { IfSome result (λ r. (end : List ℕ) × (text.now ≡ 44 ∷ r.itype ∷ 44 ∷ r.privilege ∷ 44 ∷ 44 ∷ end)
+        × EndsLineIn is_ended end r.rest.now) }
 {
     match text {
-        [b',', itype, b',', privilege, b',', b',', b'\n', rest @ ..] => Some(Tail {
-            itype: *itype,
-            privilege: *privilege,
-            rest,
-        }),
+        [b',', itype, b',', privilege, b',', b',', end @ ..] => {
+            let rest = line_end(end, is_ended)?;
+            Some(Tail {
+                itype: *itype,
+                privilege: *privilege,
+                rest,
+            })
+        }
         _ => None,
     }
 }
 
 /// The row of this number at the front of a text, if it is a retirement at an address of eight digits and has no fault.
 #[inline(always)]
-pub fn short_row(row: u32, text: &[u8]) -> Option<PlainRow<'_>>
-    ensures row { IfSome result (λ r. HasRow row text.now r.event r.rest.now) }
+pub fn short_row(row: u32, text: &[u8], is_ended: bool) -> Option<PlainRow<'_>>
+    ensures row { IfSome result (λ r. HasRow is_ended row text.now r.event r.rest.now) }
     ensures only { IfSome result (λ r. (rest : List ℕ) → IsPlainRow row text.now rest → r.rest.now ≡ rest) }
 {
     let (digits, behind) = text.split_first_chunk::<8>()?;
-    let tail = tail_of(behind)?;
+    let tail = tail_of(behind, is_ended)?;
     let addr = eight_digits(digits)?;
     let itype = value_of(tail.itype);
     let privilege = value_of(tail.privilege);

@@ -1,5 +1,6 @@
--- What the front of a text holds, where no field is quoted.
-use Rattle.std.specs.Prelude.{◌≡◌, ◌+◌, ◌≤◌, ◌++◌, ⊤, ℕ, List, [], ◌∷◌, take, length, true, false, Option, Some, Ok}
+-- What the front of a text holds.
+use Rattle.std.specs.Prelude.{◌≡◌, ◌⊎◌, ◌+◌, ◌≤◌, ◌++◌, ⊤, Bool, ℕ, List, [], ◌∷◌, take, length, true, false, Option}
+use Rattle.std.specs.Prelude.{Some, Ok}
 use Rattle.std.specs.Prelude.{if◌then◌else◌}
 use Rattle.std.specs.List.{list_all, list_any}
 use Rattle.std.specs.Str.Parse.{digits_value}
@@ -9,7 +10,7 @@ use Rattle.csv.specs.declared.parser.State.TheVariants.{StartRecord}
 use Rattle.retire.specs.Number.{is_hex_digit, number_of}
 use Rattle.retire.specs.PlainLog.{EndsLine}
 use Rattle.retire.specs.Row.{is_garbled, numbers_event, row_event}
-use Rattle.retire.specs.steps.RowsLeft.{records_left}
+use Rattle.retire.specs.steps.RowsLeft.{MayFollow, records_left}
 use Rattle.retire.specs.declared.event.Event.{Event}
 
 -- How many hexadecimal digits a text begins with.
@@ -42,11 +43,30 @@ EndsField (byte ∷ rest) = needs_byte default_writer byte ≡ true
 abbrev pub HasCell : List ℕ → Option ℕ → List ℕ → Type 0
 HasCell text number rest = (field : List ℕ) × (text ≡ field ++ 44 ∷ rest) × Spells field number
 
+-- A field is written as it is, or in quotes.
+abbrev pub IsWritten : List ℕ → List ℕ → Type 0
+IsWritten field written = (written ≡ field) ⊎ (written ≡ 34 ∷ (field ++ 34 ∷ []))
+
+-- A text is a field that spells this number, written as it is or in quotes, and then the rest.
+abbrev pub HasWritten : List ℕ → Option ℕ → List ℕ → Type 0
+HasWritten text number rest =
+    (field : List ℕ) × (written : List ℕ) × (text ≡ written ++ rest) × IsWritten field written × Spells field number
+
+-- A text is the end of a line, and then the rest. The end of the text ends a line only where its source has ended.
+abbrev pub EndsLineIn : Bool → List ℕ → List ℕ → Type 0
+EndsLineIn ended text rest =
+    (text ≡ 10 ∷ rest) ⊎ (text ≡ 13 ∷ 10 ∷ rest) ⊎ ((ended ≡ true) × (text ≡ []) × (rest ≡ []))
+
+-- Whatever follows, the first record of a text has these fields, and the others are those of the rest.
+abbrev pub HasRecord : Bool → List ℕ → List (List ℕ) → List ℕ → Type 0
+HasRecord ended text fields rest =
+    (more : List ℕ) → MayFollow ended more
+    → records_left StartRecord (text ++ more) ≡ fields ∷ records_left StartRecord (rest ++ more)
+
 -- A text is a line that holds this event, and then the rest.
-abbrev pub HasRow : ℕ → List ℕ → Event → List ℕ → Type 0
-HasRow row text event rest =
-    (fields : List (List ℕ)) × (row_event row fields ≡ Ok event)
-    × (records_left StartRecord text ≡ fields ∷ records_left StartRecord rest)
+abbrev pub HasRow : Bool → ℕ → List ℕ → Event → List ℕ → Type 0
+HasRow ended row text event rest =
+    (fields : List (List ℕ)) × (row_event row fields ≡ Ok event) × HasRecord ended text fields rest
 
 -- A text is a line of five fields that spell the numbers of an event, and then the rest.
 pub record IsPlainRow (row : ℕ) (text rest : List ℕ) : Type 0 where

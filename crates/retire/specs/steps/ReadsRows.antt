@@ -1,7 +1,8 @@
 -- Rows that were read, and those that are left.
-use Rattle.std.specs.Prelude.{◌≡◌, ◌+◌, ◌++◌, ℕ, List, [], ◌∷◌, length, true, Option, Some, None, Err}
+use Rattle.std.specs.Prelude.{◌≡◌, ◌+◌, ◌++◌, Bool, ℕ, List, [], ◌∷◌, length, true, Option, Some, None, Err}
+use Rattle.csv.specs.declared.parser.State.TheVariants.{StartRecord}
 use Rattle.retire.specs.Log.{events_up_to, is_header, log_up_to}
-use Rattle.retire.specs.steps.RowsLeft.{with_events}
+use Rattle.retire.specs.steps.RowsLeft.{MayFollow, records_left, with_events}
 use Rattle.retire.specs.declared.event.Event.{Event}
 use Rattle.retire.specs.declared.fault.LogFault.{LogFault}
 
@@ -13,6 +14,17 @@ pub record ReadsRows (most rows : ℕ) (records : List (List (List ℕ))) (befor
   pub appended : after ≡ before ++ piece
   pub counted : count ≡ rows + length piece
   pub read : events_up_to most (rows + 1) records ≡ with_events piece (events_up_to most (count + 1) rest)
+
+-- Of the rows that a text begins with the first ones were read in the same way, and the rest of the text is left,
+-- whatever follows it.
+pub record ReadsFront (most rows : ℕ) (ended : Bool) (text : List ℕ) (before after : List Event) (count : ℕ)
+    (rest : List ℕ) : Type 0 where
+  pub piece : List Event
+  pub appended : after ≡ before ++ piece
+  pub counted : count ≡ rows + length piece
+  pub read : (more : List ℕ) → MayFollow ended more
+      → events_up_to most (rows + 1) (records_left StartRecord (text ++ more))
+      ≡ with_events piece (events_up_to most (count + 1) (records_left StartRecord (rest ++ more)))
 
 -- The first records of a log were read, the header first, and so many rows.
 pub record ReadsFirst (most : ℕ) (records : List (List (List ℕ))) (before after : List Event) (count : ℕ) : Type 0 where

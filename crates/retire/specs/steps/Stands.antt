@@ -2,15 +2,11 @@
 use Rattle.std.specs.Prelude.{◌≡◌, ◌⊎◌, ◌≤◌, ◌+◌, ◌++◌, Bool, true, ℕ, List, [], length, Err}
 use Rattle.csv.specs.declared.parser.State.TheVariants.{StartRecord}
 use Rattle.retire.specs.Log.{IsReadOrMemory, events_up_to, log_up_to, records_of}
-use Rattle.retire.specs.steps.RowsLeft.{records_left, with_events}
+use Rattle.retire.specs.steps.RowsLeft.{MayFollow, records_left, with_events}
 use Rattle.retire.specs.declared.event.Event.{Event}
 use Rattle.retire.specs.declared.fault.LogFault.{LogFault}
 use Rattle.retire.specs.declared.log_reader.Stage.{Stage}
 use Rattle.retire.specs.declared.log_reader.Stage.TheVariants as stage
-
--- These bytes may follow: none, where the source has ended.
-abbrev pub MayFollow : Bool → List ℕ → Type 0
-MayFollow ended more = ended ≡ true → more ≡ []
 
 -- The log has this fault, whatever follows the bytes that were given, or the source failed.
 abbrev pub IsFault : ℕ → List ℕ → Bool → LogFault → Type 0

@@ -1,32 +1,32 @@
 -- The fields of the row are named by hand, each where the one before it ends.
 use Rattle.std.proofs.Common.{◌∙◌, sym}
 use Rattle.retire.proofs.FieldLemmas.{same_cell, same_number}
-use Rattle.retire.proofs.PlainRowLemmas.{cell-on, field-on, line-ends, line-on, no_fault, row-fields}
+use Rattle.retire.proofs.PlainRowLemmas.{as-written, cell-on, field-on, line-ends, line-on, no_fault, row-fields}
 use Rattle.retire.proofs.plain.long_row.Goals as goal
 
 pub returns-in_err-addr-clause-reads : goal.returns-in_err-addr-clause-reads
-returns-in_err-addr-clause-reads c = λ rest p. absurd (c.in_err-addr.ensures.reads _ _ p.first)
+returns-in_err-addr-clause-reads c = λ ended rest p. absurd (c.in_err-addr.ensures.reads _ _ p.first)
 
 pub returns-in_err-itype-clause-reads : goal.returns-in_err-itype-clause-reads
-returns-in_err-itype-clause-reads c = λ rest p.
+returns-in_err-itype-clause-reads c = λ ended rest p.
     let e1 = c.in_ok-addr.ensures.reads _ _ p.first in
     absurd (c.in_err-itype.ensures.reads _ _ (cell-on e1 p.second))
 
 pub returns-in_err-privilege-clause-reads : goal.returns-in_err-privilege-clause-reads
-returns-in_err-privilege-clause-reads c = λ rest p.
+returns-in_err-privilege-clause-reads c = λ ended rest p.
     let e1 = c.in_ok-addr.ensures.reads _ _ p.first in
     let e2 = c.in_ok-itype.ensures.reads _ _ (cell-on e1 p.second) in
     absurd (c.in_err-privilege.ensures.reads _ _ (cell-on e2 p.third))
 
 pub returns-in_err-cause-clause-reads : goal.returns-in_err-cause-clause-reads
-returns-in_err-cause-clause-reads c = λ rest p.
+returns-in_err-cause-clause-reads c = λ ended rest p.
     let e1 = c.in_ok-addr.ensures.reads _ _ p.first in
     let e2 = c.in_ok-itype.ensures.reads _ _ (cell-on e1 p.second) in
     let e3 = c.in_ok-privilege.ensures.reads _ _ (cell-on e2 p.third) in
     absurd (c.in_err-cause.ensures.reads _ _ (cell-on e3 p.fourth))
 
 pub returns-in_err-tval-clause-reads : goal.returns-in_err-tval-clause-reads
-returns-in_err-tval-clause-reads c = λ rest p.
+returns-in_err-tval-clause-reads c = λ ended rest p.
     let e1 = c.in_ok-addr.ensures.reads _ _ p.first in
     let e2 = c.in_ok-itype.ensures.reads _ _ (cell-on e1 p.second) in
     let e3 = c.in_ok-privilege.ensures.reads _ _ (cell-on e2 p.third) in
@@ -34,29 +34,29 @@ returns-in_err-tval-clause-reads c = λ rest p.
     absurd (c.in_err-tval.ensures.reads _ _ (field-on e4 p.fifth) (line-ends p.ends))
 
 pub returns-in_err-rest-clause-reads : goal.returns-in_err-rest-clause-reads
-returns-in_err-rest-clause-reads c = λ rest p.
+returns-in_err-rest-clause-reads c = λ ended rest p.
     let e1 = c.in_ok-addr.ensures.reads _ _ p.first in
     let e2 = c.in_ok-itype.ensures.reads _ _ (cell-on e1 p.second) in
     let e3 = c.in_ok-privilege.ensures.reads _ _ (cell-on e2 p.third) in
     let e4 = c.in_ok-cause.ensures.reads _ _ (cell-on e3 p.fourth) in
     let e5 = c.in_ok-tval.ensures.reads _ _ (field-on e4 p.fifth) (line-ends p.ends) in
-    absurd (c.in_err-rest.ensures.reads _ (line-on e5 p.ends))
+    absurd (c.in_err-rest.ensures.reads ended _ (line-on e5 p.ends))
 
 pub returns-in_err-first-clause-reads : goal.returns-in_err-first-clause-reads
-returns-in_err-first-clause-reads c = λ rest p.
+returns-in_err-first-clause-reads c = λ ended rest p.
     let e1 = c.in_ok-addr.ensures.reads _ _ p.first in
     let n1 = same_cell _ _ _ _ _ c.in_ok-addr.ensures.cell p.first e1 in
     cc (sym c.in_err-first.was ∙ n1)
 
 pub returns-in_err-second-clause-reads : goal.returns-in_err-second-clause-reads
-returns-in_err-second-clause-reads c = λ rest p.
+returns-in_err-second-clause-reads c = λ ended rest p.
     let e1 = c.in_ok-addr.ensures.reads _ _ p.first in
     let h2 = cell-on e1 p.second in
     let n2 = same_cell _ _ _ _ _ c.in_ok-itype.ensures.cell h2 (c.in_ok-itype.ensures.reads _ _ h2) in
     cc (sym c.in_err-second.was ∙ n2)
 
 pub returns-in_err-third-clause-reads : goal.returns-in_err-third-clause-reads
-returns-in_err-third-clause-reads c = λ rest p.
+returns-in_err-third-clause-reads c = λ ended rest p.
     let e1 = c.in_ok-addr.ensures.reads _ _ p.first in
     let e2 = c.in_ok-itype.ensures.reads _ _ (cell-on e1 p.second) in
     let h3 = cell-on e2 p.third in
@@ -65,23 +65,24 @@ returns-in_err-third-clause-reads c = λ rest p.
 
 pub returns-in-Ok-clause-row : goal.returns-in-Ok-clause-row
 returns-in-Ok-clause-row c =
-    row-fields c.args.row c.in_ok-first.first c.in_ok-second.second c.in_ok-third.third c.args.text.now _ _ _ _ _
+    row-fields c.args.is_ended c.args.row c.in_ok-first.first c.in_ok-second.second c.in_ok-third.third c.args.text.now _ _ _ _ _
     c.in_ok-rest.rest.now _ _ _ _ _ c.in-Ok.event
-    c.in_ok-addr.ensures.cell c.in_ok-itype.ensures.cell c.in_ok-privilege.ensures.cell c.in_ok-cause.ensures.cell
-    c.in_ok-tval.ensures.field c.in_ok-rest.ensures.ends
+    (as-written c.in_ok-addr.ensures.cell) (as-written c.in_ok-itype.ensures.cell)
+    (as-written c.in_ok-privilege.ensures.cell) (as-written c.in_ok-cause.ensures.cell)
+    (as-written c.in_ok-tval.ensures.field) c.in_ok-rest.ensures.ends
     c.in_ok-first.was c.in_ok-second.was c.in_ok-third.was (sym c.in-Ok.ensures)
 
 pub returns-in-Ok-clause-reads : goal.returns-in-Ok-clause-reads
-returns-in-Ok-clause-reads c = λ rest p.
+returns-in-Ok-clause-reads c = λ ended rest p.
     let e1 = c.in_ok-addr.ensures.reads _ _ p.first in
     let e2 = c.in_ok-itype.ensures.reads _ _ (cell-on e1 p.second) in
     let e3 = c.in_ok-privilege.ensures.reads _ _ (cell-on e2 p.third) in
     let e4 = c.in_ok-cause.ensures.reads _ _ (cell-on e3 p.fourth) in
     let e5 = c.in_ok-tval.ensures.reads _ _ (field-on e4 p.fifth) (line-ends p.ends) in
-    c.in_ok-rest.ensures.reads _ (line-on e5 p.ends)
+    c.in_ok-rest.ensures.reads ended _ (line-on e5 p.ends)
 
 pub returns-in-Err-clause-reads : goal.returns-in-Err-clause-reads
-returns-in-Err-clause-reads c = λ rest p.
+returns-in-Err-clause-reads c = λ ended rest p.
     let e1 = c.in_ok-addr.ensures.reads _ _ p.first in
     let h2 = cell-on e1 p.second in
     let e2 = c.in_ok-itype.ensures.reads _ _ h2 in

@@ -1,10 +1,10 @@
 -- The records of the header's line and of the rows are named by hand.
-use Rattle.std.proofs.Common.{◌∙◌}
+use Rattle.std.proofs.Common.{◌∙◌, refl}
 use Rattle.retire.proofs.PlainLogLemmas.{log-plain}
 use Rattle.retire.proofs.plain.plain_log.Goals as goal
 
 pub returns-in_default-clause-reads : goal.returns-in_default-clause-reads
-returns-in_default-clause-reads g c = λ (rest, line, rows). absurd (c.in_default.ensures.reads rest line)
+returns-in_default-clause-reads g c = λ (rest, line, rows). absurd (c.in_default.ensures.reads refl rest line)
 
 pub returns-clause-holds : goal.returns-clause-holds
 returns-clause-holds g c =

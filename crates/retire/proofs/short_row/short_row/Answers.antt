@@ -5,12 +5,13 @@ use Rattle.retire.proofs.short_row.short_row.Goals as goal
 
 pub returns-in-Ok : goal.returns-in-Ok
 returns-in-Ok c =
+    let (end, tail, ends) = c.in_ok-tail.ensures in
     let found =
-    short-fields c.args.row c.in_ok-addr.addr c.from.result c.from-2.result c.in_ok-tail.tail.itype
+    short-fields c.args.is_ended c.args.row c.in_ok-addr.addr c.from.result c.from-2.result c.in_ok-tail.tail.itype
     c.in_ok-tail.tail.privilege c.args.text.now
-    c.in_ok-digits.digits.now c.in_ok-digits.behind.now c.in_ok-tail.tail.rest.now c.in-Ok.event
+    c.in_ok-digits.digits.now c.in_ok-digits.behind.now end c.in_ok-tail.tail.rest.now c.in-Ok.event
     c.in_ok-digits.ensures.cases.0 c.in_ok-digits.ensures.cases.1
-    c.in_ok-addr.ensures c.in_ok-tail.ensures (c.from.ensures ∙ c.value_of-itype.ensures)
+    c.in_ok-addr.ensures tail ends (c.from.ensures ∙ c.value_of-itype.ensures)
     (λ e. c.if-itype-eq-NO_DIGIT.false (sym c.from.ensures ∙ e))
     (c.from-2.ensures ∙ c.value_of-privilege.ensures) (λ e. c.if-privilege-eq-NO_DIGIT.false (sym c.from-2.ensures ∙ e))
     (sym c.in-Ok.ensures) in
