@@ -1,5 +1,5 @@
 -- What the bytes that a source gave say of all its bytes, where they are known.
-use Rattle.std.proofs.Common.{◌≡◌, ◌⊎◌, ◌++◌, ◌∙◌, ℕ, List, [], Option, Some, None, Ok, Err, IfSome, refl, sym, ap}
+use Rattle.std.proofs.Common.{◌≡◌, ◌⊎◌, ◌++◌, ◌∙◌, ℕ, List, Option, Some, None, Ok, Err, IfSome, refl, sym, ap}
 use Rattle.std.proofs.Common.{inl, inr}
 use Rattle.std.proofs.Common.{append-nil}
 use Rattle.std.specs.Io.KnownBytes.{IsAtEnd, Keeps, prepend_known}
@@ -11,10 +11,6 @@ use Rattle.retire.specs.declared.fault.LogFault.{LogFault}
 pub keeps-same : (known : Option (List ℕ)) → Keeps known known
 keeps-same None = tt
 keeps-same (Some text) = refl
-
-pub keeps-none : (known : Option (List ℕ)) → Keeps known (prepend_known [] known)
-keeps-none None = tt
-keeps-none (Some text) = refl
 
 -- At the end of the source all bytes were given.
 pub ended-log : (most : ℕ) (known left : Option (List ℕ)) (given : List ℕ) (seen : List Event)

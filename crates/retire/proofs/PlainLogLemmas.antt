@@ -1,12 +1,12 @@
 -- The rows of a plain log, one at a time, and that a log is written plain.
 use Rattle.std.proofs.Common.{◌≡◌, ◌≤◌, ◌<◌, ◌||◌, ◌==◌, ◌++◌, ◌∙◌, ◌+◌, Bool, ℕ, List, [], ◌∷◌, Option, Some}
-use Rattle.std.proofs.Common.{None, Ok, map, nat_eq, nat_lt, Bor, IfSome, take, drop, length, true, false, arith}
+use Rattle.std.proofs.Common.{None, Ok, map, nat_lt, Bor, IfSome, length, true, false, arith}
 use Rattle.std.proofs.Common.{refl, sym, ap, inl, inr, rules, append_assoc, append-nil}
 use Rattle.std.specs.List.{flat_map, join_with_byte, list_all, list_any}
 use Rattle.std.proofs.lemmas.Bool.{cases_Bool, and_parts, eqb-true, or_parts}
 use Rattle.csv.specs.Quoting.{needs_byte}
 use Rattle.csv.specs.Writing.{default_writer}
-use Rattle.retire.specs.Log.{events_up_to, header, log_of_records, most_rows, records_of}
+use Rattle.retire.specs.Log.{events_up_to, log_of_records, most_rows, records_of}
 use Rattle.retire.specs.steps.ReadsRows.{ReadsFront}
 use Rattle.retire.specs.steps.RowsLeft.{records_left, with_events}
 use Rattle.csv.specs.declared.parser.State.TheVariants.{StartRecord}

@@ -253,15 +253,10 @@ pub as-written : {text : List ℕ} {number : Option ℕ} {rest : List ℕ} → H
     → HasWritten text number rest
 as-written {text} {number} {rest} (field, e, spells) = (field, field, e, inl refl, spells)
 
-pub in-quotes : {text inside : List ℕ} {number : Option ℕ} {after rest : List ℕ} → text ≡ 34 ∷ inside
-    → HasField inside number after → after ≡ 34 ∷ rest → HasWritten text number rest
-in-quotes {text} {inside} {number} {after} {rest} opens (field, e, spells) closes = (
-  field,
-  34 ∷ (field ++ 34 ∷ []),
-  opens ∙ ap (λ t. 34 ∷ t) (e ∙ ap (λ t. field ++ t) closes ∙ sym (append_assoc field (34 ∷ []) rest)),
-  inr refl,
-  spells,
-)
+pub in-quotes : {text inside : List ℕ} {number : Option ℕ} {rest : List ℕ} → text ≡ 34 ∷ inside
+    → HasField inside number (34 ∷ rest) → HasWritten text number rest
+in-quotes {text} {inside} {number} {rest} opens (field, e, spells) =
+    (field, 34 ∷ (field ++ 34 ∷ []), opens ∙ ap (λ t. 34 ∷ t) (e ∙ sym (append_assoc field (34 ∷ []) rest)), inr refl, spells)
 
 pub records_left-empty : (rest : List ℕ) → length rest ≡ 0 → records_left st.StartRecord rest ≡ []
 unfolding next_record

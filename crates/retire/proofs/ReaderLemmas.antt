@@ -1,5 +1,5 @@
 -- How far a reader has read a log, one step further.
-use Rattle.std.proofs.Common.{◌≡◌, ◌⊎◌, ◌≤◌, ◌<◌, ◌+◌, ◌++◌, ◌∙◌, Bool, true, false, ℕ, List, [], Option, Some, None}
+use Rattle.std.proofs.Common.{◌≡◌, ◌⊎◌, ◌≤◌, ◌+◌, ◌++◌, ◌∙◌, true, ℕ, List, [], Option, Some, None}
 use Rattle.std.proofs.Common.{Result, Ok, Err}
 use Rattle.std.proofs.Common.{IfSome, OnOk, Vec, Global, take, drop, length, min, subst, sym, ap, inl, inr}
 use Rattle.std.proofs.Common.{append-nil, arith}
@@ -21,7 +21,7 @@ use Rattle.retire.specs.declared.log_reader.LogReader.{LogReader}
 use Rattle.retire.specs.declared.log_reader.Stage.{Stage}
 use Rattle.retire.specs.declared.log_reader.Stage.TheVariants as stage
 use Rattle.retire.proofs.StandsLemmas.{Splits, first-failed, header-missing, rows-ended, rows-failed, stands-begun}
-use Rattle.retire.proofs.StandsLemmas.{stands-filled, stands-first, stands-front, stands-header, stands-passed}
+use Rattle.retire.proofs.StandsLemmas.{stands-first, stands-front, stands-header, stands-passed}
 use Rattle.retire.proofs.StandsLemmas.{stands-rows}
 
 module _ {S : Type 0} (given : S → List ℕ) (left : S → Option (List ℕ)) (most : ℕ) (seen : List Event)
@@ -37,15 +37,6 @@ module _ {S : Type 0} (given : S → List ℕ) (left : S → Option (List ℕ)) 
       → IsFault most (given reader.source) reader.is_ended why
       → HasFailed given left most reader why
   failed why h f = record { limit = h.limit; room = h.room; ended = h.ended; fault = f }
-
-  -- No event more.
-  pub goes-none : (before : List Event) → HasRead given left most seen reader
-      → GoesOn given left most seen before before reader
-  goes-none before h = record {
-    piece = [];
-    appended = sym (append-nil before);
-    read = subst (λ events. HasRead given left most events reader) (sym (append-nil seen)) h;
-  }
 
   pub has-begun : (held2 spare2 : Vec ℕ Global) → HasRead given left most seen reader → reader.stage ≡ stage.Start
       → (reader.is_ended ≡ true) ⊎ (3 ≤ length reader.held.items) → held2.items ≡ strip_bom reader.held.items
@@ -238,26 +229,6 @@ module _ {S : Type 0} (given : S → List ℕ) (left : S → Option (List ℕ)) 
               stands);
         };
       }
-
-  -- The source gave more.
-  pub has-filled : (source2 : S) (room2 held2 : Vec ℕ Global) (ended : Bool) (bytes : List ℕ)
-      → HasRead given left most seen reader → reader.is_ended ≡ false → given source2 ≡ given reader.source ++ bytes
-      → held2.items ≡ reader.held.items ++ bytes → length room2.items ≡ length reader.room.items
-      → (ended ≡ true → IsAtEnd (left source2))
-      → HasRead given left most seen
-      (record reader { source = source2; room = room2; held = held2; is_ended = ended })
-  has-filled source2 room2 held2 ended bytes h going gave holds size at_end = record {
-    limit = h.limit;
-    room = subst (λ n. 0 < n) (sym size) h.room;
-    ended = at_end;
-    few = h.few;
-    stands =
-        subst (λ t. Stands most t seen ended reader.stage reader.rows held2.items) (sym gave)
-        (subst (λ t. Stands most (given reader.source ++ bytes) seen ended reader.stage reader.rows t) (sym holds)
-        (stands-filled most (given reader.source) seen ended reader.stage reader.rows reader.held.items bytes
-        (subst (λ e. Stands most (given reader.source) seen e reader.stage reader.rows reader.held.items) going
-        h.stands)));
-  }
 
   -- The source has no more, and nothing is held.
   pub header-ends : HasRead given left most seen reader → reader.stage ≡ stage.Header → reader.is_ended ≡ true

@@ -1,7 +1,7 @@
 -- Rows that are read one after the other.
-use Rattle.std.proofs.Common.{◌≡◌, ◌≤◌, ◌<◌, ◌+◌, ◌++◌, ◌∙◌, ◌==◌, Bool, ℕ, List, [], ◌∷◌, Ok, Err, arith}
-use Rattle.std.proofs.Common.{refl, subst, sym, ap, length, append_assoc, append-nil, true, inl}
-use Rattle.std.proofs.lemmas.List.{length-append, nil_from_length}
+use Rattle.std.proofs.Common.{◌≡◌, ◌≤◌, ◌<◌, ◌+◌, ◌++◌, ◌∙◌, Bool, ℕ, List, [], ◌∷◌, Ok, Err, arith}
+use Rattle.std.proofs.Common.{refl, sym, ap, length, append_assoc, append-nil, true, inl}
+use Rattle.std.proofs.lemmas.List.{length-append}
 use Rattle.retire.specs.Log.{events_up_to, is_header, log_up_to, too_many}
 use Rattle.retire.specs.Row.{row_event}
 use Rattle.retire.specs.steps.PlainRow.{HasRecord}
@@ -55,25 +55,6 @@ module _ (most rows : ℕ) (records : List (List (List ℕ))) (before : List Eve
       r.read ∙ ap (λ t. with_events r.piece (events_up_to most (count + 1) t)) is
       ∙ with_events-err r.piece _ (too_many most) (events-too_many most (count + 1) fields rest (omega arith))
 
-  pub reads-then : (middle after : List Event) (n count : ℕ) (left rest : List (List (List ℕ)))
-      → ReadsRows most rows records before middle n left → ReadsRows most n left middle after count rest
-      → ReadsRows most rows records before after count rest
-  reads-then middle after n count left rest a b = record {
-    piece = a.piece ++ b.piece;
-    appended = b.appended ∙ ap (λ t. t ++ b.piece) a.appended ∙ append_assoc before a.piece b.piece;
-    counted =
-        let n1 = a.counted in
-        let n2 = b.counted in
-        let n3 = length-append a.piece b.piece in
-        omega (arith, n1, n2, n3);
-    read = a.read ∙ ap (with_events a.piece) b.read ∙ with_events-with_events a.piece b.piece _;
-  }
-
-  pub reads-then_fault : (middle : List Event) (n : ℕ) (left : List (List (List ℕ))) (why : LogFault)
-      → ReadsRows most rows records before middle n left → events_up_to most (n + 1) left ≡ Err why
-      → events_up_to most (rows + 1) records ≡ Err why
-  reads-then_fault middle n left why a e = a.read ∙ with_events-err a.piece _ why e
-
   -- All rows were read.
   pub reads-all : (after : List Event) (count : ℕ) → (r : ReadsRows most rows records before after count [])
       → events_up_to most (rows + 1) records ≡ Ok r.piece
@@ -107,14 +88,6 @@ module _ (most rows : ℕ) (ended : Bool) (text : List ℕ) (before : List Event
         (events-event most (count + 1) fields (records_left StartRecord (rest ++ bytes)) event (omega arith) known)
         ∙ with_events-with_events r.piece (event ∷ []) _;
   }
-
-  -- No row was read.
-  pub front-still : (after : List Event) (count : ℕ) (rest : List ℕ)
-      → ReadsFront most rows ended text before after count rest → count ≡ rows → after ≡ before
-  front-still after count rest r same =
-      let c = r.counted in
-      let none : r.piece ≡ [] = nil_from_length r.piece (omega (arith, c, same)) in
-      r.appended ∙ ap (λ t. before ++ t) none ∙ append-nil before
 
 -- An empty line in front is no record, and no byte order mark stands behind it.
 feed-strip : (text : List ℕ) → strip_bom (10 ∷ text) ≡ 10 ∷ text

@@ -86,26 +86,34 @@ digit-spells : (byte value : ℕ) → value ≡ hex_value byte → (value ≡ 16
 digit-spells byte value is other =
     whole-spells (byte ∷ []) (Some value) _ (field-digit (byte ∷ []) value value (omega arith) refl is other) refl
 
+pub digit-field : (byte value : ℕ) (rest : List ℕ) → value ≡ hex_value byte → (value ≡ 16 → ⊥)
+    → HasField (byte ∷ rest) (Some value) rest
+digit-field byte value rest is other = (byte ∷ [], refl, digit-spells byte value is other)
+
 digit-cell : (byte value : ℕ) (rest : List ℕ) → value ≡ hex_value byte → (value ≡ 16 → ⊥)
     → HasCell (byte ∷ 44 ∷ rest) (Some value) rest
-digit-cell byte value rest is other = (byte ∷ [], refl, digit-spells byte value is other)
+digit-cell byte value rest is other = digit-field byte value (44 ∷ rest) is other
 
 empty-cell : (rest : List ℕ) → HasCell (44 ∷ rest) None rest
 empty-cell rest = ([], refl, (refl, refl, refl))
 
-address-cell : (text digits behind rest : List ℕ) (addr : ℕ) → digits ≡ take 8 text → behind ≡ drop 8 text
-    → HasDigits digits addr 8 → behind ≡ 44 ∷ rest → HasCell text (Some addr) rest
-address-cell text digits behind rest addr front back h comma =
+pub address-field : (text digits behind : List ℕ) (addr : ℕ) → digits ≡ take 8 text → behind ≡ drop 8 text
+    → HasDigits digits addr 8 → HasField text (Some addr) behind
+address-field text digits behind addr front back h =
     let whole : text ≡ digits ++ behind = sym (take-append-drop 8 text) ∙ ap (λ t. t ++ drop 8 text) (sym front)
     ∙ ap (λ t. digits ++ t) (sym back) in
     let size = length-take 8 text in
     let short : length digits ≤ 8 = rw front (omega (arith, size)) in (
       digits,
-      whole
-          ∙ ap (λ t. digits ++ t) comma,
+      whole,
       whole-spells digits (Some addr) (drop 8 digits)
           (field-some digits (drop 8 digits) addr 8 h (omega arith) refl) (drop_all 8 digits short),
     )
+
+address-cell : (text digits behind rest : List ℕ) (addr : ℕ) → digits ≡ take 8 text → behind ≡ drop 8 text
+    → HasDigits digits addr 8 → behind ≡ 44 ∷ rest → HasCell text (Some addr) rest
+address-cell text digits behind rest addr front back h comma =
+    subst (HasField text (Some addr)) comma (address-field text digits behind addr front back h)
 
 -- A row of eight digits, two of one digit, and two empty fields.
 pub short-fields : (ended : Bool) (row addr second third i p : ℕ) (text digits behind end rest : List ℕ) (event : Event)

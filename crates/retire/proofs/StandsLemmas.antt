@@ -18,47 +18,12 @@ use Rattle.retire.specs.declared.boundary.Place.TheVariants as place
 use Rattle.retire.specs.declared.event.Event.{Event}
 use Rattle.retire.specs.declared.fault.LogFault.{LogFault}
 use Rattle.retire.specs.declared.fault.LogFault.TheVariants as fault
-use Rattle.retire.specs.declared.log_reader.Stage.{Stage}
 use Rattle.retire.specs.declared.log_reader.Stage.TheVariants as stage
 use Rattle.retire.proofs.BoundaryLemmas.{left-none, left-split}
 use Rattle.retire.proofs.EventsLemmas.{events-join, events-join_fault, log-join, log-join_fault, with_events-end}
 use Rattle.retire.proofs.EventsLemmas.{with_events-err, with_events-none, with_events-with_events}
 use Rattle.retire.proofs.PlainRowLemmas.{header-record}
 use Rattle.retire.proofs.ReadsLemmas.{reads-all}
-
--- What was given, and bytes behind it.
-log-behind : (most : ℕ) (given bytes more : List ℕ)
-    → log_up_to most (records_of ((given ++ bytes) ++ more)) ≡ log_up_to most (records_of (given ++ (bytes ++ more)))
-log-behind most given bytes more = ap (λ t. log_up_to most (records_of t)) (append_assoc given bytes more)
-
-left-behind : (held bytes more : List ℕ)
-    → records_left StartRecord (held ++ (bytes ++ more)) ≡ records_left StartRecord ((held ++ bytes) ++ more)
-left-behind held bytes more = ap (records_left StartRecord) (sym (append_assoc held bytes more))
-
-pub fault-filled : (most : ℕ) (given bytes : List ℕ) (ended : Bool) (why : LogFault) → IsFault most given false why
-    → IsFault most (given ++ bytes) ended why
-fault-filled most given bytes ended why (inl denied) = inl denied
-fault-filled most given bytes ended why (inr log) =
-    inr (λ more follows. log-behind most given bytes more ∙ log (bytes ++ more) (λ e. cc e))
-
-pub stands-filled : (most : ℕ) (given : List ℕ) (seen : List Event) (ended : Bool) (s : Stage) (rows : ℕ)
-    (held bytes : List ℕ) → Stands most given seen false s rows held
-    → Stands most (given ++ bytes) seen ended s rows (held ++ bytes)
-stands-filled most given seen ended stage.Start rows held bytes (none, zero, same) =
-    (none, zero, ap (λ t. t ++ bytes) same)
-stands-filled most given seen ended stage.Header rows held bytes (none, zero, log) = (
-  none,
-  zero,
-  λ more follows. log-behind most given bytes more ∙ log (bytes ++ more) (λ e. cc e)
-      ∙ ap (log_up_to most) (left-behind held bytes more),
-)
-stands-filled most given seen ended stage.Rows rows held bytes (count, few, log) = (
-  count,
-  few,
-  λ more follows. log-behind most given bytes more ∙ log (bytes ++ more) (λ e. cc e)
-      ∙ ap (λ t. with_events seen (events_up_to most (rows + 1) t)) (left-behind held bytes more),
-)
-stands-filled most given seen ended (stage.Failed why) rows held bytes h = fault-filled most given bytes ended why h
 
 -- A byte order mark is dropped where it is known whether there is one.
 strip-more : (held more : List ℕ) → (more ≡ []) ⊎ (3 ≤ length held) → strip_bom (held ++ more) ≡ strip_bom held ++ more

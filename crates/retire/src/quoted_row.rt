@@ -1,10 +1,12 @@
 //! A row with quoted fields, straight from its bytes.
 
 ghost use Rattle.std.specs.Prelude.{◌≡◌, ◌∷◌, IfSome};
-ghost use Rattle.retire.specs.steps.PlainRow.{HasRow, HasWritten};
+ghost use Rattle.retire.specs.steps.PlainRow.{HasField, HasRow, HasWritten};
 
+use crate::eight_digits::eight_digits;
 use crate::ending::line_end;
 use crate::field::{Field, after_comma, field_before};
+use crate::hex::{NO_DIGIT, value_of};
 use crate::row::event_of_numbers;
 use crate::short_row::PlainRow;
 
@@ -19,20 +21,66 @@ fn after_quote(text: &[u8]) -> Option<&[u8]>
     }
 }
 
-/// The field at the front of a text, which may be in quotes.
+/// The field of eight digits at the front of a text that ends at a quote, and what follows the quote.
 #[inline(always)]
-fn written_field(text: &[u8]) -> Option<Field<'_>>
-    ensures { IfSome result (λ r. HasWritten text.now r.number r.rest.now) }
+fn eight_before_quote(text: &[u8]) -> Option<Field<'_>>
+    ensures { IfSome result (λ r. HasField text.now r.number (34 ∷ r.rest.now)) }
 {
-    let Some(inside) = after_quote(text) else {
-        return field_before(text);
-    };
-    let field = field_before(inside)?;
+    let (digits, after) = text.split_first_chunk::<8>()?;
+    let rest = after_quote(after)?;
+    let value = eight_digits(digits)?;
+    Some(Field {
+        number: Some(value),
+        rest,
+    })
+}
+
+/// The field at the front of a text that ends at a quote, and what follows the quote; of any length.
+#[inline(always)]
+fn long_before_quote(text: &[u8]) -> Option<Field<'_>>
+    ensures { IfSome result (λ r. HasField text.now r.number (34 ∷ r.rest.now)) }
+{
+    if let Some(field) = eight_before_quote(text) {
+        return Some(field);
+    }
+    let field = field_before(text)?;
     let rest = after_quote(field.rest)?;
     Some(Field {
         number: field.number,
         rest,
     })
+}
+
+/// The field at the front of a text that ends at a quote, and what follows the quote; most are empty or one digit.
+#[inline(always)]
+fn field_before_quote(text: &[u8]) -> Option<Field<'_>>
+    ensures { IfSome result (λ r. HasField text.now r.number (34 ∷ r.rest.now)) }
+{
+    match text {
+        [b'"', rest @ ..] => Some(Field { number: None, rest }),
+        [byte, b'"', rest @ ..] => {
+            let digit = value_of(*byte);
+            if digit == NO_DIGIT {
+                return None;
+            }
+            Some(Field {
+                number: Some(u64::from(digit)),
+                rest,
+            })
+        }
+        _ => long_before_quote(text),
+    }
+}
+
+/// The field at the front of a text, which may be in quotes.
+#[inline(always)]
+fn written_field(text: &[u8]) -> Option<Field<'_>>
+    ensures { IfSome result (λ r. HasWritten text.now r.number r.rest.now) }
+{
+    match after_quote(text) {
+        Some(inside) => field_before_quote(inside),
+        None => field_before(text),
+    }
 }
 
 /// The field at the front of a text that ends at a comma, and what follows the comma. The field may be in quotes.

@@ -1,5 +1,5 @@
 -- How far a log is read that comes in pieces.
-use Rattle.std.specs.Prelude.{◌≡◌, ◌⊎◌, ◌≤◌, ◌+◌, ◌++◌, Bool, true, ℕ, List, [], length, Err}
+use Rattle.std.specs.Prelude.{◌≡◌, ◌⊎◌, ◌≤◌, ◌+◌, ◌++◌, Bool, ℕ, List, [], length, Err}
 use Rattle.csv.specs.declared.parser.State.TheVariants.{StartRecord}
 use Rattle.retire.specs.Log.{IsReadOrMemory, events_up_to, log_up_to, records_of}
 use Rattle.retire.specs.steps.RowsLeft.{MayFollow, records_left, with_events}
