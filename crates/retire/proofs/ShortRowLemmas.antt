@@ -11,7 +11,7 @@ use Rattle.retire.specs.PlainLog.{EndsLine}
 use Rattle.retire.specs.Row.{numbers_event}
 use Rattle.retire.specs.declared.event.Event.{Event}
 use Rattle.retire.specs.steps.PlainRow.{EndsLineIn, HasCell, HasDigits, HasField, HasRow, IsPlainRow, Spells}
-use Rattle.retire.proofs.PlainRowLemmas.{as-written, cell-on, field-digit, field-on, field-some, row-fields}
+use Rattle.retire.proofs.PlainRowLemmas.{as-written, cell-on, field-digit, field-on, field-some, in-quotes, row-fields}
 
 -- A field with no comma ends at the first.
 field-ends : (field other rest more : List ℕ) → list_any (needs_byte default_writer) field ≡ false
@@ -138,3 +138,18 @@ short-fields ended row addr second third i p text digits behind end rest event f
           let e4 = cell-ends cause (cell-on e3 plain.fourth) in
           empty-ends ended end rest plain.after_tval more plain.tval ends (field-on e4 plain.fifth) plain.ends,
     )
+
+-- The same with each field in quotes.
+pub short-quoted : (ended : Bool) (row addr second third i p : ℕ) (inside digits after end rest : List ℕ)
+    (event : Event) → digits ≡ take 8 inside → after ≡ drop 8 inside → HasDigits digits addr 8
+    → after ≡ 34 ∷ 44 ∷ 34 ∷ i ∷ 34 ∷ 44 ∷ 34 ∷ p ∷ 34 ∷ 44 ∷ 34 ∷ 34 ∷ 44 ∷ 34 ∷ 34 ∷ end → EndsLineIn ended end rest
+    → second ≡ hex_value i → (second ≡ 16 → ⊥) → third ≡ hex_value p → (third ≡ 16 → ⊥)
+    → numbers_event row addr second third None None ≡ Ok event → HasRow ended row (34 ∷ inside) event rest
+short-quoted ended row addr second third i p inside digits after end rest event front back h tail ends is_i some_i is_p
+    some_p known =
+    let first : HasField inside (Some addr) _ = subst (HasField inside (Some addr)) tail (address-field inside digits
+    after addr front back h) in
+    row-fields ended row addr second third (34 ∷ inside) _ _ _ _ end rest _ _ _ None None event (in-quotes refl first)
+    (in-quotes refl (digit-field i second _ is_i some_i)) (in-quotes refl (digit-field p third _ is_p some_p))
+    (in-quotes refl ([], refl, (refl, refl, refl))) (in-quotes refl ([], refl, (refl, refl, refl))) ends refl refl refl
+    known

@@ -28,7 +28,7 @@ pub record HasRead {S : Type 0} (given : S → List ℕ) (left : S → Option (L
   pub few : length seen ≤ most
   pub stands : Stands most (given reader.source) seen reader.is_ended reader.stage reader.rows reader.held.items
 
--- The events of the next piece were put behind those before, and follow on those that were given.
+-- The events of the next piece were appended to those before, and follow on those that were given.
 pub record GoesOn {S : Type 0} (given : S → List ℕ) (left : S → Option (List ℕ)) (most : ℕ)
     (seen before after : List Event) (reader : LogReader S) : Type 0 where
   pub piece : List Event

@@ -4,7 +4,7 @@ ghost use Rattle.std.specs.Prelude.{◌≡◌, ◌≤◌, ◌⊎◌, ◌-◌, ta
 ghost use Rattle.retire.specs.PlainText.{is_line_end, is_plain};
 ghost use Rattle.retire.specs.steps.Place.{next_place, outside, place_after};
 
-/// Where a byte of a text stands among records.
+/// The place of a byte among records.
 #[derive(Clone, Copy, PartialEq, Eq)]
 pub(crate) enum Place {
     /// A record may start.
@@ -19,7 +19,7 @@ pub(crate) enum Place {
     Quote,
 }
 
-/// What follows a byte that stands in no quotes and is no quote itself.
+/// What follows a byte that is outside quotes and is no quote itself.
 #[inline(always)]
 fn outside(byte: u8) -> Place
     ensures { result ≡ outside byte }
@@ -60,8 +60,8 @@ fn last_start(text: &[u8]) -> usize
     last
 }
 
-/// The end of the last line of a text, or its start where no line ends in it. A line feed is looked for first, so that
-/// no carriage return is parted from the line feed that follows it where a line feed stands before.
+/// The end of the last line of a text, or its start if no line ends in it. A carriage return counts only if the text
+/// has no line feed, so that a cut seldom parts it from the line feed that follows it.
 fn last_line_end(text: &[u8]) -> usize
     ensures within { result ≤ length text.now }
     ensures ends { (result ≡ 0) ⊎ (is_line_end (get_or text.now (result - 1) 0) ≡ true) }

@@ -18,7 +18,7 @@ use csv::{ByteRecord, Reader, ReaderBuilder};
 use std::alloc::{Allocator, Global};
 use std::io::Read;
 
-/// Reads the next record, if there is one. The text lies in memory, so that only memory can be refused.
+/// Reads the next record, if there is one. The text is in memory, so only allocation can fail.
 fn next_record<R: Read + Drop>(
     reader: &mut Reader<R>,
     line: &mut ByteRecord,
@@ -99,8 +99,8 @@ pub(crate) fn rows_by_csv<A: Allocator, R: Read + Drop>(
     read_rows(events, most, rows, &mut reader, &mut line)
 }
 
-/// Reads the first records of a log, which the reader stands before, and returns how many rows there are; `None` where
-/// there is no record.
+/// Reads the first records of a log, which the reader reads next, and returns how many rows there are; `None` if there
+/// is no record.
 fn read_beginning<A: Allocator, R: Read + Drop>(
     events: &mut Vec<Event, A>,
     most: u32,
@@ -132,7 +132,7 @@ fn read_beginning<A: Allocator, R: Read + Drop>(
     }
 }
 
-/// Reads the first records of a log, and returns how many rows there are; `None` where there is no record.
+/// Reads the first records of a log, and returns how many rows there are; `None` if there is no record.
 pub(crate) fn first_by_csv<A: Allocator, R: Read + Drop>(
     events: &mut Vec<Event, A>,
     global: Global,

@@ -4,7 +4,7 @@ ghost use Rattle.std.specs.Prelude.{◌≡◌, ◌≤◌, IfSome};
 ghost use Rattle.retire.specs.steps.PlainRow.{HasDigits};
 ghost use Rattle.retire.specs.steps.Excess.{value_or_excess};
 
-/// A number above all that eight digits spell. It stands in the table for a byte that is no digit.
+/// A number above all that eight digits spell. The table has it for a byte that is no digit.
 const EXCESS: u64 = 0x1_0000_0000;
 
 /// The value of each byte as a hexadecimal digit, or `EXCESS`.

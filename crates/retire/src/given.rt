@@ -29,7 +29,7 @@ impl Given {
         }
     }
 
-    /// Puts bytes behind those that were given.
+    /// Appends bytes to those that were given.
     pub fn put(&mut self, _bytes: &[u8])
         ensures { self.new.bytes ≡ self.old.bytes ++ _bytes.now }
     {}

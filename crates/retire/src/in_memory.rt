@@ -32,10 +32,10 @@ fn read_in_pieces<A: Allocator>(
 
 /// Reads the events of a log that lies in memory, as [`read_log`](crate::read_log) does of any reader.
 ///
-/// The rows of a plain log are read straight from its bytes, with no copy. In a plain log no line has a quote or is
-/// empty, each ends at a line feed, with a carriage return before it or none, and no row has a fault.
-/// [`write_log`](crate::write_log) writes such logs. Any other text is read from its beginning, a piece at a time. No
-/// reader fails, so there is no [`LogFault::Read`].
+/// The rows of a plain log are read straight from its bytes, with no copy. In a plain log no line is empty, each ends at
+/// a line feed, with a carriage return before it or none, and no row has a fault. [`write_log`](crate::write_log) writes
+/// such logs. Their fields may also be in quotes, those of the header all or none. Any other text is read from its start,
+/// a piece at a time. No reader fails, so there is no [`LogFault::Read`].
 pub fn read_log_from_slice<A: Allocator>(
     alloc: A,
     global: Global,

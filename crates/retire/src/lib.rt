@@ -26,6 +26,7 @@ mod quoted_row;
 mod read;
 mod row;
 mod short_line;
+mod short_quoted_row;
 mod short_row;
 mod source;
 mod write;

@@ -35,15 +35,15 @@ pub(crate) enum Stage {
     Failed(LogFault),
 }
 
-/// Reads the events of a log from a source, a piece at a time, so that no list holds all of them and no memory all of
-/// the text: a piece has about 32,768 bytes, or the longest record where that is longer.
+/// Reads the events of a log from a source, a piece at a time, so that no list holds all of them and no buffer all of
+/// the text: a piece has about 32,768 bytes, or the longest record if that is longer.
 #[derive(Drop)]
 pub struct LogReader<S> {
     source: S,
     global: Global,
     /// What a call of the source gives.
     room: Vec<u8>,
-    /// What the source gave and no row was read of.
+    /// What the source gave and was not read yet.
     held: Vec<u8>,
     spare: Vec<u8>,
     /// How many bytes are held before rows are read of them.
@@ -102,8 +102,8 @@ impl<S: Source> LogReader<S> {
         }
     }
 
-    /// Where the piece ends that is read next: bytes are held behind it only where more may follow, and a record starts
-    /// there. It is 0 where the record at hand is longer than what is held.
+    /// The end of the piece that is read next: that of what is held once the source has ended, or else a place where a
+    /// record starts. It is 0 if the record at hand is longer than what is held.
     fn cut(&self) -> usize
         ensures within { result ≤ vec_len self.now.held }
         ensures splits { (more : List ℕ) → MayFollow self.now.is_ended more
@@ -146,6 +146,7 @@ impl<S: Source> LogReader<S> {
         requires header { self.old.stage ≡ Stage.Header }
         ensures goes_on { (most : ℕ) (seen : List AnyEvent) → HasRead S.given S.left most seen self.old
             → OnOk result (HasRead S.given S.left most seen self.new) }
+        ensures some { result ≡ Ok true → self.new.stage ≡ Stage.Rows }
         ensures still { result ≡ Ok false → self.new.stage ≡ Stage.Header }
         ensures faults { (most : ℕ) (seen : List AnyEvent) → HasRead S.given S.left most seen self.old
             → IfErr result (HasFailed S.given S.left most self.new) }
@@ -192,8 +193,8 @@ impl<S: Source> LogReader<S> {
         }
     }
 
-    /// Reads a piece before which no record was read.
-    fn read_header<E: Allocator>(&mut self, events: &mut Vec<Event, E>) -> Result<(), LogFault>
+    /// Reads a piece before which no record was read, by `csv`.
+    fn header_piece<E: Allocator>(&mut self, events: &mut Vec<Event, E>) -> Result<(), LogFault>
         requires header { self.old.stage ≡ Stage.Header }
         ensures goes_on { (most : ℕ) (seen : List AnyEvent) → HasRead S.given S.left most seen self.old
             → OnOk result (GoesOn S.given S.left most seen events.old.items events.new.items self.new) }
@@ -219,8 +220,8 @@ impl<S: Source> LogReader<S> {
         drop_front(&mut self.held, &mut self.spare, cut)
     }
 
-    /// Reads a piece of rows.
-    fn read_on<E: Allocator>(&mut self, events: &mut Vec<Event, E>) -> Result<(), LogFault>
+    /// Reads a piece of rows, by `csv`.
+    fn rows_piece<E: Allocator>(&mut self, events: &mut Vec<Event, E>) -> Result<(), LogFault>
         requires rows { self.old.stage ≡ Stage.Rows }
         ensures goes_on { (most : ℕ) (seen : List AnyEvent) → HasRead S.given S.left most seen self.old
             → OnOk result (GoesOn S.given S.left most seen events.old.items events.new.items self.new) }
@@ -241,6 +242,38 @@ impl<S: Source> LogReader<S> {
         };
         self.rows = count;
         drop_front(&mut self.held, &mut self.spare, cut)
+    }
+
+    /// Reads rows: those at the front of what is held, or else a piece by `csv`.
+    fn read_on<E: Allocator>(&mut self, events: &mut Vec<Event, E>) -> Result<(), LogFault>
+        requires rows { self.old.stage ≡ Stage.Rows }
+        ensures goes_on { (most : ℕ) (seen : List AnyEvent) → HasRead S.given S.left most seen self.old
+            → OnOk result (GoesOn S.given S.left most seen events.old.items events.new.items self.new) }
+        ensures faults { (most : ℕ) (seen : List AnyEvent) → HasRead S.given S.left most seen self.old
+            → IfErr result (HasFailed S.given S.left most self.new) }
+        ensures source { self.new.source ≡ self.old.source }
+    {
+        match self.read_front(events) {
+            Ok(true) => Ok(()),
+            Ok(false) => self.rows_piece(events),
+            Err(fault) => Err(fault),
+        }
+    }
+
+    /// Reads the header's line and rows, or else a piece by `csv`.
+    fn read_header<E: Allocator>(&mut self, events: &mut Vec<Event, E>) -> Result<(), LogFault>
+        requires header { self.old.stage ≡ Stage.Header }
+        ensures goes_on { (most : ℕ) (seen : List AnyEvent) → HasRead S.given S.left most seen self.old
+            → OnOk result (GoesOn S.given S.left most seen events.old.items events.new.items self.new) }
+        ensures faults { (most : ℕ) (seen : List AnyEvent) → HasRead S.given S.left most seen self.old
+            → IfErr result (HasFailed S.given S.left most self.new) }
+        ensures source { self.new.source ≡ self.old.source }
+    {
+        match self.read_names() {
+            Ok(true) => self.read_on(events),
+            Ok(false) => self.header_piece(events),
+            Err(fault) => Err(fault),
+        }
     }
 
     /// Reads on by a piece, and returns whether the log ended before it. There may be no row in a piece.
@@ -268,12 +301,8 @@ impl<S: Source> LogReader<S> {
                 if self.is_ended && self.held.is_empty() {
                     return Err(LogFault::Header);
                 }
-                match self.read_names() {
-                    Ok(true) => Ok(false),
-                    Ok(false) => match self.read_header(events) {
-                        Ok(()) => Ok(false),
-                        Err(fault) => Err(fault),
-                    },
+                match self.read_header(events) {
+                    Ok(()) => Ok(false),
                     Err(fault) => Err(fault),
                 }
             }
@@ -281,12 +310,8 @@ impl<S: Source> LogReader<S> {
                 if self.is_ended && self.held.is_empty() {
                     return Ok(true);
                 }
-                match self.read_front(events) {
-                    Ok(true) => Ok(false),
-                    Ok(false) => match self.read_on(events) {
-                        Ok(()) => Ok(false),
-                        Err(fault) => Err(fault),
-                    },
+                match self.read_on(events) {
+                    Ok(()) => Ok(false),
                     Err(fault) => Err(fault),
                 }
             }
@@ -294,11 +319,11 @@ impl<S: Source> LogReader<S> {
         }
     }
 
-    /// Puts the events of the next piece behind those of a list, and returns whether there was one: a piece has a row
-    /// at least, and `false` means that the log has ended.
+    /// Appends the events of the next piece to a list, and returns whether there was one: a piece has a row at least,
+    /// and `false` means that the log has ended.
     ///
-    /// The fault is the one that [`read_log`](crate::read_log) names, and comes with the piece that has its row; where
-    /// the list ends then is not said. [`LogFault::Read`] and [`LogFault::Memory`] say nothing about the log. After a
+    /// The fault is the one that [`read_log`](crate::read_log) returns, and comes with the piece that has its row. Which
+    /// of the events before it the list has then is not said. [`LogFault::Read`] and [`LogFault::Memory`] say nothing about the log. After a
     /// fault each call returns it again.
     pub fn next<E: Allocator>(&mut self, events: &mut Vec<Event, E>) -> Result<bool, LogFault>
         ensures goes_on { (most : ℕ) (seen : List AnyEvent) → HasRead S.given S.left most seen self.old

@@ -1,4 +1,4 @@
-//! The memory that a piece of a log takes.
+//! The buffers of a piece of a log.
 
 ghost use Rattle.std.specs.Prelude.{◌≡◌, ◌<◌, IfErr, vec_len};
 
@@ -11,7 +11,7 @@ const PIECE_BYTES: usize = 32_768;
 /// The fewest bytes that are read at once.
 const ROOM_BYTES: usize = 4_096;
 
-/// The memory of a piece, which can be taken before it is known what is read.
+/// The buffers of a piece, which can be allocated before it is known what is read.
 #[derive(Drop)]
 pub struct PieceBuffer {
     pub(crate) room: Vec<u8>,
@@ -22,15 +22,17 @@ pub struct PieceBuffer {
 }
 
 impl PieceBuffer {
-    /// Takes the memory of a piece of 32,768 bytes. [`LogFault::Memory`] comes where it is refused.
+    /// Allocates the buffers of a piece of 32,768 bytes. [`LogFault::Memory`] means that allocation
+    /// failed.
     pub fn new(global: Global) -> Result<PieceBuffer, LogFault>
         ensures { IfErr result (λ fault. fault ≡ LogFault.Memory) }
     {
         PieceBuffer::of_size(global, PIECE_BYTES)
     }
 
-    /// Takes the memory of a piece of so many bytes: rows are read as soon as so many are held. A call of the source
-    /// may give more, up to 4,096. [`LogFault::Memory`] comes where memory is refused.
+    /// Allocates the buffers of a piece of so many bytes: rows are read as soon as so many are held. A call of the source
+    /// may give more, up to 4,096. [`LogFault::Memory`] means that allocation
+    /// failed.
     pub fn of_size(global: Global, size: usize) -> Result<PieceBuffer, LogFault>
         ensures { IfErr result (λ fault. fault ≡ LogFault.Memory) }
     {

@@ -54,6 +54,9 @@ fn row_before(row: u32, text: &[u8], is_ended: bool) -> Option<PlainRow<'_>>
     if let Some(plain) = short_row(row, text, is_ended) {
         return Some(plain);
     }
+    if let [b'"', ..] = text {
+        return quoted_row(row, text, is_ended);
+    }
     match long_row(row, text, is_ended) {
         Some(plain) => Some(plain),
         None => quoted_row(row, text, is_ended),
@@ -137,7 +140,7 @@ pub(crate) fn plain_log<A: Allocator>(
     let Some(rows) = after_header(text, true) else {
         return Ok(false);
     };
-    // Where this room is refused or is too little, pushing the rows asks again.
+    // If this allocation fails or is too small, pushing the rows allocates again.
     let _ = events.reserve((rows.len() / ROW_BYTES).min(MOST_ROWS as usize));
     let read = plain_rows(events, MOST_ROWS, 0, rows, true)?;
     Ok(read.rest.is_empty())

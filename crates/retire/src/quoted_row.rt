@@ -1,13 +1,12 @@
 //! A row with quoted fields, straight from its bytes.
 
 ghost use Rattle.std.specs.Prelude.{◌≡◌, ◌∷◌, IfSome};
-ghost use Rattle.retire.specs.steps.PlainRow.{HasField, HasRow, HasWritten};
+ghost use Rattle.retire.specs.steps.PlainRow.{HasRow, HasWritten};
 
-use crate::eight_digits::eight_digits;
 use crate::ending::line_end;
 use crate::field::{Field, after_comma, field_before};
-use crate::hex::{NO_DIGIT, value_of};
 use crate::row::event_of_numbers;
+use crate::short_quoted_row::short_quoted_row;
 use crate::short_row::PlainRow;
 
 /// What follows the quote that a text begins with.
@@ -21,66 +20,20 @@ fn after_quote(text: &[u8]) -> Option<&[u8]>
     }
 }
 
-/// The field of eight digits at the front of a text that ends at a quote, and what follows the quote.
-#[inline(always)]
-fn eight_before_quote(text: &[u8]) -> Option<Field<'_>>
-    ensures { IfSome result (λ r. HasField text.now r.number (34 ∷ r.rest.now)) }
-{
-    let (digits, after) = text.split_first_chunk::<8>()?;
-    let rest = after_quote(after)?;
-    let value = eight_digits(digits)?;
-    Some(Field {
-        number: Some(value),
-        rest,
-    })
-}
-
-/// The field at the front of a text that ends at a quote, and what follows the quote; of any length.
-#[inline(always)]
-fn long_before_quote(text: &[u8]) -> Option<Field<'_>>
-    ensures { IfSome result (λ r. HasField text.now r.number (34 ∷ r.rest.now)) }
-{
-    if let Some(field) = eight_before_quote(text) {
-        return Some(field);
-    }
-    let field = field_before(text)?;
-    let rest = after_quote(field.rest)?;
-    Some(Field {
-        number: field.number,
-        rest,
-    })
-}
-
-/// The field at the front of a text that ends at a quote, and what follows the quote; most are empty or one digit.
-#[inline(always)]
-fn field_before_quote(text: &[u8]) -> Option<Field<'_>>
-    ensures { IfSome result (λ r. HasField text.now r.number (34 ∷ r.rest.now)) }
-{
-    match text {
-        [b'"', rest @ ..] => Some(Field { number: None, rest }),
-        [byte, b'"', rest @ ..] => {
-            let digit = value_of(*byte);
-            if digit == NO_DIGIT {
-                return None;
-            }
-            Some(Field {
-                number: Some(u64::from(digit)),
-                rest,
-            })
-        }
-        _ => long_before_quote(text),
-    }
-}
-
 /// The field at the front of a text, which may be in quotes.
 #[inline(always)]
 fn written_field(text: &[u8]) -> Option<Field<'_>>
     ensures { IfSome result (λ r. HasWritten text.now r.number r.rest.now) }
 {
-    match after_quote(text) {
-        Some(inside) => field_before_quote(inside),
-        None => field_before(text),
-    }
+    let Some(inside) = after_quote(text) else {
+        return field_before(text);
+    };
+    let field = field_before(inside)?;
+    let rest = after_quote(field.rest)?;
+    Some(Field {
+        number: field.number,
+        rest,
+    })
 }
 
 /// The field at the front of a text that ends at a comma, and what follows the comma. The field may be in quotes.
@@ -96,10 +49,10 @@ fn written_cell(text: &[u8]) -> Option<Field<'_>>
     })
 }
 
-/// The row of this number at the front of a text, each field as it is or in quotes. There is none if the text is no
-/// such row, or the row has a fault.
-#[inline(never)]
-pub(crate) fn quoted_row(row: u32, text: &[u8], is_ended: bool) -> Option<PlainRow<'_>>
+/// The row of this number at the front of a text, each field as it is or in quotes, of any form. There is none if the
+/// text is no such row, or the row has a fault.
+#[inline(always)]
+fn long_quoted_row(row: u32, text: &[u8], is_ended: bool) -> Option<PlainRow<'_>>
     ensures { IfSome result (λ r. HasRow is_ended row text.now r.event r.rest.now) }
 {
     let addr = written_cell(text)?;
@@ -115,4 +68,18 @@ pub(crate) fn quoted_row(row: u32, text: &[u8], is_ended: bool) -> Option<PlainR
         Ok(event) => Some(PlainRow { event, rest }),
         Err(_) => None,
     }
+}
+
+/// The row of this number at the front of a text, each field as it is or in quotes. There is none if the text is no
+/// such row, or the row has a fault.
+#[inline(never)]
+pub(crate) fn quoted_row(row: u32, text: &[u8], is_ended: bool) -> Option<PlainRow<'_>>
+    ensures { IfSome result (λ r. HasRow is_ended row text.now r.event r.rest.now) }
+{
+    if let Some(inside) = after_quote(text) {
+        if let Some(quoted) = short_quoted_row(row, inside, is_ended) {
+            return Some(quoted);
+        }
+    }
+    long_quoted_row(row, text, is_ended)
 }

@@ -52,12 +52,12 @@ pub(crate) fn read_from<A: Allocator, R: Read + Drop>(
 ///
 /// The records are those that `csv` reads: a byte order mark at the start is dropped, a line ends
 /// at a line feed, a carriage return or both, empty lines are no rows and are not counted, the
-/// last row needs no line end, and a field may stand in quotes. Spaces are not trimmed.
+/// last row needs no line end, and a field may be in quotes. Spaces are not trimmed.
 ///
-/// The fault names the first faulty row, and is the lowest that applies to it; [`LogFault::TooLong`] comes at row
+/// The fault is that of the first faulty row, the lowest that applies to it; [`LogFault::TooLong`] comes at row
 /// 16777217 even where that row is faulty itself. [`LogFault::Read`] comes only where the reader failed, and
-/// [`LogFault::Memory`] only where memory was refused; neither says anything about the log. The list takes its memory
-/// from `alloc`, and what else is taken comes from `global`. A log that lies in memory is read faster by
+/// [`LogFault::Memory`] only where allocation failed; neither says anything about the log. The list is allocated from
+/// `alloc`, and all else from `global`. A log in memory is read faster by
 /// [`read_log_from_slice`](crate::read_log_from_slice), and a [`LogReader`] gives the events a piece at a time.
 pub fn read_log<A: Allocator, R: Read + Drop>(
     alloc: A,

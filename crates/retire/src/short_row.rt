@@ -20,10 +20,10 @@ pub struct PlainRow<'a> {
 
 /// The digits of a type and of a privilege after an address, and what follows the line.
 #[derive(Clone, Copy)]
-struct Tail<'a> {
-    itype: u8,
-    privilege: u8,
-    rest: &'a [u8],
+pub(crate) struct Tail<'a> {
+    pub(crate) itype: u8,
+    pub(crate) privilege: u8,
+    pub(crate) rest: &'a [u8],
 }
 
 /// What follows the address of a row whose type and privilege are one byte each and whose other fields are empty.

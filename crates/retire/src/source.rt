@@ -15,7 +15,7 @@ use std::io::Read;
 pub enum SourceFault {
     /// What the bytes come from failed.
     Read,
-    /// Memory was refused.
+    /// Allocation failed.
     Memory,
 }
 
@@ -38,7 +38,7 @@ pub trait Source {
     ghost left: { Self → Option (List ℕ) } = { λ _. None };
 
     /// Reads the next bytes into the front of a buffer, and returns how many they are; 0 means that there are none
-    /// left, or that the buffer has no room.
+    /// left, or that the buffer is empty.
     fn read(&mut self, buffer: &mut [u8]) -> Result<usize, SourceFault>
         ensures bound { IfOk result (λ count. count ≤ length buffer.new) }
         ensures given { GivesMore (given self.old) (given self.new) result buffer.new }

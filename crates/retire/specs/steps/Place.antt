@@ -4,7 +4,7 @@ use Rattle.retire.specs.PlainText.{is_line_end}
 use Rattle.retire.specs.declared.boundary.Place.{Place}
 use Rattle.retire.specs.declared.boundary.Place.TheVariants as place
 
--- What follows a byte that stands in no quotes and is no quote itself.
+-- What follows a byte that is outside quotes and is no quote itself.
 abbrev pub outside : ℕ → Place
 outside byte = if byte == 44 then place.Field else if is_line_end byte then place.Start else place.Inside
 

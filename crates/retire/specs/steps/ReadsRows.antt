@@ -7,7 +7,7 @@ use Rattle.retire.specs.declared.event.Event.{Event}
 use Rattle.retire.specs.declared.fault.LogFault.{LogFault}
 
 -- Of the records of rows that follow on so many, the first ones were read, up to this count, and the rest is left.
--- Their events were put behind those before.
+-- Their events were appended to those before.
 pub record ReadsRows (most rows : ℕ) (records : List (List (List ℕ))) (before after : List Event) (count : ℕ)
     (rest : List (List (List ℕ))) : Type 0 where
   pub piece : List Event

@@ -26,8 +26,8 @@ enum By {
     Slice,
 }
 
-/// A row with a quote, which is not plain.
-const QUOTED: &str = "\"80000000\",0,3,,";
+/// A row that `csv` reads, since its first field goes on after a closing quote.
+const QUOTED: &str = "\"8\"0000000,0,3,,";
 
 /// A row, and its event.
 type Rows = (&'static str, Event);
@@ -53,10 +53,10 @@ const SHORT: Rows = (
 /// How a log is read, its first row, the row that follows 32 times, and the result where each request is refused: `m`
 /// is memory, and `e` the events.
 ///
-/// A reader's list grows to 4, 8, 16, 32 and 64 events. The list of a text in memory first asks for capacity by the
-/// text's length, and grows as a reader's does where that is refused. Where rows are short that capacity is too small,
-/// and the list asks once more: at a plain row, or at one that `csv` reads because the first row is not plain. `csv`
-/// takes its memory of `Global` alone.
+/// A reader's list grows to 4, 8, 16, 32 and 64 events. The list of a text in memory first asks for capacity by the text's
+/// length, and grows as a reader's does where that is refused. Where rows are short that capacity is too small, and the
+/// list asks once more: at a plain row, or at one that `csv` reads since it reads the first row. `csv` takes its memory
+/// from `Global` alone.
 const LOGS: [(By, &str, Rows, &str); 6] = [
     (By::Reader, ROW, LONG, "mmmmm"),
     (By::Reader, QUOTED, SHORT, "mmmmm"),

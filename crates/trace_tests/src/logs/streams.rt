@@ -6,6 +6,7 @@ use crate::same::same_at;
 use linked_list_allocator::LocalHeap;
 use refusing::FailingReader;
 use retire::{Event, LogFault, LogReader, MOST_ROWS, PieceBuffer, ReaderSource, Source};
+use retire::read_log_from_slice;
 use std::io::{ErrorKind, Read};
 use std::process::Abort;
 
@@ -93,8 +94,67 @@ const BEHIND_HEADER: [(&str, Result<usize, LogFault>); 26] = [
     ),
 ];
 
+/// Texts with quotes after the header's line, and how many rows `csv` finds in them, or the first faulty row. By the
+/// rules of `csv` a quote opens a field only as its first byte, two quotes in an open field are a quote, and what
+/// follows the closing quote joins the field.
+const QUOTED: [(&str, Result<usize, LogFault>); 26] = [
+    // Each field in quotes, with each end of a line, in each row.
+    (
+        "\"2\",\"0\",\"3\",\"\",\"\"\r\n\"4\",\"0\",\"3\",\"\",\"\"\r\n",
+        Ok(2),
+    ),
+    ("\"2\",\"0\",\"3\",\"\",\"\"\r\"4\",\"0\",\"3\",\"\",\"\"", Ok(2)),
+    (
+        "\"00000002\",\"0\",\"3\",\"\",\"\"\n\"00000004\",\"0\",\"3\",\"\",\"\"",
+        Ok(2),
+    ),
+    (
+        "2,0,3,,\n\"00000004\",\"0\",\"3\",\"\",\"\"\r\n\"0x6\",\"0\",\"3\",\"\",\"\"\n",
+        Ok(3),
+    ),
+    // Some fields in quotes.
+    ("\"2\",0,\"3\",,\"\"\n4,\"0\",3,\"\",\n\"6\",\"0\",\"3\",,\n", Ok(3)),
+    ("2,0,3,\"\",\n4,0,3,,\"\"\n6,0,3,,\"\"\"\"", Err(LogFault::Number(3))),
+    // What follows a closing quote joins the field.
+    ("\"\"2,0,3,,\n4,0,3,,\n6,0,3,,", Ok(3)),
+    ("2,0,3,,\n\"\"4,\"0\",3,,\n6,0,3,,\n", Ok(3)),
+    ("2,0,3,,\n4,0,3,,\n6,0,\"\"3,,", Ok(3)),
+    ("2,0,3,,\n4,0,3,\"\"\"\",\n", Err(LogFault::Number(2))),
+    ("\"2\" ,0,3,,\n", Err(LogFault::Number(1))),
+    // A doubled quote.
+    ("\"2\"\"\",0,3,,\n4,0,3,,\n", Err(LogFault::Number(1))),
+    ("2,0,3,,\n4,0,3,,\n\"6\",\"\"\"0\",3,,", Err(LogFault::Number(3))),
+    // A quote inside a field.
+    ("2,0,3,,\n4\"\",0,3,,\n6,0,3,,\n", Err(LogFault::Number(2))),
+    ("2,0,3,,\n4,0,3,,5\"", Err(LogFault::Number(2))),
+    // A comma or the end of a line in quotes.
+    ("2,0,3,,\n\"4,0\",3,,\n6,0,3,,\n", Err(LogFault::Fields(2))),
+    ("2,0,3,,\n4,0,\"3\n\",,\n6,0,3,,\n", Err(LogFault::Number(2))),
+    ("2,0,3,,\n4,0,3,,\"\r\n\"\n", Err(LogFault::Number(2))),
+    // A record of one empty field.
+    ("2,0,3,,\n\"\"\n6,0,3,,\n", Err(LogFault::Fields(2))),
+    ("\"\"", Err(LogFault::Fields(1))),
+    // A quote that nothing closes.
+    ("2,0,3,,\n\"4,0,3,,", Err(LogFault::Fields(2))),
+    ("2,0,3,,\n4,0,\"3,,\n6,0,3,,\n", Err(LogFault::Fields(2))),
+    // Other faults.
+    ("\"2\",\"0\",\"3\",\"\"\n", Err(LogFault::Fields(1))),
+    (
+        "\"00000003\",\"0\",\"3\",\"\",\"\"\n",
+        Err(LogFault::Odd(1)),
+    ),
+    (
+        "\"00000002\",\"g\",\"3\",\"\",\"\"\n",
+        Err(LogFault::Number(1)),
+    ),
+    (
+        "\"2\",\"0\",\"3\",\"1\",\"\"\n",
+        Err(LogFault::TrapFields(1)),
+    ),
+];
+
 /// Whole texts, and how many rows are read of them, or the fault.
-const WHOLE: [(&str, Result<usize, LogFault>); 9] = [
+const WHOLE: [(&str, Result<usize, LogFault>); 13] = [
     ("", Err(LogFault::Header)),
     ("\n\r\n", Err(LogFault::Header)),
     ("\u{feff}", Err(LogFault::Header)),
@@ -110,6 +170,19 @@ const WHOLE: [(&str, Result<usize, LogFault>); 9] = [
         Ok(2),
     ),
     ("\naddr,itype,priv,cause,tval\r2,0,3,,\r", Ok(1)),
+    ("\"addr\",\"itype\",\"priv\",\"cause\",\"tval\"", Ok(0)),
+    (
+        "\u{feff}\"addr\",\"itype\",\"priv\",\"cause\",\"tval\"\r\n\"2\",\"0\",\"3\",\"\",\"\"\n",
+        Ok(1),
+    ),
+    (
+        "\"addr\",\"itype\",\"priv\",\"cause\",\"tval\"2\n2,0,3,,\n",
+        Err(LogFault::Header),
+    ),
+    (
+        "\"addr\",\"itype\",\"priv\",\"cause\",\"tval\"\",\n",
+        Err(LogFault::Header),
+    ),
 ];
 
 /// This is read of a text that is cut into two or three parts, each of which comes in a call of its own, wherever it is
@@ -136,6 +209,30 @@ fn rows_cut_at_each_place(rt: HostRuntime) {
         let mut text = text_of_rows(&rt, "", 0);
         add(&rt, &mut text, rows.as_bytes());
         is_read_in_parts(&rt, &text, 1, *want);
+    }
+}
+
+/// This is read of a text in memory.
+fn is_read_in_memory<R: Abort + AllocGlobal>(
+    rt: &R,
+    text: &[u8],
+    want: Result<usize, LogFault>,
+) {
+    let alloc = rt.alloc();
+    let found = match read_log_from_slice(alloc, alloc, text) {
+        Ok(events) => Ok(counted(&events)),
+        Err(fault) => Err(fault),
+    };
+    same_at(rt, "in memory", found, want);
+}
+
+#[test]
+fn quoted_rows_cut_at_each_place(rt: HostRuntime) {
+    for (rows, want) in &QUOTED {
+        let mut text = text_of_rows(&rt, "", 0);
+        add(&rt, &mut text, rows.as_bytes());
+        is_read_in_parts(&rt, &text, 1, *want);
+        is_read_in_memory(&rt, &text, *want);
     }
 }
 
@@ -182,6 +279,10 @@ fn rows_at_the_seams(rt: HostRuntime) {
         (1, "\"2\",0,3,,"),
         (5_000, "2710,\"0\",3,,"),
         (10_000, "4e20,0,3,,\"\""),
+        // `csv` reads these rows, and what follows them in their piece.
+        (2, "\"\"4,0,3,,"),
+        (3_175, "\"\"18ce,\"0\",3,,"),
+        (9_999, "4e1e,0,\"\"3,,"),
     ] {
         let text = rows_but_one(&rt, number, row.as_bytes());
         same_at(&rt, (number, "quoted"), read_text(&rt, &text), Ok(ROWS));

@@ -1,19 +1,16 @@
--- What a piece of rows says of the log is named by hand.
-use Rattle.std.proofs.Common.{◌∙◌, ap, take}
-use Rattle.retire.proofs.ReaderLemmas.{rows-failing, rows-go}
+-- That no row was read from the front of what is held is named by hand.
+use Rattle.std.proofs.Common.{OnOk, ap, arith, length, rules, subst}
+use Rattle.retire.specs.HasRead.{GoesOn}
+use Rattle.retire.proofs.ReaderLemmas.{goes-still}
 use Rattle.retire.proofs.log_reader.LogReader.read_on.Goals as goal
 
-pub returns-in-Err-clause-faults : goal.returns-in-Err-clause-faults
-returns-in-Err-clause-faults g c = λ most seen h.
-    rows-failing g.S.Source.given g.S.Source.left most seen c.args.self.now c.cut-cut.result c.min-rows.result
-    c.split_at.result.0.now c.in-Err.fault h c.requires.rows c.cut-cut.ensures.splits
-    (c.split_at.ensures.front ∙ ap (take c.cut-cut.result) c.deref.ensures.value) c.min-rows.ensures
-    c.in-Err.ensures.faults
-
-pub returns-clause-goes_on : goal.returns-clause-goes_on
-returns-clause-goes_on g c = λ most seen h.
-    rows-go g.S.Source.given g.S.Source.left most seen c.args.self.now c.cut-cut.result c.min-rows.result c.in-Ok.count
-    c.split_at.result.0.now c.args.events.now.items c.read_rows.new.events.items c.drop_front.new.held
-    c.drop_front.new.spare c.drop_front.result h c.requires.rows c.cut-cut.ensures.splits
-    (c.split_at.ensures.front ∙ ap (take c.cut-cut.result) c.deref.ensures.value) c.min-rows.ensures
-    c.in-Ok.ensures.reads c.in-Ok.ensures.short c.drop_front.ensures.held
+pub returns-in-Ok-false-clause-goes_on : goal.returns-in-Ok-false-clause-goes_on
+returns-in-Ok-false-clause-goes_on g c = λ most seen h.
+    let (rows, same) = c.in-Ok-false.ensures.still (search rules) in
+    let size = ap length same in
+    let still =
+    goes-still g.S.Source.given g.S.Source.left most seen c.read_front.new.self c.args.events.now.items
+    c.read_front.new.events.items (c.in-Ok-false.ensures.goes_on most seen h) (omega (arith, size)) in
+    subst
+    (λ t. OnOk c.rows_piece.result (GoesOn g.S.Source.given g.S.Source.left most seen t c.rows_piece.new.events.items
+    c.rows_piece.new.self)) same (c.rows_piece.ensures.goes_on most seen still.0)

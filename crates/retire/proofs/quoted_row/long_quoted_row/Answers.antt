@@ -1,7 +1,7 @@
 -- The fields of the row are named by hand, each where the one before it ends.
 use Rattle.std.proofs.Common.{sym}
 use Rattle.retire.proofs.PlainRowLemmas.{row-fields}
-use Rattle.retire.proofs.quoted_row.quoted_row.Goals as goal
+use Rattle.retire.proofs.quoted_row.long_quoted_row.Goals as goal
 
 pub returns-in-Ok : goal.returns-in-Ok
 returns-in-Ok c =

@@ -1,7 +1,7 @@
 -- What the first piece with a record says of the log is named by hand.
 use Rattle.std.proofs.Common.{◌∙◌, ap, take}
 use Rattle.retire.proofs.ReaderLemmas.{header-failed, header-goes, header-passed}
-use Rattle.retire.proofs.log_reader.LogReader.read_header.Goals as goal
+use Rattle.retire.proofs.log_reader.LogReader.header_piece.Goals as goal
 
 pub returns-in-Err-clause-faults : goal.returns-in-Err-clause-faults
 returns-in-Err-clause-faults g c = λ most seen h.
