@@ -1,3 +1,4 @@
 pub mod DigitsLemmas
+pub mod RowLemmas
 mod WorkedLines
 pub mod ListedLemmas

@@ -12,4 +12,4 @@ mod trap;
 mod writing;
 
 pub use laws::texts_list_what_is_legal;
-pub use writing::explain;
+pub use writing::{explain, explain_row};

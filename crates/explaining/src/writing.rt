@@ -1,9 +1,11 @@
 //! Writing the line that explains a fault.
 
-ghost use Rattle.std.specs.Prelude.{◌≡◌, IfErr, OnOk, Some};
+ghost use Rattle.std.specs.Prelude.{◌≡◌, IfErr, List, OnOk, Some};
 ghost use Rattle.std.specs.Io.KnownBytes.{Appends};
 ghost use Rattle.output.specs.Begun.{AppendsBeginning};
-ghost use Rattle.explaining.specs.Explanation.{at_row, event_line, explanation};
+ghost use Rattle.retire.specs.declared.event.Event.{Event as AnyEvent};
+ghost use Rattle.explaining.specs.Explanation.{at_row, event_line, explained, explanation};
+ghost use Rattle.explaining.specs.StandsAt.{StandsAt};
 
 use crate::retirement::RetirementLine;
 use crate::trap::TrapLine;
@@ -100,10 +102,39 @@ pub fn explain<W: Write>(
     let Some(event) = at_row(log, fault.row) else {
         return Ok(());
     };
+    let before = at_row(log, fault.row.saturating_sub(1));
+    explain_row(program, before, &event, fault, sink)
+}
+
+/// Writes the line that explains a fault of a log, of which the caller has two events: the one at the fault's row, and
+/// the one at the row before, if there is one. It writes what [`explain`] writes of the whole log.
+///
+/// So the fault of a log whose events come piece by piece is explained. The line is made of the two events alone; of
+/// the fault it has the reason. The only fault is [`WriteFault::Write`], where the writer failed; what was written then
+/// is a beginning of the text. No memory is taken, and the writer is not flushed.
+pub fn explain_row<W: Write>(
+    program: &Program,
+    before: Option<Event>,
+    event: &Event,
+    fault: PathFault,
+    sink: &mut W,
+) -> Result<(), WriteFault>
+    ensures text { (log : List AnyEvent) → StandsAt log fault.row before event.now →
+        OnOk result (Appends (W.contents sink.old) (W.contents sink.new)
+        (explanation program.now log fault)) }
+    ensures begun { (log : List AnyEvent) → StandsAt log fault.row before event.now →
+        AppendsBeginning (explanation program.now log fault) (W.contents sink.old) (W.contents sink.new) }
+    ensures fault { IfErr result (λ fault. fault ≡ WriteFault.Write) }
+    // What is written of any two events.
+    ensures line { OnOk result (Appends (W.contents sink.old) (W.contents sink.new)
+        (explained program.now before (Some event.now) fault.why)) }
+    ensures line_begun { AppendsBeginning (explained program.now before (Some event.now) fault.why)
+        (W.contents sink.old) (W.contents sink.new) }
+{
     let line = EventLine {
         program,
-        before: at_row(log, fault.row.saturating_sub(1)),
-        event,
+        before,
+        event: *event,
         why: fault.why,
     };
     write_text(sink, format_args!("  {line}\n"))?;
