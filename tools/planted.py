@@ -106,9 +106,11 @@ BODIES = [
     ("explain Write past row 3", "explaining", "writing.rt",
         *unless("fault.row > 3", "WriteFault::Write", "    let Some(event) = at_row(log, fault.row) else {\n")),
     ("write_measures Write at period 60,000", "measuring", "table.rt",
-        *unless("period == 60_000", "WriteFault::Write", "    write_column_names(sink)?;\n")),
+        *unless("period == 60_000", "WriteFault::Write",
+                "    write_table(&Logged { logs, period, mode }, sink)\n")),
     ("write_measures Write in full mode", "measuring", "table.rt",
-        *unless("mode == Mode::Full", "WriteFault::Write", "    write_column_names(sink)?;\n")),
+        *unless("mode == Mode::Full", "WriteFault::Write",
+                "    write_table(&Logged { logs, period, mode }, sink)\n")),
     ("Audit::new Memory past 2,048 messages", "auditing", "audit.rt",
         "        let counted = count_messages(alloc, harts, Messages::new(bytes))?;\n",
         "        let mut left = Messages::new(bytes);\n        let mut count: usize = 0;\n"

@@ -1,12 +1,11 @@
 -- The measures of two stretches are those of the one and of the other together.
-use Rattle.std.proofs.Common.{◌≡◌, ℕ, ◌+◌, ◌<◌, ◌≤◌, Bool, List, [], ◌∷◌, ◌++◌, Option, Some, None, length, take, get_or}
-use Rattle.std.proofs.Common.{slice_get, ◌⊎◌, inl, inr, refl, sym, ap, ◌∙◌, arith, length-append}
+use Rattle.std.proofs.Common.{◌≡◌, ℕ, ◌+◌, ◌<◌, Bool, List, [], ◌∷◌, ◌++◌, length, take, get_or}
+use Rattle.std.proofs.Common.{sym, ap, ◌∙◌, arith, length-append}
 use Rattle.std.specs.Prelude.{map, sum, max}
 use Rattle.std.specs.List.{filter}
-use Rattle.std.proofs.lemmas.List.{append-nil, map-append, take_all, take_more}
+use Rattle.std.proofs.lemmas.List.{append-nil, map-append, take_more}
 use Rattle.std.proofs.lemmas.List.Elements.{filter-append}
 use Rattle.std.proofs.lemmas.List.Sums.{sum_by-append}
-use Rattle.std.proofs.lemmas.Option.{get_or_from_slice_get, slice_get_cases, slice_get_within}
 use Rattle.retire.specs.Events.{is_retirement, is_branch}
 use Rattle.retire.specs.declared.event.Event.{Event}
 use Rattle.payload.specs.Spelling.{payload_of}
@@ -53,26 +52,22 @@ measured-append es fs ps qs bs cs =
       longest-append bs cs,
     )
 
--- One event more.
-pub measured-event : (es : List Event) (i : ℕ) (e : Event) → i < length es → get_or es i e ≡ e
-    → measured (take (i + 1) es) [] [] ≡ together (measured (take i es) [] []) (measured (e ∷ []) [] [])
-measured-event es i e within is =
-    ap (λ l. measured l [] []) (take_more es i e within ∙ ap (λ x. take i es ++ x ∷ []) is)
-    ∙ measured-append (take i es) (e ∷ []) [] [] [] []
+-- Packets behind others, with their payloads.
+pub measured-packets : (es : List Event) (ps qs : List Packet)
+    → measured es (ps ++ qs) (map payload_of (ps ++ qs))
+    ≡ together (measured es ps (map payload_of ps)) (measured [] qs (map payload_of qs))
+measured-packets es ps qs =
+    ap (measured es (ps ++ qs)) (map-append payload_of ps qs)
+    ∙ ap (λ l. measured l (ps ++ qs) (map payload_of ps ++ map payload_of qs)) (sym (append-nil es))
+    ∙ measured-append es [] ps qs (map payload_of ps) (map payload_of qs)
 
--- One packet more, with its payload.
-pub measured-packet : (es : List Event) (ps : List Packet) (i : ℕ) (p : Packet) → slice_get ps i ≡ Some p
-    → measured es (take (i + 1) ps) (map payload_of (take (i + 1) ps))
-    ≡ together (measured es (take i ps) (map payload_of (take i ps)))
-    (measured [] (p ∷ []) (payload_of p ∷ []))
-measured-packet es ps i p found =
-    let within = slice_get_within ps i p found in
-    let is = get_or_from_slice_get ps i p p found in
-    ap (λ l. measured es l (map payload_of l)) (take_more ps i p within ∙ ap (λ x. take i ps ++ x ∷ []) is)
-    ∙ ap (measured es (take i ps ++ p ∷ [])) (map-append payload_of (take i ps) (p ∷ []))
-    ∙ ap (λ l. measured l (take i ps ++ p ∷ []) (map payload_of (take i ps) ++ payload_of p ∷ []))
-    (sym (append-nil es))
-    ∙ measured-append es [] (take i ps) (p ∷ []) (map payload_of (take i ps)) (payload_of p ∷ [])
+-- Events behind others, whatever packets are.
+pub measured-events : (es fs : List Event) (ps : List Packet) (bs : List (List ℕ))
+    → measured (es ++ fs) ps bs ≡ together (measured es ps bs) (measured fs [] [])
+measured-events es fs ps bs =
+    ap (λ l. measured (es ++ fs) l bs) (sym (append-nil ps))
+    ∙ ap (measured (es ++ fs) (ps ++ [])) (sym (append-nil bs))
+    ∙ measured-append es fs ps [] bs []
 
 together-assoc : (a b c : Measures) → together a (together b c) ≡ together (together a b) c
 together-assoc a b c =
@@ -121,20 +116,32 @@ none_first_greatest n = omega arith
 none_last_greatest : (n : ℕ) → max n 0 ≡ n
 none_last_greatest n = omega arith
 
-together-none : (a : Measures) → together (measured [] [] []) a ≡ a
+pub together-none : (a : Measures) → together (measured [] [] []) a ≡ a
 together-none a = simp (none_first, none_first_greatest)
 
-together-with_none : (a : Measures) → together a (measured [] [] []) ≡ a
+pub together-with_none : (a : Measures) → together a (measured [] [] []) ≡ a
 together-with_none a = simp (none_last, none_last_greatest)
 
--- Where no packet has a number, those below it are all.
-pub none_there : (ps : List Packet) (i : ℕ) → slice_get ps i ≡ None → take i ps ≡ ps
-none_there ps i none = go (slice_get_cases ps i).1
-  where
-    go : ((p : Packet) × (i < length ps) × (slice_get ps i ≡ Some p) × (get_or ps i p ≡ p))
-        ⊎ ((length ps ≤ i) × (slice_get ps i ≡ None)) → take i ps ≡ ps
-    go (inl some) = let found = some.2 in cc
-    go (inr over) = take_all i ps over.0
+-- One event more.
+pub one_event_more : (es : List Event) (i : ℕ) (d : Event) → i < length es
+    → together (measured (take i es) [] []) (measured (get_or es i d ∷ []) [] []) ≡ measured (take (i + 1) es) [] []
+one_event_more es i d within =
+    sym (ap (λ l. measured l [] []) (take_more es i d within)
+    ∙ measured-events (take i es) (get_or es i d ∷ []) [] [])
+
+-- One packet more behind other measures.
+module _ (m : Measures) where
+  pub one_packet_more : (ps : List Packet) (i : ℕ) (p : Packet) → i < length ps → p ≡ get_or ps i p
+      → together (together m (measured [] (take i ps) (map payload_of (take i ps))))
+      (measured [] (p ∷ []) (payload_of p ∷ []))
+      ≡ together m (measured [] (take (i + 1) ps) (map payload_of (take (i + 1) ps)))
+  one_packet_more ps i p within is =
+      let more : take (i + 1) ps ≡ take i ps ++ p ∷ [] =
+      take_more ps i p within ∙ ap (λ x. take i ps ++ x ∷ []) (sym is) in
+      let front = measured [] (take i ps) (map payload_of (take i ps)) in
+      sym (together-assoc m front (measured [] (p ∷ []) (payload_of p ∷ [])))
+      ∙ ap (together m)
+      (sym (ap (λ l. measured [] l (map payload_of l)) more ∙ measured-packets [] (take i ps) (p ∷ [])))
 
 -- One hart more.
 pub total-snoc : (all : List Measures) (one : Measures) → total (all ++ one ∷ []) ≡ together (total all) one

@@ -1,15 +1,16 @@
 -- The rows of first harts and of the next, and their measures together.
-use Rattle.std.proofs.Common.{◌≡◌, ℕ, ◌+◌, ◌<◌, ◌≤◌, suc, List, [], ◌∷◌, ◌++◌, Option, length, take, drop, get_or}
+use Rattle.std.proofs.Common.{◌≡◌, ℕ, ◌+◌, ◌<◌, ◌≤◌, suc, List, [], ◌∷◌, ◌++◌, Option, Some, length, take, drop}
+use Rattle.std.proofs.Common.{slice_get}
 use Rattle.std.proofs.Common.{refl, sym, subst, ap, ◌∙◌, arith, append_assoc, take-append-drop, cond}
-use Rattle.std.specs.Prelude.{map, codes}
+use Rattle.std.specs.Prelude.{codes}
 use Rattle.std.specs.Fmt.{decimal}
 use Rattle.std.specs.Io.KnownBytes.{Appends}
 use Rattle.std.proofs.KnownBytes.{Appends-trans}
 use Rattle.std.proofs.lemmas.Bool.{lt-ltb}
-use Rattle.std.proofs.lemmas.List.{append-nil, length-map, length-take-le, map-append, take_more}
+use Rattle.std.proofs.lemmas.List.{append-nil, length-take-le, take_more}
+use Rattle.std.proofs.lemmas.Option.{get_or_from_slice_get, slice_get_within}
 use Rattle.output.specs.Begun.{AppendsBeginning}
 use Rattle.output.proofs.Beginnings.{begun_behind, begun_in_front}
-use Rattle.legalpath.specs.ProgramLog.{ProgramLog}
 use Rattle.measuring.specs.Measures.{together, total}
 use Rattle.measuring.specs.Table.{hart_rows, measure_row, total_row}
 use Rattle.measuring.specs.declared.measures.Measures.{Measures}
@@ -25,51 +26,51 @@ hart_rows-append hart (one ∷ all) others =
     (hart_rows (hart + 1 + length all) others))
     ∙ ap (λ h. (measure_row (decimal hart) one ++ hart_rows (hart + 1) all) ++ hart_rows h others) place
 
-module _ (of : ProgramLog → Measures) (logs : List ProgramLog) (k : ℕ) (log : ProgramLog) (within : k < length logs)
-    (is : log ≡ get_or logs k log) where
-  one_more : map of (take (k + 1) logs) ≡ map of (take k logs) ++ of log ∷ []
+module _ (all : List Measures) (k : ℕ) (one : Measures) (found : slice_get all k ≡ Some one) where
+  within : k < length all
+  within = slice_get_within all k one found
+
+  one_more : take (k + 1) all ≡ take k all ++ one ∷ []
   one_more =
-      ap (map of) (take_more logs k log within ∙ ap (λ l. take k logs ++ l ∷ []) (sym is))
-      ∙ map-append of (take k logs) (log ∷ [])
+      take_more all k one within ∙ ap (λ l. take k all ++ l ∷ []) (get_or_from_slice_get all k one one found)
 
-  rows_before : length (map of (take k logs)) ≡ k
-  rows_before = length-map (take k logs) of ∙ length-take-le k logs (omega arith)
+  rows_before : length (take k all) ≡ k
+  rows_before = length-take-le k all (omega (arith, within))
 
-  pub total-next : total (map of (take (k + 1) logs)) ≡ together (total (map of (take k logs))) (of log)
-  total-next = ap total one_more ∙ total-snoc (map of (take k logs)) (of log)
+  -- The measures of first harts were summed up, and then those of the next are added.
+  pub next_added : (before after : Measures) → before ≡ total (take k all) → after ≡ together before one
+      → after ≡ total (take (k + 1) all)
+  next_added before after first added =
+      added ∙ ap (λ before. together before one) first ∙ sym (total-snoc (take k all) one) ∙ sym (ap total one_more)
 
-  pub hart_rows-next : hart_rows 0 (map of (take (k + 1) logs))
-      ≡ hart_rows 0 (map of (take k logs)) ++ measure_row (decimal k) (of log)
+  pub hart_rows-next : hart_rows 0 (take (k + 1) all) ≡ hart_rows 0 (take k all) ++ measure_row (decimal k) one
   hart_rows-next =
-      let place : 0 + length (map of (take k logs)) ≡ k = omega (arith, rows_before) in
+      let place : 0 + length (take k all) ≡ k = omega (arith, rows_before) in
       ap (hart_rows 0) one_more
-      ∙ hart_rows-append 0 (map of (take k logs)) (of log ∷ [])
-      ∙ ap (λ h. hart_rows 0 (map of (take k logs)) ++ hart_rows h (of log ∷ [])) place
-      ∙ ap (λ rows. hart_rows 0 (map of (take k logs)) ++ rows) (append-nil (measure_row (decimal k) (of log)))
+      ∙ hart_rows-append 0 (take k all) (one ∷ [])
+      ∙ ap (λ h. hart_rows 0 (take k all) ++ hart_rows h (one ∷ [])) place
+      ∙ ap (λ rows. hart_rows 0 (take k all) ++ rows) (append-nil (measure_row (decimal k) one))
 
   -- The rows of first harts were written, and then the next.
-  pub next_written : (old mid new : Option (List ℕ)) → Appends old mid (hart_rows 0 (map of (take k logs)))
-      → Appends mid new (measure_row (decimal k) (of log))
-      → Appends old new (hart_rows 0 (map of (take (k + 1) logs)))
+  pub next_written : (old mid new : Option (List ℕ)) → Appends old mid (hart_rows 0 (take k all))
+      → Appends mid new (measure_row (decimal k) one) → Appends old new (hart_rows 0 (take (k + 1) all))
   next_written old mid new first then =
       subst (Appends old new) (sym hart_rows-next)
-      (Appends-trans old mid new (hart_rows 0 (map of (take k logs))) (measure_row (decimal k) (of log)) first then)
+      (Appends-trans old mid new (hart_rows 0 (take k all)) (measure_row (decimal k) one) first then)
 
   -- The rows of first harts were written, and a beginning of the next.
-  pub next_begun : (old mid new : Option (List ℕ)) → Appends old mid (hart_rows 0 (map of (take k logs)))
-      → AppendsBeginning (measure_row (decimal k) (of log)) mid new
-      → AppendsBeginning (hart_rows 0 (map of logs)) old new
+  pub next_begun : (old mid new : Option (List ℕ)) → Appends old mid (hart_rows 0 (take k all))
+      → AppendsBeginning (measure_row (decimal k) one) mid new → AppendsBeginning (hart_rows 0 all) old new
   next_begun old mid new first begun =
-      let front = hart_rows 0 (map of (take k logs)) in
-      let here = measure_row (decimal k) (of log) in
-      let rest = map of (drop (k + 1) logs) in
-      let behind = hart_rows (0 + length (map of (take (k + 1) logs))) rest in
-      let all : hart_rows 0 (map of logs) ≡ (front ++ here) ++ behind =
-      ap (λ l. hart_rows 0 (map of l)) (sym (take-append-drop (k + 1) logs))
-      ∙ ap (hart_rows 0) (map-append of (take (k + 1) logs) (drop (k + 1) logs))
-      ∙ hart_rows-append 0 (map of (take (k + 1) logs)) rest
+      let front = hart_rows 0 (take k all) in
+      let here = measure_row (decimal k) one in
+      let rest = drop (k + 1) all in
+      let behind = hart_rows (0 + length (take (k + 1) all)) rest in
+      let whole : hart_rows 0 all ≡ (front ++ here) ++ behind =
+      ap (hart_rows 0) (sym (take-append-drop (k + 1) all))
+      ∙ hart_rows-append 0 (take (k + 1) all) rest
       ∙ ap (λ rows. rows ++ behind) hart_rows-next in
-      subst (λ l. AppendsBeginning l old new) (sym all)
+      subst (λ l. AppendsBeginning l old new) (sym whole)
       (begun_in_front (front ++ here) behind old new (begun_behind front here old mid new first begun))
 
 -- One hart and none have no row for all.

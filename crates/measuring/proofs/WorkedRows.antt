@@ -9,7 +9,7 @@ use Rattle.payload.specs.declared.packet.Packet.{Packet}
 use Rattle.payload.specs.declared.packet.Packet.TheVariants.{Sync, Support, Address, Map, Trap as TrapPacket}
 use Rattle.payload.specs.declared.packet.Report.TheVariants.{Plain, Updiscon, Notify}
 use Rattle.payload.specs.declared.packet.Support.TheVariants.{Open, EndedRep, EndedNtr}
-use Rattle.measuring.specs.Measures.{measured, total}
+use Rattle.measuring.specs.Measures.{measured}
 use Rattle.measuring.specs.Table.{bits_per_retirement, hart_rows, measure_row, total_row}
 use Rattle.measuring.specs.declared.measures.Measures.{Measures}
 

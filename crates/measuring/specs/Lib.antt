@@ -1,4 +1,6 @@
 pub mod Kinds
 pub mod Measures
+pub mod Bounds
+pub mod HasCounted
 pub mod Table
 pub mod steps

@@ -45,8 +45,11 @@ hart_rows hart (one ∷ others) = measure_row (decimal hart) one ++ hart_rows (h
 abbrev pub total_row : List Measures → List ℕ
 total_row all = if nat_lt 1 (length all) then measure_row (codes "all") (total all) else []
 
--- The table of logs: the names of its columns, the row of each log's hart, and the row of all together.
+-- The table of these measures, one of a hart each: the names of its columns, the row of each hart, and the row of all
+-- together.
+abbrev pub table_of : List Measures → List ℕ
+table_of all = column_names ++ (hart_rows 0 all ++ total_row all)
+
+-- The table of logs: that of the measures of each log's hart.
 abbrev pub measures_table : ℕ → Mode → List ProgramLog → List ℕ
-measures_table period mode logs =
-    column_names
-    ++ (hart_rows 0 (measures_of_each period mode logs) ++ total_row (measures_of_each period mode logs))
+measures_table period mode logs = table_of (measures_of_each period mode logs)

@@ -1,3 +1,4 @@
 -- What only private functions cite.
-pub mod Room
+pub mod Counting
+pub mod LogsAt
 pub mod Name

@@ -1,51 +1,72 @@
-//! From a log to its counts.
+//! Counting events and packets.
 
-ghost use Rattle.std.specs.Prelude.{◌≡◌, ◌^◌, ◌≤◌, [], ◌∷◌, length};
+ghost use Rattle.std.specs.Prelude.{◌≡◌, ◌^◌, ◌≤◌, All, [], ◌∷◌, length, map};
+ghost use Rattle.rvclass.specs.Fetch.{words_of};
 ghost use Rattle.payload.specs.Limits.{most_bytes};
 ghost use Rattle.payload.specs.Profile.{InProfile};
 ghost use Rattle.payload.specs.Spelling.{payload_of};
-ghost use Rattle.measuring.specs.Measures.{measured, measures_of, together};
-ghost use Rattle.measuring.specs.steps.Room.{AreWithin, most_counted};
+ghost use Rattle.measuring.specs.Bounds.{AreWithin};
+ghost use Rattle.measuring.specs.Measures.{measured, together};
+ghost use Rattle.measuring.specs.steps.Counting.{CountsPackets, GrowsBy, packet_measures};
 
 use crate::measures::Measures;
-use encoder::Source;
-use legalpath::LegalLog;
-use payload::{Mode, Packet, Report, pack};
+use encoder::Encoder;
+use payload::{Packet, Report, pack};
 use retire::Event;
-use std::alloc::Allocator;
+use rvclass::Program;
 
-/// Counts the events of a legal log, and its packets and their payload bytes at this period and in this mode.
-///
-/// Each packet counts by its shortest payload. No memory is taken.
-pub fn measure<A: Allocator>(log: &LegalLog<'_, A>, period: u16, mode: Mode) -> Measures
-    requires { 1 ≤ period }
-    ensures { result ≡ measures_of period mode log.now }
+/// Adds events.
+pub(crate) fn count_events(measures: &mut Measures, events: &[Event])
+    requires room { AreWithin (2 ^ 48) measures.old }
+    requires few { length events.now ≤ 2 ^ 32 }
+    ensures value { measures.new ≡ together measures.old (measured events.now [] []) }
+    ensures grows { GrowsBy (length events.now) measures.old measures.new }
 {
-    measure_log(log, period, mode)
+    measures.add(&measure_events(events));
 }
 
-/// Counts the events and packets of a log.
-pub(crate) fn measure_log<A: Allocator>(log: &LegalLog<'_, A>, period: u16, mode: Mode) -> Measures
-    requires { 1 ≤ period }
-    ensures value { result ≡ measures_of period mode log.now }
-    ensures few { AreWithin most_counted result }
+/// Gives an encoder the next events of its log, and adds the packets that they make due.
+pub(crate) fn count_packets(
+    measures: &mut Measures,
+    encoder: &mut Encoder,
+    program: &Program,
+    events: &[Event],
+)
+    requires room { AreWithin (2 ^ 48) measures.old }
+    requires few { length events.now ≤ 2 ^ 32 }
+    ensures value { CountsPackets (words_of program.now) events.now encoder.old measures.old encoder.new measures.new }
+    ensures grows { GrowsBy (length events.now) measures.old measures.new }
+    ensures events { measures.new.events ≡ measures.old.events }
 {
-    let mut measures = measure_events(log.events());
-    let mut source = Source::new(log, period, mode);
-    for _ in 0..log.events().len() as u64 + 2 {
-        let Some(packet) = source.next_packet() else {
-            return measures;
+    let mut taken = 0;
+    // Each packet takes an event at least.
+    for _ in 0..events.len() {
+        let (count, next) = encoder.push_until_packet(program, &events[taken..]);
+        taken += count;
+        let Some(packet) = next else {
+            return;
         };
-        count_packet(&mut measures, &packet);
+        count_packet(measures, &packet);
     }
-    measures
+}
+
+/// Adds packets and their payloads, at most so many as end a log.
+pub(crate) fn count_all(measures: &mut Measures, packets: &[Packet])
+    requires room { AreWithin (2 ^ 48) measures.old }
+    requires few { length packets.now ≤ 2 }
+    ensures value { All InProfile packets.now →
+        measures.new ≡ together measures.old (measured [] packets.now (map payload_of packets.now)) }
+    ensures grows { GrowsBy (length packets.now) measures.old measures.new }
+{
+    for packet in packets {
+        count_packet(measures, packet);
+    }
 }
 
 /// The measures of events alone.
 fn measure_events(events: &[Event]) -> Measures
-    requires { length events.now ≤ 2 ^ 24 }
-    ensures value { result ≡ measured events.now [] [] }
-    ensures few { AreWithin (length events.now) result }
+    requires { length events.now ≤ 2 ^ 32 }
+    ensures { result ≡ measured events.now [] [] }
 {
     let mut measures = Measures::none();
     for event in events {
@@ -56,7 +77,7 @@ fn measure_events(events: &[Event]) -> Measures
 
 /// Adds an event.
 fn count_event(measures: &mut Measures, event: &Event)
-    requires { AreWithin (2 ^ 48) measures.old }
+    requires { AreWithin (2 ^ 50) measures.old }
     ensures { measures.new ≡ together measures.old (measured (event.now ∷ []) [] []) }
 {
     measures.events += 1;
@@ -70,14 +91,34 @@ fn count_event(measures: &mut Measures, event: &Event)
 }
 
 /// Adds a packet and its payload.
-fn count_packet(measures: &mut Measures, packet: &Packet)
-    requires room { AreWithin (2 ^ 48) measures.old }
-    requires profile { InProfile packet.now }
-    ensures value { measures.new
+pub(crate) fn count_packet(measures: &mut Measures, packet: &Packet)
+    requires { AreWithin (2 ^ 50) measures.old }
+    ensures value { InProfile packet.now → measures.new
         ≡ together measures.old (measured [] (packet.now ∷ []) (payload_of packet.now ∷ [])) }
-    ensures few { length (payload_of packet.now) ≤ most_bytes }
+    ensures grows { GrowsBy 1 measures.old measures.new }
+    ensures events { measures.new.events ≡ measures.old.events }
 {
-    let bytes = pack(packet).bytes().len() as u64;
+    count_sized(measures, packet, payload_length(packet));
+}
+
+/// How many bytes the payload of a packet of the profile has. Every packet of a legal log is of the profile.
+fn payload_length(packet: &Packet) -> u64
+    ensures value { InProfile packet.now → result ≡ length (payload_of packet.now) }
+    ensures few { result ≤ most_bytes }
+{
+    if packet.in_profile() {
+        pack(packet).bytes().len() as u64
+    } else {
+        0
+    }
+}
+
+/// Adds a packet whose payload has this many bytes.
+fn count_sized(measures: &mut Measures, packet: &Packet, bytes: u64)
+    requires room { AreWithin (2 ^ 50) measures.old }
+    requires few { bytes ≤ most_bytes }
+    ensures { measures.new ≡ together measures.old (packet_measures packet.now bytes) }
+{
     measures.payload_bytes += bytes;
     measures.longest = measures.longest.max(bytes);
     measures.packets += 1;

@@ -36,7 +36,7 @@ pub struct Measures {
 impl Measures {
     ghost use Rattle.std.specs.Prelude.{◌≡◌, ◌^◌, []};
     ghost use Rattle.measuring.specs.Measures.{measured, together};
-    ghost use Rattle.measuring.specs.steps.Room.{AreWithin};
+    ghost use Rattle.measuring.specs.Bounds.{AreWithin};
 
     /// The measures of no events and no packets.
     pub(crate) fn none() -> Measures
@@ -62,8 +62,8 @@ impl Measures {
 
     /// Adds the measures of another trace.
     pub(crate) fn add(&mut self, other: &Measures)
-        requires room { AreWithin (2 ^ 48) self.old }
-        requires few { AreWithin (2 ^ 48) other.now }
+        requires room { AreWithin (2 ^ 56) self.old }
+        requires few { AreWithin (2 ^ 56) other.now }
         ensures { self.new ≡ together self.old other.now }
     {
         self.events += other.events;

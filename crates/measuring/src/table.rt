@@ -1,13 +1,14 @@
 //! The table of measures.
 
-ghost use Rattle.std.specs.Prelude.{◌≡◌, ◌≤◌, ◌^◌, IfErr, IfOk, OnOk, length};
+ghost use Rattle.std.specs.Prelude.{◌≡◌, ◌≤◌, ◌^◌, All, IfErr, IfOk, OnOk, length};
 ghost use Rattle.std.specs.Io.KnownBytes.{Appends};
 ghost use Rattle.output.specs.Begun.{AppendsBeginning};
-ghost use Rattle.measuring.specs.Measures.{measures_of_each, total};
-ghost use Rattle.measuring.specs.Table.{column_names, hart_rows, measure_row, measures_table, total_row};
+ghost use Rattle.measuring.specs.Bounds.{AreWithin, most_counted};
+ghost use Rattle.measuring.specs.Measures.{total};
+ghost use Rattle.measuring.specs.Table.{column_names, hart_rows, measure_row, measures_table, table_of};
 ghost use Rattle.measuring.specs.steps.Name.{name_text};
 
-use crate::counting::measure_log;
+use crate::harts::{Harts, Logged, Measured};
 use crate::measures::Measures;
 use crate::row::{Name, Row};
 use legalpath::LegalLog;
@@ -42,9 +43,34 @@ pub fn write_measures<W: Write, A: Allocator>(
         (W.contents sink.old) (W.contents sink.new) }
     ensures fault { IfErr result (λ fault. fault ≡ WriteFault.Write) }
 {
+    write_table(&Logged { logs, period, mode }, sink)
+}
+
+/// Writes the table that [`write_measures`] writes of logs, where the measures of each are at hand, hart 0 first.
+///
+/// The measures are those that [`LogMeasures::finish`](crate::LogMeasures::finish) returns, or no greater. The only
+/// fault is [`WriteFault::Write`], where the writer failed; what was written then is a beginning of the table. No
+/// memory is taken, and the writer is not flushed.
+pub fn write_measures_of<W: Write>(each: &[Measures], sink: &mut W) -> Result<(), WriteFault>
+    requires few { length each.now ≤ 2 ^ 16 }
+    requires within { All (AreWithin most_counted) each.now }
+    ensures table { OnOk result (Appends (W.contents sink.old) (W.contents sink.new) (table_of each.now)) }
+    ensures begun { AppendsBeginning (table_of each.now) (W.contents sink.old) (W.contents sink.new) }
+    ensures fault { IfErr result (λ fault. fault ≡ WriteFault.Write) }
+{
+    write_table(&Measured { each }, sink)
+}
+
+/// Writes the table of the measures of harts.
+fn write_table<H: Harts, W: Write>(harts: &H, sink: &mut W) -> Result<(), WriteFault>
+    requires { length (H.each harts.now) ≤ 2 ^ 16 }
+    ensures table { OnOk result (Appends (W.contents sink.old) (W.contents sink.new) (table_of (H.each harts.now))) }
+    ensures begun { AppendsBeginning (table_of (H.each harts.now)) (W.contents sink.old) (W.contents sink.new) }
+    ensures fault { IfErr result (λ fault. fault ≡ WriteFault.Write) }
+{
     write_column_names(sink)?;
-    let all = write_harts(logs, period, mode, sink)?;
-    if logs.len() <= 1 {
+    let all = write_harts(harts, sink)?;
+    if harts.count() <= 1 {
         return Ok(());
     }
     write_row(Name::All, &all, sink)
@@ -61,24 +87,17 @@ fn write_column_names<W: Write>(sink: &mut W) -> Result<(), WriteFault>
 }
 
 /// Writes the row of each hart, and returns the measures of all together.
-fn write_harts<W: Write, A: Allocator>(
-    logs: &[LegalLog<'_, A>],
-    period: u16,
-    mode: Mode,
-    sink: &mut W,
-) -> Result<Measures, WriteFault>
-    requires period { 1 ≤ period }
-    requires few { length logs.now ≤ 2 ^ 16 }
-    ensures all { IfOk result (λ all. all ≡ total (measures_of_each period mode logs.now)) }
+fn write_harts<H: Harts, W: Write>(harts: &H, sink: &mut W) -> Result<Measures, WriteFault>
+    requires { length (H.each harts.now) ≤ 2 ^ 16 }
+    ensures all { IfOk result (λ all. all ≡ total (H.each harts.now)) }
     ensures text { OnOk result (Appends (W.contents sink.old) (W.contents sink.new)
-        (hart_rows 0 (measures_of_each period mode logs.now))) }
-    ensures begun { AppendsBeginning (hart_rows 0 (measures_of_each period mode logs.now))
-        (W.contents sink.old) (W.contents sink.new) }
+        (hart_rows 0 (H.each harts.now))) }
+    ensures begun { AppendsBeginning (hart_rows 0 (H.each harts.now)) (W.contents sink.old) (W.contents sink.new) }
     ensures fault { IfErr result (λ fault. fault ≡ WriteFault.Write) }
 {
     let mut all = Measures::none();
-    for hart in 0..logs.len() {
-        let measures = measure_log(&logs[hart], period, mode);
+    for hart in 0..harts.count() {
+        let measures = harts.measures(hart);
         write_row(Name::Hart(hart), &measures, sink)?;
         all.add(&measures);
     }

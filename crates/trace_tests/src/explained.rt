@@ -3,7 +3,7 @@
 use crate::fixtures::Step::{self, Retires, Traps};
 use crate::fixtures::{BACK_JUMP, BASE, BEQ, ECALL, MRET, NOP, event_of, program_of, retired};
 use crate::same::same_at;
-use explaining::explain;
+use explaining::{explain, explain_row};
 use legalpath::{PathFault, Why, check};
 use retire::Event;
 use rvclass::Program;
@@ -77,7 +77,7 @@ fn turns<R: Abort + AllocGlobal>(rt: &R, count: u32) -> Vec<Event> {
     log
 }
 
-/// Ends the test unless this line explains the fault of a log.
+/// Ends the test unless this line explains the fault of a log, and the fault's row without the log.
 fn is_explained<R: Abort + AllocGlobal>(
     rt: &R,
     program: &Program,
@@ -88,6 +88,15 @@ fn is_explained<R: Abort + AllocGlobal>(
     let mut text = Vec::new(rt.alloc());
     same_at(rt, fault, explain(program, log, fault, &mut text), Ok(()));
     same_at(rt, fault, text.as_slice(), wanted.as_bytes());
+    let row = fault.row as usize;
+    let event = log
+        .get(row.wrapping_sub(1))
+        .expect(rt, "an event at the row");
+    let before = log.get(row.wrapping_sub(2)).copied();
+    let mut line = Vec::new(rt.alloc());
+    let end = explain_row(program, before, event, fault, &mut line);
+    same_at(rt, fault, end, Ok(()));
+    same_at(rt, fault, line.as_slice(), wanted.as_bytes());
 }
 
 /// Ends the test unless each row is refused and explained where it comes after so many legal ones.

@@ -1,4 +1,7 @@
-//! Tables of measures at many periods, in both modes, of up to 1,024 harts (`measuring`).
+//! Tables of measures at many periods, in both modes, of up to 1,024 harts, and counts of logs that come in pieces
+//! (`measuring`).
+
+mod pieces;
 
 use crate::fixtures::{add, log_of, program_of};
 use crate::large::{WORDS, steps_of};

@@ -1,11 +1,7 @@
 use Rattle.std.proofs.Common.{◌≡◌, [], take}
 use Rattle.measuring.specs.Measures.{measured}
-use Rattle.measuring.specs.steps.Room.{AreWithin}
 use Rattle.measuring.proofs.counting.measure_events.Given as goal
 
 -- The events so far are counted.
 abbrev pub invariant-loop-event : goal.invariant-loop-event
-invariant-loop-event l = record {
-  value : l.measures ≡ measured (take l.event-index l.events) [] [];
-  few : AreWithin l.event-index l.measures;
-}
+invariant-loop-event l = l.measures ≡ measured (take l.event-index l.events) [] []

@@ -20,6 +20,6 @@ pub record AreWithin (limit : ℕ) (m : Measures) : Type 0 where
   pub payload_bytes : m.payload_bytes ≤ limit * most_bytes
   pub longest : m.longest ≤ most_bytes
 
--- No count of a log is greater: it has at most 2^24 events, and at most two packets more.
+-- No count of a log of at most 2^32 - 1 events is greater. Such a log has at most two packets more than events.
 abbrev pub most_counted : ℕ
-most_counted = 2 ^ 25 + 2
+most_counted = 2 ^ 33 + 1
