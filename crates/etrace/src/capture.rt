@@ -11,5 +11,5 @@ pub use message::{
     read_message, read_start, write_header, write_message,
 };
 pub use receiver::{ReceiveFault, Receiver};
-pub use side_encoding::encode_text;
+pub use side_encoding::{HartMessages, encode_text};
 pub use symbols::{Named, Symbols, SymbolsFault, write_symbol};

@@ -1,12 +1,15 @@
 -- Packets whose messages are written, one after another.
-use Rattle.std.proofs.Common.{◌≡◌, refl, ℕ, suc, ◌+◌, ◌<◌, List, [], ◌∷◌, ◌++◌, length, take, get_or, sym, ap}
+use Rattle.std.proofs.Common.{◌≡◌, refl, ℕ, suc, ◌+◌, ◌<◌, All, List, [], ◌∷◌, ◌++◌, length, take, get_or, sym, ap}
 use Rattle.std.proofs.Common.{◌∙◌, subst, arith, append_assoc}
 use Rattle.std.proofs.lemmas.List.{append-nil, length-append, take_more}
+use Rattle.std.proofs.lemmas.List.Elements.{All-get_or}
 use Rattle.message.specs.declared.message.Message.{Message}
+use Rattle.payload.specs.Profile.{InProfile}
 use Rattle.payload.specs.Spelling.{payload_of}
 use Rattle.payload.specs.declared.packet.Packet.{Packet}
+use Rattle.side_encoding.specs.HasEncoded.{packets_text}
 use Rattle.side_encoding.specs.declared.messages.Messages.{Messages}
-use Rattle.side_encoding.specs.steps.Adds.{Adds, packets_text}
+use Rattle.side_encoding.specs.steps.Adds.{Adds}
 
 module _ (text : Message → List ℕ) where
   -- The messages of packets stand behind those of the packets in front.
@@ -41,11 +44,14 @@ module _ (text : Message → List ℕ) where
         ∙ ap (λ l. old.bytes.items ++ l) (sym (packets_text-append old.hart old.number front back));
   }
 
-  -- One packet more.
+  -- One packet more, where all are of the profile.
   pub adds_more : (packets : List Packet) (i : ℕ) (packet : Packet) (old mid new : Messages) → i < length packets
-      → packet ≡ get_or packets i packet → Adds text (take i packets) old mid → Adds text (packet ∷ []) mid new
+      → packet ≡ get_or packets i packet → (All InProfile packets → Adds text (take i packets) old mid)
+      → (InProfile packet → Adds text (packet ∷ []) mid new) → All InProfile packets
       → Adds text (take (i + 1) packets) old new
-  adds_more packets i packet old mid new within is first then =
+  adds_more packets i packet old mid new within is first then all =
       let more : take (i + 1) packets ≡ take i packets ++ packet ∷ [] =
       take_more packets i packet within ∙ ap (λ p. take i packets ++ p ∷ []) (sym is) in
-      subst (λ ps. Adds text ps old new) (sym more) (adds_both (take i packets) (packet ∷ []) old mid new first then)
+      let one : InProfile packet = subst InProfile (sym is) (All-get_or InProfile packets i packet within all) in
+      subst (λ ps. Adds text ps old new) (sym more)
+      (adds_both (take i packets) (packet ∷ []) old mid new (first all) (then one))

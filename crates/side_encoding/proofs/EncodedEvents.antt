@@ -16,8 +16,9 @@ use Rattle.payload.specs.Profile.{InProfile}
 use Rattle.payload.specs.declared.mode.Mode.{Mode}
 use Rattle.payload.specs.declared.packet.Packet.{Packet}
 use Rattle.side_encoding.specs.declared.messages.Messages.{Messages}
-use Rattle.side_encoding.specs.steps.Adds.{Adds, packets_text}
-use Rattle.side_encoding.specs.steps.Encodes.{AreWritten, EncodedSoFar, Encodes, MayBeEncoded}
+use Rattle.side_encoding.specs.HasEncoded.{AreWritten, packets_text}
+use Rattle.side_encoding.specs.steps.Adds.{Adds}
+use Rattle.side_encoding.specs.steps.Encodes.{EncodedSoFar, Encodes}
 use Rattle.side_encoding.proofs.AddedPackets.{packets_text-append}
 
 module _ (text : Message → List ℕ) where
@@ -74,8 +75,11 @@ module _ (text : Message → List ℕ) where
           → ((period : ℕ) (mode : Mode) (log : List Event) → EncoderStands words period mode log e
           → Legal words (log ++ take count rest) → packets_so_far words period mode (log ++ take count rest)
           ≡ packets_so_far words period mode log ++ option_to_list packet)
-          → Adds text (option_to_list packet) m m' → EncodesFront events (taken + count) first none e' m'
-      encodes_more m' stands packets adds period mode hart log encoded legal =
+          → ((period : ℕ) (mode : Mode) (log : List Event) → EncoderStands words period mode log e
+          → Legal words (log ++ take count rest) → IfSome packet InProfile)
+          → (IfSome packet InProfile → Adds text (option_to_list packet) m m')
+          → EncodesFront events (taken + count) first none e' m'
+      encodes_more m' stands packets profile adds period mode hart log encoded legal =
           let front = log ++ take taken events in
           let legal' = next_legal log legal in
           let before = encodes period mode hart log encoded legal in
@@ -83,17 +87,8 @@ module _ (text : Message → List ℕ) where
             stands = stands period mode front before.stands legal';
             written = subst (λ ps. AreWritten text hart ps m') (sym (packets period mode front before.stands legal'))
                 (written_more hart (packets_so_far words period mode front) (option_to_list packet) m m' before.written
-                adds);
+                (adds (profile period mode front before.stands legal')));
           })
-
-      -- The packet that `push_until_packet` gives is of the profile.
-      pub more_in_profile : MayBeEncoded text words events first none
-          → ((period : ℕ) (mode : Mode) (log : List Event) → EncoderStands words period mode log e
-          → Legal words (log ++ take count rest) → IfSome packet InProfile) → IfSome packet InProfile
-      more_in_profile may profile =
-          let before = encodes may.period may.mode may.hart may.log may.so_far may.legal in
-          profile may.period may.mode (may.log ++ take taken events) before.stands
-          (next_legal may.log may.legal)
 
     -- All events are encoded.
     pub encodes_all : (events : List Event) (taken : ℕ) (first e : Encoder) (none m : Messages)

@@ -1,2 +1,3 @@
+pub mod HasEncoded
 pub mod IsEncodedText
 pub mod steps

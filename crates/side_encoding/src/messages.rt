@@ -5,23 +5,16 @@ ghost use Rattle.payload.specs.Profile.{InProfile};
 ghost use Rattle.side_encoding.specs.steps.Adds.{Adds};
 
 use captures::Form;
-use log_pieces::NotInPieces;
 use message::Message;
 use payload::{Packet, pack};
+use std::alloc::AllocError;
 
 /// The most bytes of a written message. A line of hexadecimal has up to 5 digits of the hart, 20 of the number and 36
 /// of the payload, two spaces and a line feed. In a capture a message has 29 bytes at most.
 const LONGEST: usize = 64;
 
-/// How much room is taken at once, beside a quarter of what is written.
+/// How many bytes the buffer grows by at once, beside a quarter of what is written.
 const MORE_ROOM: usize = 4_096;
-
-/// How much room the messages may have for each event. Where they need more, the log is read as a whole, in a list that
-/// takes 24 bytes an event, and its messages are written as they are made.
-const ROOM_PER_EVENT: usize = 34;
-
-/// How much room the messages may have beside that.
-const ROOM_BESIDE: usize = 65_536;
 
 /// The messages of a hart that are written so far.
 #[derive(Drop)]
@@ -34,11 +27,10 @@ pub(crate) struct Messages {
 }
 
 impl Messages {
-    /// Writes the messages of these packets. The error says that memory was refused, or that there is no number left.
+    /// Writes the messages of these packets. The error is that of [`Messages::write`].
     #[inline]
-    pub(crate) fn write_all<F: Form>(&mut self, packets: &[Packet]) -> Result<(), NotInPieces>
-        requires { All InProfile packets.now }
-        ensures { OnOk result (Adds F.text packets.now self.old self.new) }
+    pub(crate) fn write_all<F: Form>(&mut self, packets: &[Packet]) -> Result<(), AllocError>
+        ensures { All InProfile packets.now → OnOk result (Adds F.text packets.now self.old self.new) }
     {
         for packet in packets {
             self.write::<F>(packet)?;
@@ -46,12 +38,15 @@ impl Messages {
         Ok(())
     }
 
-    /// Writes the message of this packet. The error is that of [`Messages::write_all`].
+    /// Writes the message of this packet. A packet that is not of the profile has no payload and gives no message; a
+    /// legal log has none. The error says that an allocation failed, or that no number is left.
     #[inline(never)]
-    pub(crate) fn write<F: Form>(&mut self, packet: &Packet) -> Result<(), NotInPieces>
-        requires { InProfile packet.now }
-        ensures { OnOk result (Adds F.text (packet.now ∷ []) self.old self.new) }
+    pub(crate) fn write<F: Form>(&mut self, packet: &Packet) -> Result<(), AllocError>
+        ensures { InProfile packet.now → OnOk result (Adds F.text (packet.now ∷ []) self.old self.new) }
     {
+        if !packet.in_profile() {
+            return Ok(());
+        }
         let message = Message {
             hart: self.hart,
             number: self.number,
@@ -59,38 +54,24 @@ impl Messages {
         };
         self.number = match self.number.checked_add(1) {
             Some(next) => next,
-            None => return Err(NotInPieces),
+            None => return Err(AllocError),
         };
         make_room(&mut self.bytes)?;
         match F::write(&mut self.bytes, &message) {
             Ok(()) => Ok(()),
-            Err(_) => Err(NotInPieces),
+            Err(_) => Err(AllocError),
         }
-    }
-
-    /// Gives up where the messages of this many events have more room than they may have.
-    pub(crate) fn keep_within(&self, events: usize) -> Result<(), NotInPieces> {
-        let most = ROOM_PER_EVENT
-            .saturating_mul(events)
-            .saturating_add(ROOM_BESIDE);
-        if self.bytes.capacity() > most {
-            return Err(NotInPieces);
-        }
-        Ok(())
     }
 }
 
-/// Makes room for a message, where there may be too little. The room grows by a quarter, and so is little more than is
-/// written; a vector that grows by itself doubles it.
+/// Makes room for a message, where there may be too little. The buffer grows by a quarter, and so is little longer than
+/// what is written; a vector that grows by itself doubles its length.
 #[inline]
-fn make_room(bytes: &mut Vec<u8>) -> Result<(), NotInPieces>
+fn make_room(bytes: &mut Vec<u8>) -> Result<(), AllocError>
     ensures { bytes.new.items ≡ bytes.old.items }
 {
     if bytes.capacity() - bytes.len() >= LONGEST {
         return Ok(());
     }
-    match bytes.reserve_exact(bytes.len() / 4 + MORE_ROOM) {
-        Ok(()) => Ok(()),
-        Err(_) => Err(NotInPieces),
-    }
+    bytes.reserve_exact(bytes.len() / 4 + MORE_ROOM)
 }

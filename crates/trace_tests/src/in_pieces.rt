@@ -1,6 +1,7 @@
 //! Logs that are read in pieces (`log_pieces`, `side_encoding`): they are as the same logs read as a whole; and which
 //! texts are not read so.
 
+mod handed_in;
 mod settings;
 
 use crate::fixtures::{BACK_JUMP, NOP, add, program_of};

@@ -1,5 +1,5 @@
--- Events of a log that are encoded behind others.
-use Rattle.std.specs.Prelude.{◌≡◌, ℕ, List, ◌++◌, length}
+-- Events of a log that are encoded after others.
+use Rattle.std.specs.Prelude.{ℕ, List, ◌++◌}
 use Rattle.retire.specs.declared.event.Event.{Event}
 use Rattle.rvclass.specs.Words.{Words}
 use Rattle.legalpath.specs.Legal.{Legal}
@@ -8,15 +8,8 @@ use Rattle.encoder.specs.PacketsSoFar.{packets_so_far}
 use Rattle.encoder.specs.declared.encoder.Encoder.{Encoder}
 use Rattle.message.specs.declared.message.Message.{Message}
 use Rattle.payload.specs.declared.mode.Mode.{Mode}
-use Rattle.payload.specs.declared.packet.Packet.{Packet}
+use Rattle.side_encoding.specs.HasEncoded.{AreWritten}
 use Rattle.side_encoding.specs.declared.messages.Messages.{Messages}
-use Rattle.side_encoding.specs.steps.Adds.{packets_text}
-
--- The messages of this hart with these packets are written, numbered from 0 on.
-pub record AreWritten (text : Message → List ℕ) (hart : ℕ) (packets : List Packet) (messages : Messages) : Type 0 where
-  pub of_hart : messages.hart ≡ hart
-  pub number : messages.number ≡ length packets
-  pub bytes : messages.bytes.items ≡ packets_text text hart 0 packets
 
 -- The events of a log so far are encoded: the encoder stands for them, and the messages of their packets are written.
 pub record EncodedSoFar (text : Message → List ℕ) (words : Words) (period : ℕ) (mode : Mode) (hart : ℕ)
@@ -24,17 +17,7 @@ pub record EncodedSoFar (text : Message → List ℕ) (words : Words) (period : 
   pub stands : EncoderStands words period mode log encoder
   pub written : AreWritten text hart (packets_so_far words period mode log) messages
 
--- These events may be encoded: they follow on the events of a log that are encoded so far.
-pub record MayBeEncoded (text : Message → List ℕ) (words : Words) (events : List Event) (encoder : Encoder)
-    (messages : Messages) : Type 0 where
-  pub period : ℕ
-  pub mode : Mode
-  pub hart : ℕ
-  pub log : List Event
-  pub so_far : EncodedSoFar text words period mode hart log encoder messages
-  pub legal : Legal words (log ++ events)
-
--- These events are encoded behind those of any log that they follow on.
+-- These events are encoded after those of any log that they follow legally.
 abbrev pub Encodes : (Message → List ℕ) → Words → List Event → Encoder → Messages → Encoder → Messages → Type 0
 Encodes text words events encoder messages encoder_after messages_after =
     (period : ℕ) (mode : Mode) (hart : ℕ) (log : List Event) →
