@@ -81,7 +81,7 @@ def for_zsh(subcommands):
 # Completion of tracebench for zsh, {MADE}.
 
 _tracebench() {{
-    local context state state_descr line
+    local context curcontext=$curcontext state state_descr line
     local -a subcommands
     typeset -A opt_args
     _arguments -C \\
@@ -95,7 +95,10 @@ _tracebench() {{
     subcommand) _describe subcommand subcommands ;;
     arguments)
         case $words[1] in
-{cases}        help) _describe subcommand subcommands ;;
+{cases}        help)
+            subcommands=(${{subcommands:#help:*}})
+            _describe subcommand subcommands
+            ;;
         esac
         ;;
     esac
@@ -106,21 +109,24 @@ _tracebench "$@"
 
 
 def for_fish(subcommands):
-    first = "complete -c tracebench -n __fish_use_subcommand"
-    lines = [f"# Completion of tracebench for fish, {MADE}.", "", "complete -c tracebench -f",
-             f"complete -c tracebench -s h -l help -d {quoted(HELP)}",
+    start = "complete -c tracebench"
+    first = f"{start} -n '__tracebench_given'"
+    names = " ".join(one.name for one in subcommands)
+    lines = [f"# Completion of tracebench for fish, {MADE}.", "",
+             "# Whether the subcommand is this one; without an argument, whether none is given yet.",
+             "function __tracebench_given", "    set -l words (commandline -opc)",
+             '    test "$words[2]" = "$argv"', "end", "",
+             f"{start} -f",
+             f"{start} -s h -l help -d {quoted(HELP)}",
              f"{first} -s V -l version -d 'Print version'"]
     lines += [f"{first} -a {one.name} -d {quoted(one.about)}" for one in subcommands]
-    names = " ".join(one.name for one in subcommands)
-    lines += [f"{first} -a help -d {quoted(HELP_OF)}",
-              f"complete -c tracebench -n '__fish_seen_subcommand_from help' -a '{names}'"]
+    lines += [f"{first} -a help -d {quoted(HELP_OF)}", f"{start} -n '__tracebench_given help' -a '{names}'"]
     for one in subcommands:
-        seen = f"__fish_seen_subcommand_from {one.name}; and not __fish_seen_subcommand_from help"
-        start = f"complete -c tracebench -n '{seen}'"
-        lines += ["", f"{start} -F"]
+        given = f"{start} -n '__tracebench_given {one.name}'"
+        lines += ["", f"{given} -F"]
         for each in one.options():
             value = "" if not each.value else " -r -F" if each.is_file() else " -x"
-            lines.append(f"{start} -l {each.name}{value} -d {quoted(each.about)}")
+            lines.append(f"{given} -l {each.name}{value} -d {quoted(each.about)}")
     return "\n".join(lines) + "\n"
 
 
