@@ -1,10 +1,12 @@
-"""`tools/release`: what it refuses, and that two runs give the same bytes, where a program and a library are built."""
+"""`tools/release`: what it refuses, and that two runs give the same bytes, where a program and a library are built. What
+`tools/release-check` and `tools/as-installed` refuse before they install anything."""
 import os
 import shutil
 import subprocess
 import sys
 import tempfile
 import unittest
+from importlib import machinery, util
 
 from support import TOOLS, TRACEBENCH
 
@@ -38,6 +40,48 @@ class Release(unittest.TestCase):
         self.assertEqual([ran.returncode for ran in runs], [0, 0])
         self.assertEqual(runs[0].stdout, runs[1].stdout)
         self.assertEqual(len(runs[0].stdout.splitlines()), 4)
+
+    @unittest.skipUnless(shutil.which("cc") and shutil.which("readelf"), "no compiler")
+    def test_the_c_library_that_a_program_wants(self):
+        loader = machinery.SourceFileLoader("release", os.path.join(TOOLS, "release"))
+        made = util.module_from_spec(util.spec_from_loader("release", loader))
+        loader.exec_module(made)
+        with tempfile.TemporaryDirectory() as folder:
+            program, source = os.path.join(folder, "program"), os.path.join(folder, "program.c")
+            with open(source, "w", encoding="utf-8") as file:
+                file.write("int main(void) { return 0; }\n")
+            subprocess.run(["cc", "-o", program, source], check=True)
+            self.assertRegex(made.libc_of(program), r"\Alibc6 \(>= 2\.\d+\)\Z")
+            subprocess.run(["cc", "-shared", "-Wl,-soname,libother.so.1", "-o", f"{folder}/libother.so", source], check=True)
+            subprocess.run(["cc", "-Wl,--no-as-needed", "-o", program, source, f"{folder}/libother.so"], check=True)
+            with self.assertRaisesRegex(SystemExit, "needs libother.so.1"):
+                made.libc_of(program)
+
+
+class Checks(unittest.TestCase):
+    def ends(self, status, words, said):
+        """A script ends with this status and says this."""
+        ran = subprocess.run([os.path.join(TOOLS, words[0]), *words[1:]], capture_output=True, text=True, check=False)
+        self.assertEqual((ran.returncode, ran.stdout), (status, ""))
+        self.assertIn(said, ran.stderr)
+
+    def test_a_system_that_is_to_be_kept(self):
+        self.ends(2, ["as-installed", "/"], "not a system made for it")
+
+    def test_words_and_sums(self):
+        usage = "usage: tools/release-check [--suite SUITE] DIR"
+        with tempfile.TemporaryDirectory() as folder:
+            for words in [], ["--suite"], ["--suite", "bookworm"], [folder], ["--none", "bookworm", folder]:
+                self.ends(2, ["release-check", *words], usage)
+            names = "tracebench_1_amd64.deb", "tracebench-1.tar.xz"
+            for name in names:
+                open(os.path.join(folder, name), "w", encoding="utf-8").close()
+            sums = subprocess.run(["sha256sum", *names], cwd=folder, capture_output=True, text=True, check=True).stdout
+            for text, said in ((sums.replace("e3b0", "f3b0"), "a sum differs"), (sums.split("\n")[0] + "\n", "no sum of")):
+                with open(os.path.join(folder, "SHA256SUMS"), "w", encoding="utf-8") as file:
+                    file.write(text)
+                for suite in [], ["--suite", "bookworm"]:
+                    self.ends(1, ["release-check", *suite, folder], said)
 
 
 if __name__ == "__main__":
