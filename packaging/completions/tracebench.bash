@@ -30,6 +30,12 @@ _tracebench() {
         ;;
     *) return ;;
     esac
+    # bash takes the sign of `--period=5` as a word of its own.
+    if [[ $current == = ]]; then
+        current=
+    elif [[ $previous == = ]]; then
+        previous=${COMP_WORDS[COMP_CWORD - 2]}
+    fi
     case $previous in
     --base | --capacity | --harts | --period) return ;;
     esac

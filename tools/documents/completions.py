@@ -45,6 +45,12 @@ _tracebench() {{
         ;;
     *) return ;;
     esac
+    # bash takes the sign of `--period=5` as a word of its own.
+    if [[ $current == = ]]; then
+        current=
+    elif [[ $previous == = ]]; then
+        previous=${{COMP_WORDS[COMP_CWORD - 2]}}
+    fi
     case $previous in
     {' | '.join(values)}) return ;;
     esac
@@ -64,7 +70,9 @@ def zsh_argument(argument, place):
         return quoted(f"{'*' if argument.is_many else place}:{argument.name}:_files")
     about = re.sub(r"([\[\]:\\])", r"\\\1", argument.about)
     action = ":_files" if argument.is_file() else ": "
-    return quoted(f"--{argument.name}[{about}]" + (f":{argument.value}{action}" if argument.value else ""))
+    if not argument.value:
+        return quoted(f"--{argument.name}[{about}]")
+    return quoted(f"--{argument.name}=[{about}]:{argument.value}{action}")
 
 
 def for_zsh(subcommands):

@@ -9,6 +9,7 @@ import shutil
 import subprocess
 import sys
 import tempfile
+import threading
 import unittest
 
 TOOLS = os.path.dirname(os.path.dirname(os.path.abspath(__file__)))
@@ -34,13 +35,13 @@ else
 fi
 function=$(complete -p tracebench | sed 's/.* -F \\([^ ]*\\).*/\\1/')
 while IFS= read -r line; do
-    IFS=' ' read -ra COMP_WORDS <<<"$line"
+    IFS=' ' read -ra COMP_WORDS <<<"${line//=/ = }"
     [[ $line != *' ' ]] || COMP_WORDS+=('')
     COMP_CWORD=$((${#COMP_WORDS[@]} - 1)) COMPREPLY=()
     "$function" tracebench "${COMP_WORDS[COMP_CWORD]}" "${COMP_WORDS[COMP_CWORD - 1]}"
     printf 'line\\n'
     [[ ${#COMPREPLY[@]} = 0 ]] || printf '%s\\n' "${COMPREPLY[@]}"
-done <lines >offered
+done <../lines >../offered
 """
 
 # What zsh would show is what its completion hands to `compadd`. The line editor wants a terminal, which `pty` makes.
@@ -50,13 +51,13 @@ compinit -u -D
 [[ -n $INSTALLED ]] || { autoload -Uz _tracebench; compdef _tracebench tracebench }
 compadd() {
     local -a hits
-    [[ -n ${@[(r)-[OAD]*]} ]] || { builtin compadd -A hits "$@"; print -rl -- $hits >>offered }
+    [[ -n ${@[(r)-[OAD]*]} ]] || { builtin compadd -A hits "$@"; print -rl -- $hits >>../offered }
     builtin compadd "$@"
 }
 each-line() {
     local line
-    for line in "${(@f)$(<lines)}"; do
-        print line >>offered
+    for line in "${(@f)$(<../lines)}"; do
+        print line >>../offered
         BUFFER=$line CURSOR=$#line
         zle list-choices
     done
@@ -70,36 +71,39 @@ test -n "$INSTALLED"; or source $argv[1]
 while read --line line
     echo line
     complete -C "$line"
-end <lines >offered
+end <../lines >../offered
 """
 
 
-def by_bash(folder):
+def by_bash(home, settings):
     path = os.path.join(FOLDER, "tracebench.bash")
-    subprocess.run(["bash", "--norc", "-c", BASH, "bash", path], cwd=folder, timeout=SECONDS, check=True)
+    subprocess.run(["bash", "--norc", "-c", BASH, "bash", path], **settings, timeout=SECONDS, check=True)
 
 
-def by_fish(folder):
-    script = os.path.join(folder, "script")
+def by_fish(home, settings):
+    script = os.path.join(home, "script")
     with open(script, "w", encoding="utf-8") as file:
         file.write(FISH)
-    subprocess.run(["fish", script, os.path.join(FOLDER, "tracebench.fish")], cwd=folder, timeout=SECONDS, check=True)
+    subprocess.run(["fish", script, os.path.join(FOLDER, "tracebench.fish")], **settings, timeout=SECONDS, check=True)
 
 
-def by_zsh(folder):
-    with open(os.path.join(folder, ".zshrc"), "w", encoding="utf-8") as file:
+def by_zsh(home, settings):
+    with open(os.path.join(home, ".zshrc"), "w", encoding="utf-8") as file:
         file.write(("" if INSTALLED else f"fpath=({FOLDER} $fpath)\n") + ZSH)
     master, slave = pty.openpty()
-    shell = subprocess.Popen(["zsh", "-d", "-i"], cwd=folder, stdin=slave, stdout=slave, stderr=slave,
-                             start_new_session=True)
+    streams = {"stdin": slave, "stdout": slave, "stderr": slave}
+    shell = subprocess.Popen(["zsh", "-d", "-i"], **settings, **streams, start_new_session=True)
     os.close(slave)
+    late = threading.Timer(SECONDS, shell.kill)
+    late.start()
     try:
         while os.read(master, 1 << 16):
             pass
     except OSError:  # the end, where the shell has closed the terminal
         pass
     os.close(master)
-    shell.wait(timeout=SECONDS)
+    shell.wait()
+    late.cancel()
 
 
 def offered(shell, lines):
@@ -107,20 +111,19 @@ def offered(shell, lines):
     with tempfile.TemporaryDirectory() as home:
         folder = os.path.join(home, "work")
         os.makedirs(folder)
-        os.environ.update(HOME=home, ZDOTDIR=folder)
         for name in FILES:
             open(os.path.join(folder, name), "w", encoding="utf-8").close()
-        with open(os.path.join(folder, "lines"), "w", encoding="utf-8") as file:
+        with open(os.path.join(home, "lines"), "w", encoding="utf-8") as file:
             file.write("".join(line + "\n" for line in lines))
-        shell(folder)
-        with open(os.path.join(folder, "offered"), encoding="utf-8") as file:
+        shell(home, {"cwd": folder, "env": {**os.environ, "HOME": home, "ZDOTDIR": home}})
+        with open(os.path.join(home, "offered"), encoding="utf-8") as file:
             told = file.read().splitlines()
     found = []
     for one in told:
         if one == "line":
             found.append([])
         elif one:
-            found[-1].append(one.split("\t")[0].strip())
+            found[-1].append(one.split("\t")[0].strip().rpartition("=")[2])
     return {line: sorted(words) for line, words in zip(lines, found, strict=True)}
 
 
@@ -132,11 +135,14 @@ def lines_of(one):
     """Command lines of a subcommand, and what each shell has to offer behind them."""
     start = f"tracebench {one.name} "
     lines = {f"tracebench {one.name[:-1]}": [name for name in NAMES if name.startswith(one.name[:-1])],
-             f"{start}--": long_options(one), f"{start}im": FILES, f"tracebench help {one.name}": [one.name]}
+             f"tracebench help {one.name}": [one.name],
+             start: FILES, f"{start}im": FILES, f"{start}--": long_options(one)}
     for each in one.options():
         part = f"--{each.name[:-1]}"
         lines[start + part] = [name for name in long_options(one) if name.startswith(part)]
         lines[f"{start}--{each.name} im"] = FILES if each.is_file() or not each.value else []
+        if each.value:
+            lines |= {f"{start}--{each.name}={typed}": FILES if each.is_file() else [] for typed in ("", "im")}
     if one.files()[-1].is_many:
         lines[f"{start}image.bin check im"] = FILES
         lines[f"{start}image.bin check --"] = long_options(one)
