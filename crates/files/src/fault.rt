@@ -1,0 +1,14 @@
+//! Why a file gives no bytes.
+
+use thiserror::Error;
+
+/// Why a file gives no bytes.
+#[derive(Clone, Copy, Debug, PartialEq, Eq, Error)]
+pub enum FileFault {
+    /// There is no such file, or it was not read to its end.
+    #[error("cannot be read")]
+    CannotRead,
+    /// Memory was refused.
+    #[error("out of memory")]
+    Memory,
+}

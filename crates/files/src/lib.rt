@@ -1,0 +1,12 @@
+//! Files that are read as a whole, or opened and read some bytes at a time.
+#![tactic(auto)]
+
+mod fault;
+mod files;
+mod reader;
+mod watched;
+
+pub use fault::FileFault;
+pub use files::Files;
+pub use reader::FileReader;
+pub use watched::Watched;

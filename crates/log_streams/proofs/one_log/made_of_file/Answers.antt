@@ -1,0 +1,34 @@
+-- What the file gave is named by hand, and so are the lemmas on it.
+use Rattle.std.proofs.Common.{rules, ◌∙◌, inl, refl, sym}
+use Rattle.log_streams.proofs.FileLemmas.{all-through, made-in, not-read, stopped-in}
+use Rattle.log_streams.proofs.one_log.made_of_file.Goals as goal
+
+pub returns-in-Ok-made_of : goal.returns-in-Ok-made_of
+returns-in-Ok-made_of g c = made-in _ _ _ _ _ _ _ _ _
+    (all-through (g.F.Files.content c.args.files.now c.args.path.now) _ _ _ _ _ _ c.in-Ok-open_file.ensures.opened
+    c.new-2.ensures.given c.new-2.ensures.left c.new-reader.ensures.content c.made_of.ensures.kept)
+    c.in-Ok-made_of.made c.in-Ok-made_of.ensures.made
+
+pub returns-then-not-is_read_fault : goal.returns-then-not-is_read_fault
+returns-then-not-is_read_fault g c =
+    stopped-in (g.T.LogTask.Makes c.args.task.now c.args.program.now)
+    (g.T.LogTask.MakesOfIllegal c.args.task.now c.args.program.now) (g.F.Files.content c.args.files.now c.args.path.now)
+    c.args.program.now c.args.most c.args.hart c.made_of.new.reader (λ file. g.F.Reader.FileReader.given file.reader)
+    (λ file. g.F.Reader.FileReader.left file.reader)
+    (all-through (g.F.Files.content c.args.files.now c.args.path.now) _ _ _ _ _ _ c.in-Ok-open_file.ensures.opened
+    c.new-2.ensures.given c.new-2.ensures.left c.new-reader.ensures.content c.made_of.ensures.kept)
+    c.in-Err-made_of.why c.in-Err-made_of.ensures.made (not-read c.in-Err-made_of.why (search rules))
+
+pub returns-then-has_failed : goal.returns-then-has_failed
+returns-then-has_failed g c =
+    stopped-in (g.T.LogTask.Makes c.args.task.now c.args.program.now)
+    (g.T.LogTask.MakesOfIllegal c.args.task.now c.args.program.now) (g.F.Files.content c.args.files.now c.args.path.now)
+    c.args.program.now c.args.most c.args.hart c.made_of.new.reader (λ file. g.F.Reader.FileReader.given file.reader)
+    (λ file. g.F.Reader.FileReader.left file.reader)
+    (all-through (g.F.Files.content c.args.files.now c.args.path.now) _ _ _ _ _ _ c.in-Ok-open_file.ensures.opened
+    c.new-2.ensures.given c.new-2.ensures.left c.new-reader.ensures.content c.made_of.ensures.kept)
+    c.in-Err-made_of.why c.in-Err-made_of.ensures.made
+    (λ _. sym c.source.ensures.left ∙ c.has_failed.ensures (search rules))
+
+pub returns : goal.returns
+returns g c = inl refl

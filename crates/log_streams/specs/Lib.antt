@@ -1,0 +1,5 @@
+pub mod Illegal
+pub mod Legal
+pub mod Made
+pub mod Read
+pub mod steps

@@ -1,0 +1,27 @@
+//! Logs that are read side by side, each a piece at a time, and judged as they are read.
+//!
+//! [`made_of_logs`] is handed the paths of logs and a [`LogTask`], which makes something of the events of each log. No
+//! list holds all events of a log, and no memory all of its text.
+#![tactic(auto)]
+
+mod entry;
+mod illegal_row;
+mod in_order;
+mod judging;
+mod logs_fault;
+mod made;
+mod one_log;
+mod places;
+mod reading;
+mod side_by_side_logs;
+mod stop;
+mod task;
+mod work;
+mod worker;
+
+pub use illegal_row::IllegalRow;
+pub use logs_fault::LogsFault;
+pub use made::MadeLogs;
+pub use side_by_side_logs::made_of_logs;
+pub use stop::Stop;
+pub use task::LogTask;

@@ -1,0 +1,129 @@
+//! What a thread does.
+
+ghost use Rattle.std.specs.Prelude.{All};
+ghost use Rattle.log_streams.specs.steps.Allowed.{MayBeMade};
+
+use crate::entry::Entry;
+use crate::one_log::made_of_file;
+use crate::places::Places;
+use crate::task::LogTask;
+use crate::worker::Worker;
+use files::Files;
+use rvclass::Program;
+use std::alloc::Global;
+use std::sync::atomic::{AtomicUsize, Ordering};
+
+/// What threads share that read logs side by side.
+#[derive(Drop)]
+pub(crate) struct Work<'w, 'a, F, T> {
+    pub(crate) alloc: Global,
+    pub(crate) files: &'w F,
+    pub(crate) program: &'w Program,
+    pub(crate) most: u32,
+    pub(crate) task: &'w T,
+    pub(crate) paths: &'w [&'a str],
+    pub(crate) places: &'w Places,
+    /// How many of the logs in regular files were taken.
+    pub(crate) taken: &'w AtomicUsize,
+    /// The least place of a log of which nothing is made, or more than all places.
+    pub(crate) end: &'w AtomicUsize,
+}
+
+impl<F: Files + Sync, X: Send + Drop, T: LogTask<X> + Sync> Worker<X> for Work<'_, '_, F, T>
+where
+    F::Reader: Send,
+    T::State: Send,
+{
+    ghost Allows = { λ work place made. MayBeMade (T.Makes work.task.now work.program.now)
+        (T.MakesOfIllegal work.task.now work.program.now) (F.content work.files.now) work.program.now work.most
+        work.paths.now place made };
+
+    fn work(&self, is_first: bool) -> Vec<Entry<X>> {
+        let mut entries = Vec::new(self.alloc);
+        if is_first {
+            read_others(self, &mut entries);
+        }
+        read_regular(self, &mut entries);
+        entries
+    }
+}
+
+/// Reads the logs that are not in regular files, one after another, up to the first of which nothing is made.
+fn read_others<F: Files, X: Drop, T: LogTask<X>>(
+    work: &Work<'_, '_, F, T>,
+    entries: &mut Vec<Entry<X>>,
+)
+    requires { All (λ entry. MayBeMade (T.Makes work.now.task.now work.now.program.now)
+        (T.MakesOfIllegal work.now.task.now work.now.program.now) (F.content work.now.files.now) work.now.program.now
+        work.now.most work.now.paths.now entry.place entry.made) entries.old.items }
+    ensures { All (λ entry. MayBeMade (T.Makes work.now.task.now work.now.program.now)
+        (T.MakesOfIllegal work.now.task.now work.now.program.now) (F.content work.now.files.now) work.now.program.now
+        work.now.most work.now.paths.now entry.place entry.made) entries.new.items }
+{
+    for place in &work.places.others {
+        if !read_log(work, *place, entries) {
+            return;
+        }
+    }
+}
+
+/// Reads logs in regular files, each of which no other thread has taken.
+fn read_regular<F: Files, X: Drop, T: LogTask<X>>(
+    work: &Work<'_, '_, F, T>,
+    entries: &mut Vec<Entry<X>>,
+)
+    requires { All (λ entry. MayBeMade (T.Makes work.now.task.now work.now.program.now)
+        (T.MakesOfIllegal work.now.task.now work.now.program.now) (F.content work.now.files.now) work.now.program.now
+        work.now.most work.now.paths.now entry.place entry.made) entries.old.items }
+    ensures { All (λ entry. MayBeMade (T.Makes work.now.task.now work.now.program.now)
+        (T.MakesOfIllegal work.now.task.now work.now.program.now) (F.content work.now.files.now) work.now.program.now
+        work.now.most work.now.paths.now entry.place entry.made) entries.new.items }
+{
+    for _ in 0..work.places.regular.len() {
+        let next = work.taken.fetch_add(1, Ordering::SeqCst);
+        let Some(place) = work.places.regular.get(next) else {
+            return;
+        };
+        if !read_log(work, *place, entries) {
+            return;
+        }
+    }
+}
+
+/// Reads the log at a place, unless nothing is made of one before it, and returns whether something is made of it.
+fn read_log<F: Files, X: Drop, T: LogTask<X>>(
+    work: &Work<'_, '_, F, T>,
+    place: usize,
+    entries: &mut Vec<Entry<X>>,
+) -> bool
+    requires { All (λ entry. MayBeMade (T.Makes work.now.task.now work.now.program.now)
+        (T.MakesOfIllegal work.now.task.now work.now.program.now) (F.content work.now.files.now) work.now.program.now
+        work.now.most work.now.paths.now entry.place entry.made) entries.old.items }
+    ensures { All (λ entry. MayBeMade (T.Makes work.now.task.now work.now.program.now)
+        (T.MakesOfIllegal work.now.task.now work.now.program.now) (F.content work.now.files.now) work.now.program.now
+        work.now.most work.now.paths.now entry.place entry.made) entries.new.items }
+{
+    if place > work.end.load(Ordering::SeqCst) || entries.reserve(1).is_err() {
+        return false;
+    }
+    let Some(path) = work.paths.get(place) else {
+        return false;
+    };
+    let mut piece = Vec::new(work.alloc);
+    let made = made_of_file(
+        work.alloc,
+        work.files,
+        work.program,
+        work.most,
+        work.task,
+        place,
+        path,
+        &mut piece,
+    );
+    let is_made = made.is_ok();
+    if !is_made {
+        work.end.fetch_min(place, Ordering::SeqCst);
+    }
+    let _ = entries.push(Entry { place, made });
+    is_made
+}
